@@ -1,0 +1,15 @@
+-- The tapes that deciding a machine may use.
+use Rattle.std.specs.Prelude.{◌≡◌, ℕ, Bool, false}
+use Rattle.bb_tape.specs.Strip.{Strip}
+use Rattle.bb.specs.declared.bench.Bench.{Bench}
+use Rattle.bb.specs.declared.bench.Plan.{Plan}
+
+-- each tape has room for so many cells
+pub record HasCells {T : Type 0} (strip : T → Strip) (cells : ℕ) (bench : Bench T) : Type 0 where
+  pub run : (strip bench.run).limit ≡ cells
+  pub right : (strip bench.right).limit ≡ cells
+  pub left : (strip bench.left).limit ≡ cells
+
+-- no decider is switched on
+abbrev pub IsSimulation : Plan → Type 0
+IsSimulation plan = plan ≡ record { cyclers = false; translated = false; backward = false }

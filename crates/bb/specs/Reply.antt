@@ -1,0 +1,33 @@
+-- What `decide` replies to a line: this project's own.
+use Rattle.std.specs.Prelude.{◌≡◌, ℕ, ◌⊎◌, List, ◌++◌, codes, decimal}
+use Rattle.bb_machine.specs.Machine.{IsMachine, text}
+use Rattle.bb_machine.specs.Column.{IsColumn}
+use Rattle.bb_sim.specs.Configuration.{Table}
+use Rattle.bb_cert.specs.declared.verdict.Verdict.{Verdict}
+use Rattle.bb_cert.specs.Line.{line_text}
+use Rattle.bb.specs.Verdict.{IsVerdict}
+
+-- the line is a machine's text
+pub record IsMachineLine (line : List ℕ) : Type 0 where
+  pub table : Table
+  pub machine : IsMachine table
+  pub is_text : text table ≡ line
+
+-- the line is a machine's text, and the reply is the line of the machine and its verdict
+pub record IsVerdictReply (steps cells : ℕ) (line reply : List ℕ) : Type 0 where
+  pub table : Table
+  pub machine : IsMachine table
+  pub is_text : text table ≡ line
+  pub verdict : Verdict
+  pub is_verdict : IsVerdict table steps cells verdict
+  pub is_reply : reply ≡ line_text table verdict
+
+-- the line is no machine's text, and the reply names its column
+pub record IsRefusal (line reply : List ℕ) : Type 0 where
+  pub no_machine : IsMachineLine line → ⊥
+  pub column : ℕ
+  pub is_column : IsColumn line column
+  pub is_reply : reply ≡ codes "refused " ++ decimal column
+
+abbrev pub IsReply : ℕ → ℕ → List ℕ → List ℕ → Type 0
+IsReply steps cells line reply = IsVerdictReply steps cells line reply ⊎ IsRefusal line reply

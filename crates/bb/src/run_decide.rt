@@ -1,0 +1,163 @@
+//! Verdicts on the machines of a list, a line each.
+ghost use Rattle.std.specs.Prelude.{◌≡◌, ◌++◌, ◌↔◌, ℕ, [], codes, decimal, false, true, IsTrue, List};
+ghost use Rattle.std.specs.Io.KnownBytes.{Consumes, IsAtEnd};
+ghost use Rattle.bb_lines.specs.Ends.{AppendsFrontOfReplies, AppendsReplies, AppendsSome};
+ghost use Rattle.bb_lines.specs.Lines.{complete, lines};
+ghost use Rattle.bb_lines.specs.Watched.{is_marked, watched_inner};
+ghost use Rattle.bb.specs.Bench.{HasCells, IsSimulation};
+ghost use Rattle.bb.specs.Ends.{MatchRun};
+ghost use Rattle.bb.specs.Reply.{IsReply};
+ghost use Rattle.bb.specs.Summary.{IsSummary};
+
+use crate::bench::{Bench, Plan};
+use crate::decide::decide;
+use crate::summary::Summary;
+use arrayvec::ArrayVec;
+use bb_cert::{line_into, lines_are_short};
+use bb_lines::answer::{Answer, Effort, REPLY};
+use bb_lines::fault::Fault;
+use bb_lines::lines::run;
+use bb_lines::watched::Watched;
+use bb_machine::laws::texts_differ;
+use bb_machine::{LINE, Limits, Machine};
+use bb_sim::Meter;
+use bb_tape::Tape;
+use itoa::Buffer;
+use std::alloc::AllocError;
+use std::io::{Read, Write};
+
+/// A reply after more steps than this doesn't wait for those after it.
+const LONG_WORK: u64 = 100_000;
+
+/// What answers a list of machines with their verdicts.
+#[derive(Drop)]
+struct Decider<'a, T> {
+    limits: Limits,
+    plan: Plan,
+    bench: &'a mut Bench<T>,
+    summary: Summary,
+}
+
+impl<T: Tape> Answer for Decider<'_, T> {
+    ghost use Rattle.std.specs.Prelude.{◌≡◌, ◌+◌};
+    ghost use Rattle.std.proofs.Common.{rules, subst};
+    ghost use Rattle.bb.specs.Kept.{reply_of_kept, saw_of_kept};
+    ghost use Rattle.bb_machine.specs.Limits.{Bounds};
+    ghost use Rattle.bb_machine.specs.declared.machine.TheConstants.{LINE};
+    ghost use Rattle.bb.specs.Bench.{HasCells, IsSimulation};
+    ghost use Rattle.bb.specs.Reply.{IsReply};
+    ghost use Rattle.bb.specs.Seen.{Saw};
+
+    ghost replies_with = { λ d line reply. IsReply d.limits.steps d.limits.cells line reply };
+
+    ghost saw = { λ a line b. (b.limits ≡ a.limits) × Saw a.limits.steps a.limits.cells a.summary line b.summary };
+
+    ghost keeps = { λ a b. (b.limits ≡ a.limits) × (b.plan ≡ a.plan) × (b.bench.ghost_name ≡ a.bench.ghost_name) };
+
+    ghost is_ready = { λ d. HasCells T.strip d.limits.cells d.bench.now × IsSimulation d.plan };
+
+    ghost GROWS = { T.GROWS };
+
+    ghost KEEP = { LINE + 1 };
+
+    ghost keeps_at_first = { Prim.search rules };
+
+    ghost keeps_on = { Prim.search rules };
+
+    ghost keeps_reply = { λ a b keeps line text reply. subst (λ (l : Bounds). IsReply l.steps l.cells line text) keeps.0 reply };
+
+    ghost keeps_some = { Prim.search rules };
+
+    ghost keeps_few = { Prim.search rules };
+
+    ghost reply_by_kept = { λ a line text reply. reply_of_kept a.limits.steps a.limits.cells line text reply };
+
+    ghost saw_by_kept = { λ a line b saw. (saw.0, saw_of_kept a.limits.steps a.limits.cells line a.summary b.summary saw.1) };
+
+    fn keep(&self) -> usize {
+        LINE + 1
+    }
+
+    fn answer(&mut self, line: &[u8], text: &mut ArrayVec<u8, REPLY>) -> Result<Effort, AllocError> {
+        let machine = match Machine::read(line) {
+            Ok(machine) => machine,
+            Err(refused) => {
+                self.summary.clean = false;
+                refusal_into(refused.column, text);
+                return Ok(Effort::Little);
+            }
+        };
+        let mut meter = Meter::new();
+        let Ok(verdict) = decide(&machine, &self.limits, self.plan, self.bench, &mut meter) else {
+            return Err(AllocError);
+        };
+        lines_are_short();
+        line_into(&machine, &verdict, text);
+        self.summary.peak = self.summary.peak.greatest(meter);
+        Ok(if meter.steps > LONG_WORK {
+            Effort::Long
+        } else {
+            Effort::Little
+        })
+    }
+}
+
+/// Puts `refused` and a column into a text, which is empty.
+fn refusal_into(column: u32, text: &mut ArrayVec<u8, REPLY>)
+    requires { text.old.items ≡ [] }
+    ensures { text.new.items ≡ codes "refused " ++ decimal column }
+{
+    let mut digits = Buffer::new();
+    let _word = text.try_extend_from_slice(b"refused ");
+    let _column = text.try_extend_from_slice(digits.format(column).as_bytes());
+}
+
+/// Writes the verdict line of each machine of a list, and a refusal for each line that is no machine's text.
+///
+/// A line ends at a newline; a last line without one counts if it isn't empty. After a fault the
+/// reader and the writer are not to be used again.
+pub fn run_decide<R: Read, W: Write, T: Tape>(
+    reader: &mut Watched<R>,
+    writer: &mut Watched<W>,
+    limits: &Limits,
+    plan: Plan,
+    bench: &mut Bench<T>,
+) -> Result<Summary, Fault>
+    requires reader { is_marked reader.old ≡ false }
+    requires writer { is_marked writer.old ≡ false }
+    requires tapes { HasCells T.strip limits.now.cells bench.old }
+    requires plan { IsSimulation plan }
+
+    // How the run ends, and what is written then, for the bytes that it took from the reader.
+    ensures ends { let left = R.remaining (watched_inner reader.old) in
+        let left_then = R.remaining (watched_inner reader.new) in
+        let held = W.contents (watched_inner writer.old) in
+        let held_then = W.contents (watched_inner writer.new) in
+        let Reply = IsReply limits.now.steps limits.now.cells in
+        (taken : List ℕ) × Consumes left left_then taken × MatchRun result
+        (λ summary. IsAtEnd left_then × AppendsReplies Reply held held_then (lines taken)
+        × IsSummary limits.now.steps limits.now.cells (lines taken) summary)
+        (AppendsSome Reply held held_then (lines taken))
+        (AppendsReplies Reply held held_then (complete taken))
+        (AppendsFrontOfReplies Reply held held_then (lines taken)) }
+
+    // When each fault comes.
+    ensures memory { result ≡ Err Fault.Memory → IsTrue T.GROWS }
+    ensures read { (result ≡ Err Fault.Read) ↔ (is_marked reader.new ≡ true) }
+    ensures write { (result ≡ Err Fault.Write) ↔ (is_marked writer.new ≡ true) }
+
+    ensures tapes { HasCells T.strip limits.now.cells bench.new }
+{
+    let mut decider = Decider {
+        limits: *limits,
+        plan,
+        bench,
+        summary: Summary {
+            clean: true,
+            peak: Meter::new(),
+        },
+    };
+    run(reader, writer, &mut decider)?;
+    texts_differ();
+    Ok(decider.summary)
+}

@@ -1,0 +1,52 @@
+//! Does what was asked for, and says how it ended.
+ghost use Rattle.std.specs.Prelude.{◌≡◌, false};
+ghost use Rattle.bb_lines.specs.Watched.{is_marked};
+ghost use Rattle.bb.specs.Command.{CanServe};
+ghost use Rattle.bb.specs.Ends.{end_status};
+
+use crate::bench::Bench;
+use crate::command::{Asked, Work};
+use crate::run_decide::run_decide;
+use crate::summary::Summary;
+use bb_lines::fault::Fault;
+use bb_lines::watched::Watched;
+use bb_tape::MapTape;
+use std::alloc::Global;
+use std::io::{Read, Write};
+
+/// Does the work on tapes of its own.
+pub fn serve<R: Read, W: Write>(
+    alloc: Global,
+    asked: &Asked,
+    reader: &mut Watched<R>,
+    writer: &mut Watched<W>,
+) -> Result<Summary, Fault>
+    requires reader { is_marked reader.old ≡ false }
+    requires writer { is_marked writer.old ≡ false }
+    requires work { CanServe asked.now.work }
+{
+    let limits = asked.limits;
+    let cells = limits.cells();
+    match asked.work {
+        Work::Decide(plan) => {
+            let run = MapTape::new(alloc, cells);
+            let right = MapTape::new(alloc, cells);
+            let left = MapTape::new(alloc, cells);
+            match Bench::new(alloc, run, right, left, &limits) {
+                Ok(mut bench) => run_decide(reader, writer, &limits, plan, &mut bench),
+                Err(_) => Err(Fault::Memory),
+            }
+        }
+    }
+}
+
+/// The program's exit status: 0 where the summary is clean, 1 where it isn't, 3 for a fault.
+pub fn status(end: &Result<Summary, Fault>) -> u8
+    ensures { result ≡ end_status end.now }
+{
+    match end {
+        Ok(summary) if summary.clean => 0,
+        Ok(_) => 1,
+        Err(_) => 3,
+    }
+}

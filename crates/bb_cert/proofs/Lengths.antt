@@ -1,0 +1,31 @@
+-- How long the parts of a line are.
+use Rattle.std.proofs.Common.{◌≡◌, ℕ, ◌+◌, ◌<◌, ◌≤◌, ◌^◌, List, ◌∷◌, ◌++◌, length, codes, decimal, refl, arith, rules, length-append}
+use Rattle.std.proofs.lemmas.Fmt.{length-decimal-le}
+use Rattle.bb_cert.specs.declared.verdict.Side.TheVariants.{L, R}
+use Rattle.bb_cert.specs.declared.verdict.Why.TheVariants.{Steps, Cells}
+use Rattle.bb_cert.specs.declared.verdict.Verdict.{Verdict}
+use Rattle.bb_cert.specs.declared.verdict.Verdict.TheVariants.{Halt, Cycler, Translated, Backward, Undecided}
+use Rattle.bb_cert.specs.Verdict.{HasNumbers}
+use Rattle.bb_cert.specs.Line.{pair_text, verdict_text}
+
+number : (n : ℕ) → n < 2 ^ 64 → length (decimal n) ≤ 20
+number n h = length-decimal-le 20 n (omega arith) (omega (arith, h)) h
+
+-- a word of at most 14 bytes and two numbers
+numbers : (word : List ℕ) (a b : ℕ) → length word ≤ 14 → a < 2 ^ 64 → b < 2 ^ 64 → length (word ++ pair_text a b) ≤ 55
+numbers word a b short first second =
+    let m = number a first in
+    let n = number b second in
+    let whole = length-append word (pair_text a b) in
+    let pair = length-append (decimal a) (32 ∷ decimal b) in
+    omega arith
+
+-- what stands after the machine
+pub length-verdict_text : (verdict : Verdict) → HasNumbers verdict → length (verdict_text verdict) ≤ 55
+length-verdict_text (Halt steps score) fits = numbers (codes " halt ") steps score (omega arith) fits.0 fits.1
+length-verdict_text (Cycler first second) fits = numbers (codes " cycler ") first second (omega arith) fits.0 fits.1
+length-verdict_text (Translated L first second) fits = numbers (codes " translated L ") first second (omega arith) fits.0 fits.1
+length-verdict_text (Translated R first second) fits = numbers (codes " translated R ") first second (omega arith) fits.0 fits.1
+length-verdict_text (Backward levels nodes) fits = numbers (codes " backward ") levels nodes (omega arith) fits.0 fits.1
+length-verdict_text (Undecided Steps) fits = omega arith
+length-verdict_text (Undecided Cells) fits = omega arith

@@ -1,0 +1,35 @@
+-- The line of a machine and a verdict: this project's own format.
+use Rattle.std.specs.Prelude.{ℕ, List, ◌∷◌, ◌++◌, codes, decimal}
+use Rattle.bb_machine.specs.declared.entry.Entry.{Entry}
+use Rattle.bb_machine.specs.Machine.{text}
+use Rattle.bb_cert.specs.declared.verdict.Side.{Side}
+use Rattle.bb_cert.specs.declared.verdict.Side.TheVariants.{L, R}
+use Rattle.bb_cert.specs.declared.verdict.Why.{Why}
+use Rattle.bb_cert.specs.declared.verdict.Why.TheVariants.{Steps, Cells}
+use Rattle.bb_cert.specs.declared.verdict.Verdict.{Verdict}
+use Rattle.bb_cert.specs.declared.verdict.Verdict.TheVariants.{Halt, Cycler, Translated, Backward, Undecided}
+
+-- two numbers, with a space between them
+abbrev pub pair_text : ℕ → ℕ → List ℕ
+pair_text a b = decimal a ++ (32 ∷ decimal b)
+
+-- the word that names a side, with the space before it
+abbrev pub side_text : Side → List ℕ
+side_text L = codes " translated L "
+side_text R = codes " translated R "
+
+abbrev pub why_text : Why → List ℕ
+why_text Steps = codes " undecided steps"
+why_text Cells = codes " undecided cells"
+
+-- a verdict as it stands after its machine
+abbrev pub verdict_text : Verdict → List ℕ
+verdict_text (Halt steps score) = codes " halt " ++ pair_text steps score
+verdict_text (Cycler first second) = codes " cycler " ++ pair_text first second
+verdict_text (Translated side first second) = side_text side ++ pair_text first second
+verdict_text (Backward levels nodes) = codes " backward " ++ pair_text levels nodes
+verdict_text (Undecided why) = why_text why
+
+-- the line of a machine and a verdict, without a newline
+abbrev pub line_text : List (List Entry) → Verdict → List ℕ
+line_text table verdict = text table ++ verdict_text verdict

@@ -1,0 +1,12 @@
+-- What a verdict says is given by the crates that find and check it; here is only what numbers it may hold.
+use Rattle.std.specs.Prelude.{ℕ, ◌<◌, ◌^◌}
+use Rattle.bb_cert.specs.declared.verdict.Verdict.{Verdict}
+use Rattle.bb_cert.specs.declared.verdict.Verdict.TheVariants.{Halt, Cycler, Translated, Backward, Undecided}
+
+-- every number of a verdict is below 2 ^ 64
+abbrev pub HasNumbers : Verdict → Type 0
+HasNumbers (Halt steps score) = (steps < 2 ^ 64) × (score < 2 ^ 64)
+HasNumbers (Cycler first second) = (first < 2 ^ 64) × (second < 2 ^ 64)
+HasNumbers (Translated side first second) = (first < 2 ^ 64) × (second < 2 ^ 64)
+HasNumbers (Backward levels nodes) = (levels < 2 ^ 64) × (nodes < 2 ^ 64)
+HasNumbers (Undecided why) = Unit {0}

@@ -1,0 +1,75 @@
+ghost use Rattle.std.specs.Prelude.{◌≡◌, ℕ, ◌+◌, ◌≤◌, List, ◌++◌, length};
+ghost use Rattle.arrayvec.specs.ArrayVec.{array_vec_len};
+ghost use Rattle.bb_machine.specs.declared.entry.Entry.{Entry};
+ghost use Rattle.bb_machine.specs.Machine.{text};
+ghost use Rattle.bb_cert.specs.declared.verdict.Verdict.{Verdict};
+ghost use Rattle.bb_cert.specs.Verdict.{HasNumbers};
+ghost use Rattle.bb_cert.specs.Line.{line_text, pair_text, side_text, verdict_text};
+
+use crate::verdict::{Side, Verdict, Why};
+use arrayvec::ArrayVec;
+use bb_machine::{LINE, Machine};
+use itoa::Buffer;
+
+/// The bytes of the longest verdict line: the longest machine, ` translated R `, and two numbers
+/// of 20 digits with a space between them.
+pub const LONGEST: usize = LINE + 55;
+
+/// Appends the line of a machine and a verdict, without a newline.
+pub fn line_into(machine: &Machine, verdict: &Verdict, out: &mut ArrayVec<u8, 1023>)
+    requires { array_vec_len out.old + length (line_text machine.now verdict.now) ≤ 1023 }
+    ensures { out.new.items ≡ out.old.items ++ line_text machine.now verdict.now }
+{
+    machine.text_into(out);
+    verdict_into(*verdict, out);
+}
+
+/// No verdict line is longer than `LONGEST`, where the machine's text isn't longer than `LINE`.
+pub fn lines_are_short()
+    ensures {
+        (table : List (List Entry)) (verdict : Verdict) → length (text table) ≤ LINE → HasNumbers verdict
+        → length (line_text table verdict) ≤ LONGEST
+    }
+{
+}
+
+fn verdict_into(verdict: Verdict, out: &mut ArrayVec<u8, 1023>)
+    requires { array_vec_len out.old + length (verdict_text verdict) ≤ 1023 }
+    ensures { out.new.items ≡ out.old.items ++ verdict_text verdict }
+{
+    match verdict {
+        Verdict::Halt { steps, score } => pair_into(b" halt ", steps, score, out),
+        Verdict::Cycler { first, second } => pair_into(b" cycler ", first, second, out),
+        Verdict::Translated { side, first, second } => pair_into(side_words(side), first, second, out),
+        Verdict::Backward { levels, nodes } => pair_into(b" backward ", levels, nodes, out),
+        Verdict::Undecided(Why::Steps) => append(b" undecided steps", out),
+        Verdict::Undecided(Why::Cells) => append(b" undecided cells", out),
+    }
+}
+
+fn side_words(side: Side) -> &'static [u8]
+    ensures { result.now ≡ side_text side }
+{
+    match side {
+        Side::L => b" translated L ",
+        Side::R => b" translated R ",
+    }
+}
+
+fn pair_into(word: &[u8], first: u64, second: u64, out: &mut ArrayVec<u8, 1023>)
+    requires { array_vec_len out.old + length (word.now ++ pair_text first second) ≤ 1023 }
+    ensures { out.new.items ≡ out.old.items ++ (word.now ++ pair_text first second) }
+{
+    let mut digits = Buffer::new();
+    append(word, out);
+    append(digits.format(first).as_bytes(), out);
+    out.push(b' ');
+    append(digits.format(second).as_bytes(), out);
+}
+
+fn append(bytes: &[u8], out: &mut ArrayVec<u8, 1023>)
+    requires { array_vec_len out.old + length bytes.now ≤ 1023 }
+    ensures { out.new.items ≡ out.old.items ++ bytes.now }
+{
+    let _room = out.try_extend_from_slice(bytes);
+}

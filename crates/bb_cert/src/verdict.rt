@@ -1,0 +1,28 @@
+/// Where a machine's records lie: to the left of the start or to the right.
+#[derive(Clone, Copy, Debug, PartialEq, Eq)]
+pub enum Side {
+    L,
+    R,
+}
+
+/// Which limit left a machine undecided.
+#[derive(Clone, Copy, Debug, PartialEq, Eq)]
+pub enum Why {
+    Steps,
+    Cells,
+}
+
+/// What is found out about a machine. Steps are counted from the start, which is step 0.
+#[derive(Clone, Copy, Debug, PartialEq, Eq)]
+pub enum Verdict {
+    /// It halts after so many steps, with so many cells that aren't 0.
+    Halt { steps: u64, score: u64 },
+    /// The configurations at two steps are the same.
+    Cycler { first: u64, second: u64 },
+    /// The records of a side at two steps agree.
+    Translated { side: Side, first: u64, second: u64 },
+    /// The tree of what could come before a halt ends in so many levels, with so many nodes.
+    Backward { levels: u64, nodes: u64 },
+    /// Nothing was found within the limits.
+    Undecided(Why),
+}

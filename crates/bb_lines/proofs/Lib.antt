@@ -1,0 +1,4 @@
+pub mod AnswerLemmas
+pub mod LinesLemmas
+pub mod StandsLemmas
+pub mod Streams

@@ -1,0 +1,9 @@
+use Rattle.std.proofs.Common.{rules, length, take, drop}
+use Rattle.bb_lines.proofs.Streams.{AppendsBut-write}
+use Rattle.bb_lines.proofs.lines.write_waiting.Goals as goal
+
+pub loop-rest-preserved : goal.loop-rest-preserved
+loop-rest-preserved g c = record {
+  unmarked = search rules;
+  written = AppendsBut-write _ _ _ _ _ _ c.loop-rest.invariant.written c.in-Ok.ensures.bytes;
+}

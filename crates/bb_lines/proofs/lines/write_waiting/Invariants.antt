@@ -1,0 +1,13 @@
+use Rattle.std.proofs.Common.{◌≡◌, false, length}
+use Rattle.bb_lines.specs.Ends.{AppendsBut}
+use Rattle.bb_lines.proofs.lines.write_waiting.Given as goal
+
+-- what is left to write waits
+abbrev pub invariant-loop-rest : goal.invariant-loop-rest
+invariant-loop-rest g l = record {
+  unmarked : l.writer.mark ≡ false;
+  written : AppendsBut (g.W.Write.contents l.initial.writer.inner) (g.W.Write.contents l.writer.inner) l.rest l.initial.rest;
+}
+
+abbrev pub decreases-loop-rest : goal.decreases-loop-rest
+decreases-loop-rest g l = length l.rest

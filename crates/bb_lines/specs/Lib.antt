@@ -1,0 +1,4 @@
+pub mod Fault
+pub mod Watched
+pub mod Lines
+pub mod Ends

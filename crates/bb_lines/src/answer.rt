@@ -1,0 +1,73 @@
+//! What answers a line.
+ghost use Rattle.std.specs.Prelude.{◌≡◌, ℕ, ◌<◌, ◌≤◌, Bool, List, [], length, take, IsTrue, OnOk, OnErr};
+
+use arrayvec::ArrayVec;
+use std::alloc::AllocError;
+
+/// The most bytes of a reply, without its newline.
+pub const REPLY: usize = 1023;
+
+/// The most bytes of a line that are kept for any answerer.
+pub const MOST_KEPT: usize = 1024;
+
+/// How much work an answer was.
+#[derive(Clone, Copy, Debug, PartialEq, Eq)]
+pub enum Effort {
+    /// Not worth a write of its own.
+    Little,
+    /// Long: the reply, and all that wait, are to be written at once.
+    Long,
+}
+
+/// What answers the lines of an input, each with one line.
+pub trait Answer {
+    // Which texts are a reply to a line, without a newline.
+    ghost replies_with: { Self → List ℕ → List ℕ → Type 0 };
+
+    // What one line does to the answerer's own state, as the summary that it keeps.
+    ghost saw: { Self → List ℕ → Self → Type 0 };
+
+    // What no answer changes, as the limits, or which value a reference of the answerer points to.
+    ghost keeps: { Self → Self → Type 0 };
+
+    // What the answerer needs before each line, and has again after it.
+    ghost is_ready: { Self → Type 0 };
+
+    // Whether an answer may take memory.
+    ghost GROWS: { Bool };
+
+    // How many bytes of a line are kept; a reply depends on those alone.
+    ghost KEEP: { ℕ };
+
+    /// How many bytes of a line are kept for it.
+    fn keep(&self) -> usize
+        ensures { result ≡ KEEP };
+
+    /// Puts the reply to `line` into `text`, which is empty. `Err` is a refused growth: nothing is said of `text` then.
+    fn answer(&mut self, line: &[u8], text: &mut ArrayVec<u8, REPLY>) -> Result<Effort, AllocError>
+        requires ready { is_ready self.old }
+        requires kept { length line.now ≤ KEEP }
+        requires empty { text.old.items ≡ [] }
+        ensures reply { OnOk result (replies_with self.old line.now text.new.items) }
+        ensures saw { OnOk result (saw self.old line.now self.new) }
+        ensures keeps { keeps self.old self.new }
+        ensures ready { is_ready self.new }
+        ensures grows { OnErr result (IsTrue GROWS) };
+
+    // What stays stays over many lines, and the replies stay with it.
+    ghost keeps_at_first: { (a : Self) → keeps a a };
+
+    ghost keeps_on: { (a b c : Self) → keeps a b → keeps b c → keeps a c };
+
+    ghost keeps_reply: { (a b : Self) → keeps a b → (line text : List ℕ) → replies_with b line text → replies_with a line text };
+
+    // A line is kept up to here: at least one byte, and no more than there is room for.
+    ghost keeps_some: { 0 < KEEP };
+
+    ghost keeps_few: { KEEP ≤ 1024 };
+
+    // The kept bytes of a line decide all.
+    ghost reply_by_kept: { (a : Self) (line text : List ℕ) → replies_with a (take KEEP line) text → replies_with a line text };
+
+    ghost saw_by_kept: { (a : Self) (line : List ℕ) (b : Self) → saw a (take KEEP line) b → saw a line b };
+}

@@ -1,0 +1,102 @@
+-- Why the laws hold.
+use Rattle.std.proofs.Common.{◌≡◌, ℕ, ◌<◌, ◌≤◌, List, [], ◌∷◌, ◌++◌, length, take, refl, sym, ◌∙◌, ap, subst, inl, inr, arith}
+use Rattle.std.proofs.lemmas.List.{append-nil, length-take, take_all, take-take}
+use Rattle.std.proofs.lemmas.Bool.{cases_lt}
+use Rattle.std.specs.List.{AllByRecursion}
+use Rattle.bb_machine.specs.declared.machine.TheConstants.{MAX_STATES, MAX_SYMBOLS, LINE}
+use Rattle.bb_machine.specs.declared.entry.Entry.{Entry}
+use Rattle.bb_machine.specs.Machine.{IsMachine, text}
+use Rattle.bb_machine.specs.Column.{IsViable, IsLongestFront, IsColumn}
+use Rattle.bb_machine.specs.Draft.{Begun, begun_text, table_of}
+use Rattle.bb_machine.specs.Laws.{FrontIsEnough}
+use Rattle.bb_machine.proofs.Texts.{ArePlain, GoesOn, text_peel}
+use Rattle.bb_machine.proofs.Groups.{machine_plain, every-front, every-at}
+use Rattle.bb_machine.proofs.Lengths.{text_short}
+use Rattle.bb_machine.proofs.Fronts.{front_near, viable_near, text-table_of}
+use Rattle.bb_machine.proofs.Stops.{whole_text_by}
+
+-- of two longest fronts neither is longer
+pub longest_unique : (P : List ℕ → Type 0) (line : List ℕ) (a b : ℕ) → IsLongestFront P line a → IsLongestFront P line b → a ≡ b
+longest_unique P line a b p q =
+    let below : a ≤ b = q.longest a p.within p.holds in
+    let above : b ≤ a = p.longest b q.within q.holds in
+    omega arith
+
+pub column_unique : (line : List ℕ) (a b : ℕ) → IsColumn line a → IsColumn line b → a ≡ b
+column_unique line a b p q = let same : p.0 ≡ q.0 = longest_unique IsViable line p.0 q.0 p.2 q.2 in omega (arith, p.1, q.1)
+
+module _ (line : List ℕ) (kept : ℕ) (many : LINE < kept) where
+  short_text : (gs : List (List Entry)) → IsMachine gs → (bytes : List ℕ) → text gs ≡ bytes → length bytes ≤ LINE
+  short_text gs machine bytes is = omega (arith, text_short MAX_STATES MAX_SYMBOLS gs machine, ap length is)
+
+  same_when_short : length line ≤ LINE → take kept line ≡ line
+  same_when_short short = take_all kept line (omega arith)
+
+  kept_short : length (take kept line) ≤ LINE → length line ≤ LINE
+  kept_short short =
+      elim (cases_lt LINE (length line)) [
+        | inl long ↦ absurd (omega (arith, length-take kept line))
+        | inr fits ↦ fits
+      ]
+
+  pub same_text : (gs : List (List Entry)) → IsMachine gs → (text gs ≡ take kept line → text gs ≡ line) × (text gs ≡ line → text gs ≡ take kept line)
+  same_text gs machine = (
+    λ is. is ∙ same_when_short (kept_short (short_text gs machine (take kept line) is)),
+    λ is. is ∙ sym (same_when_short (short_text gs machine line is)),
+  )
+
+  from_kept : (n : ℕ) → IsLongestFront IsViable (take kept line) n → IsLongestFront IsViable line n
+  from_kept n front =
+      let near : n ≤ LINE = front_near (take kept line) n front in
+      record {
+        within = omega (arith, front.within, length-take kept line);
+        holds = subst IsViable (take-take n kept line (omega arith)) front.holds;
+        longest = longest;
+      }
+    where
+      longest : (m : ℕ) → m ≤ length line → IsViable (take m line) → m ≤ n
+      longest m fits viable =
+          let near : m ≤ LINE = viable_near line m fits viable in
+          front.longest m (omega (arith, length-take kept line)) (subst IsViable (sym (take-take m kept line (omega arith))) viable)
+
+  to_kept : (n : ℕ) → IsLongestFront IsViable line n → IsLongestFront IsViable (take kept line) n
+  to_kept n front =
+      let near : n ≤ LINE = front_near line n front in
+      record {
+        within = omega (arith, front.within, length-take kept line);
+        holds = subst IsViable (sym (take-take n kept line (omega arith))) front.holds;
+        longest = λ m fits viable.
+            let inside : m ≤ length line = omega (arith, length-take kept line) in
+            let low : m ≤ kept = omega (arith, length-take kept line) in
+            front.longest m inside (subst IsViable (take-take m kept line low) viable);
+      }
+
+  pub front_enough : FrontIsEnough line kept
+  front_enough =
+      record {
+        same_text = same_text;
+        same_column = λ column. (λ c. (c.0, c.1, from_kept c.0 c.2), λ c. (c.0, c.1, to_kept c.0 c.2));
+      }
+
+-- what comes before the last group
+before_last : (g : List Entry) (gs : List (List Entry)) → Begun
+before_last g [] = record { groups = []; group = g }
+before_last g (h ∷ gs) = let b : Begun = before_last h gs in record { groups = g ∷ b.groups; group = b.group }
+
+table_of-before_last : (g : List Entry) (gs : List (List Entry)) → table_of (before_last g gs) ≡ g ∷ gs
+unfolding before_last
+table_of-before_last g [] = refl
+table_of-before_last g (h ∷ gs) = ap (λ z. g ∷ z) (table_of-before_last h gs)
+
+text_unique_of : (b : Begun) (gs hs : List (List Entry)) → table_of b ≡ hs → IsMachine gs → IsMachine hs → text gs ≡ text hs → gs ≡ hs
+text_unique_of b gs hs is p q same =
+    let plain : AllByRecursion ArePlain (table_of b) = subst (λ z. AllByRecursion ArePlain z) (sym is) (machine_plain MAX_STATES MAX_SYMBOLS (omega arith) (omega arith) hs q) in
+    let plain_gs : AllByRecursion ArePlain gs = machine_plain MAX_STATES MAX_SYMBOLS (omega arith) (omega arith) gs p in
+    let text_is : text gs ≡ begun_text b ++ [] = same ∙ (ap text (sym is) ∙ (text-table_of b ∙ sym (append-nil (begun_text b)))) in
+    let on : GoesOn b gs [] = text_peel b gs [] (every-front ArePlain b.groups (b.group ∷ []) plain) (every-at ArePlain b.groups b.group [] plain) plain_gs p.some_state text_is in
+    whole_text_by b gs on.entries on.rest on.is on.text_is ∙ is
+
+-- different machines have different texts
+pub text_unique : (gs hs : List (List Entry)) → IsMachine gs → IsMachine hs → text gs ≡ text hs → gs ≡ hs
+text_unique gs [] p q same = absurd (omega (arith, q.some_state))
+text_unique gs (h ∷ hs) p q same = text_unique_of (before_last h hs) gs (h ∷ hs) (table_of-before_last h hs) p q same

@@ -1,0 +1,10 @@
+pub mod Texts
+pub mod Groups
+pub mod Viable
+pub mod Stops
+pub mod Tables
+pub mod Lengths
+pub mod Drafts
+pub mod Entries
+pub mod Fronts
+pub mod LawLemmas

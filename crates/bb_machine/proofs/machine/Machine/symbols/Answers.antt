@@ -1,0 +1,7 @@
+use Rattle.bb_machine.specs.declared.machine.TheConstants.{MAX_STATES, MAX_SYMBOLS}
+use Rattle.bb_machine.proofs.Lengths.{text_short}
+use Rattle.bb_machine.proofs.machine.Machine.symbols.Goals as goal
+
+pub returns-clause-short : goal.returns-clause-short
+returns-clause-short c =
+    text_short MAX_STATES MAX_SYMBOLS c.args.self.now (rw (← c.self.view_is) c.self.invariant.machine)

@@ -1,0 +1,17 @@
+//! Laws of texts and columns, as contracts: a call of each does nothing.
+ghost use Rattle.bb_machine.specs.Laws.{TextsDiffer, ColumnIsUnique, LongFrontsAreEnough};
+
+/// Different machines have different texts.
+pub fn texts_differ()
+    ensures { TextsDiffer }
+{}
+
+/// A line has one column.
+pub fn column_is_unique()
+    ensures { ColumnIsUnique }
+{}
+
+/// A line of which more than `LINE` first bytes are kept is read as the whole line is.
+pub fn long_fronts_are_enough()
+    ensures { LongFrontsAreEnough }
+{}

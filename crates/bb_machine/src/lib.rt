@@ -1,0 +1,15 @@
+//! Small Turing machines: their texts, their tables, and the limits of a run.
+//!
+//! The text is bbchallenge's standard text format for Turing machines, in this project's profile.
+#![tactic(auto)]
+
+pub mod entry;
+pub mod laws;
+pub mod limits;
+pub mod machine;
+#[cfg(test)]
+mod tests;
+
+pub use entry::{Dir, Entry, Next};
+pub use limits::{LimitFault, Limits};
+pub use machine::{LINE, MAX_STATES, MAX_SYMBOLS, Machine, Refused};

@@ -1,0 +1,120 @@
+ghost use Rattle.std.specs.Prelude.{◌≡◌, ℕ, ◌+◌, ◌*◌, ◌≤◌, ◌<◌, ◌⊎◌, ◌↔◌, IfOk, IfErr};
+
+use std::fmt;
+use std::fmt::{Display, Formatter};
+use std::marker::Model;
+
+/// Why limits are refused. Its text is what a program prints.
+#[derive(Clone, Copy, Debug, PartialEq, Eq)]
+pub enum LimitFault {
+    Steps,
+    Cells,
+    Depth,
+    Nodes,
+    DepthCells,
+}
+
+impl Display for LimitFault {
+    ghost use Rattle.std.specs.Prelude.{Some};
+    ghost use Rattle.bb_machine.specs.Limits.{fault_text};
+
+    ghost output = { λ fault. Some (fault_text fault) };
+
+    fn fmt<W: fmt::Write>(&self, f: &mut Formatter<W>) -> fmt::Result {
+        f.write_str(match self {
+            LimitFault::Steps => "bb: steps out of range",
+            LimitFault::Cells => "bb: cells out of range",
+            LimitFault::Depth => "bb: depth out of range",
+            LimitFault::Nodes => "bb: nodes out of range",
+            LimitFault::DepthCells => "bb: depth does not fit in cells",
+        })
+    }
+}
+
+/// The limits of one machine's work.
+#[derive(Clone, Copy, Debug, PartialEq, Eq)]
+pub struct Limits {
+    steps: u64,
+    cells: u64,
+    depth: u64,
+    nodes: u64,
+}
+
+impl Model for Limits {
+    ghost use Rattle.bb_machine.specs.Limits.{Bounds, IsAccepted};
+
+    ghost Value = { Bounds };
+
+    ghost view = { λ l. record { steps = l.steps; cells = l.cells; depth = l.depth; nodes = l.nodes } };
+
+    ghost invariant = { λ l. IsAccepted (record { steps = l.steps; cells = l.cells; depth = l.depth; nodes = l.nodes }) };
+
+    ghost inverse = { λ b. record { steps = b.steps; cells = b.cells; depth = b.depth; nodes = b.nodes } };
+}
+
+impl Limits {
+    ghost use Rattle.bb_machine.specs.Limits.{Bounds, IsAccepted, IsFirstFault};
+
+    /// The limits of `t` steps, `s` cells, `d` levels and `n` nodes, or the first fault that holds of
+    /// them, in the order of the variants.
+    pub fn new(t: u64, s: u64, d: u64, n: u64) -> Result<Limits, LimitFault>
+        ensures accepted { IfOk result (λ limits. IsAccepted limits) }
+        ensures given { IfOk result (λ limits. limits ≡ record { steps = t; cells = s; depth = d; nodes = n }) }
+        ensures first_fault { IfErr result (IsFirstFault (record { steps = t; cells = s; depth = d; nodes = n })) }
+    {
+        if t > 1_000_000_000_000 {
+            Err(LimitFault::Steps)
+        } else if s < 1 || s > 67_108_864 {
+            Err(LimitFault::Cells)
+        } else if d > 10_000 {
+            Err(LimitFault::Depth)
+        } else if n > 1_000_000_000_000 {
+            Err(LimitFault::Nodes)
+        } else if 2 * d > s + 1 {
+            Err(LimitFault::DepthCells)
+        } else {
+            Ok(Limits {
+                steps: t,
+                cells: s,
+                depth: d,
+                nodes: n,
+            })
+        }
+    }
+
+    /// The greatest number of steps of one simulation.
+    #[inline]
+    pub fn steps(&self) -> u64
+        ensures value { result ≡ self.now.steps }
+        ensures accepted { IsAccepted self.now }
+    {
+        self.steps
+    }
+
+    /// The greatest number of cells of one tape.
+    #[inline]
+    pub fn cells(&self) -> u64
+        ensures value { result ≡ self.now.cells }
+        ensures accepted { IsAccepted self.now }
+    {
+        self.cells
+    }
+
+    /// The greatest number of levels of the backward tree.
+    #[inline]
+    pub fn depth(&self) -> u64
+        ensures value { result ≡ self.now.depth }
+        ensures accepted { IsAccepted self.now }
+    {
+        self.depth
+    }
+
+    /// The greatest number of nodes of the backward tree.
+    #[inline]
+    pub fn nodes(&self) -> u64
+        ensures value { result ≡ self.now.nodes }
+        ensures accepted { IsAccepted self.now }
+    {
+        self.nodes
+    }
+}

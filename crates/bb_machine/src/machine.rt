@@ -1,0 +1,130 @@
+//! A machine: its table of entries, and the line that is its text.
+ghost use Rattle.std.specs.Prelude.{◌≡◌, ℕ, ◌+◌, ◌*◌, ◌≤◌, ◌<◌, List, ◌++◌, length, IfOk, IfErr, Ok};
+ghost use Rattle.arrayvec.specs.ArrayVec.{array_vec_len};
+
+mod reader;
+mod writer;
+
+use crate::entry::Entry;
+use arrayvec::ArrayVec;
+use reader::read_front;
+use std::marker::Model;
+use thiserror::Error;
+
+/// The most states of a machine. At most 25, since `Z` is the halting state's letter.
+pub const MAX_STATES: usize = 7;
+
+/// The most tape symbols of a machine. At most 10, since a symbol is written as one digit.
+pub const MAX_SYMBOLS: usize = 2;
+
+/// The bytes of the longest text: three for each entry, and one between groups.
+pub const LINE: usize = MAX_STATES * (3 * MAX_SYMBOLS + 1) - 1;
+
+const PLACES: usize = MAX_STATES * MAX_SYMBOLS;
+
+/// A line that is no machine's text. The column is 1 plus the number of the line's first bytes with
+/// which some machine's text begins.
+#[derive(Clone, Copy, Debug, PartialEq, Eq, Error)]
+#[error("refused at column {column}")]
+pub struct Refused {
+    pub column: u32,
+}
+
+/// An entry where it stands in a table. It fills eight bytes, since a step of a run then finds it
+/// without a multiplication.
+#[derive(Clone, Copy)]
+struct Place {
+    entry: Entry,
+    _padding: [u8; 3],
+}
+
+/// A Turing machine. Its table stands row by row in an array, each row at a multiple of
+/// `MAX_SYMBOLS`.
+#[derive(Drop)]
+pub struct Machine {
+    places: [Place; PLACES],
+    state_count: u8,
+    symbol_count: u8,
+}
+
+impl Model for Machine {
+    ghost use Rattle.std.specs.Prelude.{List};
+    ghost use Rattle.bb_machine.specs.declared.entry.Entry.{Entry};
+    ghost use Rattle.bb_machine.specs.Rows.{table_in, IsTable};
+
+    ghost Value = { List (List Entry) };
+
+    ghost view = { λ m. table_in m.state_count m.symbol_count m.places };
+
+    ghost invariant = { λ m. IsTable m.state_count m.symbol_count (table_in m.state_count m.symbol_count m.places) };
+}
+
+impl Machine {
+    ghost use Rattle.bb_machine.specs.declared.entry.Entry.{Entry};
+    ghost use Rattle.bb_machine.specs.Entry.{IsEntryOf};
+    ghost use Rattle.bb_machine.specs.Machine.{IsMachine, symbols_of, entry_of, text};
+    ghost use Rattle.bb_machine.specs.Column.{IsColumn};
+
+    /// The machine whose text the line is, or the column of the line where there is none. Nothing
+    /// may stand beside the text, no carriage return either.
+    pub fn read(line: &[u8]) -> Result<Machine, Refused>
+        ensures found { IfOk result (λ machine. IsMachine machine × (text machine ≡ line.now)) }
+        ensures only { (machine : List (List Entry)) → IsMachine machine → text machine ≡ line.now → result ≡ Ok machine }
+        ensures column { IfErr result (λ refused. IsColumn line.now refused.column) }
+        ensures near { IfErr result (λ refused. refused.column ≤ LINE + 1) }
+    {
+        match read_front(line) {
+            Ok(machine) => Ok(machine),
+            Err(front) => Err(Refused {
+                column: front as u32 + 1,
+            }),
+        }
+    }
+
+    /// Appends the machine's text.
+    pub fn text_into<const CAP: usize>(&self, out: &mut ArrayVec<u8, CAP>)
+        requires { array_vec_len out.old + length (text self.now) ≤ CAP }
+        ensures appended { out.new.items ≡ out.old.items ++ text self.now }
+        ensures machine { IsMachine self.now }
+        ensures short { length (text self.now) ≤ LINE }
+    {
+        let states = self.states();
+        self.group_into(0, out);
+        for state in 1..states {
+            out.push(b'_');
+            self.group_into(state, out);
+        }
+    }
+
+    /// The entry for a state and a symbol, both counted from 0.
+    #[inline]
+    pub fn entry(&self, state: u8, symbol: u8) -> Entry
+        requires in_states { state < length self.now }
+        requires in_symbols { symbol < symbols_of self.now }
+        ensures value { result ≡ entry_of self.now state symbol }
+        ensures named { IsEntryOf (length self.now) (symbols_of self.now) result }
+        ensures machine { IsMachine self.now }
+    {
+        self.places[state as usize * MAX_SYMBOLS + symbol as usize].entry
+    }
+
+    /// How many states the machine has, the halting state not counted.
+    #[inline]
+    pub fn states(&self) -> u8
+        ensures value { result ≡ length self.now }
+        ensures machine { IsMachine self.now }
+        ensures short { length (text self.now) ≤ LINE }
+    {
+        self.state_count
+    }
+
+    /// How many tape symbols the machine has.
+    #[inline]
+    pub fn symbols(&self) -> u8
+        ensures value { result ≡ symbols_of self.now }
+        ensures machine { IsMachine self.now }
+        ensures short { length (text self.now) ≤ LINE }
+    {
+        self.symbol_count
+    }
+}

@@ -1,0 +1,5 @@
+pub mod Places
+pub mod Steps
+pub mod Standing
+pub mod Stepping
+pub mod Outcomes

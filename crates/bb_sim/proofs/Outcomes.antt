@@ -1,0 +1,137 @@
+-- What the end of a run within limits says of all its steps.
+use Rattle.std.proofs.Common.{◌≡◌, ◌≢◌, ℕ, zero, suc, ◌+◌, ◌-◌, ◌<◌, ◌≤◌, max, Option, Some, None, option_and_then, ℤ, pos, ◌-ℤ◌, ◌<ℤ◌, ◌≤ℤ◌, refl, ap, sym, subst, ◌∙◌, add-one, arith, rules}
+use Rattle.std.specs.Int.{int_min, int_max}
+use Rattle.std.proofs.lemmas.Int.{ints, clamps}
+use Rattle.bb_tape.specs.Content.{score}
+use Rattle.bb_tape.specs.Strip.{Strip, IsSound}
+use Rattle.bb_sim.specs.declared.runner.Runner.{Runner}
+use Rattle.bb_sim.specs.declared.meter.Meter.{Meter}
+use Rattle.bb_sim.specs.Configuration.{Table, Configuration, start, next}
+use Rattle.bb_sim.specs.Run.{after, conf, HaltsAt, IsScore}
+use Rattle.bb_sim.specs.Reach.{places}
+use Rattle.bb_sim.specs.Span.{seat, least, greatest, span, Inside, IsLastInside}
+use Rattle.bb_sim.specs.Meter.{stepped, counted, CountsRun}
+use Rattle.bb_sim.specs.Outcome.{HaltsInside}
+use Rattle.bb_sim.specs.Runner.{Stands}
+use Rattle.bb_sim.proofs.Places.{least_last, greatest_last, places-is, places_wider}
+use Rattle.bb_sim.proofs.Steps.{seat-start}
+
+-- from a step that doesn't exist on, none does
+none_on : (table : Table) (n k : ℕ) → conf table n ≡ None → conf table (k + n) ≡ None
+unfolding conf
+none_on table n zero e = let same : zero + n ≡ n = omega arith in rw same e
+none_on table n (suc k) e =
+    let before : after table start (k + n) ≡ None = none_on table n k e in
+    let same : suc k + n ≡ suc (k + n) = omega arith in
+    rw same (ap (option_and_then (next table)) before)
+
+halt_next : (table : Table) (n : ℕ) → HaltsAt table n → conf table (suc n) ≡ None
+unfolding conf
+halt_next table n halts = ap (option_and_then (next table)) halts.exists ∙ halts.no_next
+
+-- a halt is at the last step that exists
+pub halt_is_last : (table : Table) (n m : ℕ) (c : Configuration) → HaltsAt table n → conf table m ≡ Some c → m ≤ n
+halt_is_last table n m c halts exists = no_more (λ beyond.
+    let none : conf table ((m - suc n) + suc n) ≡ None = none_on table (suc n) (m - suc n) (halt_next table n halts) in
+    let same : (m - suc n) + suc n ≡ m = omega (arith, beyond) in
+    let at : conf table m ≡ None = subst (λ k. conf table k ≡ None) same none in
+    cc) where
+  no_more : (n < m → ⊥) → m ≤ n
+  no_more never = omega (arith, never)
+
+least_falls : (f : ℕ → ℤ) (n k : ℕ) → least f (k + n) ≤ℤ least f n
+least_falls f n zero = let e : zero + n ≡ n = omega arith in rw e (omega (arith, ints))
+least_falls f n (suc k) =
+    let before = least_falls f n k in
+    let e : suc k + n ≡ suc (k + n) = omega arith in
+    let here : int_min (least f (k + n)) (f (suc (k + n))) ≤ℤ least f n = omega (arith, ints, clamps) in
+    subst (λ m. least f m ≤ℤ least f n) (sym e) here
+
+greatest_rises : (f : ℕ → ℤ) (n k : ℕ) → greatest f n ≤ℤ greatest f (k + n)
+greatest_rises f n zero = let e : zero + n ≡ n = omega arith in rw e (omega (arith, ints))
+greatest_rises f n (suc k) =
+    let before = greatest_rises f n k in
+    let e : suc k + n ≡ suc (k + n) = omega arith in
+    let here : greatest f n ≤ℤ int_max (greatest f (k + n)) (f (suc (k + n))) = omega (arith, ints, clamps) in
+    subst (λ m. greatest f n ≤ℤ greatest f m) (sym e) here
+
+ends_in_order : (f : ℕ → ℤ) (n : ℕ) → least f n ≤ℤ greatest f n
+ends_in_order f n = let a = least_last f n in let b = greatest_last f n in omega (arith, ints)
+
+-- the span only grows
+pub span_grows : (table : Table) (m n : ℕ) → m ≤ n → span table m ≤ span table n
+span_grows table m n h =
+    let e : (n - m) + m ≡ n = omega arith in
+    let low = least_falls (seat table) m (n - m) in
+    let high = greatest_rises (seat table) m (n - m) in
+    subst (λ k. span table m ≤ span table k) e (places_wider _ _ _ _ (ends_in_order (seat table) m) low high)
+
+pub span-start : (table : Table) → span table 0 ≡ 1
+span-start table = rw seat-start refl
+
+-- a runner's tape has room for the span
+pub span_fits : (table : Table) (runner : Runner) (strip : Strip) → Stands table runner strip → IsSound strip → span table runner.steps ≤ strip.limit
+span_fits table runner strip stands sound =
+    let a = sound.from_zero in
+    let b = sound.to_zero in
+    let d = sound.within in
+    let n = places-is strip.low strip.high (omega (arith, ints)) in
+    let e : span table runner.steps ≡ places strip.low strip.high = rw (stands.window_low, stands.window_high, stands.low, stands.high) refl in
+    omega (arith, ints, e)
+
+pub inside_here : (table : Table) (runner : Runner) (strip : Strip) (steps cells : ℕ) → Stands table runner strip → IsSound strip → strip.limit ≡ cells → runner.steps ≤ steps → Inside table steps cells runner.steps
+inside_here table runner strip steps cells stands sound limit few = record {
+  here = _;
+  exists = stands.at;
+  within_steps = few;
+  within_cells = let fits = span_fits table runner strip stands sound in omega (arith, fits, limit);
+}
+
+module _ (table : Table) (steps cells n : ℕ) (inside : Inside table steps cells n) where
+  pub halts_last : HaltsAt table n → IsLastInside table steps cells n
+  halts_last halts = record { inside = inside; greatest = λ m other. halt_is_last table n m other.here halts other.exists }
+
+  pub steps_last : n ≡ steps → IsLastInside table steps cells n
+  steps_last e = record { inside = inside; greatest = λ m other. omega (arith, e, other.within_steps) }
+
+  below : (m : ℕ) → cells < span table (n + 1) → span table m ≤ cells → m ≤ n
+  below m wide narrow = not_above (λ beyond. let grows = span_grows table (n + 1) m (omega (arith, beyond)) in omega (arith, grows, wide, narrow)) where
+    not_above : (n < m → ⊥) → m ≤ n
+    not_above never = omega (arith, never)
+
+  pub cells_last : cells < span table (n + 1) → IsLastInside table steps cells n
+  cells_last wide = record { inside = inside; greatest = λ m other. below m wide other.within_cells }
+
+  -- where the last step inside is no halt, no step inside is
+  pub no_halt_inside : IsLastInside table steps cells n → (HaltsAt table n → ⊥) → (m : ℕ) → HaltsInside table steps cells m → ⊥
+  no_halt_inside last goes m halts =
+      let most = last.greatest m halts.inside in
+      let least = halt_is_last table m n inside.here halts.halts inside.exists in
+      let same : m ≡ n = omega arith in
+      goes (subst (λ k. HaltsAt table k) same halts.halts)
+
+  pub wide_at_end : cells < span table (n + 1) → n ≢ steps → cells < span table steps
+  wide_at_end wide apart =
+      let grows = span_grows table (n + 1) steps (omega (arith, apart, inside.within_steps)) in
+      omega (arith, grows, wide)
+
+-- the meter of a run that has not stepped
+pub counted-start : (meter : Meter) (table : Table) → record meter { most_cells = max meter.most_cells 1 } ≡ counted meter 0 (span table 0)
+counted-start meter table = rw span-start (ap (λ n. record meter { steps = n; most_cells = max meter.most_cells 1 }) (omega arith))
+
+-- one step more
+pub counted-next : (meter : Meter) (n a b : ℕ) → a ≤ b → stepped (counted meter n a) b ≡ counted meter (n + 1) b
+counted-next meter n a b h = both _ _ _ _ (omega arith) (omega arith) where
+  both : (i j k l : ℕ) → i ≡ j → k ≡ l → record meter { steps = i; most_cells = k } ≡ record meter { steps = j; most_cells = l }
+  both i j k l e d = cc
+
+module _ (table : Table) (runner : Runner) (strip : Strip) (steps cells : ℕ) (stands : Stands table runner strip) (inside : Inside table steps cells runner.steps) where
+  -- a runner that stands at a halt
+  pub halted_end : HaltsAt table runner.steps → (n ones : ℕ) → n ≡ runner.steps → ones ≡ score strip.content → HaltsInside table steps cells n × IsScore table n ones
+  halted_end halts n ones e counted_is =
+      let P : ℕ → Type 0 = λ k. HaltsInside table steps cells k × IsScore table k ones in
+      subst P (sym e) (record { halts = halts; inside = inside }, record { here = _; exists = stands.at; counted = counted_is })
+
+  -- the run is counted where it ended
+  pub counts_end : (old new : Meter) → IsLastInside table steps cells runner.steps → new ≡ counted old runner.steps (span table runner.steps) → CountsRun table steps cells old new
+  counts_end old new last meter = record { last = runner.steps; is_last = last; meter = meter }

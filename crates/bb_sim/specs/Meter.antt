@@ -1,0 +1,34 @@
+-- What is counted: this project's own.
+use Rattle.std.specs.Prelude.{◌≡◌, ℕ, ◌+◌, ◌≤◌, max}
+use Rattle.bb_sim.specs.declared.meter.Meter.{Meter}
+use Rattle.bb_sim.specs.Configuration.{Table}
+use Rattle.bb_sim.specs.Span.{span, IsLastInside}
+
+-- nothing counted
+abbrev pub zero_meter : Meter
+zero_meter = record { steps = 0; most_cells = 0; nodes = 0; most_levels = 0 }
+
+-- one step more, and a window of so many cells seen
+abbrev pub stepped : Meter → ℕ → Meter
+stepped meter cells = record meter { steps = meter.steps + 1; most_cells = max meter.most_cells cells }
+
+-- so many steps more, and a window of so many cells seen
+abbrev pub counted : Meter → ℕ → ℕ → Meter
+counted meter steps cells = record meter { steps = meter.steps + steps; most_cells = max meter.most_cells cells }
+
+-- a whole run within limits was counted: the steps up to the last one inside, and the cells of its span
+pub record CountsRun (table : Table) (steps cells : ℕ) (old new : Meter) : Type 0 where
+  pub last : ℕ
+  pub is_last : IsLastInside table steps cells last
+  pub meter : new ≡ counted old last (span table last)
+
+-- no more than a run within limits was counted
+pub record IsWithinRun (most_steps cells : ℕ) (old new : Meter) : Type 0 where
+  pub steps : new.steps ≤ old.steps + most_steps
+  pub most_cells : new.most_cells ≤ max old.most_cells cells
+  pub nodes : new.nodes ≡ old.nodes
+  pub most_levels : new.most_levels ≡ old.most_levels
+
+-- the greater of each count
+abbrev pub greatest_of : Meter → Meter → Meter
+greatest_of a b = record { steps = max a.steps b.steps; most_cells = max a.most_cells b.most_cells; nodes = max a.nodes b.nodes; most_levels = max a.most_levels b.most_levels }

@@ -1,0 +1,12 @@
+//! Runs a machine step by step on any tape, within limits, and counts what it does.
+#![tactic(auto)]
+
+pub mod meter;
+pub mod runner;
+pub mod simulate;
+#[cfg(test)]
+mod tests;
+
+pub use meter::Meter;
+pub use runner::{Moved, Runner};
+pub use simulate::Outcome;

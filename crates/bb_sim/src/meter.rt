@@ -1,0 +1,41 @@
+ghost use Rattle.std.specs.Prelude.{◌≡◌};
+ghost use Rattle.bb_sim.specs.Meter.{greatest_of, zero_meter};
+
+/// What the runs and walks under one meter have cost so far.
+#[derive(Clone, Copy, Debug, PartialEq, Eq)]
+pub struct Meter {
+    /// Steps made.
+    pub steps: u64,
+    /// The widest window of a run, in cells.
+    pub most_cells: u64,
+    /// Nodes of the backward tree that were entered.
+    pub nodes: u64,
+    /// The most levels of the backward tree that were entered.
+    pub most_levels: u64,
+}
+
+impl Meter {
+    /// Nothing counted yet.
+    pub fn new() -> Meter
+        ensures { result ≡ zero_meter }
+    {
+        Meter {
+            steps: 0,
+            most_cells: 0,
+            nodes: 0,
+            most_levels: 0,
+        }
+    }
+
+    /// The greater of each count.
+    pub fn greatest(self, other: Meter) -> Meter
+        ensures { result ≡ greatest_of self other }
+    {
+        Meter {
+            steps: self.steps.max(other.steps),
+            most_cells: self.most_cells.max(other.most_cells),
+            nodes: self.nodes.max(other.nodes),
+            most_levels: self.most_levels.max(other.most_levels),
+        }
+    }
+}

@@ -1,0 +1,54 @@
+ghost use Rattle.std.specs.Prelude.{◌≡◌, ◌+◌, ◌<◌, ◌≤◌, ◌^◌, IfOk, IsTrue, OnErr, OnOk};
+ghost use Rattle.bb_sim.specs.Meter.{CountsRun, IsWithinRun};
+ghost use Rattle.bb_sim.specs.Outcome.{IsOutcome};
+
+use crate::meter::Meter;
+use crate::runner::{Moved, Runner};
+use bb_machine::{Limits, Machine};
+use bb_tape::{Memory, Tape};
+
+/// How a simulation within limits ends.
+#[derive(Clone, Copy, Debug, PartialEq, Eq)]
+pub enum Outcome {
+    /// The machine halts after so many steps, with so many cells that aren't 0.
+    Halt { steps: u64, score: u64 },
+    /// It doesn't halt within the steps.
+    NoSteps,
+    /// It doesn't halt within the steps, and would pass the cells.
+    NoCells,
+}
+
+/// Runs a machine from its start until it halts or a limit is met.
+///
+/// After an error nothing is said of what the tape holds; the next run resets it.
+pub fn simulate<T: Tape>(
+    machine: &Machine,
+    tape: &mut T,
+    limits: &Limits,
+    meter: &mut Meter,
+) -> Result<Outcome, Memory>
+    requires limit { (T.strip tape.old).limit ≡ limits.now.cells }
+    requires room { meter.old.steps + limits.now.steps + 1 < 2 ^ 64 }
+    ensures outcome { IfOk result (IsOutcome machine.now limits.now.steps limits.now.cells) }
+    ensures counted { OnOk result (CountsRun machine.now limits.now.steps limits.now.cells meter.old meter.new) }
+    ensures within { IsWithinRun limits.now.steps limits.now.cells meter.old meter.new }
+    ensures limit { (T.strip tape.new).limit ≡ (T.strip tape.old).limit }
+    ensures memory { OnErr result (IsTrue T.GROWS) }
+{
+    let mut runner = Runner::start(machine, tape);
+    let _accepted = limits.steps();
+    meter.most_cells = meter.most_cells.max(1);
+    loop {
+        match runner.advance(machine, tape, limits, meter)? {
+            Moved::Stepped => {}
+            Moved::Halted => {
+                return Ok(Outcome::Halt {
+                    steps: runner.steps(),
+                    score: tape.score(),
+                });
+            }
+            Moved::NoSteps => return Ok(Outcome::NoSteps),
+            Moved::NoCells => return Ok(Outcome::NoCells),
+        }
+    }
+}

@@ -1,0 +1,109 @@
+-- What the calls on a ring do to its cells.
+use Rattle.std.proofs.Common.{◌≡◌, ◌≢◌, ◌⊎◌, inl, inr, ℕ, ◌<◌, ◌≤◌, ℤ, pos, ◌+ℤ◌, ◌≤ℤ◌, ◌<ℤ◌, List, Bool, true, false, get_or, set, length, sym, ap, ◌∙◌, arith, get_or-set_same, get_or-set_other}
+use Rattle.std.proofs.lemmas.Int.{ints, clamps, by_lt_z}
+use Rattle.std.specs.Prelude.{unsigned_abs}
+use Rattle.std.specs.Int.{int_min, int_max}
+use Rattle.bb_tape.specs.declared.window.Window.{Window}
+use Rattle.bb_tape.specs.Content.{blank, cell, with_cell}
+use Rattle.bb_tape.specs.Place.{place}
+use Rattle.bb_tape.specs.Ring.{ring_content}
+use Rattle.bb_tape.proofs.Content.{by_place, same_content, cell-blank, cell-with_cell-same, cell-with_cell-other}
+use Rattle.bb_tape.proofs.Places.{place_in, place_below, place_from_zero, place_apart}
+use Rattle.bb_tape.proofs.Rings.{by_window, cell-ring-inside, cell-ring-below, cell-ring-above}
+
+-- the window is the cell 0 alone, which is 0
+pub ring_blank : (cells : List ℕ) (w : Window) → w.low ≡ pos 0 → w.high ≡ pos 0 → get_or cells 0 0 ≡ 0 → ring_content cells w ≡ blank
+ring_blank cells w low high zeroed = same_content _ _ (λ q.
+    by_window w q
+    (λ a b.
+    let up : pos 0 ≤ℤ q = omega (arith, ints, low) in
+    let is : q ≡ pos 0 = omega (arith, ints, low, high) in
+    let at : place w.limit q ≡ 0 = sym (place_from_zero w.low w.high w.limit w.valid q a b up) ∙ ap unsigned_abs is in
+    cell-ring-inside cells w q a b ∙ ap (λ k. get_or cells k 0) at ∙ zeroed ∙ sym (cell-blank q))
+    (λ below. cell-ring-below cells w q below ∙ sym (cell-blank q))
+    (λ above. cell-ring-above cells w q above ∙ sym (cell-blank q)))
+
+-- a write at a cell's place is a write to the cell
+pub ring_written : (cells : List ℕ) (w : Window) (p : ℤ) (v : ℕ) → length cells ≡ w.limit → w.low ≤ℤ p → p ≤ℤ w.high → ring_content (set cells (place w.limit p) v) w ≡ with_cell (ring_content cells w) p v
+ring_written cells w p v whole low high = same_content _ _ (λ q.
+    by_window w q
+    (λ a b.
+    cell-ring-inside (set cells (place w.limit p) v) w q a b ∙
+    by_place q p _
+    (λ here.
+    let room : place w.limit p < length cells = omega (arith, whole, place_below w.low w.high w.limit w.valid p low high) in
+    ap (λ x. get_or (set cells (place w.limit p) v) (place w.limit x) 0) here ∙ get_or-set_same cells (place w.limit p) v 0 room
+    ∙ sym (ap (cell (with_cell (ring_content cells w) p v)) here ∙ cell-with_cell-same (ring_content cells w) p v))
+    (λ there.
+    get_or-set_other cells (place w.limit p) (place w.limit q) v 0 (place_apart w.low w.high w.limit w.valid p low high q a b there)
+    ∙ sym (cell-with_cell-other (ring_content cells w) p v q there ∙ cell-ring-inside cells w q a b)))
+    (λ below.
+    let other : q ≢ p = λ e. omega (arith, ints, e) in
+    cell-ring-below (set cells (place w.limit p) v) w q below ∙ sym (cell-with_cell-other (ring_content cells w) p v q other ∙ cell-ring-below cells w q below))
+    (λ above.
+    let other : q ≢ p = λ e. omega (arith, ints, e) in
+    cell-ring-above (set cells (place w.limit p) v) w q above ∙ sym (cell-with_cell-other (ring_content cells w) p v q other ∙ cell-ring-above cells w q above)))
+
+-- the same cells in a window of the same places
+pub ring_same : (cells dells : List ℕ) (w : Window) → ((q : ℤ) → w.low ≤ℤ q → q ≤ℤ w.high → get_or cells (place w.limit q) 0 ≡ get_or dells (place w.limit q) 0) → ring_content cells w ≡ ring_content dells w
+ring_same cells dells w alike = same_content _ _ (λ q.
+    by_window w q
+    (λ a b. cell-ring-inside cells w q a b ∙ alike q a b ∙ sym (cell-ring-inside dells w q a b))
+    (λ below. cell-ring-below cells w q below ∙ sym (cell-ring-below dells w q below))
+    (λ above. cell-ring-above cells w q above ∙ sym (cell-ring-above dells w q above)))
+
+-- the places of a wider window other than the new one
+still_from : (w v : Window) (p : ℤ) → (p <ℤ w.low) ⊎ (w.high <ℤ p) → w.low ≤ℤ (p +ℤ pos 1) → v.low ≡ int_min w.low p → (q : ℤ) → v.low ≤ℤ q → q ≢ p → w.low ≤ℤ q
+still_from w v p outside from low q a other =
+    by_lt_z q w.low
+    (λ lt. elim outside [
+      | inl below ↦ absurd (let here : q ≡ p = omega (arith, ints, clamps, below) in other here)
+      | inr above ↦ absurd (omega (arith, ints, clamps, above))
+    ])
+    (λ ge. ge)
+
+still_to : (w v : Window) (p : ℤ) → (p <ℤ w.low) ⊎ (w.high <ℤ p) → p ≤ℤ (w.high +ℤ pos 1) → v.high ≡ int_max w.high p → (q : ℤ) → q ≤ℤ v.high → q ≢ p → q ≤ℤ w.high
+still_to w v p outside to high q b other =
+    by_lt_z w.high q
+    (λ lt. elim outside [
+      | inl below ↦ absurd (omega (arith, ints, clamps, below))
+      | inr above ↦ absurd (let here : q ≡ p = omega (arith, ints, clamps, above) in other here)
+    ])
+    (λ ge. ge)
+
+-- the window is let in one more cell, which is 0
+pub ring_wider : (cells : List ℕ) (w v : Window) (p : ℤ) → length cells ≡ w.limit → v.limit ≡ w.limit → (p <ℤ w.low) ⊎ (w.high <ℤ p) → w.low ≤ℤ (p +ℤ pos 1) → p ≤ℤ (w.high +ℤ pos 1) → v.low ≡ int_min w.low p → v.high ≡ int_max w.high p → ring_content (set cells (place v.limit p) 0) v ≡ ring_content cells w
+ring_wider cells w v p whole limit outside from to low high = same_content _ _ (λ q.
+    let pfrom : v.low ≤ℤ p = omega (arith, ints, clamps) in
+    let pto : p ≤ℤ v.high = omega (arith, ints, clamps) in
+    by_window v q
+    (λ a b.
+    cell-ring-inside (set cells (place v.limit p) 0) v q a b ∙
+    by_place q p _
+    (λ here.
+    let room : place v.limit p < length cells = omega (arith, whole, limit, place_below v.low v.high v.limit v.valid p pfrom pto) in
+    ap (λ x. get_or (set cells (place v.limit p) 0) (place v.limit x) 0) here ∙ get_or-set_same cells (place v.limit p) 0 0 room
+    ∙ sym (elim outside [
+      | inl below ↦ cell-ring-below cells w q (omega (arith, ints, here, below))
+      | inr above ↦ cell-ring-above cells w q (omega (arith, ints, here, above))
+    ]))
+    (λ there.
+    let in_low : w.low ≤ℤ q = still_from w v p outside from low q a there in
+    let in_high : q ≤ℤ w.high = still_to w v p outside to high q b there in
+    get_or-set_other cells (place v.limit p) (place v.limit q) 0 0 (place_apart v.low v.high v.limit v.valid p pfrom pto q a b there)
+    ∙ ap (λ n. get_or cells (place n q) 0) limit ∙ sym (cell-ring-inside cells w q in_low in_high)))
+    (λ below. cell-ring-below (set cells (place v.limit p) 0) v q below ∙ sym (cell-ring-below cells w q (omega (arith, ints, clamps))))
+    (λ above. cell-ring-above (set cells (place v.limit p) 0) v q above ∙ sym (cell-ring-above cells w q (omega (arith, ints, clamps)))))
+
+-- what is copied of another ring: all before `front`, and all from `back` on
+pub ring_copied : (cells dells : List ℕ) (w : Window) (front back : ℕ) → pos front ≡ w.high +ℤ pos 1 → pos back ≡ w.low +ℤ pos w.limit → ((k : ℕ) → k < front → get_or cells k 0 ≡ get_or dells k 0) → ((k : ℕ) → back ≤ k → get_or cells k 0 ≡ get_or dells k 0) → ring_content cells w ≡ ring_content dells w
+ring_copied cells dells w front back ef eb low high = ring_same cells dells w (λ q a b.
+    elim (place_in w.low w.high w.limit w.valid q a b) [
+      | inl c ↦ low (place w.limit q) (omega (arith, ints, c.1))
+      | inr c ↦ high (place w.limit q) (omega (arith, ints, c.1))
+    ])
+
+-- a place that isn't in the window
+pub outside_from : (w : Window) (p p' : ℤ) (b : Bool) → p' ≡ p → ((w.low ≤ℤ p') × (p' ≤ℤ w.high) → b ≡ true) → b ≡ false → (p <ℤ w.low) ⊎ (w.high <ℤ p)
+outside_from w p p' b same told is =
+    by_lt_z p w.low inl (λ from. by_lt_z w.high p inr (λ to. absurd (let found : b ≡ true = told (omega (arith, ints, same, from), omega (arith, ints, same, to)) in cc)))

@@ -1,0 +1,7 @@
+pub mod Content
+pub mod Strip
+pub mod Window
+pub mod Windowed
+pub mod Entries
+pub mod Place
+pub mod Ring

@@ -1,0 +1,14 @@
+//! The tape of a small Turing machine: one trait with laws, and the tapes that meet it.
+#![tactic(auto)]
+
+mod kernels;
+pub mod map;
+pub mod ring;
+pub mod tape;
+#[cfg(test)]
+mod tests;
+mod window;
+
+pub use map::MapTape;
+pub use ring::RingTape;
+pub use tape::{MOST_CELLS, Memory, Tape, TapeFault};

@@ -1,0 +1,147 @@
+//! A tape kept as an ordered map of the cells that aren't 0.
+
+ghost use Rattle.std.specs.Prelude.{◌≡◌, ◌↔◌, ◌≤◌, ◌<◌, Bool, true, IsTrue, OnErr, OnOk, pos, ◌+ℤ◌, ◌≤ℤ◌};
+ghost use Rattle.bb_tape.specs.Content.{cell, score};
+ghost use Rattle.bb_tape.specs.Strip.{fresh, IsSound};
+ghost use Rattle.bb_tape.specs.Windowed.{strip_of};
+ghost use Rattle.bb_tape.specs.Entries.{content_of};
+
+use crate::tape::{MOST_CELLS, Tape, TapeFault};
+use crate::window::Window;
+use std::alloc::{AllocError, Allocator, Global};
+use std::collections::BTreeMap;
+
+/// A tape that keeps the cells that aren't 0, and takes memory as they come.
+#[derive(Drop)]
+pub struct MapTape<A: Allocator = Global> {
+    /// The number k at a place stands for the symbol k + 1.
+    cells: BTreeMap<i64, u8, A>,
+    window: Window,
+    ghost sound: { IsSound (strip_of (content_of cells.entries) window) },
+}
+
+impl MapTape {
+    /// A blank tape whose window is the cell 0, and may have up to `s` cells. It takes no memory.
+    pub fn new(alloc: Global, s: u64) -> MapTape
+        requires some { 0 < s }
+        requires most { s ≤ MOST_CELLS }
+        ensures { ⟦<MapTape as Tape>⟧.strip result ≡ fresh s }
+    {
+        MapTape::new_in(alloc, s)
+    }
+}
+
+impl<A: Allocator + Clone + Drop> MapTape<A> {
+    /// The same with any allocator.
+    pub fn new_in(alloc: A, s: u64) -> MapTape<A>
+        requires some { 0 < s }
+        requires most { s ≤ MOST_CELLS }
+        ensures { ⟦<MapTape<A> as Tape>⟧.strip result ≡ fresh s }
+    {
+        MapTape {
+            cells: BTreeMap::new(alloc),
+            window: Window::new(s),
+        }
+    }
+
+    /// The symbol `k` places above `from`, both in the window.
+    fn symbol_after(&self, from: i64, k: u64) -> u8
+        requires begins { self.now.window.low ≤ℤ from }
+        requires ends { (from +ℤ pos k) ≤ℤ self.now.window.high }
+        ensures { result ≡ cell (content_of self.now.cells.entries) (from +ℤ pos k) }
+    {
+        self.read(from + k as i64)
+    }
+}
+
+/// Puts the entries of another map in place of a map's own.
+fn copy_entries<A: Allocator + Clone>(
+    to: &mut BTreeMap<i64, u8, A>,
+    from: &BTreeMap<i64, u8, A>,
+) -> Result<(), AllocError>
+    ensures { OnOk result (to.new.entries ≡ from.now.entries) }
+{
+    to.clear();
+    to.extend(from)
+}
+
+impl<A: Allocator + Clone + Drop> Tape for MapTape<A> {
+    ghost strip = { λ t. strip_of (content_of t.cells.entries) t.window };
+
+    ghost GROWS = { true };
+
+    const GROWS: bool = true;
+
+    ghost sound = { λ t. t.sound };
+
+    fn reset(&mut self) {
+        self.cells.clear();
+        self.window = Window::new(self.window.limit);
+    }
+
+    fn visit(&mut self, p: i64) -> Result<(), TapeFault> {
+        match self.window.widened(p) {
+            Some(window) => {
+                self.window = window;
+                Ok(())
+            }
+            None => Err(TapeFault::Cells),
+        }
+    }
+
+    fn read(&self, p: i64) -> u8 {
+        match self.cells.get(&p) {
+            Some(k) => *k + 1,
+            None => 0,
+        }
+    }
+
+    fn write(&mut self, p: i64, v: u8) -> Result<(), TapeFault> {
+        if v == 0 {
+            self.cells.remove(&p);
+            return Ok(());
+        }
+        match self.cells.insert(p, v - 1) {
+            Ok(_) => Ok(()),
+            Err(_) => Err(TapeFault::Memory),
+        }
+    }
+
+    fn copy_from(&mut self, other: &Self) -> Result<(), TapeFault> {
+        if copy_entries(&mut self.cells, &other.cells).is_err() {
+            self.cells.clear();
+            return Err(TapeFault::Memory);
+        }
+        self.window = other.window;
+        Ok(())
+    }
+
+    fn agrees(&self, from: i64, other: &Self, other_from: i64, len: u64) -> bool {
+        for k in 0..len {
+            if self.symbol_after(from, k) != other.symbol_after(other_from, k) {
+                return false;
+            }
+        }
+        true
+    }
+
+    fn same(&self, other: &Self) -> bool {
+        self.cells.len() == other.cells.len() && self.cells == other.cells
+    }
+
+    fn score(&self) -> u64 {
+        self.cells.len() as u64
+    }
+
+    fn low(&self) -> i64 {
+        self.window.low
+    }
+
+    fn high(&self) -> i64 {
+        self.window.high
+    }
+
+    fn limit(&self) -> u64 {
+        self.window.limit
+    }
+}

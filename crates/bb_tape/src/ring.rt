@@ -1,0 +1,211 @@
+//! A tape kept as a ring of exactly as many cells as the window may have.
+
+ghost use Rattle.std.specs.Prelude.{◌≡◌, ◌↔◌, ◌≤◌, ◌<◌, ◌++◌, ℕ, Bool, false, IsTrue, IfOk, OnErr, OnOk, length, slice_index, pos, ◌+ℤ◌, ◌-ℤ◌, ◌≤ℤ◌, ◌<ℤ◌, ℤ, ◌⊎◌};
+ghost use Rattle.bb_tape.specs.Content.{cell, score};
+ghost use Rattle.bb_tape.specs.Strip.{fresh, IsSound, IsStretch};
+ghost use Rattle.bb_tape.specs.Windowed.{strip_of};
+ghost use Rattle.bb_tape.specs.Ring.{ring_content, symbols};
+
+use crate::kernels::{count_nonzero, equal};
+use crate::tape::{MOST_CELLS, Memory, Tape, TapeFault};
+use crate::window::Window;
+use std::alloc::Global;
+
+/// A tape of a fixed number of cells, made once: it takes no memory after that.
+/// Cell p stands at place p modulo the number of cells, so the cells below 0 are the last of the ring.
+/// What a place outside the window has is of no account: a cell is cleared when the window lets it in.
+#[derive(Drop)]
+pub struct RingTape {
+    cells: Vec<u8>,
+    window: Window,
+    ghost whole: { length cells.items ≡ window.limit },
+    ghost sound: { IsSound (strip_of (ring_content cells.items window) window) },
+}
+
+impl RingTape {
+    /// A blank tape whose window is the cell 0, and may have up to `s` cells.
+    pub fn new(alloc: Global, s: u64) -> Result<RingTape, Memory>
+        requires some { 0 < s }
+        requires most { s ≤ MOST_CELLS }
+        ensures { IfOk result (λ tape. ⟦<RingTape as Tape>⟧.strip tape ≡ fresh s) }
+    {
+        match vec![in alloc; 0u8; s as usize] {
+            Ok(cells) => Ok(RingTape {
+                cells,
+                window: Window::new(s),
+            }),
+            Err(_) => Err(Memory),
+        }
+    }
+
+    /// The cells from `from` on, those below 0 and then the others. `from` and the cells are in the window.
+    fn pieces(&self, from: i64, len: u64) -> (&[u8], &[u8])
+        requires { IsStretch (strip_of (ring_content self.now.cells.items self.now.window) self.now.window) from len }
+        ensures { result.0.now ++ result.1.now ≡ symbols (ring_content self.now.cells.items self.now.window) from len }
+    {
+        let len = len as usize;
+        let cells = self.cells.as_slice();
+        if len == 0 {
+            return (&cells[..0], &cells[..0]);
+        }
+        let at = self.window.place(from);
+        let first = len.min(cells.len() - at);
+        (&cells[at..at + first], &cells[..len - first])
+    }
+
+    /// Whether the cells from `from` on are all 0.
+    fn is_blank(&self, from: i64, len: u64) -> bool
+        requires { IsStretch (strip_of (ring_content self.now.cells.items self.now.window) self.now.window) from len }
+        ensures { IsTrue result ↔ ((k : ℕ) → k < len → cell (ring_content self.now.cells.items self.now.window) (from +ℤ pos k) ≡ 0) }
+    {
+        let (first, second) = self.pieces(from, len);
+        count_nonzero(first) == 0 && count_nonzero(second) == 0
+    }
+}
+
+impl RingTape {
+    /// Whether all cells outside a part of the window are 0.
+    fn is_blank_outside(&self, part: Window) -> bool
+        requires low { self.now.window.low ≤ℤ part.low }
+        requires high { part.high ≤ℤ self.now.window.high }
+        ensures { IsTrue result ↔ ((p : ℤ) → ((p <ℤ part.low) ⊎ (part.high <ℤ p)) → cell (ring_content self.now.cells.items self.now.window) p ≡ 0) }
+    {
+        self.is_blank(self.window.low, self.window.below(&part))
+            && self.is_blank(part.high + 1, self.window.above(&part))
+    }
+}
+
+/// Whether two lists of bytes are equal, each of which stands in two pieces: a and then b, c and then d.
+fn equal_in_pieces(a: &[u8], b: &[u8], c: &[u8], d: &[u8]) -> bool
+    requires { length (a.now ++ b.now) ≡ length (c.now ++ d.now) }
+    ensures { IsTrue result ↔ (a.now ++ b.now ≡ c.now ++ d.now) }
+{
+    if a.len() <= c.len() {
+        equal_from_shorter(a, b, c, d)
+    } else {
+        equal_from_shorter(c, d, a, b)
+    }
+}
+
+/// The same where the first piece of the one is no longer than that of the other.
+fn equal_from_shorter(a: &[u8], b: &[u8], c: &[u8], d: &[u8]) -> bool
+    requires shorter { length a.now ≤ length c.now }
+    requires both { length (a.now ++ b.now) ≡ length (c.now ++ d.now) }
+    ensures { IsTrue result ↔ (a.now ++ b.now ≡ c.now ++ d.now) }
+{
+    let (front, middle) = c.split_at(a.len());
+    equal(a, front) && equal_to_joined(b, middle, d)
+}
+
+/// Whether the bytes are those of c and then those of d.
+fn equal_to_joined(b: &[u8], c: &[u8], d: &[u8]) -> bool
+    requires { length b.now ≡ length (c.now ++ d.now) }
+    ensures { IsTrue result ↔ (b.now ≡ c.now ++ d.now) }
+{
+    let (first, last) = b.split_at(c.len());
+    equal(first, c) && equal(last, d)
+}
+
+/// Copies the bytes before `front` and those from `back` on.
+fn copy_ends(to: &mut [u8], from: &[u8], front: usize, back: usize)
+    requires same { length to.old ≡ length from.now }
+    requires front { front ≤ length from.now }
+    requires back { back ≤ length from.now }
+    ensures front { (k : ℕ) → k < front → slice_index to.new k ≡ slice_index from.now k }
+    ensures back { (k : ℕ) → back ≤ k → slice_index to.new k ≡ slice_index from.now k }
+    ensures length { length to.new ≡ length to.old }
+{
+    to[..front].copy_from_slice(&from[..front]);
+    to[back..].copy_from_slice(&from[back..]);
+}
+
+impl Tape for RingTape {
+    ghost strip = { λ t. strip_of (ring_content t.cells.items t.window) t.window };
+
+    ghost GROWS = { false };
+
+    const GROWS: bool = false;
+
+    ghost sound = { λ t. t.sound };
+
+    fn reset(&mut self) {
+        self.cells[0] = 0;
+        self.window = Window::new(self.window.limit);
+    }
+
+    #[inline]
+    fn visit(&mut self, p: i64) -> Result<(), TapeFault> {
+        if self.window.has(p) {
+            return Ok(());
+        }
+        match self.window.widened(p) {
+            Some(window) => {
+                self.cells[window.place(p)] = 0;
+                self.window = window;
+                Ok(())
+            }
+            None => Err(TapeFault::Cells),
+        }
+    }
+
+    #[inline]
+    fn read(&self, p: i64) -> u8 {
+        if self.window.has(p) {
+            self.cells[self.window.place(p)]
+        } else {
+            0
+        }
+    }
+
+    #[inline]
+    fn write(&mut self, p: i64, v: u8) -> Result<(), TapeFault> {
+        let at = self.window.place(p);
+        self.cells[at] = v;
+        Ok(())
+    }
+
+    fn copy_from(&mut self, other: &Self) -> Result<(), TapeFault> {
+        let window = other.window;
+        copy_ends(
+            self.cells.as_mut_slice(),
+            other.cells.as_slice(),
+            window.upper(),
+            window.lower_at(),
+        );
+        self.window = window;
+        Ok(())
+    }
+
+    fn agrees(&self, from: i64, other: &Self, other_from: i64, len: u64) -> bool {
+        let (a, b) = self.pieces(from, len);
+        let (c, d) = other.pieces(other_from, len);
+        equal_in_pieces(a, b, c, d)
+    }
+
+    fn same(&self, other: &Self) -> bool {
+        let shared = self.window.shared(&other.window);
+        self.agrees(shared.low, other, shared.low, shared.width())
+            && self.is_blank_outside(shared)
+            && other.is_blank_outside(shared)
+    }
+
+    fn score(&self) -> u64 {
+        let (first, second) = self.pieces(self.window.low, self.window.width());
+        (count_nonzero(first) + count_nonzero(second)) as u64
+    }
+
+    #[inline]
+    fn low(&self) -> i64 {
+        self.window.low
+    }
+
+    #[inline]
+    fn high(&self) -> i64 {
+        self.window.high
+    }
+
+    #[inline]
+    fn limit(&self) -> u64 {
+        self.window.limit
+    }
+}

@@ -1,0 +1,99 @@
+//! A tape as its users see it, and why a call on one may be refused.
+
+ghost use Rattle.std.specs.Prelude.{◌≡◌, ◌↔◌, ◌≤◌, Bool, IfErr, IsTrue, OnErr, OnOk, pos, ◌<ℤ◌};
+ghost use Rattle.bb_tape.specs.Content.{cell, score};
+ghost use Rattle.bb_tape.specs.Strip.{Strip, fresh, visited, written, width, IsInside, IsBeside, IsStretch, AgreesFrom, IsSound};
+
+/// The greatest limit that a tape may have.
+pub const MOST_CELLS: u64 = 67_108_864;
+
+/// A growth was refused.
+#[derive(thiserror::Error, Debug, Drop)]
+#[error("out of memory")]
+pub struct Memory;
+
+/// Why a call on a tape was refused.
+#[derive(thiserror::Error, Debug, Drop)]
+pub enum TapeFault {
+    /// The window would have more places than the tape's limit.
+    #[error("the tape has no more cells")]
+    Cells,
+    /// A growth was refused.
+    #[error("out of memory")]
+    Memory,
+}
+
+/// A tape that is endless both ways, of which a window of a limited number of cells may be visited.
+/// Positions are signed, and a new tape's window is the cell 0 alone. A cell is a symbol from 0 to 10.
+///
+/// There is no way to make a tape here, nor to clone one: who is generic over it has only the tapes that it was lent.
+pub trait Tape: Drop {
+    /// The cells, the window and the limit.
+    ghost strip: { Self → Strip };
+
+    ghost GROWS: { Bool };
+
+    /// Whether a call may take memory. No call answers `Memory` where it is false.
+    const GROWS: bool;
+
+    /// Makes every cell 0 and the window the cell 0 alone.
+    fn reset(&mut self)
+        ensures { strip self.new ≡ fresh (strip self.old).limit };
+
+    /// Widens the window to a cell in it or next to it.
+    /// `Cells` where it would then have more cells than the limit; it never takes memory.
+    fn visit(&mut self, p: i64) -> Result<(), TapeFault>
+        requires { IsBeside (strip self.old) p }
+        ensures ok { OnOk result (strip self.new ≡ visited (strip self.old) p) }
+        ensures err { OnErr result (strip self.new ≡ strip self.old) }
+        ensures cells { (result ≡ Err TapeFault.Cells) ↔ (pos (strip self.old).limit <ℤ width (visited (strip self.old) p)) }
+        ensures memory { IfErr result (λ fault. fault ≡ TapeFault.Cells) };
+
+    /// The symbol of any cell, 0 outside the window.
+    fn read(&self, p: i64) -> u8
+        ensures { result ≡ cell (strip self.now).content p };
+
+    /// Puts a symbol into a cell of the window. It is never refused for want of cells.
+    fn write(&mut self, p: i64, v: u8) -> Result<(), TapeFault>
+        requires inside { IsInside (strip self.old) p }
+        requires symbol { v ≤ 10 }
+        ensures ok { OnOk result (strip self.new ≡ written (strip self.old) p v) }
+        ensures err { OnErr result (strip self.new ≡ strip self.old) }
+        ensures only_memory { OnErr result ((result ≡ Err TapeFault.Memory) × IsTrue GROWS) };
+
+    /// Takes over the cells and the window of another tape with the same limit.
+    /// After `Memory` the tape has to be reset before it is used.
+    fn copy_from(&mut self, other: &Self) -> Result<(), TapeFault>
+        requires { (strip self.old).limit ≡ (strip other.now).limit }
+        ensures ok { OnOk result (strip self.new ≡ strip other.now) }
+        ensures limit { (strip self.new).limit ≡ (strip self.old).limit }
+        ensures only_memory { OnErr result ((result ≡ Err TapeFault.Memory) × IsTrue GROWS) };
+
+    /// Whether `len` cells from `from` on have the symbols of those of the other tape from `other_from` on.
+    fn agrees(&self, from: i64, other: &Self, other_from: i64, len: u64) -> bool
+        requires here { IsStretch (strip self.now) from len }
+        requires there { IsStretch (strip other.now) other_from len }
+        ensures { IsTrue result ↔ AgreesFrom (strip self.now).content from (strip other.now).content other_from len };
+
+    /// Whether all cells are the same, whatever the windows.
+    fn same(&self, other: &Self) -> bool
+        ensures { IsTrue result ↔ ((strip self.now).content ≡ (strip other.now).content) };
+
+    /// How many cells aren't 0.
+    fn score(&self) -> u64
+        ensures { result ≡ score (strip self.now).content };
+
+    /// The lowest place of the window.
+    fn low(&self) -> i64
+        ensures { result ≡ (strip self.now).low };
+
+    /// The highest place of the window.
+    fn high(&self) -> i64
+        ensures { result ≡ (strip self.now).high };
+
+    /// The most cells that the window may have.
+    fn limit(&self) -> u64
+        ensures { result ≡ (strip self.now).limit };
+
+    ghost sound: { (t : Self) → IsSound (strip t) };
+}
