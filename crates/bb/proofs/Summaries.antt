@@ -44,15 +44,15 @@ sums_machine one steps cells line lines old mid new saw rest =
       all_clean = λ e. let r = rest.all_clean e in (sym saw.clean ∙ r.0, (record { table = saw.table; machine = saw.machine; is_text = saw.is_text }, r.1));
       stays_clean = λ e all. rest.stays_clean (saw.clean ∙ e) all.1;
       peak_steps = Rises-over _ line lines _ saw.last _ _
-        (record { table = saw.table; machine = saw.machine; is_text = saw.is_text; is_last = saw.is_last })
-        (λ n other. last other.table n (same other.table other.machine other.is_text) other.is_last)
-        (ap (λ (m : Meter). m.steps) saw.peak ∙ omega arith)
-        rest.peak_steps;
+          (record { table = saw.table; machine = saw.machine; is_text = saw.is_text; is_last = saw.is_last })
+          (λ n other. last other.table n (same other.table other.machine other.is_text) other.is_last)
+          (ap (λ (m : Meter). m.steps) saw.peak ∙ omega arith)
+          rest.peak_steps;
       peak_cells = Rises-over _ line lines _ (span saw.table saw.last) _ _
-        (record { table = saw.table; machine = saw.machine; is_text = saw.is_text; last = saw.last; is_last = saw.is_last; is_span = refl })
-        (λ n other. let e = same other.table other.machine other.is_text in other.is_span ∙ ap (λ t. span t other.last) e ∙ ap (λ k. span saw.table k) (last other.table other.last e other.is_last))
-        (ap (λ (m : Meter). m.most_cells) saw.peak ∙ omega arith)
-        rest.peak_cells;
+          (record { table = saw.table; machine = saw.machine; is_text = saw.is_text; last = saw.last; is_last = saw.is_last; is_span = refl })
+          (λ n other. let e = same other.table other.machine other.is_text in other.is_span ∙ ap (λ t. span t other.last) e ∙ ap (λ k. span saw.table k) (last other.table other.last e other.is_last))
+          (ap (λ (m : Meter). m.most_cells) saw.peak ∙ omega arith)
+          rest.peak_cells;
       nodes = rest.nodes ∙ ap (λ (m : Meter). m.nodes) saw.peak ∙ omega arith;
       levels = rest.levels ∙ ap (λ (m : Meter). m.most_levels) saw.peak ∙ omega arith;
     }

@@ -15,32 +15,32 @@ module _ (line : List ℕ) (kept : ℕ) (enough : FrontIsEnough line kept) where
   reply_of_front : (steps cells : ℕ) (reply : List ℕ) → IsReply steps cells (take kept line) reply → IsReply steps cells line reply
   reply_of_front steps cells reply is = elim is [
     | inl v ↦ inl (record {
-        table = v.table;
-        machine = v.machine;
-        is_text = (enough.same_text v.table v.machine).0 v.is_text;
-        verdict = v.verdict;
-        is_verdict = v.is_verdict;
-        is_reply = v.is_reply;
-      })
+      table = v.table;
+      machine = v.machine;
+      is_text = (enough.same_text v.table v.machine).0 v.is_text;
+      verdict = v.verdict;
+      is_verdict = v.is_verdict;
+      is_reply = v.is_reply;
+    })
     | inr r ↦ inr (record {
-        no_machine = no_machine_of_front r.no_machine;
-        column = r.column;
-        is_column = (enough.same_column r.column).0 r.is_column;
-        is_reply = r.is_reply;
-      })
+      no_machine = no_machine_of_front r.no_machine;
+      column = r.column;
+      is_column = (enough.same_column r.column).0 r.is_column;
+      is_reply = r.is_reply;
+    })
   ]
 
   saw_of_front : (steps cells : ℕ) (old new : Summary) → Saw steps cells old (take kept line) new → Saw steps cells old line new
   saw_of_front steps cells old new is = elim is [
     | inl m ↦ inl (record {
-        table = m.table;
-        machine = m.machine;
-        is_text = (enough.same_text m.table m.machine).0 m.is_text;
-        last = m.last;
-        is_last = m.is_last;
-        clean = m.clean;
-        peak = m.peak;
-      })
+      table = m.table;
+      machine = m.machine;
+      is_text = (enough.same_text m.table m.machine).0 m.is_text;
+      last = m.last;
+      is_last = m.is_last;
+      clean = m.clean;
+      peak = m.peak;
+    })
     | inr r ↦ inr (record { no_machine = no_machine_of_front r.no_machine; clean = r.clean; peak = r.peak })
   ]
 

@@ -74,14 +74,17 @@ pub fn ask(alloc: Global, words: &[&str]) -> Result<Asked, Stop>
 }
 
 fn program<'a>(alloc: Global) -> Result<Command<'a>, AllocError> {
-    let file = Arg::new(alloc, "file")
-        .value_name("FILE")
-        .help("The list of machines, a line each [default: standard input]");
-    let decide = limited(alloc, Command::new(alloc, "decide").about("Decides each machine of a list"))?
-        .arg(switch(alloc, "no-cyclers", "Leaves out the cyclers"))?
-        .arg(switch(alloc, "no-translated", "Leaves out the translated cyclers"))?
-        .arg(switch(alloc, "no-backward", "Leaves out backward reasoning"))?
-        .arg(file)?;
+    let file = Arg::new(alloc, "file").value_name("FILE").help(
+        "The list of machines, a line each [default: standard input]",
+    );
+    let decide = limited(
+        alloc,
+        Command::new(alloc, "decide").about("Decides each machine of a list"),
+    )?
+    .arg(switch(alloc, "no-cyclers", "Leaves out the cyclers"))?
+    .arg(switch(alloc, "no-translated", "Leaves out the translated cyclers"))?
+    .arg(switch(alloc, "no-backward", "Leaves out backward reasoning"))?
+    .arg(file)?;
     Command::new(alloc, "bb")
         .about("Simulates and decides small Turing machines")
         .disable_help_subcommand(true)
@@ -151,5 +154,11 @@ fn asked_of(alloc: Global, matches: &ArgMatches<'_>) -> Result<Asked, Stop>
 /// The limits that the options give. Each option has a default and is read as a number, so none is missing.
 fn limits_of(matches: &ArgMatches<'_>) -> Result<Limits, Stop> {
     let number = |name: &str| matches.get_one::<u64>(name).unwrap_or(0);
-    Limits::new(number("steps"), number("cells"), number("depth"), number("nodes")).map_err(Stop::Limits)
+    Limits::new(
+        number("steps"),
+        number("cells"),
+        number("depth"),
+        number("nodes"),
+    )
+    .map_err(Stop::Limits)
 }

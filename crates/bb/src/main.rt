@@ -47,7 +47,10 @@ fn asked(rt: &HostRuntime) -> Result<Asked, Stop>
         return Err(Stop::Memory);
     };
     let arguments: Vec<String> = arguments.collect(rt.alloc())?;
-    let words: Vec<&str> = arguments.iter().map(|word| word.as_str()).collect(rt.alloc())?;
+    let words: Vec<&str> = arguments
+        .iter()
+        .map(|word| word.as_str())
+        .collect(rt.alloc())?;
     ask(rt.alloc(), words.as_slice())
 }
 
@@ -61,7 +64,12 @@ fn served(rt: &HostRuntime, asked: &Asked) -> Result<Summary, Fault>
             Ok(file) => serve(rt.alloc(), asked, &mut Watched::new(file), &mut writer),
             Err(_) => Err(Fault::Read),
         },
-        None => serve(rt.alloc(), asked, &mut Watched::new(rt.stdin()), &mut writer),
+        None => serve(
+            rt.alloc(),
+            asked,
+            &mut Watched::new(rt.stdin()),
+            &mut writer,
+        ),
     }
 }
 

@@ -78,7 +78,11 @@ impl<T: Tape> Answer for Decider<'_, T> {
         LINE + 1
     }
 
-    fn answer(&mut self, line: &[u8], text: &mut ArrayVec<u8, REPLY>) -> Result<Effort, AllocError> {
+    fn answer(
+        &mut self,
+        line: &[u8],
+        text: &mut ArrayVec<u8, REPLY>,
+    ) -> Result<Effort, AllocError> {
         let machine = match Machine::read(line) {
             Ok(machine) => machine,
             Err(refused) => {

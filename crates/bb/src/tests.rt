@@ -13,33 +13,93 @@ type Row = (&'static [&'static str], &'static [u8], &'static [u8], u8);
 static HALTS: [Row; 12] = [
     (&[], b"1RB1LB_1LA1RZ\n", b"1RB1LB_1LA1RZ halt 6 4\n", 0),
     (&[], b"1RB1LB_1LA---\n", b"1RB1LB_1LA--- halt 5 4\n", 0),
-    (&["--steps=6", "--cells=4", "--depth=2"], b"1RB1LB_1LA1RZ\n", b"1RB1LB_1LA1RZ halt 6 4\n", 0),
+    (
+        &["--steps=6", "--cells=4", "--depth=2"],
+        b"1RB1LB_1LA1RZ\n",
+        b"1RB1LB_1LA1RZ halt 6 4\n",
+        0,
+    ),
     (&[], b"------\n", b"------ halt 0 0\n", 0),
     (&["--steps=0"], b"------\n", b"------ halt 0 0\n", 0),
     (&[], b"1RZ---\n", b"1RZ--- halt 1 1\n", 0),
-    (&["--cells=5", "--depth=3"], b"1RB1RZ_1LB0RC_1LC1LA\n", b"1RB1RZ_1LB0RC_1LC1LA halt 21 5\n", 0),
-    (&[], b"1RB1RZ_0RC1RB_1LC1LA\n", b"1RB1RZ_0RC1RB_1LC1LA halt 14 6\n", 0),
-    (&[], b"1RB1LB_1LA0LC_1RZ1LD_1RD0RA\n", b"1RB1LB_1LA0LC_1RZ1LD_1RD0RA halt 107 13\n", 0),
+    (
+        &["--cells=5", "--depth=3"],
+        b"1RB1RZ_1LB0RC_1LC1LA\n",
+        b"1RB1RZ_1LB0RC_1LC1LA halt 21 5\n",
+        0,
+    ),
+    (
+        &[],
+        b"1RB1RZ_0RC1RB_1LC1LA\n",
+        b"1RB1RZ_0RC1RB_1LC1LA halt 14 6\n",
+        0,
+    ),
+    (
+        &[],
+        b"1RB1LB_1LA0LC_1RZ1LD_1RD0RA\n",
+        b"1RB1LB_1LA0LC_1RZ1LD_1RD0RA halt 107 13\n",
+        0,
+    ),
     (&[], b"1RB---_1LA---\n", b"1RB---_1LA--- halt 2 2\n", 0),
-    (&["--cells=1", "--depth=1"], b"1RZ---\n", b"1RZ--- halt 1 1\n", 0),
+    (
+        &["--cells=1", "--depth=1"],
+        b"1RZ---\n",
+        b"1RZ--- halt 1 1\n",
+        0,
+    ),
     (&[], b"", b"", 0),
 ];
 
 static UNDECIDED: [Row; 12] = [
-    (&["--steps=5", "--cells=4", "--depth=2"], b"1RB1LB_1LA1RZ\n", b"1RB1LB_1LA1RZ undecided steps\n", 0),
-    (&["--steps=6", "--cells=3", "--depth=2"], b"1RB1LB_1LA1RZ\n", b"1RB1LB_1LA1RZ undecided cells\n", 0),
+    (
+        &["--steps=5", "--cells=4", "--depth=2"],
+        b"1RB1LB_1LA1RZ\n",
+        b"1RB1LB_1LA1RZ undecided steps\n",
+        0,
+    ),
+    (
+        &["--steps=6", "--cells=3", "--depth=2"],
+        b"1RB1LB_1LA1RZ\n",
+        b"1RB1LB_1LA1RZ undecided cells\n",
+        0,
+    ),
     (&["--steps=0"], b"1RZ---\n", b"1RZ--- undecided steps\n", 0),
-    (&["--cells=4", "--depth=2"], b"1RB1RZ_1LB0RC_1LC1LA\n", b"1RB1RZ_1LB0RC_1LC1LA undecided cells\n", 0),
-    (&["--steps=20"], b"1RB1RZ_1LB0RC_1LC1LA\n", b"1RB1RZ_1LB0RC_1LC1LA undecided steps\n", 0),
+    (
+        &["--cells=4", "--depth=2"],
+        b"1RB1RZ_1LB0RC_1LC1LA\n",
+        b"1RB1RZ_1LB0RC_1LC1LA undecided cells\n",
+        0,
+    ),
+    (
+        &["--steps=20"],
+        b"1RB1RZ_1LB0RC_1LC1LA\n",
+        b"1RB1RZ_1LB0RC_1LC1LA undecided steps\n",
+        0,
+    ),
     (
         &["--steps=1000"],
         b"1RB1LC_1RC1RB_1RD0LE_1LA1LD_1RZ0LA\n",
         b"1RB1LC_1RC1RB_1RD0LE_1LA1LD_1RZ0LA undecided steps\n",
         0,
     ),
-    (&[], b"0RB---_0LA---\n", b"0RB---_0LA--- undecided steps\n", 0),
-    (&["--steps=3"], b"0RB---_0LA---\n", b"0RB---_0LA--- undecided steps\n", 0),
-    (&["--steps=1"], b"1RB---_1LA---\n", b"1RB---_1LA--- undecided steps\n", 0),
+    (
+        &[],
+        b"0RB---_0LA---\n",
+        b"0RB---_0LA--- undecided steps\n",
+        0,
+    ),
+    (
+        &["--steps=3"],
+        b"0RB---_0LA---\n",
+        b"0RB---_0LA--- undecided steps\n",
+        0,
+    ),
+    (
+        &["--steps=1"],
+        b"1RB---_1LA---\n",
+        b"1RB---_1LA--- undecided steps\n",
+        0,
+    ),
     (&[], b"0RA0RA\n", b"0RA0RA undecided cells\n", 0),
     (
         &[],
@@ -47,7 +107,12 @@ static UNDECIDED: [Row; 12] = [
         b"0RA0RA_0RA0RA_0RA0RA_0RA0RA_0RA0RA_0RA0RA_0RA0RA undecided cells\n",
         0,
     ),
-    (&["--cells=599"], b"1RA1RA\n", b"1RA1RA undecided cells\n", 0),
+    (
+        &["--cells=599"],
+        b"1RA1RA\n",
+        b"1RA1RA undecided cells\n",
+        0,
+    ),
 ];
 
 static REFUSED: [Row; 9] = [
@@ -56,15 +121,35 @@ static REFUSED: [Row; 9] = [
     (&[], b"1rB1LB\n", b"refused 2\n", 1),
     (&[], b"\n", b"refused 1\n", 1),
     (&[], b"1RB1LB_1LA1RZ\r\n", b"refused 14\n", 1),
-    (&[], b"0RA0RA_0RA0RA_0RA0RA_0RA0RA_0RA0RA_0RA0RA_0RA0RA_0RA0RA\n", b"refused 49\n", 1),
-    (&[], b"------\n\n------", b"------ halt 0 0\nrefused 1\n------ halt 0 0\n", 1),
+    (
+        &[],
+        b"0RA0RA_0RA0RA_0RA0RA_0RA0RA_0RA0RA_0RA0RA_0RA0RA_0RA0RA\n",
+        b"refused 49\n",
+        1,
+    ),
+    (
+        &[],
+        b"------\n\n------",
+        b"------ halt 0 0\nrefused 1\n------ halt 0 0\n",
+        1,
+    ),
     (&[], b"\xff\n1RB\xc3\xa9\n", b"refused 1\nrefused 4\n", 1),
     (&[], b"0RA0RA\0\n1RZ--- \n", b"refused 7\nrefused 7\n", 1),
 ];
 
-const SWITCHES: [&str; 5] = ["bb", "decide", "--no-cyclers", "--no-translated", "--no-backward"];
+const SWITCHES: [&str; 5] = [
+    "bb",
+    "decide",
+    "--no-cyclers",
+    "--no-translated",
+    "--no-backward",
+];
 
-fn decided(rt: &(impl Abort + AllocGlobal), options: &[&'static str], input: &[u8]) -> (Result<Summary, Fault>, Vec<u8>) {
+fn decided(
+    rt: &(impl Abort + AllocGlobal),
+    options: &[&'static str],
+    input: &[u8],
+) -> (Result<Summary, Fault>, Vec<u8>) {
     let mut words: Vec<&str> = SWITCHES.to_vec(rt.alloc()).expect(rt, "memory");
     words.extend_from_slice(options).expect(rt, "memory");
     let asked = ask(rt.alloc(), words.as_slice()).expect(rt, "a command line");
@@ -100,7 +185,10 @@ fn refuses_lines(rt: HostRuntime) {
 #[test]
 fn sums_up(rt: HostRuntime) {
     let (end, written) = decided(&rt, &[], b"1RB1LB_1LA1RZ\n1RA1RA\n1rB1LB\n");
-    assert_eq!(rt; written.as_slice(), b"1RB1LB_1LA1RZ halt 6 4\n1RA1RA undecided cells\nrefused 2\n".as_slice());
+    assert_eq!(rt;
+        written.as_slice(),
+        b"1RB1LB_1LA1RZ halt 6 4\n1RA1RA undecided cells\nrefused 2\n".as_slice()
+    );
     let summary = end.expect(&rt, "no fault");
     assert!(rt; !summary.clean);
     assert_eq!(rt; summary.peak.steps, 65_535);
@@ -110,12 +198,30 @@ fn sums_up(rt: HostRuntime) {
 #[test]
 fn refuses_limits(rt: HostRuntime) {
     for (words, text) in [
-        (["decide", "--cells=4", "--depth=3"].as_slice(), "bb: depth does not fit in cells"),
-        (["decide", "--cells=4"].as_slice(), "bb: depth does not fit in cells"),
-        (["decide", "--nodes=1000000000001", "--steps=1000000000001"].as_slice(), "bb: steps out of range"),
-        (["decide", "--cells=67108865"].as_slice(), "bb: cells out of range"),
-        (["decide", "--depth=10001", "--cells=1"].as_slice(), "bb: depth out of range"),
-        (["decide", "--nodes=1000000000001"].as_slice(), "bb: nodes out of range"),
+        (
+            ["decide", "--cells=4", "--depth=3"].as_slice(),
+            "bb: depth does not fit in cells",
+        ),
+        (
+            ["decide", "--cells=4"].as_slice(),
+            "bb: depth does not fit in cells",
+        ),
+        (
+            ["decide", "--nodes=1000000000001", "--steps=1000000000001"].as_slice(),
+            "bb: steps out of range",
+        ),
+        (
+            ["decide", "--cells=67108865"].as_slice(),
+            "bb: cells out of range",
+        ),
+        (
+            ["decide", "--depth=10001", "--cells=1"].as_slice(),
+            "bb: depth out of range",
+        ),
+        (
+            ["decide", "--nodes=1000000000001"].as_slice(),
+            "bb: nodes out of range",
+        ),
     ] {
         match stop(&rt, words) {
             Stop::Limits(fault) => {
@@ -131,8 +237,14 @@ fn refuses_limits(rt: HostRuntime) {
 fn refuses_deciders_that_are_not_built(rt: HostRuntime) {
     for (words, text) in [
         (["decide"].as_slice(), "bb: cyclers not built"),
-        (["decide", "--no-cyclers"].as_slice(), "bb: translated not built"),
-        (["decide", "--no-cyclers", "--no-translated"].as_slice(), "bb: backward not built"),
+        (
+            ["decide", "--no-cyclers"].as_slice(),
+            "bb: translated not built",
+        ),
+        (
+            ["decide", "--no-cyclers", "--no-translated"].as_slice(),
+            "bb: backward not built",
+        ),
     ] {
         match stop(&rt, words) {
             Stop::NotBuilt(told) => assert_eq!(rt; told, text),

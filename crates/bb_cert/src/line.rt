@@ -26,12 +26,9 @@ pub fn line_into(machine: &Machine, verdict: &Verdict, out: &mut ArrayVec<u8, 10
 
 /// No verdict line is longer than `LONGEST`, where the machine's text isn't longer than `LINE`.
 pub fn lines_are_short()
-    ensures {
-        (table : List (List Entry)) (verdict : Verdict) → length (text table) ≤ LINE → HasNumbers verdict
-        → length (line_text table verdict) ≤ LONGEST
-    }
-{
-}
+    ensures { (table : List (List Entry)) (verdict : Verdict) → length (text table) ≤ LINE → HasNumbers verdict
+        → length (line_text table verdict) ≤ LONGEST }
+{}
 
 fn verdict_into(verdict: Verdict, out: &mut ArrayVec<u8, 1023>)
     requires { array_vec_len out.old + length (verdict_text verdict) ≤ 1023 }
@@ -40,7 +37,11 @@ fn verdict_into(verdict: Verdict, out: &mut ArrayVec<u8, 1023>)
     match verdict {
         Verdict::Halt { steps, score } => pair_into(b" halt ", steps, score, out),
         Verdict::Cycler { first, second } => pair_into(b" cycler ", first, second, out),
-        Verdict::Translated { side, first, second } => pair_into(side_words(side), first, second, out),
+        Verdict::Translated {
+            side,
+            first,
+            second,
+        } => pair_into(side_words(side), first, second, out),
         Verdict::Backward { levels, nodes } => pair_into(b" backward ", levels, nodes, out),
         Verdict::Undecided(Why::Steps) => append(b" undecided steps", out),
         Verdict::Undecided(Why::Cells) => append(b" undecided cells", out),

@@ -4,4 +4,6 @@
 pub mod answer;
 pub mod fault;
 pub mod lines;
+#[cfg(test)]
+mod tests;
 pub mod watched;

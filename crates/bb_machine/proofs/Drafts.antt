@@ -10,7 +10,6 @@ use Rattle.bb_machine.specs.Machine.{IsGroup, IsMachine, symbols_of}
 use Rattle.bb_machine.specs.Rows.{entries_in, table_in, IsTable}
 use Rattle.bb_machine.specs.Draft.{Begun, begun_in, symbols_limit, IsDraft, IsWhole, IsWholeWithin, table_of}
 use Rattle.bb_machine.proofs.Groups.{every-at, machine_by}
-use Rattle.bb_machine.proofs.Stops.{whole_by}
 use Rattle.bb_machine.proofs.Viable.{begun_push, begun_close}
 use Rattle.std.proofs.lemmas.List.Elements.{All-from_recursion, recursion_from_All, All-from_get_or}
 use Rattle.std.proofs.lemmas.Bool.{cases_lt}
@@ -130,10 +129,6 @@ module _ (ps : List Place) (g m f : ℕ) (draft : IsDraft g m f (begun_in g m f 
   pub machine_shows : IsMachine (table_of b) → table_in (g + 1) f ps ≡ table_of b
   machine_shows machine = machine_shown ps g m f draft (machine_of machine) ∙ ap table_of is
 
-whole_later_on : (gs : List (List Entry)) (last : List Entry) (g m f : ℕ) → length gs ≡ g → symbols_limit MAX_SYMBOLS gs ≡ m → length last ≡ f → 0 < g → f ≡ m → IsWholeWithin MAX_STATES gs last
-whole_later_on [] last g m f count _ _ some _ = absurd (omega arith)
-whole_later_on (x ∷ gs) last g m f count limit filled some same = filled ∙ (same ∙ sym limit)
-
 whole_first_on : (gs : List (List Entry)) (last : List Entry) → length gs ≡ 0 → 2 ≤ length last → AllByRecursion (IsEntryOf MAX_STATES (length last)) last → IsWholeWithin MAX_STATES gs last
 whole_first_on [] last _ two named = (two, named)
 whole_first_on (x ∷ gs) last none _ _ = absurd (omega arith)
@@ -153,10 +148,7 @@ table_row n k gs q table below =
     rw (← table.states_is, ← table.symbols_is) group.entries
 
 module _ (ps : List Place) (g m f : ℕ) (draft : IsDraft g m f (begun_in g m f ps)) (b : Begun) (is : begun_in g m f ps ≡ b) where
-  -- after the first group, a group is whole if it is as long
-  pub whole_later : 0 < g → f ≡ m → IsWhole b
-  whole_later some same = subst IsWhole is (whole_later_on (begun_in g m f ps).groups (begun_in g m f ps).group g m f draft.groups_is draft.symbols_is draft.filled_is some same)
-
+  -- after the first group, a whole group is as long
   pub later_whole : 0 < g → IsWhole b → f ≡ m
   later_whole some whole = sym (whole_width ps g m f draft (subst IsWhole (sym is) whole) some)
 
@@ -213,11 +205,6 @@ module _ (ps : List Place) (g m f : ℕ) (draft : IsDraft g m f (begun_in g m f 
       let table = machine_keeps ps g m f draft b is machine in
       let entries : AllByRecursion (IsEntryOf (g + 1) f) (get_or (table_in (g + 1) f ps) q []) = table_row (g + 1) f (table_in (g + 1) f ps) q table below in
       every_place (IsEntryOf (g + 1) f) (take f (drop (q * MAX_SYMBOLS) ps)) (subst (λ z. AllByRecursion (IsEntryOf (g + 1) f) z) (get_or-rows MAX_SYMBOLS (g + 1) f (entries_in ps) q below ∙ sym (row_entries (q * MAX_SYMBOLS) f ps)) entries)
-
-  pub machine_whole : IsMachine (table_of b) → IsWhole b
-  machine_whole machine =
-      whole_by MAX_STATES (length (table_of b)) b.groups b.group [] machine.states machine.two_symbols
-      (every-at (IsGroup (length (table_of b)) (symbols_of (table_of b))) b.groups b.group [] machine.groups)
 
 -- a row as the slice from its place on
 pub row_slice : (ps : List Place) (g f q : ℕ) → IsRow ps g f q → All (λ (p : Place). IsEntryOf (g + 1) f p.entry) (take (q * MAX_SYMBOLS + f - q * MAX_SYMBOLS) (drop (q * MAX_SYMBOLS) ps))

@@ -46,12 +46,6 @@ entry_weaker s t k m h j (Go w d n) p = let below : w < k = p.0 in (omega arith,
 pub entries_weaker : (s t k m : ℕ) → s ≤ t → k ≤ m → (g : List Entry) → AllByRecursion (IsEntryOf s k) g → AllByRecursion (IsEntryOf t m) g
 entries_weaker s t k m h j g p = every-weaker (IsEntryOf s k) (IsEntryOf t m) (entry_weaker s t k m h j) g p
 
--- groups of few states are groups of more
-pub groups_weaker : (s t k : ℕ) → s ≤ t → (gs : List (List Entry)) → AllByRecursion (IsGroup s k) gs → AllByRecursion (IsGroup t k) gs
-groups_weaker s t k h gs p =
-    every-weaker (IsGroup s k) (IsGroup t k)
-    (λ g q. record { full = q.full; entries = entries_weaker s t k k h (omega arith) g q.entries }) gs p
-
 pub groups_plain : (s k : ℕ) → s ≤ 25 → k ≤ 10 → (gs : List (List Entry)) → AllByRecursion (IsGroup s k) gs → AllByRecursion ArePlain gs
 groups_plain s k h j gs p =
     every-weaker (IsGroup s k) ArePlain (λ g q. entries_weaker s 25 k 10 h j g q.entries) gs p

@@ -106,6 +106,9 @@ pub record GoesOn (b : Begun) (table : List (List Entry)) (more : List ℕ) : Ty
 begun_text-cons : (c : List Entry) (cs : List (List Entry)) (g : List Entry) (more : List ℕ) → begun_text (record { groups = c ∷ cs; group = g }) ++ more ≡ group_text c ++ 95 ∷ (begun_text (record { groups = cs; group = g }) ++ more)
 begun_text-cons c cs g more = simp append_assoc
 
+same_cons : (h c : List Entry) (hs rs cs : List (List Entry)) → h ≡ c → hs ≡ rs → rs ≡ cs → h ∷ hs ≡ c ∷ cs
+same_cons h c hs rs cs e f i = cc
+
 -- where a table's text begins with what was read, the table does
 begun_peel : (cs : List (List Entry)) (g h : List Entry) (hs : List (List Entry)) (more : List ℕ) → AllByRecursion ArePlain cs → ArePlain g → ArePlain h → AllByRecursion ArePlain hs → group_text h ++ tail_text hs ≡ begun_text (record { groups = cs; group = g }) ++ more → GoesOn (record { groups = cs; group = g }) (h ∷ hs) more
 begun_peel [] g h hs more _ pg ph _ eq =
@@ -119,7 +122,7 @@ begun_peel (c ∷ cs) g h hs more pcs pg ph phs eq =
     let on = begun_peel cs g bar.next bar.others more pcs.1 pg others.0 others.1 bar.text_is in
     let at_end : c ++ peeled.entries ≡ c ++ [] = ap (λ x. c ++ x) bar.at_end in
     let whole : h ≡ c = peeled.is ∙ (at_end ∙ append-nil c) in
-    record { entries = on.entries; rest = on.rest; is = ap (λ x. x ∷ hs) whole ∙ ap (λ x. c ∷ x) (bar.is ∙ on.is); text_is = on.text_is; plain = on.plain }
+    record { entries = on.entries; rest = on.rest; is = same_cons h c hs (bar.next ∷ bar.others) (cs ++ (g ++ on.entries) ∷ on.rest) whole bar.is on.is; text_is = on.text_is; plain = on.plain }
 
 pub text_peel : (b : Begun) (gs : List (List Entry)) (more : List ℕ) → AllByRecursion ArePlain b.groups → ArePlain b.group → AllByRecursion ArePlain gs → 0 < length gs → text gs ≡ begun_text b ++ more → GoesOn b gs more
 text_peel b [] more _ _ _ some _ = absurd (omega arith)

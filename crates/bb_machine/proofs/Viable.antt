@@ -40,9 +40,6 @@ module _ (s k : ℕ) (b : Begun) (begun : IsBegunWithin s k b) where
 pub begun_text-push : (b : Begun) (e : Entry) → begun_text (record { groups = b.groups; group = b.group ++ e ∷ [] }) ≡ begun_text b ++ entry_text e
 begun_text-push b e = rw (flat_map-append entry_text b.group (e ∷ []), append-nil (entry_text e)) (simp append_assoc)
 
-pub begun_text-close : (b : Begun) → begun_text (record { groups = b.groups ++ b.group ∷ []; group = [] }) ≡ begun_text b ++ 95 ∷ []
-begun_text-close b = rw flat_map-append (simp (append_assoc, append-nil))
-
 begun_close_on : (s k : ℕ) (cs : List (List Entry)) (g : List Entry) → IsBegunWithin s k (record { groups = cs; group = g }) → length cs + 1 < s → IsWholeWithin s cs g → IsBegunWithin s k (record { groups = cs ++ g ∷ []; group = [] })
 begun_close_on s k [] g begun room whole =
     record { room = room; two_symbols = whole.0; symbols = begun.fits; groups = (record { full = refl; entries = whole.1 }, tt); fits = omega arith; entries = tt }

@@ -43,7 +43,7 @@ pub record IsBegunWithin (most_states most_symbols : ℕ) (b : Begun) : Type 0 w
 abbrev pub IsBegun : Begun → Type 0
 IsBegun b = IsBegunWithin MAX_STATES MAX_SYMBOLS b
 
--- what was read, with as many groups, symbols and entries as are counted
+-- what was read, where so many groups, symbols and entries are counted
 pub record IsDraft (groups symbols filled : ℕ) (b : Begun) : Type 0 where
   pub begun : IsBegun b
   pub groups_is : length b.groups ≡ groups
@@ -64,8 +64,8 @@ IsWhole b = IsWholeWithin MAX_STATES b.groups b.group
 abbrev pub table_of : Begun → List (List Entry)
 table_of b = b.groups ++ b.group ∷ []
 
--- of `bytes`, read after `before`, the first `n` are the most with which some machine's text goes on,
--- and no machine's text ends with all of them
+-- of `bytes`, which come after `before`, the first `n` are the most with which some machine's text
+-- goes on, and no machine's text goes on with all of them and ends
 pub record IsStopWithin (most_states most_symbols : ℕ) (before bytes : List ℕ) (n : ℕ) : Type 0 where
   pub within : n ≤ length bytes
   pub holds : IsViableWithin most_states most_symbols (before ++ take n bytes)
@@ -80,7 +80,7 @@ abbrev pub BeginsEntry : ℕ → ℕ → List ℕ → Type 0
 BeginsEntry states symbols front =
     (e : Entry) × IsEntryOf states symbols e × BeginsWith (entry_text e) front
 
--- of `bytes` the first `n` begin an entry's text, but not all of it, and one more do not
+-- the first `n` of `bytes` begin an entry's text but are not all of it, and the first `n + 1` begin none
 pub record IsEntryStop (states symbols : ℕ) (bytes : List ℕ) (n : ℕ) : Type 0 where
   pub within : n ≤ length bytes
   pub part : n < 3

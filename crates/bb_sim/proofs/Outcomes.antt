@@ -36,8 +36,8 @@ halt_is_last table n m c halts exists = no_more (λ beyond.
     let same : (m - suc n) + suc n ≡ m = omega (arith, beyond) in
     let at : conf table m ≡ None = subst (λ k. conf table k ≡ None) same none in
     cc) where
-  no_more : (n < m → ⊥) → m ≤ n
-  no_more never = omega (arith, never)
+      no_more : (n < m → ⊥) → m ≤ n
+      no_more never = omega (arith, never)
 
 least_falls : (f : ℕ → ℤ) (n k : ℕ) → least f (k + n) ≤ℤ least f n
 least_falls f n zero = let e : zero + n ≡ n = omega arith in rw e (omega (arith, ints))

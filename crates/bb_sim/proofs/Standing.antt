@@ -112,8 +112,8 @@ visit_fits strip p sound refused =
     let e = width-places strip p sound in
     let m : ℕ = places (int_min strip.low p) (int_max strip.high p) in
     not_below strip.limit m (λ h. refused (rw e (omega (arith, ints, h)))) where
-  not_below : (l m : ℕ) → (l < m → ⊥) → m ≤ l
-  not_below l m never = omega (arith, never)
+      not_below : (l m : ℕ) → (l < m → ⊥) → m ≤ l
+      not_below l m never = omega (arith, never)
 
 pub visit_refused : (strip : Strip) (p : ℤ) → IsSound strip → pos strip.limit <ℤ width (visited strip p) → strip.limit < places (int_min strip.low p) (int_max strip.high p)
 visit_refused strip p sound h =

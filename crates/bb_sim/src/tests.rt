@@ -96,13 +96,23 @@ fn follows<T: Tape>(rt: &impl Abort, mut tape: T, text: &[u8], run: &[Seen])
         assert_eq!(rt; runner.position(), *position, "at step {n}");
         for place in -40..41 {
             let one = ones.contains(&place);
-            assert_eq!(rt; tape.read(place), u8::from(one), "at step {n}, cell {place}");
+            assert_eq!(rt;
+                tape.read(place),
+                u8::from(one),
+                "at step {n}, cell {place}"
+            );
         }
         let width = runner.high().checked_sub(runner.low());
-        assert_eq!(rt; width.and_then(|width| width.checked_add(1)), Some(*span), "at step {n}");
+        assert_eq!(rt;
+            width.and_then(|width| width.checked_add(1)),
+            Some(*span),
+            "at step {n}"
+        );
         assert!(rt; meter.steps < 1000);
         assert!(rt; runner.steps() <= limits.steps());
-        let moved = runner.advance(&machine, &mut tape, &limits, &mut meter).expect(rt, "memory");
+        let moved = runner
+            .advance(&machine, &mut tape, &limits, &mut meter)
+            .expect(rt, "memory");
         assert_eq!(rt; moved == Moved::Halted, *state == 'Z', "at step {n}");
     }
 }
@@ -117,13 +127,57 @@ static ENDS: [End; 12] = [
     (b"------", 0, 1, Outcome::Halt { steps: 0, score: 0 }, 0, 1),
     (b"1RZ---", 0, 1, Outcome::NoSteps, 0, 1),
     (b"1RZ---", 1, 1, Outcome::Halt { steps: 1, score: 1 }, 1, 1),
-    (b"1RB1LB_1LA1RZ", 6, 4, Outcome::Halt { steps: 6, score: 4 }, 6, 4),
+    (
+        b"1RB1LB_1LA1RZ",
+        6,
+        4,
+        Outcome::Halt { steps: 6, score: 4 },
+        6,
+        4,
+    ),
     (b"1RB1LB_1LA1RZ", 5, 4, Outcome::NoSteps, 5, 4),
     (b"1RB1LB_1LA1RZ", 6, 3, Outcome::NoCells, 3, 3),
-    (b"1RB1LB_1LA---", 5, 4, Outcome::Halt { steps: 5, score: 4 }, 5, 4),
-    (b"1RB1RZ_1LB0RC_1LC1LA", 21, 5, Outcome::Halt { steps: 21, score: 5 }, 21, 5),
-    (b"1RB1RZ_0RC1RB_1LC1LA", 1000, 64, Outcome::Halt { steps: 14, score: 6 }, 14, 6),
-    (b"1RB1LB_1LA0LC_1RZ1LD_1RD0RA", 1000, 64, Outcome::Halt { steps: 107, score: 13 }, 107, 14),
+    (
+        b"1RB1LB_1LA---",
+        5,
+        4,
+        Outcome::Halt { steps: 5, score: 4 },
+        5,
+        4,
+    ),
+    (
+        b"1RB1RZ_1LB0RC_1LC1LA",
+        21,
+        5,
+        Outcome::Halt {
+            steps: 21,
+            score: 5,
+        },
+        21,
+        5,
+    ),
+    (
+        b"1RB1RZ_0RC1RB_1LC1LA",
+        1000,
+        64,
+        Outcome::Halt {
+            steps: 14,
+            score: 6,
+        },
+        14,
+        6,
+    ),
+    (
+        b"1RB1LB_1LA0LC_1RZ1LD_1RD0RA",
+        1000,
+        64,
+        Outcome::Halt {
+            steps: 107,
+            score: 13,
+        },
+        107,
+        14,
+    ),
 ];
 
 /// Holds a simulation against how it was worked out to end.
@@ -135,17 +189,40 @@ fn ends<T: Tape>(rt: &impl Abort, mut tape: T, end: &End)
     let limits = Limits::new(most_steps, cells, 0, 0).expect(rt, "limits");
     let mut meter = Meter::new();
     let found = simulate(&machine, &mut tape, &limits, &mut meter);
-    assert!(rt; found.is_ok_and(|found| found == outcome), "{most_steps} steps of {text:?}");
+    assert!(rt;
+        found.is_ok_and(|found| found == outcome),
+        "{most_steps} steps of {text:?}"
+    );
     assert_eq!(rt; meter.steps, steps);
     assert_eq!(rt; meter.most_cells, most_cells);
 }
 
 #[test]
 fn runs_step_by_step_on_a_map(rt: HostRuntime) {
-    follows(&rt, MapTape::new(rt.alloc(), CELLS), b"1RB1LB_1LA1RZ", CHAMPION.as_slice());
-    follows(&rt, MapTape::new(rt.alloc(), CELLS), b"1RB1RZ_1LB0RC_1LC1LA", THREE_STATES.as_slice());
-    follows(&rt, MapTape::new(rt.alloc(), CELLS), b"1RB0RA_1LA---", RIGHT.as_slice());
-    follows(&rt, MapTape::new(rt.alloc(), CELLS), b"1RB0RB_1LA1LA", REPEATING.as_slice());
+    follows(
+        &rt,
+        MapTape::new(rt.alloc(), CELLS),
+        b"1RB1LB_1LA1RZ",
+        CHAMPION.as_slice(),
+    );
+    follows(
+        &rt,
+        MapTape::new(rt.alloc(), CELLS),
+        b"1RB1RZ_1LB0RC_1LC1LA",
+        THREE_STATES.as_slice(),
+    );
+    follows(
+        &rt,
+        MapTape::new(rt.alloc(), CELLS),
+        b"1RB0RA_1LA---",
+        RIGHT.as_slice(),
+    );
+    follows(
+        &rt,
+        MapTape::new(rt.alloc(), CELLS),
+        b"1RB0RB_1LA1LA",
+        REPEATING.as_slice(),
+    );
 }
 
 #[test]

@@ -12,8 +12,11 @@ returns-in-Err-clause-reply g c = inr (record {
 })
 
 pub returns-in-Err-clause-saw : goal.returns-in-Err-clause-saw
-returns-in-Err-clause-saw g c = (refl, inr (record {
-  no_machine = λ m. let found = c.in-Err.ensures.only m.table m.machine m.is_text in cc;
-  clean = refl;
-  peak = refl;
-}))
+returns-in-Err-clause-saw g c = (
+  refl,
+  inr (record {
+    no_machine = λ m. let found = c.in-Err.ensures.only m.table m.machine m.is_text in cc;
+    clean = refl;
+    peak = refl;
+  }),
+)
