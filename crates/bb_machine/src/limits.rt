@@ -31,6 +31,8 @@ impl Display for LimitFault {
     }
 }
 
+impl std::error::Error for LimitFault {}
+
 /// The limits of one machine's work.
 #[derive(Clone, Copy, Debug, PartialEq, Eq)]
 pub struct Limits {

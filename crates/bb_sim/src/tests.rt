@@ -4,7 +4,7 @@ ghost use Rattle.std.specs.Prelude.{◌≡◌};
 use crate::simulate::simulate;
 use crate::{Meter, Moved, Outcome, Runner};
 use bb_machine::{Limits, Machine};
-use bb_tape::{MapTape, Tape};
+use bb_tape::{MapTape, RingTape, Tape};
 use std::process::Abort;
 
 /// A configuration: the state's letter, the head's place, the places that have a 1, and the span.
@@ -230,5 +230,27 @@ fn ends_at_its_limits_on_a_map(rt: HostRuntime) {
     for end in &ENDS {
         assert!(rt; 1 <= end.2 && end.2 <= 64);
         ends(&rt, MapTape::new(rt.alloc(), end.2), end);
+    }
+}
+
+#[test]
+fn runs_step_by_step_on_a_ring(rt: HostRuntime) {
+    for (text, run) in [
+        (b"1RB1LB_1LA1RZ".as_slice(), CHAMPION.as_slice()),
+        (b"1RB1RZ_1LB0RC_1LC1LA".as_slice(), THREE_STATES.as_slice()),
+        (b"1RB0RA_1LA---".as_slice(), RIGHT.as_slice()),
+        (b"1RB0RB_1LA1LA".as_slice(), REPEATING.as_slice()),
+    ] {
+        let tape = RingTape::new(rt.alloc(), CELLS).expect(&rt, "memory");
+        follows(&rt, tape, text, run);
+    }
+}
+
+#[test]
+fn ends_at_its_limits_on_a_ring(rt: HostRuntime) {
+    for end in &ENDS {
+        assert!(rt; 1 <= end.2 && end.2 <= 64);
+        let tape = RingTape::new(rt.alloc(), end.2).expect(&rt, "memory");
+        ends(&rt, tape, end);
     }
 }
