@@ -1,5 +1,5 @@
 -- The greatest of counts, as it grows line by line.
-use Rattle.std.proofs.Common.{◌≡◌, ℕ, zero, suc, ◌≤◌, ◌⊎◌, max, List, [], ◌∷◌, refl, sym, subst, ap, ◌∙◌, inl, inr, arith}
+use Rattle.std.proofs.Common.{◌≡◌, ℕ, zero, suc, ◌≤◌, ◌⊎◌, max, List, [], ◌∷◌, sym, subst, ◌∙◌, inl, inr, arith}
 use Rattle.std.specs.List.{AllByRecursion}
 use Rattle.bb.specs.Summary.{SomeHas, IsPeak}
 

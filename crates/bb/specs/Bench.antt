@@ -1,5 +1,5 @@
 -- The tapes that deciding a machine may use.
-use Rattle.std.specs.Prelude.{◌≡◌, ℕ, Bool, false}
+use Rattle.std.specs.Prelude.{◌≡◌, ℕ, false}
 use Rattle.bb_tape.specs.Strip.{Strip}
 use Rattle.bb.specs.declared.bench.Bench.{Bench}
 use Rattle.bb.specs.declared.bench.Plan.{Plan}

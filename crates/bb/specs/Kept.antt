@@ -1,12 +1,11 @@
 -- The first bytes of a line, one more than the longest text has, decide the reply to it: laws that the engine asks for.
-use Rattle.std.proofs.Common.{◌≡◌, ℕ, ◌+◌, ◌⊎◌, List, take, inl, inr, arith}
+use Rattle.std.proofs.Common.{ℕ, ◌+◌, List, take, inl, inr, arith}
 use Rattle.bb_machine.specs.declared.machine.TheConstants.{LINE}
-use Rattle.bb_machine.specs.Machine.{IsMachine, text}
 use Rattle.bb_machine.specs.Laws.{FrontIsEnough}
 use Rattle.bb_machine.proofs.LawLemmas.{front_enough}
 use Rattle.bb.specs.declared.summary.Summary.{Summary}
-use Rattle.bb.specs.Reply.{IsMachineLine, IsVerdictReply, IsRefusal, IsReply}
-use Rattle.bb.specs.Seen.{SawMachine, SawRefusal, Saw}
+use Rattle.bb.specs.Reply.{IsMachineLine, IsReply}
+use Rattle.bb.specs.Seen.{Saw}
 
 module _ (line : List ℕ) (kept : ℕ) (enough : FrontIsEnough line kept) where
   no_machine_of_front : (IsMachineLine (take kept line) → ⊥) → IsMachineLine line → ⊥

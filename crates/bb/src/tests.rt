@@ -1,11 +1,17 @@
 //! Command lines from end to end, over bytes in memory, with answers that were worked out by hand.
 
+use crate::bench::{Bench, Plan};
 use crate::command::{Stop, ask};
+use crate::run_decide::run_decide;
 use crate::serve::{serve, status};
 use crate::summary::Summary;
 use bb_lines::fault::Fault;
 use bb_lines::watched::Watched;
+use bb_machine::Limits;
+use bb_tape::MapTape;
+use linked_list_allocator::LocalHeap;
 use std::process::Abort;
+use std::test::Fail;
 
 /// The options of a command line, the input, the output and the exit status.
 type Row = (&'static [&'static str], &'static [u8], &'static [u8], u8);
@@ -253,15 +259,17 @@ fn refuses_deciders_that_are_not_built(rt: HostRuntime) {
     }
 }
 
+static NO_COMMAND_LINES: [&[&str]; 5] = [
+    &["decide", "--steps=x"],
+    &["decide", "--steps=18446744073709551616"],
+    &["decide", "a", "b"],
+    &["check"],
+    &[],
+];
+
 #[test]
 fn refuses_words(rt: HostRuntime) {
-    for words in [
-        ["decide", "--steps=x"].as_slice(),
-        ["decide", "--steps=18446744073709551616"].as_slice(),
-        ["decide", "a", "b"].as_slice(),
-        ["check"].as_slice(),
-        [].as_slice(),
-    ] {
+    for words in &NO_COMMAND_LINES {
         let stop = stop(&rt, words);
         assert!(rt; matches!(&stop, Stop::Words(_)));
         assert_eq!(rt; stop.status(), 2);
@@ -278,4 +286,65 @@ fn stop(rt: &(impl Abort + AllocGlobal), words: &[&'static str]) -> Stop {
         Ok(_) => panic!(rt; "asked"),
         Err(stop) => stop,
     }
+}
+
+const SIMULATION: Plan = Plan {
+    cyclers: false,
+    translated: false,
+    backward: false,
+};
+
+/// How much of a heap is left for the tapes, in turn. Where a growth is refused, the replies to the
+/// first lines are written; the same bench answers all lines once there is memory.
+#[test]
+fn each_growth_of_a_run_refused(rt: HostRuntime) -> Result<(), Fail> {
+    let input = b"1RB1LB_1LA1RZ\n1RB0RA_1LA---\n0RB---_0LA---\n".as_slice();
+    let output =
+        b"1RB1LB_1LA1RZ halt 6 4\n1RB0RA_1LA--- undecided cells\n0RB---_0LA--- undecided steps\n".as_slice();
+    let limits = Limits::new(1000, 64, 10, 100).expect(&rt, "limits");
+    let heap = LocalHeap::new(rt.alloc(), 1 << 13)?;
+    let (mut refused, mut fitted) = (0, 0);
+    for left in 0..1024usize {
+        let run = MapTape::new_in(&heap, limits.cells());
+        let right = MapTape::new_in(&heap, limits.cells());
+        let left_tape = MapTape::new_in(&heap, limits.cells());
+        let mut bench = Bench::new(rt.alloc(), run, right, left_tape, &limits).expect(
+            &rt, "a bench",
+        );
+        let rest: Vec<u8, &LocalHeap> = Vec::with_capacity(&heap, (1 << 13) - left)?;
+        let mut writer = Watched::new(Vec::new(rt.alloc()));
+        let end = run_decide(
+            &mut Watched::new(input),
+            &mut writer,
+            &limits,
+            SIMULATION,
+            &mut bench,
+        );
+        drop(rest);
+        let written = writer.into_inner();
+        if end == Err(Fault::Memory) {
+            assert!(rt;
+                written.is_empty() || written.as_slice() == &output[..23],
+                "{left} bytes left"
+            );
+            refused |= 1;
+        } else {
+            assert!(rt; written.as_slice() == output, "{left} bytes left");
+            fitted |= 1;
+        }
+        let mut writer = Watched::new(Vec::new(rt.alloc()));
+        let end = run_decide(
+            &mut Watched::new(input),
+            &mut writer,
+            &limits,
+            SIMULATION,
+            &mut bench,
+        );
+        assert!(rt;
+            end.is_ok() && writer.into_inner().as_slice() == output,
+            "again"
+        );
+    }
+    assert!(rt; refused == 1 && fitted == 1);
+    Ok(())
 }

@@ -3,13 +3,14 @@ use Rattle.std.proofs.Common.{◌≡◌, ℕ, zero, suc, ◌≤◌, List, [], �
 use Rattle.std.specs.Prelude.{OnOk, OnErr, IsOkUnless}
 use Rattle.std.specs.List.{FoldsTo}
 use Rattle.std.proofs.lemmas.List.{append-nil}
-use Rattle.std.proofs.Math.Seq.{take-append_seam, take-length}
+use Rattle.std.proofs.Math.Seq.{take-length}
 use Rattle.std.specs.Io.KnownBytes.{Appends}
 use Rattle.bb_lines.specs.declared.fault.Fault.{Fault}
 use Rattle.bb_lines.specs.declared.fault.Fault.TheVariants.{Memory, Read, Write}
 use Rattle.bb_lines.specs.Lines.{AreReplies}
-use Rattle.bb_lines.specs.Ends.{MatchEnd, AppendsFront, AppendsBut, AppendsReplies, AppendsFrontOfReplies, AreAnswered}
-use Rattle.bb_lines.proofs.Streams.{AppendsFront-waiting, AppendsFront-all, Appends-waiting, AppendsBut-all}
+use Rattle.bb_lines.specs.Ends.{MatchEnd, AppendsFront, AppendsReplies, AppendsFrontOfReplies}
+use Rattle.bb_lines.specs.Progress.{AppendsBut, AreAnswered}
+use Rattle.bb_lines.proofs.Streams.{AppendsFront-waiting, Appends-waiting, AppendsBut-all}
 
 -- the replies to one more line
 pub AreReplies-next : (Reply : List ℕ → List ℕ → Type 0) (before : List (List ℕ)) (bytes line text : List ℕ) → AreReplies Reply before bytes → Reply line text → AreReplies Reply (before ++ line ∷ []) (bytes ++ (text ++ 10 ∷ []))

@@ -1,16 +1,16 @@
 -- From one point of the input to the next: what stands after a piece without a newline, and after a line.
-use Rattle.std.proofs.Common.{◌≡◌, ℕ, zero, suc, ◌+◌, ◌-◌, ◌<◌, ◌≤◌, Bool, true, false, List, [], ◌∷◌, ◌++◌, length, get_or, take, drop, min, append_assoc, sym, ◌∙◌, subst, ap, refl, arith, length-append, Option, Result, Ok, Err}
+use Rattle.std.proofs.Common.{◌≡◌, ℕ, zero, suc, ◌+◌, ◌<◌, ◌≤◌, Bool, true, false, List, [], ◌∷◌, ◌++◌, length, get_or, take, drop, min, append_assoc, sym, ◌∙◌, ap, refl, arith, length-append, Option, Result, Ok, Err}
 use Rattle.std.specs.Prelude.{◌==◌}
 use Rattle.std.proofs.Math.Seq.{take-append_seam, drop-cons}
 use Rattle.std.proofs.Math.Numerals.{add-one}
 use Rattle.std.proofs.lemmas.Bool.{eqb-true}
 use Rattle.std.proofs.lemmas.List.{take-append-drop, append-nil, length-take}
-use Rattle.std.proofs.lemmas.Grind.{common_steps}
 use Rattle.std.specs.Io.KnownBytes.{Appends}
 use Rattle.bb_lines.specs.declared.fault.Fault.{Fault}
 use Rattle.bb_lines.specs.declared.fault.Fault.TheVariants.{Memory, Read, Write}
 use Rattle.bb_lines.specs.Lines.{complete, unfinished, lines, unless_empty}
-use Rattle.bb_lines.specs.Ends.{MatchEnd, AppendsFront, AppendsFrontOfReplies, AppendsReplies, AppendsSome, AreAnswered, StandsAfter}
+use Rattle.bb_lines.specs.Ends.{MatchEnd, AppendsFront, AppendsFrontOfReplies, AppendsReplies, AppendsSome}
+use Rattle.bb_lines.specs.Progress.{AreAnswered, StandsAfter}
 use Rattle.bb_lines.proofs.LinesLemmas.{HasNoNewline, none, other, LinesAre-more, LinesAre-line, LinesAre-none, lines-more, lines-begin}
 use Rattle.bb_lines.proofs.AnswerLemmas.{AppendsFrontOfReplies-more, answered_front, answered_written}
 use Rattle.bb_lines.proofs.Streams.{Appends-none, AppendsBut-all}

@@ -1,10 +1,11 @@
 -- What one call does to known bytes after another.
-use Rattle.std.proofs.Common.{◌≡◌, ℕ, List, [], ◌∷◌, ◌++◌, append_assoc, sym, ◌∙◌, subst, ap, refl, Option, None, Some}
-use Rattle.std.proofs.Common.{take, drop, length, ◌-◌, arith, length-drop}
+use Rattle.std.proofs.Common.{◌≡◌, ℕ, List, [], ◌++◌, append_assoc, sym, ◌∙◌, subst, ap, refl, Option, None, Some}
+use Rattle.std.proofs.Common.{take, drop, length, ◌-◌, arith}
 use Rattle.std.proofs.lemmas.Grind.{common_steps}
 use Rattle.std.proofs.lemmas.List.{append-nil, take-append-drop}
 use Rattle.std.specs.Io.KnownBytes.{Appends, Keeps, Consumes}
-use Rattle.bb_lines.specs.Ends.{AppendsFront, AppendsBut}
+use Rattle.bb_lines.specs.Ends.{AppendsFront}
+use Rattle.bb_lines.specs.Progress.{AppendsBut}
 
 pub Appends-none : (old : Option (List ℕ)) → Appends old old []
 Appends-none None = tt

@@ -2,3 +2,4 @@ pub mod Fault
 pub mod Watched
 pub mod Lines
 pub mod Ends
+pub mod Progress

@@ -4,7 +4,8 @@ ghost use Rattle.std.specs.List.{FoldsTo};
 ghost use Rattle.std.specs.Io.KnownBytes.{Consumes, IsAtEnd, Appends};
 ghost use Rattle.bb_lines.specs.Watched.{watched_inner, is_marked};
 ghost use Rattle.bb_lines.specs.Lines.{complete, lines};
-ghost use Rattle.bb_lines.specs.Ends.{MatchEnd, AppendsBut, AppendsFront, AppendsFrontOfReplies, AppendsReplies, AppendsSome, AreAnswered, StandsAfter};
+ghost use Rattle.bb_lines.specs.Ends.{MatchEnd, AppendsFront, AppendsFrontOfReplies, AppendsReplies, AppendsSome};
+ghost use Rattle.bb_lines.specs.Progress.{AppendsBut, AreAnswered, StandsAfter};
 ghost use Rattle.arrayvec.specs.ArrayVec.{array_vec_len};
 
 use crate::answer::{Answer, Effort, MOST_KEPT, REPLY};

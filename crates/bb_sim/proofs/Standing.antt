@@ -1,19 +1,19 @@
 -- What follows for a runner from where it stands.
-use Rattle.std.proofs.Common.{◌≡◌, ◌≢◌, ℕ, ◌+◌, ◌<◌, ◌≤◌, Some, ℤ, pos, neg_ℤ, ◌+ℤ◌, ◌-ℤ◌, ◌<ℤ◌, ◌≤ℤ◌, length, refl, ap, sym, ◌∙◌, arith, rules}
+use Rattle.std.proofs.Common.{◌≡◌, ◌≢◌, ℕ, ◌<◌, ◌≤◌, Some, ℤ, pos, neg_ℤ, ◌<ℤ◌, ◌≤ℤ◌, refl, ap, sym, ◌∙◌, arith}
 use Rattle.std.specs.Int.{int_min, int_max}
 use Rattle.std.proofs.lemmas.Int.{ints, clamps}
 use Rattle.bb_machine.specs.declared.entry.Dir.{Dir}
 use Rattle.bb_machine.specs.declared.entry.Dir.TheVariants.{L, R}
 use Rattle.bb_machine.specs.declared.entry.Next.{Next}
 use Rattle.bb_machine.specs.declared.entry.Next.TheVariants.{State, Halt}
-use Rattle.bb_machine.specs.Machine.{IsMachine, symbols_of}
-use Rattle.bb_tape.specs.Content.{Content, blank, cell}
+use Rattle.bb_machine.specs.Machine.{IsMachine}
+use Rattle.bb_tape.specs.Content.{cell}
 use Rattle.bb_tape.specs.Strip.{Strip, fresh, visited, width, IsInside, IsBeside, IsSound}
 use Rattle.bb_tape.proofs.Content.{cell-blank}
 use Rattle.bb_sim.specs.declared.runner.Runner.{Runner}
-use Rattle.bb_sim.specs.Configuration.{Table, Configuration, beside}
+use Rattle.bb_sim.specs.Configuration.{Table, beside}
 use Rattle.bb_sim.specs.Reach.{places}
-use Rattle.bb_sim.specs.Span.{counted_place, seat, least, greatest}
+use Rattle.bb_sim.specs.Span.{counted_place, seat}
 use Rattle.bb_sim.specs.Runner.{Stands}
 use Rattle.bb_sim.proofs.Places.{least_last, greatest_last, places-is, min-same, max-same}
 use Rattle.bb_sim.proofs.Steps.{conf-start, seat-start, seat-at}

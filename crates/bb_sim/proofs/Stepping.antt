@@ -1,5 +1,5 @@
 -- A runner's step, from what it stands on to what it stands on next.
-use Rattle.std.proofs.Common.{◌≡◌, ◌≢◌, ℕ, suc, ◌+◌, ◌<◌, ◌≤◌, Some, ℤ, pos, neg_ℤ, ◌+ℤ◌, ◌-ℤ◌, ◌<ℤ◌, ◌≤ℤ◌, length, refl, ap, sym, subst, ◌∙◌, arith, rules}
+use Rattle.std.proofs.Common.{◌≡◌, ◌≢◌, ℕ, ◌+◌, ◌<◌, ℤ, ◌≤ℤ◌, length, refl, ap, sym, ◌∙◌, arith}
 use Rattle.std.specs.Int.{int_min, int_max}
 use Rattle.std.proofs.lemmas.Int.{ints, clamps}
 use Rattle.bb_machine.specs.declared.entry.Dir.{Dir}
@@ -12,12 +12,12 @@ use Rattle.bb_tape.specs.Content.{Content, cell, with_cell}
 use Rattle.bb_tape.specs.Strip.{Strip, visited, written, IsInside, IsSound}
 use Rattle.bb_tape.proofs.Content.{cell-with_cell-same, cell-with_cell-other, by_place}
 use Rattle.bb_sim.specs.declared.runner.Runner.{Runner}
-use Rattle.bb_sim.specs.Configuration.{Table, Configuration, beside, entry_at}
-use Rattle.bb_sim.specs.Run.{conf, HaltsAt}
+use Rattle.bb_sim.specs.Configuration.{Table, beside, entry_at}
+use Rattle.bb_sim.specs.Run.{HaltsAt}
 use Rattle.bb_sim.specs.Reach.{places}
-use Rattle.bb_sim.specs.Span.{counted_place, seat, least, greatest, span}
+use Rattle.bb_sim.specs.Span.{counted_place, seat, span}
 use Rattle.bb_sim.specs.Runner.{Stands}
-use Rattle.bb_sim.proofs.Places.{least-next, greatest-next, places-is}
+use Rattle.bb_sim.proofs.Places.{least-next, greatest-next}
 use Rattle.bb_sim.proofs.Steps.{seat-at, halts_here, conf-next, goes_on, span-next}
 use Rattle.bb_sim.proofs.Standing.{widened}
 

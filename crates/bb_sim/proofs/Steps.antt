@@ -1,13 +1,12 @@
 -- One step of a run, over the definitions alone.
-use Rattle.std.proofs.Common.{◌≡◌, ◌≢◌, ℕ, zero, suc, ◌+◌, ◌<◌, ◌≤◌, Option, Some, None, option_and_then, ℤ, pos, ◌≤ℤ◌, refl, ap, sym, ◌∙◌, add-one, arith, rules}
+use Rattle.std.proofs.Common.{◌≡◌, ℕ, ◌+◌, Some, None, option_and_then, pos, refl, ap, sym, ◌∙◌, add-one}
 use Rattle.std.specs.Int.{int_min, int_max}
 use Rattle.bb_machine.specs.declared.entry.Dir.{Dir}
 use Rattle.bb_machine.specs.declared.entry.Next.{Next}
-use Rattle.bb_machine.specs.declared.entry.Entry.{Entry}
 use Rattle.bb_machine.specs.declared.entry.Entry.TheVariants.{Undefined, Go}
-use Rattle.bb_tape.specs.Content.{Content, cell, with_cell}
+use Rattle.bb_tape.specs.Content.{cell, with_cell}
 use Rattle.bb_sim.specs.Configuration.{Table, Configuration, start, beside, followed, entry_at, next}
-use Rattle.bb_sim.specs.Run.{after, conf, HaltsAt}
+use Rattle.bb_sim.specs.Run.{conf, HaltsAt}
 use Rattle.bb_sim.specs.Reach.{places}
 use Rattle.bb_sim.specs.Span.{counted_place, counted_seat, seat, least, greatest, span}
 use Rattle.bb_sim.proofs.Places.{least-next, greatest-next}

@@ -1,7 +1,7 @@
 -- A configuration and the step to the next one, as Radó and Lin and Radó (1965) have them: a table, a
 -- head on an endless tape, and one state that halts. That an undefined entry makes no step is this
 -- project's choice.
-use Rattle.std.specs.Prelude.{ℕ, ◌+◌, Option, Some, None, List, ℤ, pos, ◌+ℤ◌, ◌-ℤ◌}
+use Rattle.std.specs.Prelude.{ℕ, Option, Some, None, List, ℤ, pos, ◌+ℤ◌, ◌-ℤ◌}
 use Rattle.bb_machine.specs.declared.entry.Dir.{Dir}
 use Rattle.bb_machine.specs.declared.entry.Dir.TheVariants.{L, R}
 use Rattle.bb_machine.specs.declared.entry.Next.{Next}

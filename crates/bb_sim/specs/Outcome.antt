@@ -1,5 +1,5 @@
 -- What a simulation within limits finds.
-use Rattle.std.specs.Prelude.{◌≡◌, ℕ, ◌<◌, ◌≤◌}
+use Rattle.std.specs.Prelude.{ℕ, ◌<◌, ◌≤◌}
 use Rattle.bb_sim.specs.declared.simulate.Outcome.{Outcome}
 use Rattle.bb_sim.specs.declared.simulate.Outcome.TheVariants.{Halt, NoSteps, NoCells}
 use Rattle.bb_sim.specs.Configuration.{Table}

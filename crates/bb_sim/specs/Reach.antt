@@ -1,6 +1,5 @@
 -- How far a window reaches.
 use Rattle.std.specs.Prelude.{ℕ, ◌+◌, ℤ, ◌-ℤ◌}
-use Rattle.std.specs.Int.{int_min, int_max}
 use Rattle.std.specs.Int.RustNames.{unsigned_abs}
 
 -- how many places there are from low to high, both counted

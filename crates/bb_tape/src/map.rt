@@ -79,6 +79,7 @@ impl<A: Allocator + Clone + Drop> Tape for MapTape<A> {
         self.window = Window::new(self.window.limit);
     }
 
+    #[inline]
     fn visit(&mut self, p: i64) -> Result<(), TapeFault> {
         match self.window.widened(p) {
             Some(window) => {
@@ -89,6 +90,7 @@ impl<A: Allocator + Clone + Drop> Tape for MapTape<A> {
         }
     }
 
+    #[inline]
     fn read(&self, p: i64) -> u8 {
         match self.cells.get(&p) {
             Some(k) => *k + 1,
@@ -133,14 +135,17 @@ impl<A: Allocator + Clone + Drop> Tape for MapTape<A> {
         self.cells.len() as u64
     }
 
+    #[inline]
     fn low(&self) -> i64 {
         self.window.low
     }
 
+    #[inline]
     fn high(&self) -> i64 {
         self.window.high
     }
 
+    #[inline]
     fn limit(&self) -> u64 {
         self.window.limit
     }

@@ -61,9 +61,7 @@ impl RingTape {
         let (first, second) = self.pieces(from, len);
         count_nonzero(first) == 0 && count_nonzero(second) == 0
     }
-}
 
-impl RingTape {
     /// Whether all cells outside a part of the window are 0.
     fn is_blank_outside(&self, part: Window) -> bool
         requires low { self.now.window.low ≤ℤ part.low }

@@ -108,6 +108,15 @@ fn rows_over_a_ring(rt: HostRuntime) -> Result<(), Fail> {
     Ok(())
 }
 
+/// Run with its one allocation refused, this shows that the answer is then `Memory`.
+#[test]
+fn a_ring_is_made_or_refused(rt: HostRuntime) {
+    match RingTape::new(rt.alloc(), 70) {
+        Ok(tape) => assert_eq!(rt; (tape.limit(), tape.score(), tape.high()), (70, 0, 0)),
+        Err(Memory) => {}
+    }
+}
+
 /// Puts symbols into the cells from `from` on, below `cells`, and gives the first that was refused, or `cells`.
 fn write_upwards<T: Tape>(tape: &mut T, from: u8, cells: u8) -> u8
     requires { IsBeside (T.strip tape.old) (pos from) }

@@ -1,8 +1,8 @@
 use Rattle.std.proofs.Common.{◌≡◌, ℕ, List, [], ◌∷◌, ◌++◌, take, Option, ◌∙◌}
 use Rattle.std.proofs.lemmas.Result.{err_from_is_err_and}
 use Rattle.bb_lines.specs.Watched.{watched_inner}
-use Rattle.bb_lines.specs.Ends.{AreAnswered}
-use Rattle.bb_lines.proofs.AnswerLemmas.{reply_of_kept, saw_of_kept, AppendsFrontOfReplies-more, AppendsFrontOfReplies-all, answered_front, answered_next, answered_all, answered_after_write}
+use Rattle.bb_lines.specs.Progress.{AreAnswered}
+use Rattle.bb_lines.proofs.AnswerLemmas.{reply_of_kept, saw_of_kept, AppendsFrontOfReplies-more, AppendsFrontOfReplies-all, answered_front, answered_next, answered_after_write}
 use Rattle.bb_lines.proofs.lines.answer_kept.Given.{Over}
 use Rattle.bb_lines.proofs.lines.answer_kept.Goals as goal
 use Rattle.bb_lines.proofs.lines.answer_kept.Goals.{In_ok-add_line}

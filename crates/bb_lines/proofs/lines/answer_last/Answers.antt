@@ -1,7 +1,6 @@
-use Rattle.std.proofs.Common.{rules, ◌≡◌, ◌<◌, length, sym, arith}
+use Rattle.std.proofs.Common.{◌≡◌, ◌<◌, length, arith}
 use Rattle.std.proofs.lemmas.Grind.{common_steps}
 use Rattle.bb_lines.specs.Lines.{complete, unfinished, lines}
-use Rattle.bb_lines.specs.Ends.{AreAnswered}
 use Rattle.bb_lines.proofs.LinesLemmas.{lines-last, lines-ended}
 use Rattle.bb_lines.proofs.StandsLemmas.{MatchEnd-last, length-kept_none, length-kept_some}
 use Rattle.bb_lines.proofs.lines.answer_last.Goals as goal

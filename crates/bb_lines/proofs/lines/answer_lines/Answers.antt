@@ -1,9 +1,8 @@
-use Rattle.std.proofs.Common.{rules, ◌≡◌, ℕ, zero, ◌+◌, ◌<◌, ◌≤◌, List, [], ◌∷◌, ◌++◌, length, take, drop, Option, ◌∙◌, ap, sym, subst, refl, append_assoc, arith}
+use Rattle.std.proofs.Common.{rules, ◌≡◌, ℕ, ◌+◌, List, [], ◌∷◌, ◌++◌, length, take, drop, ◌∙◌, ap, sym, subst, refl, append_assoc, arith}
 use Rattle.std.proofs.lemmas.List.{append-nil}
 use Rattle.std.proofs.lemmas.Result.{err_from_is_err_and}
 use Rattle.std.proofs.Math.Seq.{take-length}
 use Rattle.bb_lines.specs.Lines.{complete, unfinished, lines}
-use Rattle.bb_lines.specs.Ends.{StandsAfter}
 use Rattle.bb_lines.proofs.LinesLemmas.{HasNoNewline}
 use Rattle.bb_lines.proofs.Streams.{slice_from}
 use Rattle.bb_lines.proofs.StandsLemmas.{MatchEnd-line, no_newline_before, line_split, lines_after_line, kept_more, StandsAfter-piece, StandsAfter-line}

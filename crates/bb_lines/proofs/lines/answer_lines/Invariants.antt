@@ -1,5 +1,5 @@
 use Rattle.std.proofs.Common.{◌≡◌, ℕ, ◌≤◌, List, ◌++◌, false, length, Option}
-use Rattle.bb_lines.specs.Ends.{StandsAfter}
+use Rattle.bb_lines.specs.Progress.{StandsAfter}
 use Rattle.bb_lines.proofs.lines.answer_lines.Given as goal
 
 -- the run stands after the front of the piece that is not left

@@ -1,8 +1,7 @@
-use Rattle.std.proofs.Common.{rules, ◌≡◌, ◌<◌, ◌≤◌, ◌++◌, [], length, take, subst, arith, ap, refl, ◌∙◌}
+use Rattle.std.proofs.Common.{rules, ◌≡◌, ◌<◌, ◌++◌, [], length, take, arith, ap, ◌∙◌}
 use Rattle.std.proofs.lemmas.List.{append-nil}
 use Rattle.std.proofs.lemmas.Result.{err_from_is_err_and}
-use Rattle.bb_lines.specs.Lines.{lines}
-use Rattle.bb_lines.proofs.Streams.{Consumes-none, Consumes-more, Consumes-kept}
+use Rattle.bb_lines.proofs.Streams.{Consumes-none, Consumes-more}
 use Rattle.bb_lines.proofs.StandsLemmas.{StandsAfter-none, StandsAfter-written, AppendsFront-stands, MatchEnd-no_read}
 use Rattle.bb_lines.proofs.lines.answer_reads.Goals as goal
 

@@ -1,6 +1,6 @@
 use Rattle.std.proofs.Common.{◌≡◌, ℕ, ◌-◌, ◌^◌, ◌≤◌, List, false, length}
 use Rattle.std.specs.Io.KnownBytes.{Consumes}
-use Rattle.bb_lines.specs.Ends.{StandsAfter}
+use Rattle.bb_lines.specs.Progress.{StandsAfter}
 use Rattle.bb_lines.proofs.lines.answer_reads.Given as goal
 
 -- the run stands after the bytes that were taken so far

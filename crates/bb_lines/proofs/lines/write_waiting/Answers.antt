@@ -1,4 +1,4 @@
-use Rattle.std.proofs.Common.{rules, length, take, drop}
+use Rattle.std.proofs.Common.{rules}
 use Rattle.bb_lines.proofs.Streams.{AppendsBut-write}
 use Rattle.bb_lines.proofs.lines.write_waiting.Goals as goal
 

@@ -1,5 +1,5 @@
 use Rattle.std.proofs.Common.{◌≡◌, false, length}
-use Rattle.bb_lines.specs.Ends.{AppendsBut}
+use Rattle.bb_lines.specs.Progress.{AppendsBut}
 use Rattle.bb_lines.proofs.lines.write_waiting.Given as goal
 
 -- what is left to write waits

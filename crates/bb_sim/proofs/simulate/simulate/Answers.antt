@@ -1,4 +1,4 @@
-use Rattle.std.proofs.Common.{◌≡◌, ◌+◌, refl, sym, ap, ◌∙◌, arith, rules}
+use Rattle.std.proofs.Common.{◌+◌, refl, ap, ◌∙◌, arith}
 use Rattle.bb_tape.specs.Content.{score}
 use Rattle.bb_tape.specs.Strip.{Strip}
 use Rattle.bb_sim.specs.Meter.{stepped}

@@ -1,6 +1,4 @@
-use Rattle.std.proofs.Common.{◌≡◌, refl, sym, inr, arith}
-use Rattle.bb_machine.specs.Machine.{text}
-use Rattle.bb.specs.Reply.{IsMachineLine}
+use Rattle.std.proofs.Common.{refl, inr}
 use Rattle.bb.proofs.run_decide.DeciderAnswer.answer.Goals as goal
 
 pub returns-in-Err-clause-reply : goal.returns-in-Err-clause-reply

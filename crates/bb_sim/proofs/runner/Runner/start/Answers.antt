@@ -1,4 +1,3 @@
-use Rattle.std.proofs.Common.{ap}
 use Rattle.bb_sim.proofs.Standing.{at_start}
 use Rattle.bb_sim.proofs.runner.Runner.start.Goals as goal
 
