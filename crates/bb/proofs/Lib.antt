@@ -1,2 +1,5 @@
 pub mod Peaks
 pub mod Summaries
+pub mod Traces
+pub mod TraceEnds
+pub mod TraceSummaries

@@ -6,3 +6,4 @@ pub mod Seen
 pub mod Summary
 pub mod Verdict
 pub mod Kept
+pub mod Trace

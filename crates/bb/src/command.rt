@@ -9,10 +9,12 @@ use clap::{Arg, ArgAction, ArgMatches, Command, Error, value_parser};
 use std::alloc::{AllocError, Global};
 
 /// What is to be done.
-#[derive(Clone, Copy, Debug)]
+#[derive(Debug, Drop)]
 pub enum Work {
     /// A verdict for each machine of a list, by these deciders.
     Decide(Plan),
+    /// The first configurations of the machine with this text, up to the limit of steps.
+    Trace(String),
 }
 
 /// A command line that was read.
@@ -20,7 +22,7 @@ pub enum Work {
 pub struct Asked {
     pub work: Work,
     pub limits: Limits,
-    /// Where the input is read from; standard input where there is none.
+    /// Where the list is read from; standard input where there is none. A trace reads none.
     pub file: Option<String>,
 }
 
@@ -66,7 +68,8 @@ pub fn ask(alloc: Global, words: &[&str]) -> Result<Asked, Stop>
 {
     match program(alloc)?.try_get_matches_from(words) {
         Ok(matches) => match matches.subcommand() {
-            Some((_, matches)) => asked_of(alloc, matches),
+            Some(("trace", matches)) => trace_of(alloc, matches),
+            Some((_, matches)) => decide_of(alloc, matches),
             None => Err(Stop::Memory),
         },
         Err(error) => Err(stop_of(alloc, &error)?),
@@ -85,19 +88,34 @@ fn program<'a>(alloc: Global) -> Result<Command<'a>, AllocError> {
     .arg(switch(alloc, "no-translated", "Leaves out the translated cyclers"))?
     .arg(switch(alloc, "no-backward", "Leaves out backward reasoning"))?
     .arg(file)?;
+    let trace = Command::new(alloc, "trace")
+        .about("Prints the first configurations of a machine")
+        .arg(number(alloc, "upto", "The last step that is printed").required(true))?
+        .arg(cells(alloc))?
+        .arg(
+            Arg::new(alloc, "machine")
+                .value_name("MACHINE")
+                .help("The machine's text")
+                .required(true),
+        )?;
     Command::new(alloc, "bb")
         .about("Simulates and decides small Turing machines")
         .disable_help_subcommand(true)
         .subcommand_required(true)
-        .subcommand(decide)
+        .subcommand(decide)?
+        .subcommand(trace)
 }
 
 fn limited<'a>(alloc: Global, command: Command<'a>) -> Result<Command<'a>, AllocError> {
     command
         .arg(number(alloc, "steps", "The most steps of one simulation").default_value("1000000"))?
-        .arg(number(alloc, "cells", "The most cells of one tape").default_value("65536"))?
+        .arg(cells(alloc))?
         .arg(number(alloc, "depth", "The most levels of the backward tree").default_value("300"))?
         .arg(number(alloc, "nodes", "The most nodes of the backward tree").default_value("1000000"))
+}
+
+fn cells<'a>(alloc: Global) -> Arg<'a> {
+    number(alloc, "cells", "The most cells of one tape").default_value("65536")
 }
 
 fn number<'a>(alloc: Global, name: &'a str, help: &'a str) -> Arg<'a> {
@@ -122,10 +140,15 @@ fn stop_of(alloc: Global, error: &Error) -> Result<Stop, AllocError> {
     }
 }
 
-fn asked_of(alloc: Global, matches: &ArgMatches<'_>) -> Result<Asked, Stop>
+fn decide_of(alloc: Global, matches: &ArgMatches<'_>) -> Result<Asked, Stop>
     ensures { IfOk result (λ asked. CanServe asked.work) }
 {
-    let limits = limits_of(matches)?;
+    let limits = limits(
+        value(matches, "steps"),
+        value(matches, "cells"),
+        value(matches, "depth"),
+        value(matches, "nodes"),
+    )?;
     let plan = Plan {
         cyclers: !matches.get_flag("no-cyclers"),
         translated: !matches.get_flag("no-translated"),
@@ -151,14 +174,24 @@ fn asked_of(alloc: Global, matches: &ArgMatches<'_>) -> Result<Asked, Stop>
     })
 }
 
-/// The limits that the options give. Each option has a default and is read as a number, so none is missing.
-fn limits_of(matches: &ArgMatches<'_>) -> Result<Limits, Stop> {
-    let number = |name: &str| matches.get_one::<u64>(name).unwrap_or(0);
-    Limits::new(
-        number("steps"),
-        number("cells"),
-        number("depth"),
-        number("nodes"),
-    )
-    .map_err(Stop::Limits)
+fn trace_of(alloc: Global, matches: &ArgMatches<'_>) -> Result<Asked, Stop>
+    ensures { IfOk result (λ asked. CanServe asked.work) }
+{
+    let limits = limits(value(matches, "upto"), value(matches, "cells"), 0, 0)?;
+    let text = matches.get_str("machine").unwrap_or("");
+    Ok(Asked {
+        work: Work::Trace(String::from_str(alloc, text)?),
+        limits,
+        file: None,
+    })
+}
+
+/// The number that an option gives. Each option is required or has a default, and is read as a number,
+/// so none is missing.
+fn value(matches: &ArgMatches<'_>, name: &str) -> u64 {
+    matches.get_one::<u64>(name).unwrap_or(0)
+}
+
+fn limits(steps: u64, cells: u64, depth: u64, nodes: u64) -> Result<Limits, Stop> {
+    Limits::new(steps, cells, depth, nodes).map_err(Stop::Limits)
 }

@@ -7,7 +7,9 @@ ghost use Rattle.bb.specs.Command.{CanServe};
 mod bench;
 mod command;
 mod decide;
+mod refusal;
 mod run_decide;
+mod run_trace;
 mod serve;
 mod summary;
 #[cfg(test)]

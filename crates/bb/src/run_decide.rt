@@ -1,16 +1,12 @@
 //! Verdicts on the machines of a list, a line each.
-ghost use Rattle.std.specs.Prelude.{◌≡◌, ◌++◌, ◌↔◌, ℕ, [], codes, decimal, false, true, IsTrue, List};
-ghost use Rattle.std.specs.Io.KnownBytes.{Consumes, IsAtEnd};
-ghost use Rattle.bb_lines.specs.Ends.{AppendsFrontOfReplies, AppendsReplies, AppendsSome};
-ghost use Rattle.bb_lines.specs.Lines.{complete, lines};
+ghost use Rattle.std.specs.Prelude.{◌≡◌, ◌↔◌, false, true, IsTrue};
 ghost use Rattle.bb_lines.specs.Watched.{is_marked, watched_inner};
 ghost use Rattle.bb.specs.Bench.{HasCells, IsSimulation};
-ghost use Rattle.bb.specs.Ends.{MatchRun};
-ghost use Rattle.bb.specs.Reply.{IsReply};
-ghost use Rattle.bb.specs.Summary.{IsSummary};
+ghost use Rattle.bb.specs.Ends.{DecideEnds};
 
 use crate::bench::{Bench, Plan};
 use crate::decide::decide;
+use crate::refusal::refusal_into;
 use crate::summary::Summary;
 use arrayvec::ArrayVec;
 use bb_cert::{line_into, lines_are_short};
@@ -22,7 +18,6 @@ use bb_machine::laws::texts_differ;
 use bb_machine::{LINE, Limits, Machine};
 use bb_sim::Meter;
 use bb_tape::Tape;
-use itoa::Buffer;
 use std::alloc::AllocError;
 use std::io::{Read, Write};
 
@@ -106,16 +101,6 @@ impl<T: Tape> Answer for Decider<'_, T> {
     }
 }
 
-/// Puts `refused` and a column into a text, which is empty.
-fn refusal_into(column: u32, text: &mut ArrayVec<u8, REPLY>)
-    requires { text.old.items ≡ [] }
-    ensures { text.new.items ≡ codes "refused " ++ decimal column }
-{
-    let mut digits = Buffer::new();
-    let _word = text.try_extend_from_slice(b"refused ");
-    let _column = text.try_extend_from_slice(digits.format(column).as_bytes());
-}
-
 /// Writes the verdict line of each machine of a list, and a refusal for each line that is no machine's text.
 ///
 /// A line ends at a newline; a last line without one counts if it isn't empty. After a fault the
@@ -132,18 +117,10 @@ pub fn run_decide<R: Read, W: Write, T: Tape>(
     requires tapes { HasCells T.strip limits.now.cells bench.old }
     requires plan { IsSimulation plan }
 
-    // How the run ends, and what is written then, for the bytes that it took from the reader.
-    ensures ends { let left = R.remaining (watched_inner reader.old) in
-        let left_then = R.remaining (watched_inner reader.new) in
-        let held = W.contents (watched_inner writer.old) in
-        let held_then = W.contents (watched_inner writer.new) in
-        let Reply = IsReply limits.now.steps limits.now.cells in
-        (taken : List ℕ) × Consumes left left_then taken × MatchRun result
-        (λ summary. IsAtEnd left_then × AppendsReplies Reply held held_then (lines taken)
-        × IsSummary limits.now.steps limits.now.cells (lines taken) summary)
-        (AppendsSome Reply held held_then (lines taken))
-        (AppendsReplies Reply held held_then (complete taken))
-        (AppendsFrontOfReplies Reply held held_then (lines taken)) }
+    // How the run ends, and what is written then.
+    ensures ends { DecideEnds limits.now.steps limits.now.cells
+        (R.remaining (watched_inner reader.old)) (R.remaining (watched_inner reader.new))
+        (W.contents (watched_inner writer.old)) (W.contents (watched_inner writer.new)) result }
 
     // When each fault comes.
     ensures memory { result ≡ Err Fault.Memory → IsTrue T.GROWS }

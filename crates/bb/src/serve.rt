@@ -1,12 +1,13 @@
 //! Does what was asked for, and says how it ended.
-ghost use Rattle.std.specs.Prelude.{◌≡◌, false};
-ghost use Rattle.bb_lines.specs.Watched.{is_marked};
+ghost use Rattle.std.specs.Prelude.{◌≡◌, ◌↔◌, false, true};
+ghost use Rattle.bb_lines.specs.Watched.{is_marked, watched_inner};
 ghost use Rattle.bb.specs.Command.{CanServe};
-ghost use Rattle.bb.specs.Ends.{end_status};
+ghost use Rattle.bb.specs.Ends.{ServeEnds, end_status};
 
 use crate::bench::Bench;
 use crate::command::{Asked, Work};
 use crate::run_decide::run_decide;
+use crate::run_trace::run_trace;
 use crate::summary::Summary;
 use bb_lines::fault::Fault;
 use bb_lines::watched::Watched;
@@ -14,7 +15,7 @@ use bb_tape::MapTape;
 use std::alloc::Global;
 use std::io::{Read, Write};
 
-/// Does the work on tapes of its own.
+/// Does the work on tapes of its own. For a trace nothing is read.
 pub fn serve<R: Read, W: Write>(
     alloc: Global,
     asked: &Asked,
@@ -24,18 +25,29 @@ pub fn serve<R: Read, W: Write>(
     requires reader { is_marked reader.old ≡ false }
     requires writer { is_marked writer.old ≡ false }
     requires work { CanServe asked.now.work }
+
+    // How the work ends, and what is read and written then.
+    ensures ends { ServeEnds asked.now.work asked.now.limits.steps asked.now.limits.cells
+        (R.remaining (watched_inner reader.old)) (R.remaining (watched_inner reader.new))
+        (W.contents (watched_inner writer.old)) (W.contents (watched_inner writer.new)) result }
+    ensures read { (result ≡ Err Fault.Read) ↔ (is_marked reader.new ≡ true) }
+    ensures write { (result ≡ Err Fault.Write) ↔ (is_marked writer.new ≡ true) }
 {
     let limits = asked.limits;
     let cells = limits.cells();
-    match asked.work {
+    match &asked.work {
         Work::Decide(plan) => {
             let run = MapTape::new(alloc, cells);
             let right = MapTape::new(alloc, cells);
             let left = MapTape::new(alloc, cells);
             match Bench::new(alloc, run, right, left, &limits) {
-                Ok(mut bench) => run_decide(reader, writer, &limits, plan, &mut bench),
+                Ok(mut bench) => run_decide(reader, writer, &limits, *plan, &mut bench),
                 Err(_) => Err(Fault::Memory),
             }
+        }
+        Work::Trace(text) => {
+            let mut tape = MapTape::new(alloc, cells);
+            run_trace(text.as_str().as_bytes(), &limits, &mut tape, writer)
         }
     }
 }

@@ -1,14 +1,20 @@
 //! Command lines from end to end, over bytes in memory, with answers that were worked out by hand.
 
+ghost use Rattle.bb.specs.Command.{CanServe};
+
+mod broken;
+mod streams;
+mod trace;
+
 use crate::bench::{Bench, Plan};
-use crate::command::{Stop, ask};
+use crate::command::{Asked, Stop, ask};
 use crate::run_decide::run_decide;
 use crate::serve::{serve, status};
 use crate::summary::Summary;
 use bb_lines::fault::Fault;
 use bb_lines::watched::Watched;
 use bb_machine::Limits;
-use bb_tape::MapTape;
+use bb_tape::{MapTape, RingTape};
 use linked_list_allocator::LocalHeap;
 use std::process::Abort;
 use std::test::Fail;
@@ -151,17 +157,41 @@ const SWITCHES: [&str; 5] = [
     "--no-backward",
 ];
 
+/// What these options ask for, with all deciders off.
+fn asked(rt: &(impl Abort + AllocGlobal), options: &[&'static str]) -> Asked
+    ensures { CanServe result.work }
+{
+    let mut words: Vec<&str> = SWITCHES.to_vec(rt.alloc()).expect(rt, "memory");
+    words.extend_from_slice(options).expect(rt, "memory");
+    ask(rt.alloc(), words.as_slice()).expect(rt, "a command line")
+}
+
 fn decided(
     rt: &(impl Abort + AllocGlobal),
     options: &[&'static str],
     input: &[u8],
 ) -> (Result<Summary, Fault>, Vec<u8>) {
-    let mut words: Vec<&str> = SWITCHES.to_vec(rt.alloc()).expect(rt, "memory");
-    words.extend_from_slice(options).expect(rt, "memory");
-    let asked = ask(rt.alloc(), words.as_slice()).expect(rt, "a command line");
+    let asked = asked(rt, options);
     let mut reader = Watched::new(input);
     let mut writer = Watched::new(Vec::new(rt.alloc()));
     let end = serve(rt.alloc(), &asked, &mut reader, &mut writer);
+    (end, writer.into_inner())
+}
+
+/// The same list on rings.
+fn decided_on_rings(
+    rt: &(impl Abort + AllocGlobal),
+    options: &[&'static str],
+    input: &[u8],
+) -> (Result<Summary, Fault>, Vec<u8>) {
+    let limits = asked(rt, options).limits;
+    let run = RingTape::new(rt.alloc(), limits.cells()).expect(rt, "memory");
+    let right = RingTape::new(rt.alloc(), limits.cells()).expect(rt, "memory");
+    let left = RingTape::new(rt.alloc(), limits.cells()).expect(rt, "memory");
+    let mut bench = Bench::new(rt.alloc(), run, right, left, &limits).expect(rt, "a bench");
+    let mut reader = Watched::new(input);
+    let mut writer = Watched::new(Vec::new(rt.alloc()));
+    let end = run_decide(&mut reader, &mut writer, &limits, SIMULATION, &mut bench);
     (end, writer.into_inner())
 }
 
@@ -170,6 +200,9 @@ fn answers(rt: &(impl Abort + AllocGlobal), rows: &[Row]) {
         let (end, written) = decided(rt, options, input);
         assert_eq!(rt; written.as_slice(), *output);
         assert_eq!(rt; status(&end), *end_status);
+        let (ring_end, ring_written) = decided_on_rings(rt, options, input);
+        assert_eq!(rt; ring_written.as_slice(), *output);
+        assert_eq!(rt; ring_end, end);
     }
 }
 
@@ -186,6 +219,25 @@ fn leaves_undecided(rt: HostRuntime) {
 #[test]
 fn refuses_lines(rt: HostRuntime) {
     answers(&rt, REFUSED.as_slice());
+}
+
+#[test]
+fn refuses_long_lines(rt: HostRuntime) -> Result<(), Fail> {
+    let mut input: Vec<u8> = b"0RA0RA_0RA0RA_0RA0RA_0RA0RA_0RA0RA_0RA0RA_0RA0RA_0RA0RA".to_vec(
+        rt.alloc(),
+    )?;
+    input.resize(input.len() + 1_000_000, b'x')?;
+    let (_, written) = decided(&rt, &[], input.as_slice());
+    assert_eq!(rt; written.as_slice(), b"refused 49\n".as_slice());
+    let mut input: Vec<u8> = Vec::new(rt.alloc());
+    input.resize(1_000_000, b'_')?;
+    input.extend_from_slice(b"\n------")?;
+    let (_, written) = decided(&rt, &[], input.as_slice());
+    assert_eq!(rt;
+        written.as_slice(),
+        b"refused 1\n------ halt 0 0\n".as_slice()
+    );
+    Ok(())
 }
 
 #[test]
@@ -228,6 +280,14 @@ fn refuses_limits(rt: HostRuntime) {
             ["decide", "--nodes=1000000000001"].as_slice(),
             "bb: nodes out of range",
         ),
+        (
+            ["trace", "--upto=1000000000001", "1RA1RA"].as_slice(),
+            "bb: steps out of range",
+        ),
+        (
+            ["trace", "--upto=1", "--cells=0", "1RA1RA"].as_slice(),
+            "bb: cells out of range",
+        ),
     ] {
         match stop(&rt, words) {
             Stop::Limits(fault) => {
@@ -259,11 +319,16 @@ fn refuses_deciders_that_are_not_built(rt: HostRuntime) {
     }
 }
 
-static NO_COMMAND_LINES: [&[&str]; 5] = [
+static NO_COMMAND_LINES: [&[&str]; 10] = [
     &["decide", "--steps=x"],
     &["decide", "--steps=18446744073709551616"],
     &["decide", "a", "b"],
     &["check"],
+    &["trace"],
+    &["trace", "1RA1RA"],
+    &["trace", "--upto", "1"],
+    &["trace", "--upto", "1", "--depth", "0", "1RA1RA"],
+    &["trace", "--upto", "1", "1RA1RA", "1RA1RA"],
     &[],
 ];
 

@@ -9,7 +9,8 @@ use Rattle.bb_lines.specs.declared.fault.Fault.{Fault}
 use Rattle.bb_lines.specs.declared.fault.Fault.TheVariants.{Memory, Read, Write}
 use Rattle.bb_lines.specs.Lines.{AreReplies}
 use Rattle.bb_lines.specs.Ends.{MatchEnd, AppendsFront, AppendsReplies, AppendsFrontOfReplies}
-use Rattle.bb_lines.specs.Progress.{AppendsBut, AreAnswered}
+use Rattle.bb_lines.specs.Output.{AppendsBut}
+use Rattle.bb_lines.specs.Progress.{AreAnswered}
 use Rattle.bb_lines.proofs.Streams.{AppendsFront-waiting, Appends-waiting, AppendsBut-all}
 
 -- the replies to one more line
@@ -88,3 +89,10 @@ module _ {A : Type 0} (Reply : List ℕ → List ℕ → Type 0) (saw : A → Li
   answered_after_write R (Err Write) more written empty only err = answered_front err
   answered_after_write R (Err Memory) more written empty only err = cc
   answered_after_write R (Err Read) more written empty only err = cc
+
+  -- all that waits was to be written at the end, and this may have failed
+  pub answered_end : (R : Type 0) (r : Result (Unit {0}) Fault) → OnOk r (Appends mid new waiting) → IsOkUnless r Write → OnErr r (AppendsFront mid new waiting) → MatchEnd r (AppendsReplies Reply old new lines × FoldsTo saw first lines now) R ⊥ (AppendsFrontOfReplies Reply old new lines)
+  answered_end R (Ok u) written only err = (answered_all written, answered.seen)
+  answered_end R (Err Write) written only err = answered_front err
+  answered_end R (Err Memory) written only err = cc
+  answered_end R (Err Read) written only err = cc

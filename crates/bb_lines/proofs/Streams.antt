@@ -5,7 +5,7 @@ use Rattle.std.proofs.lemmas.Grind.{common_steps}
 use Rattle.std.proofs.lemmas.List.{append-nil, take-append-drop}
 use Rattle.std.specs.Io.KnownBytes.{Appends, Keeps, Consumes}
 use Rattle.bb_lines.specs.Ends.{AppendsFront}
-use Rattle.bb_lines.specs.Progress.{AppendsBut}
+use Rattle.bb_lines.specs.Output.{AppendsBut}
 
 pub Appends-none : (old : Option (List ℕ)) → Appends old old []
 Appends-none None = tt

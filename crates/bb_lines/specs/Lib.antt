@@ -2,4 +2,5 @@ pub mod Fault
 pub mod Watched
 pub mod Lines
 pub mod Ends
+pub mod Output
 pub mod Progress

@@ -1,14 +1,8 @@
 -- How far a run has come, as the engine's own functions tell one another; no public contract cites it.
-use Rattle.std.specs.Prelude.{◌≡◌, ℕ, List, ◌++◌, take, Option}
+use Rattle.std.specs.Prelude.{◌≡◌, ℕ, List, take, Option}
 use Rattle.std.specs.List.{FoldsTo}
-use Rattle.std.specs.Io.KnownBytes.{Appends}
 use Rattle.bb_lines.specs.Lines.{complete, unfinished, AreReplies}
-
--- known bytes grow by these, but for the last of them, which wait
-pub record AppendsBut (old new : Option (List ℕ)) (waiting bytes : List ℕ) : Type 0 where
-  pub written : List ℕ
-  pub whole : written ++ waiting ≡ bytes
-  pub appends : Appends old new written
+use Rattle.bb_lines.specs.Output.{AppendsBut}
 
 -- these lines are answered: their replies are written or wait, and the answerer went over them from `first` to `now`
 pub record AreAnswered {A : Type 0} (Reply : List ℕ → List ℕ → Type 0) (saw : A → List ℕ → A → Type 0) (old new : Option (List ℕ)) (waiting : List ℕ) (first now : A) (lines : List (List ℕ)) : Type 0 where

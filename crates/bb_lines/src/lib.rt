@@ -4,6 +4,7 @@
 pub mod answer;
 pub mod fault;
 pub mod lines;
+pub mod output;
 #[cfg(test)]
 mod tests;
 pub mod watched;

@@ -5,11 +5,13 @@ ghost use Rattle.std.specs.Io.KnownBytes.{Consumes, IsAtEnd, Appends};
 ghost use Rattle.bb_lines.specs.Watched.{watched_inner, is_marked};
 ghost use Rattle.bb_lines.specs.Lines.{complete, lines};
 ghost use Rattle.bb_lines.specs.Ends.{MatchEnd, AppendsFront, AppendsFrontOfReplies, AppendsReplies, AppendsSome};
-ghost use Rattle.bb_lines.specs.Progress.{AppendsBut, AreAnswered, StandsAfter};
+ghost use Rattle.bb_lines.specs.Output.{AppendsBut};
+ghost use Rattle.bb_lines.specs.Progress.{AreAnswered, StandsAfter};
 ghost use Rattle.arrayvec.specs.ArrayVec.{array_vec_len};
 
 use crate::answer::{Answer, Effort, MOST_KEPT, REPLY};
 use crate::fault::Fault;
+use crate::output::{Waiting, add_line, write_and_flush, write_waiting};
 use crate::watched::{Failed, Watched};
 use arrayvec::ArrayVec;
 use memchr::memchr;
@@ -17,11 +19,6 @@ use std::io::{Read, Write};
 
 /// The most bytes of one read.
 const CHUNK: usize = 16384;
-
-/// The room for replies that wait to be written.
-const WAITING: usize = 16384;
-
-type Waiting = ArrayVec<u8, WAITING>;
 
 /// What is kept between two reads: the first bytes of the line at work, and the replies that wait.
 #[derive(Drop)]
@@ -153,11 +150,7 @@ fn finish<W: Write, A: Answer>(
     ensures ready { A.is_ready answerer.new }
 {
     answer_last(writer, answerer, buffers)?;
-    write_waiting(writer, &mut buffers.waiting)?;
-    match writer.flush() {
-        Ok(()) => Ok(()),
-        Err(Failed) => Err(Fault::Write),
-    }
+    write_and_flush(writer, &mut buffers.waiting)
 }
 
 // Answers what stands after the last newline, if it isn't empty: then its first bytes are kept, and there is one at least.
@@ -276,33 +269,6 @@ fn answer_kept<W: Write, A: Answer>(
     }
 }
 
-// Lets a text wait, with a newline. What waits is written before, if there is no room.
-fn add_line<W: Write>(
-    writer: &mut Watched<W>,
-    waiting: &mut Waiting,
-    text: &[u8],
-) -> Result<(), Fault>
-    requires writer { is_marked writer.old ≡ false }
-    requires text { length text.now ≤ 1023 }
-    ensures ends { (before : Option (List ℕ)) (bytes : List ℕ)
-        → AppendsBut before (W.contents (watched_inner writer.old)) waiting.old.items bytes
-        → MatchEnd result
-        (AppendsBut before (W.contents (watched_inner writer.new)) waiting.new.items
-        (bytes ++ (text.now ++ 10 ∷ [])))
-        ⊥
-        ⊥
-        (AppendsFront before (W.contents (watched_inner writer.new)) bytes) }
-    ensures only_write { IsOkUnless result Fault.Write }
-    ensures mark { is_marked writer.new ≡ is_err result }
-{
-    if waiting.remaining_capacity() <= text.len() {
-        write_waiting(writer, waiting)?;
-    }
-    waiting.try_extend_from_slice(text).unwrap();
-    waiting.push(b'\n');
-    Ok(())
-}
-
 // Keeps the first `most` bytes of what is kept and a piece that comes after it.
 fn keep(kept: &mut ArrayVec<u8, MOST_KEPT>, piece: &[u8], most: usize)
     requires kept { array_vec_len kept.old ≤ most }
@@ -311,26 +277,4 @@ fn keep(kept: &mut ArrayVec<u8, MOST_KEPT>, piece: &[u8], most: usize)
 {
     let n = piece.len().min(most - kept.len());
     kept.try_extend_from_slice(&piece[..n]).unwrap();
-}
-
-// Writes all that waits.
-fn write_waiting<W: Write>(writer: &mut Watched<W>, waiting: &mut Waiting) -> Result<(), Fault>
-    requires { is_marked writer.old ≡ false }
-    ensures ok { OnOk result (Appends (W.contents (watched_inner writer.old))
-        (W.contents (watched_inner writer.new)) waiting.old.items) }
-    ensures empty { OnOk result (waiting.new.items ≡ []) }
-    ensures err { OnErr result (AppendsFront (W.contents (watched_inner writer.old))
-        (W.contents (watched_inner writer.new)) waiting.old.items) }
-    ensures only_write { IsOkUnless result Fault.Write }
-    ensures mark { is_marked writer.new ≡ is_err result }
-{
-    let mut rest = waiting.as_slice();
-    while !rest.is_empty() {
-        match writer.write(rest) {
-            Ok(n) => rest = &rest[n..],
-            Err(Failed) => return Err(Fault::Write),
-        }
-    }
-    waiting.clear();
-    Ok(())
 }

@@ -3,3 +3,4 @@ pub mod Steps
 pub mod Standing
 pub mod Stepping
 pub mod Outcomes
+pub mod LawLemmas

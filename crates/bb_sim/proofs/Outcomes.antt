@@ -1,5 +1,5 @@
 -- What the end of a run within limits says of all its steps.
-use Rattle.std.proofs.Common.{◌≡◌, ◌≢◌, ℕ, zero, suc, ◌+◌, ◌-◌, ◌<◌, ◌≤◌, max, Some, None, option_and_then, ℤ, ◌≤ℤ◌, refl, ap, sym, subst, ◌∙◌, arith}
+use Rattle.std.proofs.Common.{◌≡◌, ◌≢◌, ℕ, zero, suc, ◌+◌, ◌-◌, ◌<◌, ◌≤◌, max, Option, Some, None, option_and_then, ℤ, ◌≤ℤ◌, pos, refl, ap, sym, subst, ◌∙◌, add-one, arith}
 use Rattle.std.specs.Int.{int_min, int_max}
 use Rattle.std.proofs.lemmas.Int.{ints, clamps}
 use Rattle.bb_tape.specs.Content.{score}
@@ -9,11 +9,11 @@ use Rattle.bb_sim.specs.declared.meter.Meter.{Meter}
 use Rattle.bb_sim.specs.Configuration.{Table, Configuration, start, next}
 use Rattle.bb_sim.specs.Run.{after, conf, HaltsAt, IsScore}
 use Rattle.bb_sim.specs.Reach.{places}
-use Rattle.bb_sim.specs.Span.{seat, least, greatest, span, Inside, IsLastInside}
+use Rattle.bb_sim.specs.Span.{counted_seat, seat, least, greatest, span, Inside, IsLastInside}
 use Rattle.bb_sim.specs.Meter.{stepped, counted, CountsRun}
 use Rattle.bb_sim.specs.Outcome.{HaltsInside}
 use Rattle.bb_sim.specs.Runner.{Stands}
-use Rattle.bb_sim.proofs.Places.{least_last, greatest_last, places-is, places_wider}
+use Rattle.bb_sim.proofs.Places.{least_last, greatest_last, places-is, places_wider, min-same, max-same}
 use Rattle.bb_sim.proofs.Steps.{seat-start}
 
 -- from a step that doesn't exist on, none does
@@ -69,6 +69,36 @@ span_grows table m n h =
 pub span-start : (table : Table) → span table 0 ≡ 1
 span-start table = rw seat-start refl
 
+seat-none : (table : Table) (n : ℕ) → conf table n ≡ None → seat table n ≡ pos 0
+unfolding seat
+seat-none table n e = ap counted_seat e
+
+-- a halted machine's head takes in no more places
+ends_halted : (table : Table) (n k : ℕ) → HaltsAt table n → (least (seat table) (k + n) ≡ least (seat table) n) × (greatest (seat table) (k + n) ≡ greatest (seat table) n)
+ends_halted table n zero halts = let e : zero + n ≡ n = omega arith in (rw e refl, rw e refl)
+ends_halted table n (suc k) halts =
+    let before = ends_halted table n k halts in
+    let none : conf table (k + suc n) ≡ None = none_on table (suc n) k (halt_next table n halts) in
+    let e : suc k + n ≡ suc (k + n) = omega arith in
+    let d : k + suc n ≡ suc (k + n) = omega arith in
+    let here : seat table (suc (k + n)) ≡ pos 0 = seat-none table (suc (k + n)) (subst (λ m. conf table m ≡ None) d none) in
+    let low = least_falls (seat table) 0 (k + n) in
+    let high = greatest_rises (seat table) 0 (k + n) in
+    let zeroth = seat-start table in
+    let same : (k + n) + 0 ≡ k + n = omega arith in
+    let low_here : least (seat table) (k + n) ≤ℤ pos 0 = rw (same, zeroth) at low in
+    let high_here : pos 0 ≤ℤ greatest (seat table) (k + n) = rw (same, zeroth) at high in
+    let kept_low : int_min (least (seat table) (k + n)) (seat table (suc (k + n))) ≡ least (seat table) (k + n) = rw here (min-same _ _ low_here) in
+    let kept_high : int_max (greatest (seat table) (k + n)) (seat table (suc (k + n))) ≡ greatest (seat table) (k + n) = rw here (max-same _ _ high_here) in
+    (rw e (kept_low ∙ before.0), rw e (kept_high ∙ before.1))
+
+-- the span of a halt stays
+pub span_halted : (table : Table) (n m : ℕ) → HaltsAt table n → n ≤ m → span table m ≡ span table n
+span_halted table n m halts h =
+    let ends = ends_halted table n (m - n) halts in
+    let e : (m - n) + n ≡ m = omega (arith, h) in
+    subst (λ k. span table k ≡ span table n) e (rw (ends.0, ends.1) refl)
+
 -- a runner's tape has room for the span
 pub span_fits : (table : Table) (runner : Runner) (strip : Strip) → Stands table runner strip → IsSound strip → span table runner.steps ≤ strip.limit
 span_fits table runner strip stands sound =
@@ -87,7 +117,23 @@ inside_here table runner strip steps cells stands sound limit few = record {
   within_cells = let fits = span_fits table runner strip stands sound in omega (arith, fits, limit);
 }
 
+-- where the run doesn't halt, there is a next configuration
+next_exists : (table : Table) (n : ℕ) (c : Configuration) → conf table n ≡ Some c → (HaltsAt table n → ⊥) → (there : Option Configuration) → next table c ≡ there → (d : Configuration) × (conf table (n + 1) ≡ Some d)
+unfolding conf
+next_exists table n c at goes None is = absurd (goes (record { last = c; exists = at; no_next = is }))
+next_exists table n c at goes (Some d) is = (d, rw add-one (ap (option_and_then (next table)) at ∙ is))
+
 module _ (table : Table) (steps cells n : ℕ) (inside : Inside table steps cells n) where
+  -- a step that is wanted is inside
+  pub next_inside : (HaltsAt table n → ⊥) → n ≢ steps → span table (n + 1) ≤ cells → Inside table steps cells (n + 1)
+  next_inside goes apart fits =
+      let there = next_exists table n inside.here inside.exists goes _ refl in
+      record { here = there.0; exists = there.1; within_steps = omega (arith, apart, inside.within_steps); within_cells = fits }
+
+  -- a run that ends here, at the last step inside, stays within the cells up to the limit of steps
+  pub fits_at_halt : HaltsAt table n → span table steps ≤ cells
+  fits_at_halt halts = let same = span_halted table n steps halts inside.within_steps in let fits = inside.within_cells in omega (arith, same, fits)
+
   pub halts_last : HaltsAt table n → IsLastInside table steps cells n
   halts_last halts = record { inside = inside; greatest = λ m other. halt_is_last table n m other.here halts other.exists }
 

@@ -5,3 +5,4 @@ pub mod Span
 pub mod Meter
 pub mod Runner
 pub mod Outcome
+pub mod Laws

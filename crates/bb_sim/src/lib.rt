@@ -1,6 +1,7 @@
 //! Runs a machine step by step on any tape, within limits, and counts what it does.
 #![tactic(auto)]
 
+pub mod laws;
 pub mod meter;
 pub mod runner;
 pub mod simulate;

@@ -8,6 +8,7 @@ ghost use Rattle.bb_sim.specs.Configuration.{entry_at};
 ghost use Rattle.bb_sim.specs.Reach.{places};
 ghost use Rattle.bb_sim.specs.Span.{counted_place};
 ghost use Rattle.bb_sim.specs.Runner.{Stands, Answers, Moves, Widens};
+ghost use Rattle.bb_sim.specs.declared.runner.Moved.{Moved};
 
 use crate::meter::Meter;
 use bb_machine::{Dir, Entry, Limits, Machine, Next};
@@ -56,7 +57,7 @@ impl Runner {
 
     /// Makes one step of the machine, if it doesn't halt here and the limits allow it.
     ///
-    /// After an error the runner must be started again.
+    /// After an error the runner must be started again; it comes only where a step would have been made.
     #[inline]
     pub fn advance<T: Tape>(
         &mut self,
@@ -74,6 +75,7 @@ impl Runner {
         ensures stands { OnOk result (Stands machine.now self.new (T.strip tape.new)) }
         ensures limit { (T.strip tape.new).limit ≡ (T.strip tape.old).limit }
         ensures memory { OnErr result (IsTrue T.GROWS) }
+        ensures wanted { OnErr result (Answers machine.now limits.now.steps limits.now.cells self.old.steps Moved.Stepped) }
         ensures uncounted { OnErr result (meter.new ≡ meter.old) }
     {
         let Entry::Go { write, dir, next } = self.entry(machine, tape) else {

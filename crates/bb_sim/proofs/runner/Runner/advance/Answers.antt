@@ -52,6 +52,15 @@ write-requires-clause-inside g c =
 pub cells-requires-clause-order : goal.cells-requires-clause-order
 cells-requires-clause-order g c = widened_order _ _ _ (order _ _ _ c.requires.stands (g.met.T.Tape.sound c.args.tape.now)) c.if-not-enter.ensures.2
 
+pub returns-in_default-write-clause-wanted : goal.returns-in_default-write-clause-wanted
+returns-in_default-write-clause-wanted g c =
+    let fits : FitsSigned w64 c.args.self.now.position = search rules in
+    let result_fits : FitsSigned w64 c.beside-position.result = search rules in
+    let there : c.beside-position.result ≡ beside c.in-Go.dir c.args.self.now.position = simp to_z-of_z at c.beside-position.ensures in
+    let room = rw there at (simp to_z-of_z at c.if-not-enter.ensures.0) in
+    let spans = next-span _ _ _ _ _ _ c.requires.stands c.in-Go.ensures.value in
+    (moves_on _ _ _ _ _ _ c.requires.stands c.in-Go.ensures.value, λ e. c.if-self-steps.false cc, omega (arith, spans, room, c.requires.limit))
+
 pub returns-clause-answers : goal.returns-clause-answers
 returns-clause-answers g c =
     let fits : FitsSigned w64 c.args.self.now.position = search rules in

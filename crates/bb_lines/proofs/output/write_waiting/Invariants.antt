@@ -1,6 +1,6 @@
 use Rattle.std.proofs.Common.{◌≡◌, false, length}
-use Rattle.bb_lines.specs.Progress.{AppendsBut}
-use Rattle.bb_lines.proofs.lines.write_waiting.Given as goal
+use Rattle.bb_lines.specs.Output.{AppendsBut}
+use Rattle.bb_lines.proofs.output.write_waiting.Given as goal
 
 -- what is left to write waits
 abbrev pub invariant-loop-rest : goal.invariant-loop-rest

@@ -1,6 +1,6 @@
 use Rattle.std.proofs.lemmas.Result.{err_from_is_err_and}
 use Rattle.bb_lines.proofs.Streams.{AppendsFront-waiting}
-use Rattle.bb_lines.proofs.lines.add_line.Goals as goal
+use Rattle.bb_lines.proofs.output.add.Goals as goal
 
 pub returns-in_err-write_waiting-clause-ends : goal.returns-in_err-write_waiting-clause-ends
 returns-in_err-write_waiting-clause-ends g c =

@@ -1,6 +1,6 @@
 use Rattle.std.proofs.Common.{rules}
 use Rattle.bb_lines.proofs.Streams.{AppendsBut-write}
-use Rattle.bb_lines.proofs.lines.write_waiting.Goals as goal
+use Rattle.bb_lines.proofs.output.write_waiting.Goals as goal
 
 pub loop-rest-preserved : goal.loop-rest-preserved
 loop-rest-preserved g c = record {

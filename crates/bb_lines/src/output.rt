@@ -1,0 +1,113 @@
+//! Bytes that wait to be written together.
+ghost use Rattle.std.specs.Prelude.{◌≡◌, ℕ, ◌≤◌, List, [], ◌∷◌, ◌++◌, false, length, Option, OnOk, OnErr, IsOkUnless, is_err};
+ghost use Rattle.std.specs.Io.KnownBytes.{Appends};
+ghost use Rattle.bb_lines.specs.Watched.{watched_inner, is_marked};
+ghost use Rattle.bb_lines.specs.Ends.{MatchEnd, AppendsFront};
+ghost use Rattle.bb_lines.specs.Output.{AppendsBut};
+
+use crate::fault::Fault;
+use crate::watched::{Failed, Watched};
+use arrayvec::ArrayVec;
+use std::io::Write;
+
+/// How many bytes may wait.
+pub const WAITING: usize = 16384;
+
+/// Bytes that wait to be written.
+pub type Waiting = ArrayVec<u8, WAITING>;
+
+/// Lets bytes wait. What waits is written before, if there is no room for them. After an error, which
+/// is `Fault::Write`, they are lost.
+pub fn add<W: Write>(
+    writer: &mut Watched<W>,
+    waiting: &mut Waiting,
+    bytes: &[u8],
+) -> Result<(), Fault>
+    requires writer { is_marked writer.old ≡ false }
+    requires few { length bytes.now ≤ WAITING }
+    ensures ends { (before : Option (List ℕ)) (past : List ℕ)
+        → AppendsBut before (W.contents (watched_inner writer.old)) waiting.old.items past
+        → MatchEnd result
+        (AppendsBut before (W.contents (watched_inner writer.new)) waiting.new.items (past ++ bytes.now))
+        ⊥
+        ⊥
+        (AppendsFront before (W.contents (watched_inner writer.new)) past) }
+    ensures only_write { IsOkUnless result Fault.Write }
+    ensures mark { is_marked writer.new ≡ is_err result }
+{
+    if waiting.remaining_capacity() < bytes.len() {
+        write_waiting(writer, waiting)?;
+    }
+    waiting.try_extend_from_slice(bytes).unwrap();
+    Ok(())
+}
+
+/// Lets a text of at most 1,023 bytes wait, with a newline. What waits is written before, if there is no
+/// room for both. After an error the text is lost.
+pub fn add_line<W: Write>(
+    writer: &mut Watched<W>,
+    waiting: &mut Waiting,
+    text: &[u8],
+) -> Result<(), Fault>
+    requires writer { is_marked writer.old ≡ false }
+    requires text { length text.now ≤ 1023 }
+    ensures ends { (before : Option (List ℕ)) (bytes : List ℕ)
+        → AppendsBut before (W.contents (watched_inner writer.old)) waiting.old.items bytes
+        → MatchEnd result
+        (AppendsBut before (W.contents (watched_inner writer.new)) waiting.new.items
+        (bytes ++ (text.now ++ 10 ∷ [])))
+        ⊥
+        ⊥
+        (AppendsFront before (W.contents (watched_inner writer.new)) bytes) }
+    ensures only_write { IsOkUnless result Fault.Write }
+    ensures mark { is_marked writer.new ≡ is_err result }
+{
+    if waiting.remaining_capacity() <= text.len() {
+        write_waiting(writer, waiting)?;
+    }
+    waiting.try_extend_from_slice(text).unwrap();
+    waiting.push(b'\n');
+    Ok(())
+}
+
+/// Writes all that waits, by as many calls as it takes.
+pub fn write_waiting<W: Write>(writer: &mut Watched<W>, waiting: &mut Waiting) -> Result<(), Fault>
+    requires { is_marked writer.old ≡ false }
+    ensures ok { OnOk result (Appends (W.contents (watched_inner writer.old))
+        (W.contents (watched_inner writer.new)) waiting.old.items) }
+    ensures empty { OnOk result (waiting.new.items ≡ []) }
+    ensures err { OnErr result (AppendsFront (W.contents (watched_inner writer.old))
+        (W.contents (watched_inner writer.new)) waiting.old.items) }
+    ensures only_write { IsOkUnless result Fault.Write }
+    ensures mark { is_marked writer.new ≡ is_err result }
+{
+    let mut rest = waiting.as_slice();
+    while !rest.is_empty() {
+        match writer.write(rest) {
+            Ok(n) => rest = &rest[n..],
+            Err(Failed) => return Err(Fault::Write),
+        }
+    }
+    waiting.clear();
+    Ok(())
+}
+
+/// Writes all that waits, and flushes the writer once.
+pub fn write_and_flush<W: Write>(
+    writer: &mut Watched<W>,
+    waiting: &mut Waiting,
+) -> Result<(), Fault>
+    requires { is_marked writer.old ≡ false }
+    ensures ok { OnOk result (Appends (W.contents (watched_inner writer.old))
+        (W.contents (watched_inner writer.new)) waiting.old.items) }
+    ensures err { OnErr result (AppendsFront (W.contents (watched_inner writer.old))
+        (W.contents (watched_inner writer.new)) waiting.old.items) }
+    ensures only_write { IsOkUnless result Fault.Write }
+    ensures mark { is_marked writer.new ≡ is_err result }
+{
+    write_waiting(writer, waiting)?;
+    match writer.flush() {
+        Ok(()) => Ok(()),
+        Err(Failed) => Err(Fault::Write),
+    }
+}
