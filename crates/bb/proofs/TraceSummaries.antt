@@ -1,6 +1,5 @@
 -- What a trace comes to, by whether the line is a machine's text.
-use Rattle.std.proofs.Common.{◌≡◌, ℕ, ◌+◌, ◌≤◌, ◌↔◌, IsTrue, Bool, true, false, List, [], ◌∷◌, ◌++◌, sym, ◌∙◌, subst, ap, refl, inl, inr, codes, decimal, Option, Result, Ok, Err}
-use Rattle.std.specs.Io.KnownBytes.{Appends}
+use Rattle.std.proofs.Common.{◌≡◌, ℕ, ◌+◌, ◌≤◌, ◌↔◌, IsTrue, Bool, false, List, [], ◌∷◌, ◌++◌, sym, ◌∙◌, subst, refl, inl, inr, codes, decimal, Option, Result, Ok, Err}
 use Rattle.std.proofs.lemmas.List.{append-nil}
 use Rattle.bb_machine.specs.Laws.{TextsDiffer}
 use Rattle.bb_machine.specs.Machine.{IsMachine, text}

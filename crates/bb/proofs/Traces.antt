@@ -1,9 +1,7 @@
 -- The lines of a trace, one after another, as they are added to what waits.
-use Rattle.std.proofs.Common.{◌≡◌, ℕ, ◌+◌, ◌≤◌, List, [], ◌∷◌, ◌++◌, append_assoc, length, take, drop, map, sym, ◌∙◌, subst, ap, refl, arith, Option, Result, Ok, Err, ℤ, pos, ◌+ℤ◌}
-use Rattle.std.specs.List.{flat_map, range_with_len}
-use Rattle.std.proofs.lemmas.Grind.{flat_map-append}
-use Rattle.std.proofs.lemmas.List.{append-nil, take-append-drop}
-use Rattle.std.proofs.lemmas.List.FromFn.{map-range_with_len_more, take-map-range_with_len, length-map-range_with_len}
+use Rattle.std.proofs.Common.{◌≡◌, ℕ, ◌+◌, ◌≤◌, List, [], ◌∷◌, ◌++◌, append_assoc, take, drop, sym, ◌∙◌, subst, ap, refl, arith, Option, Result, Ok, Err, ℤ, pos, ◌+ℤ◌}
+use Rattle.std.proofs.lemmas.List.{take-append-drop}
+use Rattle.std.proofs.lemmas.List.FromFn.{map-range_with_len_more, take-map-range_with_len}
 use Rattle.bb_tape.specs.Content.{Content, cell}
 use Rattle.bb_tape.specs.Strip.{Strip}
 use Rattle.bb_sim.specs.declared.runner.Runner.{Runner}
@@ -15,7 +13,7 @@ use Rattle.bb_lines.specs.declared.fault.Fault.TheVariants.{Memory, Read, Write}
 use Rattle.bb_lines.specs.Ends.{AppendsFront, MatchEnd}
 use Rattle.bb_lines.specs.Output.{AppendsBut}
 use Rattle.bb_lines.proofs.Streams.{Appends-none}
-use Rattle.bb.specs.Trace.{cells_text, front_text, text_at, step_text, step_lines, lines_text}
+use Rattle.bb.specs.Trace.{cells_text, front_text, text_at, step_text}
 
 -- one cell more
 pub cells-next : (tape : Content) (low : ℤ) (i : ℕ) → cells_text tape low (i + 1) ≡ cells_text tape low i ++ (48 + cell tape (low +ℤ pos i)) ∷ []

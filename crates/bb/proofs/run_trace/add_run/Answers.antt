@@ -1,11 +1,9 @@
-use Rattle.std.proofs.Common.{◌+◌, ◌∙◌, ap, arith, rules, subst, sym}
+use Rattle.std.proofs.Common.{◌+◌, ◌∙◌, ap, arith, rules, sym}
 use Rattle.std.proofs.lemmas.Result.{err_from_is_err_and}
 use Rattle.bb_sim.specs.declared.meter.Meter.{Meter}
 use Rattle.bb_sim.proofs.Outcomes.{inside_here}
-use Rattle.bb_lines.specs.Output.{AppendsBut}
 use Rattle.bb_lines.proofs.Streams.{AppendsFront-waiting, Appends-waiting}
-use Rattle.bb.specs.Trace.{lines_text, step_lines}
-use Rattle.bb.proofs.TraceEnds.{lines-next, ended_by_halt, ended_by_steps, ended_by_cells, ended_early, ended_by_write, AppendsBut-next, AppendsFront-next}
+use Rattle.bb.proofs.TraceEnds.{ended_by_halt, ended_by_steps, ended_by_cells, ended_early, ended_by_write, AppendsBut-next, AppendsFront-next}
 use Rattle.bb.proofs.run_trace.add_run.Goals as goal
 
 pub advance-requires-clause-room : goal.advance-requires-clause-room

@@ -1,7 +1,7 @@
-use Rattle.std.proofs.Common.{◌≡◌, ◌∙◌, ◌++◌, List, ℕ, ap, sym}
+use Rattle.std.proofs.Common.{◌∙◌, ◌++◌, List, ℕ, ap, sym}
 use Rattle.std.proofs.lemmas.Result.{err_from_is_err_and}
 use Rattle.bb_sim.specs.Reach.{places}
-use Rattle.bb.specs.Trace.{cells_text, step_text}
+use Rattle.bb.specs.Trace.{cells_text}
 use Rattle.bb.proofs.Traces.{step_text-is, line_parts, AppendsFront-more, AppendsFront-line, MatchEnd-line}
 use Rattle.bb.proofs.run_trace.add_step.Goals as goal
 
