@@ -4,6 +4,8 @@
 pub mod laws;
 pub mod line;
 pub mod reader;
+#[cfg(test)]
+mod tests;
 pub mod verdict;
 
 pub use line::{LONGEST, line_into, lines_are_short};

@@ -17,7 +17,9 @@ pub enum Line {
     Refusal(u32),
 }
 
-/// What a line says, if it is a verdict line. It stands without its newline.
+/// What a verdict line says; `None` where the bytes are no verdict line. A newline is no part of a line.
+///
+/// Fields are separated by one space. Numbers are decimal, with no sign and no leading zero.
 pub fn read_line(bytes: &[u8]) -> Option<Line>
     ensures found { IfSome result (λ line. IsLineOf line bytes.now) }
     ensures only { (line : Line) → IsLineOf line bytes.now → result ≡ Some line }
@@ -38,7 +40,8 @@ fn read_refusal(bytes: &[u8]) -> Option<u32>
         ((column : ℕ) → 0 < column → column ≤ LINE + 1 → refusal_text column ≢ bytes.now)
         (λ column. (0 < column) × (column ≤ LINE + 1) × (refusal_text column ≡ bytes.now)) }
 {
-    let column = read_number(bytes.strip_prefix(b"refused ".as_slice())?)?;
+    let digits = bytes.strip_prefix(b"refused ".as_slice())?;
+    let column = read_number(digits)?;
     if column == 0 || column > LINE as u64 + 1 {
         return None;
     }
@@ -83,13 +86,14 @@ fn read_verdict(words: &[u8]) -> Option<Verdict>
     None
 }
 
-/// The two numbers that stand after a word.
-fn read_pair(word: &[u8], bytes: &[u8]) -> Option<(u64, u64)>
+/// The two numbers that stand after these words.
+fn read_pair(words: &[u8], bytes: &[u8]) -> Option<(u64, u64)>
     ensures { MatchOption result
-        ((a b : ℕ) → a < 2 ^ 64 → b < 2 ^ 64 → word.now ++ pair_text a b ≢ bytes.now)
-        (λ pair. (pair.0 < 2 ^ 64) × (pair.1 < 2 ^ 64) × (word.now ++ pair_text pair.0 pair.1 ≡ bytes.now)) }
+        ((a b : ℕ) → a < 2 ^ 64 → b < 2 ^ 64 → words.now ++ pair_text a b ≢ bytes.now)
+        (λ pair. (pair.0 < 2 ^ 64) × (pair.1 < 2 ^ 64) × (words.now ++ pair_text pair.0 pair.1 ≡ bytes.now)) }
 {
-    let (first, second) = split_at_space(bytes.strip_prefix(word)?)?;
+    let numbers = bytes.strip_prefix(words)?;
+    let (first, second) = split_at_space(numbers)?;
     Some((read_number(first)?, read_number(second)?))
 }
 
