@@ -1,1 +1,7 @@
 pub mod Lengths
+pub mod Spaces
+pub mod Options
+pub mod Numbers
+pub mod MachineTexts
+pub mod Verdicts
+pub mod Lines

@@ -1,13 +1,17 @@
--- The line of a machine and a verdict: this project's own format.
-use Rattle.std.specs.Prelude.{ℕ, List, ◌∷◌, ◌++◌, codes, decimal}
+-- The line of a machine and a verdict, and that of a refused line: this project's own format.
+use Rattle.std.specs.Prelude.{◌≡◌, ℕ, ◌+◌, ◌<◌, ◌≤◌, List, ◌∷◌, ◌++◌, codes, decimal}
+use Rattle.bb_machine.specs.declared.machine.TheConstants.{LINE}
 use Rattle.bb_machine.specs.declared.entry.Entry.{Entry}
-use Rattle.bb_machine.specs.Machine.{text}
+use Rattle.bb_machine.specs.Machine.{IsMachine, text}
 use Rattle.bb_cert.specs.declared.verdict.Side.{Side}
 use Rattle.bb_cert.specs.declared.verdict.Side.TheVariants.{L, R}
 use Rattle.bb_cert.specs.declared.verdict.Why.{Why}
 use Rattle.bb_cert.specs.declared.verdict.Why.TheVariants.{Steps, Cells}
 use Rattle.bb_cert.specs.declared.verdict.Verdict.{Verdict}
 use Rattle.bb_cert.specs.declared.verdict.Verdict.TheVariants.{Halt, Cycler, Translated, Backward, Undecided}
+use Rattle.bb_cert.specs.declared.reader.Line.{Line}
+use Rattle.bb_cert.specs.declared.reader.Line.TheVariants.{Claim, Refusal}
+use Rattle.bb_cert.specs.Verdict.{HasNumbers}
 
 -- two numbers, with a space between them
 abbrev pub pair_text : ℕ → ℕ → List ℕ
@@ -33,3 +37,12 @@ verdict_text (Undecided why) = why_text why
 -- the line of a machine and a verdict, without a newline
 abbrev pub line_text : List (List Entry) → Verdict → List ℕ
 line_text table verdict = text table ++ verdict_text verdict
+
+-- the line that refuses a line at a column, without a newline
+abbrev pub refusal_text : ℕ → List ℕ
+refusal_text column = codes "refused " ++ decimal column
+
+-- the bytes are the line of this machine and this verdict, or of this column
+abbrev pub IsLineOf : Line → List ℕ → Type 0
+IsLineOf (Claim table verdict) bytes = IsMachine table × HasNumbers verdict × (line_text table verdict ≡ bytes)
+IsLineOf (Refusal column) bytes = (0 < column) × (column ≤ LINE + 1) × (refusal_text column ≡ bytes)

@@ -1,8 +1,13 @@
 //! Verdicts on machines, and the lines in which they are written.
 #![tactic(auto)]
 
+pub mod laws;
 pub mod line;
+pub mod reader;
+#[cfg(test)]
+mod tests;
 pub mod verdict;
 
 pub use line::{LONGEST, line_into, lines_are_short};
+pub use reader::{Line, read_line};
 pub use verdict::{Side, Verdict, Why};

@@ -1,0 +1,102 @@
+-- Different verdicts are written in different words.
+use Rattle.std.proofs.Common.{◌≡◌, ◌≢◌, ℕ, ◌<◌, ◌^◌, List, ◌∷◌, ◌++◌, length, codes, refl, ap, arith, rules}
+use Rattle.bb_cert.specs.declared.verdict.Side.{Side}
+use Rattle.bb_cert.specs.declared.verdict.Side.TheVariants.{L, R}
+use Rattle.bb_cert.specs.declared.verdict.Why.{Why}
+use Rattle.bb_cert.specs.declared.verdict.Why.TheVariants.{Steps, Cells}
+use Rattle.bb_cert.specs.declared.verdict.Verdict.{Verdict}
+use Rattle.bb_cert.specs.declared.verdict.Verdict.TheVariants.{Halt, Cycler, Translated, Backward, Undecided}
+use Rattle.bb_cert.specs.Verdict.{HasNumbers}
+use Rattle.bb_cert.specs.Line.{pair_text, verdict_text}
+use Rattle.bb_cert.proofs.Spaces.{HasNoSpace, same_split}
+use Rattle.bb_cert.proofs.Numbers.{pair_apart}
+
+letter : Side → ℕ
+letter L = 76
+letter R = 82
+
+reason : Why → List ℕ
+reason Steps = codes "steps"
+reason Cells = codes "cells"
+
+-- a verdict's first word, and what stands after it
+word : Verdict → List ℕ
+word (Halt steps score) = codes "halt"
+word (Cycler first second) = codes "cycler"
+word (Translated side first second) = codes "translated"
+word (Backward levels nodes) = codes "backward"
+word (Undecided why) = codes "undecided"
+
+others : Verdict → List ℕ
+others (Halt steps score) = pair_text steps score
+others (Cycler first second) = pair_text first second
+others (Translated side first second) = letter side ∷ 32 ∷ pair_text first second
+others (Backward levels nodes) = pair_text levels nodes
+others (Undecided why) = reason why
+
+pub words_of : Verdict → List ℕ
+words_of verdict = word verdict ++ 32 ∷ others verdict
+
+pub verdict_words : (verdict : Verdict) → verdict_text verdict ≡ 32 ∷ words_of verdict
+unfolding words_of word others letter reason
+verdict_words (Halt steps score) = refl
+verdict_words (Cycler first second) = refl
+verdict_words (Translated L first second) = refl
+verdict_words (Translated R first second) = refl
+verdict_words (Backward levels nodes) = refl
+verdict_words (Undecided Steps) = refl
+verdict_words (Undecided Cells) = refl
+
+word_no_space : (verdict : Verdict) → HasNoSpace (word verdict)
+unfolding word
+word_no_space (Halt steps score) = search rules
+word_no_space (Cycler first second) = search rules
+word_no_space (Translated side first second) = search rules
+word_no_space (Backward levels nodes) = search rules
+word_no_space (Undecided why) = search rules
+
+side_apart : (a b : Side) → letter a ≡ letter b → a ≡ b
+unfolding letter
+side_apart L L is = refl
+side_apart L R is = absurd (omega arith)
+side_apart R L is = absurd (omega arith)
+side_apart R R is = refl
+
+why_apart : (a b : Why) → reason a ≡ reason b → a ≡ b
+unfolding reason
+why_apart Steps Steps is = refl
+why_apart Steps Cells is = let first : ◌≡◌ {A = ℕ} 115 99 = cc in absurd (omega arith)
+why_apart Cells Steps is = let first : ◌≡◌ {A = ℕ} 99 115 = cc in absurd (omega arith)
+why_apart Cells Cells is = refl
+
+parts_apart : (v w : Verdict) → HasNumbers v → HasNumbers w → word v ≡ word w → others v ≡ others w → v ≡ w
+unfolding word others
+parts_apart (Halt a b) (Halt c d) p q _ is = let pair = pair_apart a b c d p.0 p.1 q.0 q.1 is in cc (pair.0, pair.1)
+parts_apart (Cycler a b) (Cycler c d) p q _ is = let pair = pair_apart a b c d p.0 p.1 q.0 q.1 is in cc (pair.0, pair.1)
+parts_apart (Translated s a b) (Translated t c d) p q _ is =
+    let side : s ≡ t = side_apart s t cc in
+    let pair = pair_apart a b c d p.0 p.1 q.0 q.1 cc in
+    cc (side, pair.0, pair.1)
+parts_apart (Backward a b) (Backward c d) p q _ is = let pair = pair_apart a b c d p.0 p.1 q.0 q.1 is in cc (pair.0, pair.1)
+parts_apart (Undecided a) (Undecided b) p q _ is = ap Undecided (why_apart a b is)
+parts_apart v w p q words _ = absurd (omega (arith, ap length words))
+
+pub words_apart : (v w : Verdict) → HasNumbers v → HasNumbers w → words_of v ≡ words_of w → v ≡ w
+unfolding words_of
+words_apart v w p q is =
+    let parts = same_split (word v) (word w) (others v) (others w) (word_no_space v) (word_no_space w) is in
+    parts_apart v w p q parts.0 parts.1
+
+-- no two numbers stand in the words after this word
+abbrev pub HasNoPair : List ℕ → List ℕ → Type 0
+HasNoPair word words = (a b : ℕ) → a < 2 ^ 64 → b < 2 ^ 64 → word ++ pair_text a b ≢ words
+
+pub no_verdict : (words : List ℕ) → HasNoPair (codes "halt ") words → HasNoPair (codes "cycler ") words → HasNoPair (codes "translated L ") words → HasNoPair (codes "translated R ") words → HasNoPair (codes "backward ") words
+    → words ≢ codes "undecided steps" → words ≢ codes "undecided cells" → (verdict : Verdict) → HasNumbers verdict → verdict_text verdict ≢ 32 ∷ words
+no_verdict words halt cycler left right backward steps cells (Halt a b) fits is = halt a b fits.0 fits.1 cc
+no_verdict words halt cycler left right backward steps cells (Cycler a b) fits is = cycler a b fits.0 fits.1 cc
+no_verdict words halt cycler left right backward steps cells (Translated L a b) fits is = left a b fits.0 fits.1 cc
+no_verdict words halt cycler left right backward steps cells (Translated R a b) fits is = right a b fits.0 fits.1 cc
+no_verdict words halt cycler left right backward steps cells (Backward a b) fits is = backward a b fits.0 fits.1 cc
+no_verdict words halt cycler left right backward steps cells (Undecided Steps) fits is = steps cc
+no_verdict words halt cycler left right backward steps cells (Undecided Cells) fits is = cells cc

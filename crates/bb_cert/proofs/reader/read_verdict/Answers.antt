@@ -1,0 +1,9 @@
+use Rattle.std.proofs.Common.{rules, ◌≢◌, codes}
+use Rattle.bb_cert.proofs.Verdicts.{no_verdict}
+use Rattle.bb_cert.proofs.reader.read_verdict.Goals as goal
+
+pub returns : goal.returns
+returns c =
+    let steps : c.args.words.now ≢ codes "undecided steps" = search rules in
+    let cells : c.args.words.now ≢ codes "undecided cells" = search rules in
+    no_verdict c.args.words.now c.in_default.ensures c.in_default-read_pair.ensures c.in_default-read_pair-2.ensures c.in_default-read_pair-3.ensures c.in_default-read_pair-4.ensures steps cells

@@ -1,0 +1,121 @@
+//! The reader of verdict lines.
+ghost use Rattle.std.specs.Prelude.{◌≡◌, ◌≢◌, ℕ, ◌+◌, ◌≤◌, ◌<◌, ◌^◌, List, ◌∷◌, ◌++◌, decimal, All, MatchOption, IfSome, IfNone, Some};
+ghost use Rattle.bb_cert.specs.declared.verdict.Verdict.{Verdict};
+ghost use Rattle.bb_cert.specs.declared.reader.Line.{Line};
+ghost use Rattle.bb_cert.specs.Verdict.{HasNumbers};
+ghost use Rattle.bb_cert.specs.Line.{pair_text, verdict_text, refusal_text, IsLineOf};
+
+use crate::verdict::{Side, Verdict, Why};
+use bb_machine::{LINE, Machine};
+
+/// What a verdict line says.
+#[derive(Drop)]
+pub enum Line {
+    /// A verdict on a machine.
+    Claim(Machine, Verdict),
+    /// The column at which a line is refused.
+    Refusal(u32),
+}
+
+/// What a verdict line says; `None` where the bytes are no verdict line. A newline is no part of a line.
+///
+/// Fields are separated by one space. Numbers are decimal, with no sign and no leading zero.
+pub fn read_line(bytes: &[u8]) -> Option<Line>
+    ensures found { IfSome result (λ line. IsLineOf line bytes.now) }
+    ensures only { (line : Line) → IsLineOf line bytes.now → result ≡ Some line }
+    ensures none { IfNone result ((line : Line) → ¬ (IsLineOf line bytes.now)) }
+{
+    if let Some(column) = read_refusal(bytes) {
+        return Some(Line::Refusal(column));
+    }
+    let (text, words) = split_at_space(bytes)?;
+    let machine = Machine::read(text).ok()?;
+    let verdict = read_verdict(words)?;
+    Some(Line::Claim(machine, verdict))
+}
+
+/// The column of a refused line.
+fn read_refusal(bytes: &[u8]) -> Option<u32>
+    ensures { MatchOption result
+        ((column : ℕ) → 0 < column → column ≤ LINE + 1 → refusal_text column ≢ bytes.now)
+        (λ column. (0 < column) × (column ≤ LINE + 1) × (refusal_text column ≡ bytes.now)) }
+{
+    let digits = bytes.strip_prefix(b"refused ".as_slice())?;
+    let column = read_number(digits)?;
+    if column == 0 || column > LINE as u64 + 1 {
+        return None;
+    }
+    Some(column as u32)
+}
+
+/// The verdict that stands after a machine and a space.
+fn read_verdict(words: &[u8]) -> Option<Verdict>
+    ensures { MatchOption result
+        ((verdict : Verdict) → HasNumbers verdict → verdict_text verdict ≢ 32 ∷ words.now)
+        (λ verdict. HasNumbers verdict × (verdict_text verdict ≡ 32 ∷ words.now)) }
+{
+    if let Some((steps, score)) = read_pair(b"halt ", words) {
+        return Some(Verdict::Halt { steps, score });
+    }
+    if let Some((first, second)) = read_pair(b"cycler ", words) {
+        return Some(Verdict::Cycler { first, second });
+    }
+    if let Some((first, second)) = read_pair(b"translated L ", words) {
+        return Some(Verdict::Translated {
+            side: Side::L,
+            first,
+            second,
+        });
+    }
+    if let Some((first, second)) = read_pair(b"translated R ", words) {
+        return Some(Verdict::Translated {
+            side: Side::R,
+            first,
+            second,
+        });
+    }
+    if let Some((levels, nodes)) = read_pair(b"backward ", words) {
+        return Some(Verdict::Backward { levels, nodes });
+    }
+    if words == b"undecided steps".as_slice() {
+        return Some(Verdict::Undecided(Why::Steps));
+    }
+    if words == b"undecided cells".as_slice() {
+        return Some(Verdict::Undecided(Why::Cells));
+    }
+    None
+}
+
+/// The two numbers that stand after these words.
+fn read_pair(words: &[u8], bytes: &[u8]) -> Option<(u64, u64)>
+    ensures { MatchOption result
+        ((a b : ℕ) → a < 2 ^ 64 → b < 2 ^ 64 → words.now ++ pair_text a b ≢ bytes.now)
+        (λ pair. (pair.0 < 2 ^ 64) × (pair.1 < 2 ^ 64) × (words.now ++ pair_text pair.0 pair.1 ≡ bytes.now)) }
+{
+    let numbers = bytes.strip_prefix(words)?;
+    let (first, second) = split_at_space(numbers)?;
+    Some((read_number(first)?, read_number(second)?))
+}
+
+/// The number whose decimal text the bytes are.
+fn read_number(digits: &[u8]) -> Option<u64>
+    ensures { MatchOption result
+        ((n : ℕ) → n < 2 ^ 64 → decimal n ≢ digits.now)
+        (λ n. (n < 2 ^ 64) × (decimal n ≡ digits.now)) }
+{
+    let first = *digits.first()?;
+    if first == b'+' || first == b'0' && digits.len() > 1 {
+        return None;
+    }
+    str::from_utf8(digits).ok()?.parse().ok()
+}
+
+/// What stands before the first space, and what stands after it.
+fn split_at_space(bytes: &[u8]) -> Option<(&[u8], &[u8])>
+    ensures { MatchOption result
+        ((front rest : List ℕ) → front ++ 32 ∷ rest ≢ bytes.now)
+        (λ parts. All (λ byte. byte ≢ 32) parts.0.now × (parts.0.now ++ 32 ∷ parts.1.now ≡ bytes.now)) }
+{
+    let space = bytes.iter().position(|byte| *byte == b' ')?;
+    Some((&bytes[..space], &bytes[space + 1..]))
+}
