@@ -1,11 +1,12 @@
 -- What a trace comes to, by whether the line is a machine's text.
-use Rattle.std.proofs.Common.{◌≡◌, ℕ, ◌+◌, ◌≤◌, ◌↔◌, IsTrue, Bool, false, List, [], ◌∷◌, ◌++◌, sym, ◌∙◌, subst, refl, inl, inr, codes, decimal, Option, Result, Ok, Err}
+use Rattle.std.proofs.Common.{◌≡◌, ℕ, ◌+◌, ◌≤◌, ◌↔◌, IsTrue, Bool, false, List, [], ◌∷◌, ◌++◌, sym, ◌∙◌, subst, refl, inl, inr, Option, Result, Ok, Err}
 use Rattle.std.proofs.lemmas.List.{append-nil}
 use Rattle.bb_machine.specs.Laws.{TextsDiffer}
 use Rattle.bb_machine.specs.Machine.{IsMachine, text}
 use Rattle.bb_machine.specs.Column.{IsColumn}
 use Rattle.bb_sim.specs.Configuration.{Table}
 use Rattle.bb_sim.specs.Span.{span, IsLastInside}
+use Rattle.bb_cert.specs.Line.{refusal_text}
 use Rattle.bb_lines.specs.declared.fault.Fault.{Fault}
 use Rattle.bb_lines.specs.declared.fault.Fault.TheVariants.{Memory, Read, Write}
 use Rattle.bb_lines.specs.Ends.{AppendsFront}
@@ -49,21 +50,18 @@ module _ (steps cells : ℕ) (line : List ℕ) (old new : Option (List ℕ)) (wa
   )
 
   module _ (column : ℕ) (no_machine : IsMachineLine line → ⊥) (is_column : IsColumn line column) where
-    abbrev refusal : List ℕ
-    refusal = codes "refused " ++ decimal column
+    one_line : refusal_text column ++ 10 ∷ [] ≡ lines_text (refusal_text column ∷ [])
+    one_line = sym (append-nil (refusal_text column ++ 10 ∷ []))
 
-    one_line : refusal ++ 10 ∷ [] ≡ lines_text (refusal ∷ [])
-    one_line = sym (append-nil (refusal ++ 10 ∷ []))
-
-    refused : IsTrace steps cells line (refusal ∷ [])
+    refused : IsTrace steps cells line (refusal_text column ∷ [])
     refused = inr (record { no_machine = no_machine; column = column; is_column = is_column; are_lines = refl })
 
-    pub added_refusal : AppendsBut old new waiting ([] ++ (refusal ++ 10 ∷ [])) → IsAdded steps cells line old new waiting (Ok false)
+    pub added_refusal : AppendsBut old new waiting ([] ++ (refusal_text column ++ 10 ∷ [])) → IsAdded steps cells line old new waiting (Ok false)
     added_refusal added = (
-      refusal ∷ [],
+      refusal_text column ∷ [],
       refused,
       (subst (λ bytes. AppendsBut old new waiting bytes) one_line added, (λ wrong. cc, λ is. absurd (no_machine (record { table = is.table; machine = is.machine; is_text = is.is_text })))),
     )
 
     pub failed_refusal : AppendsFront old new [] → IsAdded steps cells line old new waiting (Err Write)
-    failed_refusal front = (refusal ∷ [], refused, AppendsFront-more old new [] (lines_text (refusal ∷ [])) front)
+    failed_refusal front = (refusal_text column ∷ [], refused, AppendsFront-more old new [] (lines_text (refusal_text column ∷ [])) front)

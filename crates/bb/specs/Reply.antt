@@ -1,10 +1,10 @@
 -- What `decide` replies to a line: this project's own.
-use Rattle.std.specs.Prelude.{◌≡◌, ℕ, ◌⊎◌, List, ◌++◌, codes, decimal}
+use Rattle.std.specs.Prelude.{◌≡◌, ℕ, ◌⊎◌, List}
 use Rattle.bb_machine.specs.Machine.{IsMachine, text}
 use Rattle.bb_machine.specs.Column.{IsColumn}
 use Rattle.bb_sim.specs.Configuration.{Table}
 use Rattle.bb_cert.specs.declared.verdict.Verdict.{Verdict}
-use Rattle.bb_cert.specs.Line.{line_text}
+use Rattle.bb_cert.specs.Line.{line_text, refusal_text}
 use Rattle.bb.specs.Verdict.{IsVerdict}
 
 -- the line is a machine's text
@@ -27,7 +27,7 @@ pub record IsRefusal (line reply : List ℕ) : Type 0 where
   pub no_machine : IsMachineLine line → ⊥
   pub column : ℕ
   pub is_column : IsColumn line column
-  pub is_reply : reply ≡ codes "refused " ++ decimal column
+  pub is_reply : reply ≡ refusal_text column
 
 abbrev pub IsReply : ℕ → ℕ → List ℕ → List ℕ → Type 0
 IsReply steps cells line reply = IsVerdictReply steps cells line reply ⊎ IsRefusal line reply

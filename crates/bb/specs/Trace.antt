@@ -1,5 +1,5 @@
 -- What `trace` prints: this project's own.
-use Rattle.std.specs.Prelude.{◌≡◌, ℕ, ◌+◌, ◌<◌, ◌≤◌, ◌⊎◌, ◌↔◌, IsTrue, List, [], ◌∷◌, ◌++◌, length, take, map, Option, Some, None, ℤ, pos, ◌+ℤ◌, codes, decimal}
+use Rattle.std.specs.Prelude.{◌≡◌, ℕ, ◌+◌, ◌<◌, ◌≤◌, ◌⊎◌, ◌↔◌, IsTrue, List, [], ◌∷◌, ◌++◌, length, take, map, Option, Some, None, ℤ, pos, ◌+ℤ◌, decimal}
 use Rattle.std.specs.Fmt.{signed_decimal}
 use Rattle.std.specs.Io.KnownBytes.{Appends}
 use Rattle.std.specs.List.{flat_map, range_with_len}
@@ -12,6 +12,7 @@ use Rattle.bb_sim.specs.Configuration.{Table, Configuration}
 use Rattle.bb_sim.specs.Run.{conf}
 use Rattle.bb_sim.specs.Span.{seat, least, span, IsLastInside}
 use Rattle.bb_sim.specs.Meter.{zero_meter}
+use Rattle.bb_cert.specs.Line.{refusal_text}
 use Rattle.bb.specs.declared.summary.Summary.{Summary}
 use Rattle.bb.specs.Reply.{IsMachineLine}
 
@@ -50,7 +51,7 @@ pub record IsRefusalTrace (line : List ℕ) (lines : List (List ℕ)) : Type 0 w
   pub no_machine : IsMachineLine line → ⊥
   pub column : ℕ
   pub is_column : IsColumn line column
-  pub are_lines : lines ≡ (codes "refused " ++ decimal column) ∷ []
+  pub are_lines : lines ≡ refusal_text column ∷ []
 
 -- these are the lines of the trace of a line
 abbrev pub IsTrace : ℕ → ℕ → List ℕ → List (List ℕ) → Type 0

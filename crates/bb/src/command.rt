@@ -121,6 +121,7 @@ fn cells<'a>(alloc: Global) -> Arg<'a> {
 fn number<'a>(alloc: Global, name: &'a str, help: &'a str) -> Arg<'a> {
     Arg::new(alloc, name)
         .long(name)
+        .value_name("N")
         .help(help)
         .value_parser(value_parser!(u64))
 }

@@ -1,5 +1,6 @@
 //! The text that refuses a line.
-ghost use Rattle.std.specs.Prelude.{◌≡◌, ◌++◌, [], codes, decimal};
+ghost use Rattle.std.specs.Prelude.{◌≡◌, []};
+ghost use Rattle.bb_cert.specs.Line.{refusal_text};
 
 use arrayvec::ArrayVec;
 use bb_lines::answer::REPLY;
@@ -8,7 +9,7 @@ use itoa::Buffer;
 /// Puts `refused` and a column into a text, which is empty.
 pub fn refusal_into(column: u32, text: &mut ArrayVec<u8, REPLY>)
     requires { text.old.items ≡ [] }
-    ensures { text.new.items ≡ codes "refused " ++ decimal column }
+    ensures { text.new.items ≡ refusal_text column }
 {
     let mut digits = Buffer::new();
     let _word = text.try_extend_from_slice(b"refused ");

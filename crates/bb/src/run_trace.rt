@@ -1,11 +1,12 @@
 //! The first configurations of one machine, a line each.
-ghost use Rattle.std.specs.Prelude.{◌≡◌, ◌≢◌, ◌+◌, ◌+ℤ◌, ◌++◌, ◌∷◌, ◌<◌, ◌≤◌, ◌≤ℤ◌, ◌↔◌, ℕ, [], codes, decimal, false, is_err, length, pos, true, IsOkUnless, IsTrue, List, Option};
+ghost use Rattle.std.specs.Prelude.{◌≡◌, ◌≢◌, ◌+◌, ◌+ℤ◌, ◌++◌, ◌∷◌, ◌<◌, ◌≤◌, ◌≤ℤ◌, ◌↔◌, ℕ, [], false, is_err, length, pos, true, IsOkUnless, IsTrue, List, Option};
 ghost use Rattle.bb_tape.specs.Content.{cell};
 ghost use Rattle.bb_sim.specs.Reach.{places};
 ghost use Rattle.bb_machine.specs.declared.machine.TheConstants.{MAX_STATES};
 ghost use Rattle.bb_machine.specs.Entry.{next_letter, IsNextOf};
 ghost use Rattle.bb_sim.specs.Runner.{Stands};
 ghost use Rattle.bb_sim.specs.Span.{span, IsLastInside};
+ghost use Rattle.bb_cert.specs.Line.{refusal_text};
 ghost use Rattle.bb_lines.specs.Ends.{AppendsFront, MatchEnd};
 ghost use Rattle.bb_lines.specs.Output.{AppendsBut};
 ghost use Rattle.bb_lines.specs.Watched.{is_marked, watched_inner};
@@ -107,7 +108,7 @@ fn add_refusal<W: Write>(
         → AppendsBut before (W.contents (watched_inner writer.old)) waiting.old.items past
         → MatchEnd result
         (AppendsBut before (W.contents (watched_inner writer.new)) waiting.new.items
-        (past ++ ((codes "refused " ++ decimal column) ++ 10 ∷ [])))
+        (past ++ (refusal_text column ++ 10 ∷ [])))
         ⊥
         ⊥
         (AppendsFront before (W.contents (watched_inner writer.new)) past) }
