@@ -1,6 +1,6 @@
 //! Traces, with lines that were worked out by hand.
 
-use crate::command::ask;
+use crate::command::{Work, ask};
 use crate::run_trace::run_trace;
 use crate::serve::{serve, status};
 use crate::summary::Summary;
@@ -73,8 +73,20 @@ const NOTHING_COUNTED: Meter = Meter {
     most_levels: 0,
 };
 
+/// Traces a line on a ring, and answers what was written, too.
+fn traced_on_a_ring(
+    rt: &(impl Abort + AllocGlobal),
+    line: &[u8],
+    limits: &Limits,
+) -> (Result<Summary, Fault>, Vec<u8>) {
+    let mut tape = RingTape::new(rt.alloc(), limits.cells()).expect(rt, "memory");
+    let mut writer = Watched::new(Vec::new(rt.alloc()));
+    let end = run_trace(line, limits, &mut tape, &mut writer);
+    (end, writer.into_inner())
+}
+
 #[test]
-fn traces_on_a_map(rt: HostRuntime) {
+fn traces_on_both_tapes(rt: HostRuntime) {
     for (words, output, end_status) in &TRACES {
         let mut all: Vec<&str> = ["bb"].to_vec(rt.alloc()).expect(&rt, "memory");
         all.extend_from_slice(words).expect(&rt, "memory");
@@ -84,37 +96,36 @@ fn traces_on_a_map(rt: HostRuntime) {
         let end = serve(rt.alloc(), &asked, &mut reader, &mut writer);
         assert_eq!(rt; writer.into_inner().as_slice(), *output);
         assert_eq!(rt; status(&end), *end_status);
-        assert_eq!(rt; end.expect(&rt, "no fault").peak, NOTHING_COUNTED);
         assert_eq!(rt; reader.into_inner(), b"not read".as_slice());
+        let Work::Trace(text) = &asked.work else {
+            panic!(rt; "no trace");
+        };
+        let (ring_end, ring_written) = traced_on_a_ring(
+            &rt,
+            text.as_str().as_bytes(),
+            &asked.limits,
+        );
+        assert_eq!(rt; ring_written.as_slice(), *output);
+        assert_eq!(rt; ring_end, end);
+        assert_eq!(rt; end.expect(&rt, "no fault").peak, NOTHING_COUNTED);
     }
 }
 
 /// A line, the limits of steps and cells, the output, and whether the summary is clean.
 type Case = (&'static [u8], u64, u64, &'static [u8], bool);
 
-static CASES: [Case; 6] = [
+static CASES: [Case; 3] = [
     (b"------", 9, 9, b"0 A 0 0\n", true),
-    (
-        b"1RB1LB_1LA1RZ",
-        10,
-        65_536,
-        b"0 A 0 0\n1 B 1 10\n2 A 0 11\n3 B -1 011\n4 A -2 0111\n5 B -1 1111\n6 Z 0 1111\n",
-        true,
-    ),
-    (b"1RA1RA", 5, 2, b"0 A 0 0\n1 A 1 10\n", false),
-    (b"1RZ---", 5, 1, b"0 A 0 0\n1 Z 1 1\n", true),
-    (b"1RB1LB_1LA1RC", 2, 9, b"refused 14\n", false),
+    (b"1RA1RA", 1, 2, b"0 A 0 0\n1 A 1 10\n", true),
     (b"1RZ---\n", 2, 9, b"refused 7\n", false),
 ];
 
 #[test]
-fn traces_on_a_ring(rt: HostRuntime) {
+fn traces_any_line(rt: HostRuntime) {
     for (line, steps, cells, output, clean) in &CASES {
         let limits = Limits::new(*steps, *cells, 0, 0).expect(&rt, "limits");
-        let mut tape = RingTape::new(rt.alloc(), limits.cells()).expect(&rt, "memory");
-        let mut writer = Watched::new(Vec::new(rt.alloc()));
-        let end = run_trace(line, &limits, &mut tape, &mut writer);
-        assert_eq!(rt; writer.into_inner().as_slice(), *output);
+        let (end, written) = traced_on_a_ring(&rt, line, &limits);
+        assert_eq!(rt; written.as_slice(), *output);
         assert_eq!(rt;
             end,
             Ok(Summary {
