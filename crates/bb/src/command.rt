@@ -1,6 +1,7 @@
 //! The command line: which work is asked for, under which limits.
-ghost use Rattle.std.specs.Prelude.{◌≡◌, IfOk};
-ghost use Rattle.bb.specs.Command.{CanServe, stop_status};
+ghost use Rattle.std.specs.Prelude.{◌≡◌, IfErr, IfOk};
+ghost use Rattle.bb.specs.Bench.{IsSimulation};
+ghost use Rattle.bb.specs.Command.{CanServe, IsFirstStop, stop_status};
 
 use crate::bench::Plan;
 use bb_machine::{LimitFault, Limits};
@@ -55,6 +56,11 @@ impl Stop {
 }
 
 impl From<AllocError> for Stop {
+    ghost use Rattle.std.specs.Prelude.{◌≡◌};
+    ghost use Rattle.bb.specs.declared.command.Stop.TheVariants.{Memory};
+
+    ghost from_gives = { λ _ stop. stop ≡ Memory };
+
     fn from(_error: AllocError) -> Stop {
         Stop::Memory
     }
@@ -144,21 +150,35 @@ fn stop_of(alloc: Global, error: &Error) -> Result<Stop, AllocError> {
 fn decide_of(alloc: Global, matches: &ArgMatches<'_>) -> Result<Asked, Stop>
     ensures { IfOk result (λ asked. CanServe asked.work) }
 {
-    let limits = limits(
-        value(matches, "steps"),
-        value(matches, "cells"),
-        value(matches, "depth"),
-        value(matches, "nodes"),
-    )?;
     let plan = Plan {
         cyclers: !matches.get_flag("no-cyclers"),
         translated: !matches.get_flag("no-translated"),
         backward: !matches.get_flag("no-backward"),
     };
+    let limits = accepted(
+        value(matches, "steps"),
+        value(matches, "cells"),
+        value(matches, "depth"),
+        value(matches, "nodes"),
+        plan,
+    )?;
     let file = match matches.get_str("file") {
         Some(file) => Some(String::from_str(alloc, file)?),
         None => None,
     };
+    Ok(Asked {
+        work: Work::Decide(plan),
+        limits,
+        file,
+    })
+}
+
+/// The limits of deciding a list, if they are accepted and the plan has only deciders that are built.
+fn accepted(steps: u64, cells: u64, depth: u64, nodes: u64, plan: Plan) -> Result<Limits, Stop>
+    ensures ok { IfOk result (λ limits. (limits ≡ record { steps = steps; cells = cells; depth = depth; nodes = nodes }) × IsSimulation plan) }
+    ensures first_stop { IfErr result (IsFirstStop (record { steps = steps; cells = cells; depth = depth; nodes = nodes }) plan) }
+{
+    let limits = Limits::new(steps, cells, depth, nodes).map_err(Stop::Limits)?;
     if plan.cyclers {
         return Err(Stop::NotBuilt("bb: cyclers not built"));
     }
@@ -168,17 +188,15 @@ fn decide_of(alloc: Global, matches: &ArgMatches<'_>) -> Result<Asked, Stop>
     if plan.backward {
         return Err(Stop::NotBuilt("bb: backward not built"));
     }
-    Ok(Asked {
-        work: Work::Decide(plan),
-        limits,
-        file,
-    })
+    Ok(limits)
 }
 
 fn trace_of(alloc: Global, matches: &ArgMatches<'_>) -> Result<Asked, Stop>
     ensures { IfOk result (λ asked. CanServe asked.work) }
 {
-    let limits = limits(value(matches, "upto"), value(matches, "cells"), 0, 0)?;
+    let limits = Limits::new(value(matches, "upto"), value(matches, "cells"), 0, 0).map_err(
+        Stop::Limits,
+    )?;
     let text = matches.get_str("machine").unwrap_or("");
     Ok(Asked {
         work: Work::Trace(String::from_str(alloc, text)?),
@@ -191,8 +209,4 @@ fn trace_of(alloc: Global, matches: &ArgMatches<'_>) -> Result<Asked, Stop>
 /// so none is missing.
 fn value(matches: &ArgMatches<'_>, name: &str) -> u64 {
     matches.get_one::<u64>(name).unwrap_or(0)
-}
-
-fn limits(steps: u64, cells: u64, depth: u64, nodes: u64) -> Result<Limits, Stop> {
-    Limits::new(steps, cells, depth, nodes).map_err(Stop::Limits)
 }
