@@ -1,17 +1,95 @@
--- What a command line asks for, as far as serving it needs it.
-use Rattle.std.specs.Prelude.{◌≡◌, ℕ, List, Option, Some, None, codes, if◌then◌else◌}
+-- What a command line asks for, and why one leads to no work: this project's own.
+use Rattle.std.specs.Prelude.{◌≡◌, ◌≢◌, ◌⊎◌, ℕ, Bool, false, not, List, [], Option, Some, None, codes, unwrap_or, option_map, if◌then◌else◌}
+use Rattle.std.specs.Option.{option_map_or}
+use Rattle.std.specs.Str.{bytes_eq}
+use Rattle.std.specs.Str.Parse.{digits_value, without_leading_plus}
+use Rattle.std.specs.String.{string_bytes}
+use Rattle.clap.specs.Words.{IsAmong, Row, Text, fault_of, first_of, one_of, subcommand_of}
+use Rattle.clap.specs.ValueTests.{is_unsigned_in}
+use Rattle.clap.specs.declared.error.kind.ErrorKind.{ErrorKind}
+use Rattle.clap.specs.declared.error.kind.ErrorKind.TheVariants.{DisplayHelp, OutOfMemory}
 use Rattle.bb_machine.specs.Limits.{Bounds, IsAccepted, IsFirstFault}
 use Rattle.bb.specs.declared.bench.Plan.{Plan}
+use Rattle.bb.specs.declared.command.Asked.{Asked}
 use Rattle.bb.specs.declared.command.Stop.{Stop}
 use Rattle.bb.specs.declared.command.Stop.TheVariants.{Help, Words, Limits, NotBuilt, Memory}
 use Rattle.bb.specs.declared.command.Work.{Work}
 use Rattle.bb.specs.declared.command.Work.TheVariants.{Decide, Trace}
 use Rattle.bb.specs.Bench.{IsSimulation}
+use Rattle.bb.specs.CommandLine.{command_line}
 
 -- a trace, or verdicts by no decider, since none is built
 abbrev pub CanServe : Work → Type 0
 CanServe (Decide plan) = IsSimulation plan
 CanServe (Trace text) = Unit {0}
+
+-- ---- what the words say
+
+-- the words are a command line and name this command, and the rows tell what they give for its options and arguments
+pub record Gives (words : List Text) (command : Text) (rows : List Row) : Type 0 where
+  pub no_fault : fault_of command_line words ≡ []
+  pub values : subcommand_of command_line words ≡ Some (command, rows)
+
+-- the number that a text says: digits, a `+` may stand in front. 0 for any other text, which a command line has in no such place
+abbrev pub number_in : Text → ℕ
+number_in text = if is_unsigned_in 0 18446744073709551615 text then digits_value 10 (without_leading_plus text) else 0
+
+-- the number that is given for an option
+abbrev pub number_of : Text → List Row → ℕ
+number_of name rows = option_map_or number_in (one_of name rows) 0
+
+-- an option without a value is given
+abbrev pub is_given : Text → List Row → Bool
+is_given name rows = option_map_or (λ text. bytes_eq text (codes "true")) (one_of name rows) false
+
+-- ---- the two commands
+
+abbrev pub decide_bounds : List Row → Bounds
+decide_bounds rows = record {
+  steps = number_of (codes "steps") rows;
+  cells = number_of (codes "cells") rows;
+  depth = number_of (codes "depth") rows;
+  nodes = number_of (codes "nodes") rows;
+}
+
+-- each decider is on unless it is left out
+abbrev pub decide_plan : List Row → Plan
+decide_plan rows = record {
+  cyclers = not (is_given (codes "no-cyclers") rows);
+  translated = not (is_given (codes "no-translated") rows);
+  backward = not (is_given (codes "no-backward") rows);
+}
+
+-- a trace goes over no tree
+abbrev pub trace_bounds : List Row → Bounds
+trace_bounds rows = record {
+  steps = number_of (codes "upto") rows;
+  cells = number_of (codes "cells") rows;
+  depth = 0;
+  nodes = 0;
+}
+
+pub record IsDecide (rows : List Row) (asked : Asked) : Type 0 where
+  pub work : asked.work ≡ Decide (decide_plan rows)
+  pub limits : asked.limits ≡ decide_bounds rows
+  pub file : option_map string_bytes asked.file ≡ first_of (codes "file") rows
+
+-- a trace of the machine with this text
+abbrev pub IsTraceOf : Text → Work → Type 0
+IsTraceOf text (Trace machine) = string_bytes machine ≡ text
+IsTraceOf text (Decide plan) = ⊥
+
+pub record IsTrace (rows : List Row) (asked : Asked) : Type 0 where
+  pub work : IsTraceOf (unwrap_or (first_of (codes "machine") rows) []) asked.work
+  pub limits : asked.limits ≡ trace_bounds rows
+  pub file : asked.file ≡ None
+
+-- this is what the words ask for
+abbrev pub IsAskedBy : List Text → Asked → Type 0
+IsAskedBy words asked = (rows : List Row)
+    × ((Gives words (codes "decide") rows × IsDecide rows asked) ⊎ (Gives words (codes "trace") rows × IsTrace rows asked))
+
+-- ---- why there is no work
 
 -- the text that refuses a plan, by the first decider that is on; none where it switches on none
 abbrev pub not_built : Plan → Option (List ℕ)
@@ -29,6 +107,37 @@ IsFirstStop bounds plan (NotBuilt text) = IsAccepted bounds × (not_built plan �
 IsFirstStop bounds plan (Help text) = ⊥
 IsFirstStop bounds plan (Words text) = ⊥
 IsFirstStop bounds plan Memory = ⊥
+
+-- why a trace under these limits is refused: their first fault
+abbrev pub IsTraceStop : Bounds → Stop → Type 0
+IsTraceStop bounds (Limits fault) = IsFirstFault bounds fault
+IsTraceStop bounds (NotBuilt text) = ⊥
+IsTraceStop bounds (Help text) = ⊥
+IsTraceStop bounds (Words text) = ⊥
+IsTraceStop bounds Memory = ⊥
+
+-- the words are a command line, and what they ask for is refused
+pub record IsRefused (words : List Text) (stop : Stop) : Type 0 where
+  pub rows : List Row
+  pub refused : (Gives words (codes "decide") rows × IsFirstStop (decide_bounds rows) (decide_plan rows) stop)
+      ⊎ (Gives words (codes "trace") rows × IsTraceStop (trace_bounds rows) stop)
+
+-- why the words lead to no work: help is asked for, or they are no command line, or what they ask for is refused, or a
+-- growth was refused
+abbrev pub IsStopOf : List Text → Stop → Type 0
+IsStopOf words (Help text) = IsAmong DisplayHelp (fault_of command_line words)
+IsStopOf words (Words text) = (kind : ErrorKind) × IsAmong kind (fault_of command_line words) × (kind ≢ DisplayHelp)
+IsStopOf words (Limits fault) = IsRefused words (Limits fault)
+IsStopOf words (NotBuilt text) = IsRefused words (NotBuilt text)
+IsStopOf words Memory = Unit {0}
+
+-- the stop that an error of this kind is
+abbrev pub IsKindStop : ErrorKind → Stop → Type 0
+IsKindStop kind (Help text) = kind ≡ DisplayHelp
+IsKindStop kind (Words text) = (kind ≢ DisplayHelp) × (kind ≢ OutOfMemory)
+IsKindStop kind (Limits fault) = ⊥
+IsKindStop kind (NotBuilt text) = ⊥
+IsKindStop kind Memory = kind ≡ OutOfMemory
 
 -- the exit status of a command line that leads to no work
 abbrev pub stop_status : Stop → ℕ

@@ -1,5 +1,6 @@
 pub mod Bench
 pub mod Command
+pub mod CommandLine
 pub mod Ends
 pub mod Reply
 pub mod Seen

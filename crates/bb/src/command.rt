@@ -1,7 +1,11 @@
 //! The command line: which work is asked for, under which limits.
-ghost use Rattle.std.specs.Prelude.{◌≡◌, IfErr, IfOk};
+ghost use Rattle.std.specs.Prelude.{◌≡◌, ◌⊎◌, false, IfErr, IfOk, List, codes, map};
+ghost use Rattle.clap.specs.declared.builder.command.Command.TheViews.{out-Command as fields_of};
+ghost use Rattle.clap.specs.Words.{app_of, found_of, kind_of, rows_of, rule_of, shape_of};
+ghost use Rattle.clap.specs.Simple.{new_shape};
 ghost use Rattle.bb.specs.Bench.{IsSimulation};
-ghost use Rattle.bb.specs.Command.{CanServe, IsFirstStop, stop_status};
+ghost use Rattle.bb.specs.Command.{CanServe, IsAskedBy, IsDecide, IsFirstStop, IsKindStop, IsStopOf, IsTrace, IsTraceStop, decide_bounds, decide_plan, is_given, number_of, stop_status, trace_bounds};
+ghost use Rattle.bb.specs.CommandLine.{by_default, cells_rule, command_line, decide_shape, number_rule, place_rule, switch_rule, trace_shape};
 
 use crate::bench::Plan;
 use bb_machine::{LimitFault, Limits};
@@ -70,61 +74,108 @@ impl From<AllocError> for Stop {
 ///
 /// The words are read first, then the limits are tested, then which deciders are on.
 pub fn ask(alloc: Global, words: &[&str]) -> Result<Asked, Stop>
-    ensures { IfOk result (λ asked. CanServe asked.work) }
+    ensures asked { IfOk result (IsAskedBy (map (λ word. word.now) words.now)) }
+    ensures served { IfOk result (λ asked. CanServe asked.work) }
+    ensures stop { IfErr result (IsStopOf (map (λ word. word.now) words.now)) }
 {
     match program(alloc)?.try_get_matches_from(words) {
         Ok(matches) => match matches.subcommand() {
+            Some(("decide", matches)) => decide_of(alloc, matches),
             Some(("trace", matches)) => trace_of(alloc, matches),
-            Some((_, matches)) => decide_of(alloc, matches),
-            None => Err(Stop::Memory),
+            _ => Err(Stop::Memory),
         },
         Err(error) => Err(stop_of(alloc, &error)?),
     }
 }
 
-fn program<'a>(alloc: Global) -> Result<Command<'a>, AllocError> {
-    let file = Arg::new(alloc, "file").value_name("FILE").help(
-        "The list of machines, a line each [default: standard input]",
-    );
-    let decide = limited(
-        alloc,
-        Command::new(alloc, "decide").about("Decides each machine of a list"),
-    )?
-    .arg(switch(alloc, "no-cyclers", "Leaves out the cyclers"))?
-    .arg(switch(alloc, "no-translated", "Leaves out the translated cyclers"))?
-    .arg(switch(alloc, "no-backward", "Leaves out backward reasoning"))?
-    .arg(file)?;
-    let trace = Command::new(alloc, "trace")
-        .about("Prints the first configurations of a machine")
-        .arg(number(alloc, "upto", "The last step that is printed").required(true))?
-        .arg(cells(alloc))?
-        .arg(
-            Arg::new(alloc, "machine")
-                .value_name("MACHINE")
-                .help("The machine's text")
-                .required(true),
-        )?;
+fn program<'a>(alloc: Global) -> Result<Command<'a>, AllocError>
+    ensures { IfOk result (λ command. app_of command ≡ command_line) }
+{
     Command::new(alloc, "bb")
         .about("Simulates and decides small Turing machines")
         .disable_help_subcommand(true)
         .subcommand_required(true)
-        .subcommand(decide)?
-        .subcommand(trace)
+        .subcommand(decide_command(alloc)?)?
+        .subcommand(trace_command(alloc)?)
 }
 
-fn limited<'a>(alloc: Global, command: Command<'a>) -> Result<Command<'a>, AllocError> {
-    command
-        .arg(number(alloc, "steps", "The most steps of one simulation").default_value("1000000"))?
+fn decide_command<'a>(alloc: Global) -> Result<Command<'a>, AllocError>
+    ensures shape { IfOk result (λ command. shape_of command ≡ decide_shape) }
+    ensures local { IfOk result (λ command. (fields_of command).has_globals ≡ false) }
+{
+    let file = place(
+        alloc,
+        "file",
+        "FILE",
+        "The list of machines, a line each [default: standard input]",
+    );
+    command(alloc, "decide", "Decides each machine of a list")
+        .arg(limit(
+            alloc,
+            "steps",
+            "1000000",
+            "The most steps of one simulation",
+        ))?
         .arg(cells(alloc))?
-        .arg(number(alloc, "depth", "The most levels of the backward tree").default_value("300"))?
-        .arg(number(alloc, "nodes", "The most nodes of the backward tree").default_value("1000000"))
+        .arg(limit(
+            alloc,
+            "depth",
+            "300",
+            "The most levels of the backward tree",
+        ))?
+        .arg(limit(
+            alloc,
+            "nodes",
+            "1000000",
+            "The most nodes of the backward tree",
+        ))?
+        .arg(switch(alloc, "no-cyclers", "Leaves out the cyclers"))?
+        .arg(switch(alloc, "no-translated", "Leaves out the translated cyclers"))?
+        .arg(switch(alloc, "no-backward", "Leaves out backward reasoning"))?
+        .arg(file)
 }
 
-fn cells<'a>(alloc: Global) -> Arg<'a> {
-    number(alloc, "cells", "The most cells of one tape").default_value("65536")
+fn trace_command<'a>(alloc: Global) -> Result<Command<'a>, AllocError>
+    ensures shape { IfOk result (λ command. shape_of command ≡ trace_shape) }
+    ensures local { IfOk result (λ command. (fields_of command).has_globals ≡ false) }
+{
+    let upto = number(alloc, "upto", "The last step that is printed").required(true);
+    let machine = place(alloc, "machine", "MACHINE", "The machine's text").required(true);
+    command(
+        alloc,
+        "trace",
+        "Prints the first configurations of a machine",
+    )
+    .arg(upto)?
+    .arg(cells(alloc))?
+    .arg(machine)
 }
 
-fn number<'a>(alloc: Global, name: &'a str, help: &'a str) -> Arg<'a> {
+fn command<'a>(alloc: Global, name: &'a str, about: &'a str) -> Command<'a>
+    ensures shape { shape_of result ≡ new_shape name.now }
+    ensures local { (fields_of result).has_globals ≡ false }
+{
+    Command::new(alloc, name).about(about)
+}
+
+fn cells<'a>(alloc: Global) -> Arg<'a>
+    ensures rule { rule_of result ≡ cells_rule }
+    ensures local { result.global ≡ false }
+{
+    limit(alloc, "cells", "65536", "The most cells of one tape")
+}
+
+fn limit<'a>(alloc: Global, name: &'a str, default: &'a str, help: &'a str) -> Arg<'a>
+    ensures rule { rule_of result ≡ by_default default.now (number_rule name.now) }
+    ensures local { result.global ≡ false }
+{
+    number(alloc, name, help).default_value(default)
+}
+
+fn number<'a>(alloc: Global, name: &'a str, help: &'a str) -> Arg<'a>
+    ensures rule { rule_of result ≡ number_rule name.now }
+    ensures local { result.global ≡ false }
+{
     Arg::new(alloc, name)
         .long(name)
         .value_name("N")
@@ -132,14 +183,26 @@ fn number<'a>(alloc: Global, name: &'a str, help: &'a str) -> Arg<'a> {
         .value_parser(value_parser!(u64))
 }
 
-fn switch<'a>(alloc: Global, name: &'a str, help: &'a str) -> Arg<'a> {
+fn switch<'a>(alloc: Global, name: &'a str, help: &'a str) -> Arg<'a>
+    ensures rule { rule_of result ≡ switch_rule name.now }
+    ensures local { result.global ≡ false }
+{
     Arg::new(alloc, name)
         .long(name)
         .help(help)
         .action(ArgAction::SetTrue)
 }
 
-fn stop_of(alloc: Global, error: &Error) -> Result<Stop, AllocError> {
+fn place<'a>(alloc: Global, name: &'a str, shown: &'a str, help: &'a str) -> Arg<'a>
+    ensures rule { rule_of result ≡ place_rule name.now }
+    ensures local { result.global ≡ false }
+{
+    Arg::new(alloc, name).value_name(shown).help(help)
+}
+
+fn stop_of(alloc: Global, error: &Error) -> Result<Stop, AllocError>
+    ensures { IfOk result (IsKindStop (kind_of error.now)) }
+{
     match error.kind() {
         ErrorKind::OutOfMemory => Ok(Stop::Memory),
         ErrorKind::DisplayHelp => Ok(Stop::Help(error.to_string(alloc)?)),
@@ -148,12 +211,15 @@ fn stop_of(alloc: Global, error: &Error) -> Result<Stop, AllocError> {
 }
 
 fn decide_of(alloc: Global, matches: &ArgMatches<'_>) -> Result<Asked, Stop>
-    ensures { IfOk result (λ asked. CanServe asked.work) }
+    ensures asked { IfOk result (IsDecide (rows_of (found_of matches.now))) }
+    ensures served { IfOk result (λ asked. CanServe asked.work) }
+    ensures stop { IfErr result (λ stop. (stop ≡ Stop.Memory)
+        ⊎ IsFirstStop (decide_bounds (rows_of (found_of matches.now))) (decide_plan (rows_of (found_of matches.now))) stop) }
 {
     let plan = Plan {
-        cyclers: !matches.get_flag("no-cyclers"),
-        translated: !matches.get_flag("no-translated"),
-        backward: !matches.get_flag("no-backward"),
+        cyclers: !given(matches, "no-cyclers"),
+        translated: !given(matches, "no-translated"),
+        backward: !given(matches, "no-backward"),
     };
     let limits = accepted(
         value(matches, "steps"),
@@ -191,12 +257,20 @@ fn accepted(steps: u64, cells: u64, depth: u64, nodes: u64, plan: Plan) -> Resul
     Ok(limits)
 }
 
-fn trace_of(alloc: Global, matches: &ArgMatches<'_>) -> Result<Asked, Stop>
-    ensures { IfOk result (λ asked. CanServe asked.work) }
+/// The limits of a trace up to a step, if they are accepted.
+fn accepted_trace(upto: u64, cells: u64) -> Result<Limits, Stop>
+    ensures ok { IfOk result (λ limits. limits ≡ record { steps = upto; cells = cells; depth = 0; nodes = 0 }) }
+    ensures first_stop { IfErr result (IsTraceStop (record { steps = upto; cells = cells; depth = 0; nodes = 0 })) }
 {
-    let limits = Limits::new(value(matches, "upto"), value(matches, "cells"), 0, 0).map_err(
-        Stop::Limits,
-    )?;
+    Limits::new(upto, cells, 0, 0).map_err(Stop::Limits)
+}
+
+fn trace_of(alloc: Global, matches: &ArgMatches<'_>) -> Result<Asked, Stop>
+    ensures asked { IfOk result (IsTrace (rows_of (found_of matches.now))) }
+    ensures stop { IfErr result (λ stop. (stop ≡ Stop.Memory)
+        ⊎ IsTraceStop (trace_bounds (rows_of (found_of matches.now))) stop) }
+{
+    let limits = accepted_trace(value(matches, "upto"), value(matches, "cells"))?;
     let text = matches.get_str("machine").unwrap_or("");
     Ok(Asked {
         work: Work::Trace(String::from_str(alloc, text)?),
@@ -207,6 +281,15 @@ fn trace_of(alloc: Global, matches: &ArgMatches<'_>) -> Result<Asked, Stop>
 
 /// The number that an option gives. Each option is required or has a default, and is read as a number,
 /// so none is missing.
-fn value(matches: &ArgMatches<'_>, name: &str) -> u64 {
+fn value(matches: &ArgMatches<'_>, name: &str) -> u64
+    ensures { result ≡ number_of name.now (rows_of (found_of matches.now)) }
+{
     matches.get_one::<u64>(name).unwrap_or(0)
+}
+
+/// Whether an option without a value is given.
+fn given(matches: &ArgMatches<'_>, name: &str) -> bool
+    ensures { result ≡ is_given name.now (rows_of (found_of matches.now)) }
+{
+    matches.get_one::<bool>(name).unwrap_or(false)
 }

@@ -1,0 +1,98 @@
+-- What a parse of the program's command line gives.
+use Rattle.std.proofs.Common.{◌≡◌, ◌⊎◌, ◌∙◌, true, List, [], Option, Some, None, refl, sym, subst, ap, inl, inr, codes, option_map}
+use Rattle.std.specs.Prelude.{Box}
+use Rattle.std.specs.Box.{box_value}
+use Rattle.clap.specs.declared.parser.matches.SubCommand.{SubCommand}
+use Rattle.clap.specs.Simple.{subcommand_rows}
+use Rattle.clap.specs.Words.{App, HasMatchesOf, IsAmong, Row, Text, HasKind, fault_of, is_simple, is_simple_and_free, kind_of, subcommand_name_of, subcommand_of, subcommand_rows_of}
+use Rattle.clap.specs.declared.error.Error.{Error}
+use Rattle.clap.specs.declared.error.kind.ErrorKind.{ErrorKind}
+use Rattle.clap.specs.declared.parser.matches.ArgMatches.{ArgMatches}
+use Rattle.clap.specs.declared.parser.matches.ArgMatches.TheViews.{out-ArgMatches, out-SubCommand}
+use Rattle.clap.proofs.OnLiterals.{clap_on_literals}
+use Rattle.bb.specs.declared.command.Stop.{Stop}
+use Rattle.bb.specs.declared.command.Stop.TheVariants.{Help, Words, Limits, NotBuilt, Memory}
+use Rattle.bb.specs.Command.{Gives, IsFirstStop, IsKindStop, IsStopOf, IsTraceStop, decide_bounds, decide_plan, trace_bounds}
+use Rattle.bb.specs.CommandLine.{command_line}
+
+simple_and_free : is_simple_and_free command_line ≡ true
+unfolding clap_on_literals
+simple_and_free = refl
+
+simple : is_simple command_line ≡ true
+unfolding clap_on_literals
+simple = refl
+
+-- no kind of error is there where the words are taken
+pub taken : (app : App) → app ≡ command_line → (words : List Text)
+    → (is_simple_and_free app ≡ true → fault_of app words ≡ []) → fault_of command_line words ≡ []
+taken app is words free =
+    subst (λ (a : App). fault_of a words ≡ []) is (free (ap is_simple_and_free is ∙ simple_and_free))
+
+-- the subcommand that was met, with its rows, by its parts
+both_parts : (o : Option (Text × List Row)) (name : Text) (rows : List Row)
+    → option_map (λ p. p.0) o ≡ Some name → option_map (λ p. p.1) o ≡ Some rows → o ≡ Some (name, rows)
+both_parts None name rows a b = cc
+both_parts (Some p) name rows a b =
+    let is_name : p.0 ≡ name = cc in
+    let are_rows : p.1 ≡ rows = cc in
+    rw (← is_name, ← are_rows) refl
+
+name_by_rows : (m : ArgMatches) → subcommand_name_of m ≡ option_map (λ p. p.0) (subcommand_rows_of m)
+name_by_rows m = go (out-ArgMatches m).subcommand
+  where
+    go : {Z : Type 0} (o : Option (Box SubCommand Z)) → option_map (λ b. (out-SubCommand (box_value b)).name.now) o ≡ option_map (λ p. p.0) (subcommand_rows o)
+    go None = refl
+    go (Some b) = refl
+
+pub gives : (app : App) → app ≡ command_line → (words : List Text) (m : ArgMatches)
+    → (is_simple_and_free app ≡ true → fault_of app words ≡ []) → HasMatchesOf app words m
+    → (name : Text) (rows : List Row) → subcommand_name_of m ≡ Some name
+    → option_map (λ p. p.1) (subcommand_rows_of m) ≡ Some rows
+    → Gives words name rows
+gives app is words m free matches name rows named valued = record {
+  no_fault = taken app is words free;
+  values =
+      sym ((matches (ap is_simple is ∙ simple)).1 ∙ ap (λ (a : App). subcommand_of a words) is)
+      ∙ both_parts (subcommand_rows_of m) name rows (sym (name_by_rows m) ∙ named) valued;
+}
+
+pub stops_deciding : (words : List Text) (rows : List Row) → Gives words (codes "decide") rows → (stop : Stop)
+    → (stop ≡ Memory) ⊎ IsFirstStop (decide_bounds rows) (decide_plan rows) stop → IsStopOf words stop
+stops_deciding words rows given (Help text) (inl h) = cc
+stops_deciding words rows given (Help text) (inr h) = absurd h
+stops_deciding words rows given (Words text) (inl h) = cc
+stops_deciding words rows given (Words text) (inr h) = absurd h
+stops_deciding words rows given (Limits fault) (inl h) = cc
+stops_deciding words rows given (Limits fault) (inr h) = record { rows = rows; refused = inl (given, h) }
+stops_deciding words rows given (NotBuilt text) (inl h) = cc
+stops_deciding words rows given (NotBuilt text) (inr h) = record { rows = rows; refused = inl (given, h) }
+stops_deciding words rows given Memory h = tt
+
+pub stops_a_trace : (words : List Text) (rows : List Row) → Gives words (codes "trace") rows → (stop : Stop)
+    → (stop ≡ Memory) ⊎ IsTraceStop (trace_bounds rows) stop → IsStopOf words stop
+stops_a_trace words rows given (Help text) (inl h) = cc
+stops_a_trace words rows given (Help text) (inr h) = absurd h
+stops_a_trace words rows given (Words text) (inl h) = cc
+stops_a_trace words rows given (Words text) (inr h) = absurd h
+stops_a_trace words rows given (Limits fault) (inl h) = cc
+stops_a_trace words rows given (Limits fault) (inr h) = record { rows = rows; refused = inr (given, h) }
+stops_a_trace words rows given (NotBuilt text) (inl h) = cc
+stops_a_trace words rows given (NotBuilt text) (inr h) = absurd h
+stops_a_trace words rows given Memory h = tt
+
+-- an error of a parse, as a stop
+pub stops_by_kind : (app : App) → app ≡ command_line → (words : List Text) (error : Error)
+    → (is_simple_and_free app ≡ true → HasKind (fault_of app words) error)
+    → (stop : Stop) → IsKindStop (kind_of error) stop → IsStopOf words stop
+stops_by_kind app is words error kinds stop kind =
+    by_kind stop kind (subst (λ (a : App). HasKind (fault_of a words) error) is (kinds (ap is_simple_and_free is ∙ simple_and_free)))
+  where
+    by_kind : (stop : Stop) → IsKindStop (kind_of error) stop → HasKind (fault_of command_line words) error → IsStopOf words stop
+    by_kind (Help text) is_help (inl memory) = cc
+    by_kind (Help text) is_help (inr among) = subst (λ (k : ErrorKind). IsAmong k (fault_of command_line words)) is_help among
+    by_kind (Words text) is_other (inl memory) = absurd (is_other.1 memory)
+    by_kind (Words text) is_other (inr among) = (kind_of error, among, is_other.0)
+    by_kind (Limits fault) never h = absurd never
+    by_kind (NotBuilt text) never h = absurd never
+    by_kind Memory is_memory h = tt

@@ -1,0 +1,61 @@
+-- The program's command line, as the command-line crate sees a command: a rule for each option and argument, and a shape
+-- for each command. How words are read by it is that crate's `fault_of` and `subcommand_of`. The commands, their options
+-- and the defaults are this project's own.
+use Rattle.std.specs.Prelude.{[], ◌∷◌, Some, true, false, codes}
+use Rattle.clap.specs.Words.{App, Rule, Shape, Text, new_rule}
+use Rattle.clap.specs.Simple.{new_shape}
+use Rattle.clap.specs.declared.builder.action.ArgAction.TheVariants.{SetTrue}
+use Rattle.clap.specs.declared.builder.value_parser.ValueParser.TheVariants.{Unsigned}
+
+-- an option with a number from 0 to 2^64 - 1, as `--steps 5`
+abbrev pub number_rule : Text → Rule
+number_rule name = record (new_rule name) {
+  long = Some name;
+  value_names = 1;
+  parser = Some (Unsigned 0 18446744073709551615);
+}
+
+-- what stands for an option that isn't given
+abbrev pub by_default : Text → Rule → Rule
+by_default text rule = record rule { defaults = text ∷ [] }
+
+abbrev pub cells_rule : Rule
+cells_rule = by_default (codes "65536") (number_rule (codes "cells"))
+
+-- an option without a value
+abbrev pub switch_rule : Text → Rule
+switch_rule name = record (new_rule name) { long = Some name; action = Some SetTrue }
+
+-- an argument that is known by its place
+abbrev pub place_rule : Text → Rule
+place_rule name = record (new_rule name) { value_names = 1 }
+
+abbrev pub must : Rule → Rule
+must rule = record rule { required = true }
+
+-- bb decide [--steps N] [--cells N] [--depth N] [--nodes N] [--no-cyclers] [--no-translated] [--no-backward] [FILE]
+abbrev pub decide_shape : Shape
+decide_shape = record (new_shape (codes "decide")) {
+  rules = by_default (codes "1000000") (number_rule (codes "steps"))
+      ∷ cells_rule
+      ∷ by_default (codes "300") (number_rule (codes "depth"))
+      ∷ by_default (codes "1000000") (number_rule (codes "nodes"))
+      ∷ switch_rule (codes "no-cyclers")
+      ∷ switch_rule (codes "no-translated")
+      ∷ switch_rule (codes "no-backward")
+      ∷ place_rule (codes "file")
+      ∷ [];
+}
+
+-- bb trace --upto N [--cells N] MACHINE
+abbrev pub trace_shape : Shape
+trace_shape = record (new_shape (codes "trace")) {
+  rules = must (number_rule (codes "upto")) ∷ cells_rule ∷ must (place_rule (codes "machine")) ∷ [];
+}
+
+-- bb, with one of the two commands
+abbrev pub command_line : App
+command_line = record {
+  top = record (new_shape (codes "bb")) { is_leaf = false; disable_help_subcommand = true; subcommand_required = true };
+  subs = decide_shape ∷ trace_shape ∷ [];
+}
