@@ -1,10 +1,13 @@
 -- What a parse of the program's command line gives.
-use Rattle.std.proofs.Common.{◌≡◌, ◌⊎◌, ◌∙◌, true, List, [], Option, Some, None, refl, sym, subst, ap, inl, inr, codes, option_map}
+use Rattle.std.proofs.Common.{◌≡◌, ◌⊎◌, ◌∙◌, ◌∷◌, Bool, true, false, List, [], Option, Some, None, refl, sym, subst, ap, inl, inr, codes, option_map}
 use Rattle.std.specs.Prelude.{Box}
 use Rattle.std.specs.Box.{box_value}
 use Rattle.clap.specs.declared.parser.matches.SubCommand.{SubCommand}
-use Rattle.clap.specs.Simple.{subcommand_rows}
-use Rattle.clap.specs.Words.{App, HasMatchesOf, IsAmong, Row, Text, HasKind, fault_of, is_simple, is_simple_and_free, kind_of, subcommand_name_of, subcommand_of, subcommand_rows_of}
+use Rattle.std.specs.Prelude.{find}
+use Rattle.std.specs.Option.{option_map_or}
+use Rattle.clap.specs.Walk.{answers_to, stop_after}
+use Rattle.clap.specs.Simple.{argument_words, built, built_leaf, entered, inherited, marked_built, with_leaf_noted, label_of, names_of, rows_at, subcommand_rows}
+use Rattle.clap.specs.Words.{App, HasMatchesOf, IsAmong, Row, Shape, Text, HasKind, fault_of, is_simple, is_simple_and_free, kind_of, subcommand_name_of, subcommand_of, subcommand_rows_of}
 use Rattle.clap.specs.declared.error.Error.{Error}
 use Rattle.clap.specs.declared.error.kind.ErrorKind.{ErrorKind}
 use Rattle.clap.specs.declared.parser.matches.ArgMatches.{ArgMatches}
@@ -13,7 +16,7 @@ use Rattle.clap.proofs.OnLiterals.{clap_on_literals}
 use Rattle.bb.specs.declared.command.Stop.{Stop}
 use Rattle.bb.specs.declared.command.Stop.TheVariants.{Help, Words, Limits, NotBuilt, Memory}
 use Rattle.bb.specs.Command.{Gives, IsFirstStop, IsKindStop, IsStopOf, IsTraceStop, decide_bounds, decide_plan, trace_bounds}
-use Rattle.bb.specs.CommandLine.{command_line}
+use Rattle.bb.specs.CommandLine.{command_line, decide_shape, trace_shape}
 
 simple_and_free : is_simple_and_free command_line ≡ true
 unfolding clap_on_literals
@@ -56,6 +59,33 @@ gives app is words m free matches name rows named valued = record {
       sym ((matches (ap is_simple is ∙ simple)).1 ∙ ap (λ (a : App). subcommand_of a words) is)
       ∙ both_parts (subcommand_rows_of m) name rows (sym (name_by_rows m) ∙ named) valued;
 }
+
+-- ---- a command line names one of the two commands
+
+-- of two commands, the one that answers to a word is one of them
+either_name : (a b : Shape) (q : Text × List Text) (p : Text × List Row)
+    → option_map (λ s. rows_at s q.1) (find (λ s. answers_to q.0 (label_of s)) (a ∷ b ∷ [])) ≡ Some p
+    → (p.0 ≡ a.name) ⊎ (p.0 ≡ b.name)
+either_name a b q p e = go (answers_to q.0 (label_of a)) refl (answers_to q.0 (label_of b)) refl
+  where
+    go : (x : Bool) → answers_to q.0 (label_of a) ≡ x → (y : Bool) → answers_to q.0 (label_of b) ≡ y → (p.0 ≡ a.name) ⊎ (p.0 ≡ b.name)
+    go true is_a y is_b = inl (sym (ap (λ o. option_map_or (λ r. r.0) o []) (rw is_a at e)))
+    go false is_a true is_b = inr (sym (ap (λ o. option_map_or (λ r. r.0) o []) (rw (is_a, is_b) at e)))
+    go false is_a false is_b = let none = rw (is_a, is_b) at e in cc
+
+named : (stop : Option (Text × List Text)) (p : Text × List Row) → entered (built command_line) stop ≡ Some p
+    → (p.0 ≡ codes "decide") ⊎ (p.0 ≡ codes "trace")
+named None p e = cc
+named (Some q) p e =
+    let top = with_leaf_noted (marked_built command_line.top) in
+    either_name (built_leaf (inherited top decide_shape)) (built_leaf (inherited top trace_shape)) q p e
+
+-- a command other than `trace` is `decide`
+pub names_decide : (words : List Text) (name : Text) (rows : List Row) → Gives words name rows → (name ≡ codes "trace" → ⊥) → name ≡ codes "decide"
+names_decide words name rows given not_trace = elim (named (stop_after (built command_line).top.rules (names_of (built command_line)) (argument_words command_line words)) (name, rows) given.values) [
+  | inl is ↦ is
+  | inr is ↦ absurd (not_trace is)
+]
 
 pub stops_deciding : (words : List Text) (rows : List Row) → Gives words (codes "decide") rows → (stop : Stop)
     → (stop ≡ Memory) ⊎ IsFirstStop (decide_bounds rows) (decide_plan rows) stop → IsStopOf words stop

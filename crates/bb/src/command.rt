@@ -1,8 +1,9 @@
 //! The command line: which work is asked for, under which limits.
-ghost use Rattle.std.specs.Prelude.{◌≡◌, ◌⊎◌, false, IfErr, IfOk, List, codes, map};
+ghost use Rattle.std.specs.Prelude.{◌≡◌, ◌⊎◌, false, IfErr, IfOk, List, Some, codes, map};
 ghost use Rattle.clap.specs.declared.builder.command.Command.TheViews.{out-Command as fields_of};
 ghost use Rattle.clap.specs.Words.{app_of, found_of, kind_of, rows_of, rule_of, shape_of};
 ghost use Rattle.clap.specs.Simple.{new_shape};
+ghost use Rattle.clap.specs.declared.builder.texts.Texts.TheVariants.{One};
 ghost use Rattle.bb.specs.Bench.{IsSimulation};
 ghost use Rattle.bb.specs.Command.{CanServe, IsAskedBy, IsDecide, IsFirstStop, IsKindStop, IsStopOf, IsTrace, IsTraceStop, decide_bounds, decide_plan, is_given, number_of, stop_status, trace_bounds};
 ghost use Rattle.bb.specs.CommandLine.{by_default, cells_rule, command_line, decide_shape, number_rule, place_rule, switch_rule, trace_shape};
@@ -78,13 +79,17 @@ pub fn ask(alloc: Global, words: &[&str]) -> Result<Asked, Stop>
     ensures served { IfOk result (λ asked. CanServe asked.work) }
     ensures stop { IfErr result (IsStopOf (map (λ word. word.now) words.now)) }
 {
-    match program(alloc)?.try_get_matches_from(words) {
-        Ok(matches) => match matches.subcommand() {
-            Some(("decide", matches)) => decide_of(alloc, matches),
-            Some(("trace", matches)) => trace_of(alloc, matches),
-            _ => Err(Stop::Memory),
-        },
-        Err(error) => Err(stop_of(alloc, &error)?),
+    let matches = match program(alloc)?.try_get_matches_from(words) {
+        Ok(matches) => matches,
+        Err(error) => return Err(stop_of(alloc, &error)?),
+    };
+    let Some((name, values)) = matches.subcommand() else {
+        unreachable!();
+    };
+    if name == "trace" {
+        trace_of(alloc, values)
+    } else {
+        decide_of(alloc, values)
     }
 }
 
@@ -154,6 +159,7 @@ fn trace_command<'a>(alloc: Global) -> Result<Command<'a>, AllocError>
 fn command<'a>(alloc: Global, name: &'a str, about: &'a str) -> Command<'a>
     ensures shape { shape_of result ≡ new_shape name.now }
     ensures local { (fields_of result).has_globals ≡ false }
+    ensures about { (fields_of result).about ≡ Some about.entry }
 {
     Command::new(alloc, name).about(about)
 }
@@ -168,6 +174,7 @@ fn cells<'a>(alloc: Global) -> Arg<'a>
 fn limit<'a>(alloc: Global, name: &'a str, default: &'a str, help: &'a str) -> Arg<'a>
     ensures rule { rule_of result ≡ by_default default.now (number_rule name.now) }
     ensures local { result.global ≡ false }
+    ensures help { result.help ≡ Some help.entry }
 {
     number(alloc, name, help).default_value(default)
 }
@@ -175,6 +182,7 @@ fn limit<'a>(alloc: Global, name: &'a str, default: &'a str, help: &'a str) -> A
 fn number<'a>(alloc: Global, name: &'a str, help: &'a str) -> Arg<'a>
     ensures rule { rule_of result ≡ number_rule name.now }
     ensures local { result.global ≡ false }
+    ensures help { result.help ≡ Some help.entry }
 {
     Arg::new(alloc, name)
         .long(name)
@@ -186,6 +194,7 @@ fn number<'a>(alloc: Global, name: &'a str, help: &'a str) -> Arg<'a>
 fn switch<'a>(alloc: Global, name: &'a str, help: &'a str) -> Arg<'a>
     ensures rule { rule_of result ≡ switch_rule name.now }
     ensures local { result.global ≡ false }
+    ensures help { result.help ≡ Some help.entry }
 {
     Arg::new(alloc, name)
         .long(name)
@@ -196,6 +205,8 @@ fn switch<'a>(alloc: Global, name: &'a str, help: &'a str) -> Arg<'a>
 fn place<'a>(alloc: Global, name: &'a str, shown: &'a str, help: &'a str) -> Arg<'a>
     ensures rule { rule_of result ≡ place_rule name.now }
     ensures local { result.global ≡ false }
+    ensures help { result.help ≡ Some help.entry }
+    ensures shown { result.val_names ≡ One shown.entry }
 {
     Arg::new(alloc, name).value_name(shown).help(help)
 }
