@@ -1,6 +1,5 @@
-use Rattle.std.proofs.Common.{refl, inl, inr, ap, ◌∙◌, arith}
+use Rattle.std.proofs.Common.{rules, refl, inl, inr, ap, ◌∙◌, arith}
 use Rattle.bb_sim.specs.declared.meter.Meter.{Meter}
-use Rattle.bb_sim.specs.Meter.{greatest_of}
 use Rattle.bb.proofs.run_decide.DeciderAnswer.answer.Goals as goal
 
 pub returns-in-Err-clause-reply : goal.returns-in-Err-clause-reply
@@ -33,7 +32,7 @@ returns-clause-saw g c =
         last = counts.last;
         is_last = counts.is_last;
         clean = refl;
-        peak = c.greatest-self.ensures ∙ ap (λ m. greatest_of c.args.self.now.summary.peak m) counts.meter;
+        peak = search rules;
         is_work = ap (λ (m : Meter). m.steps) counts.meter ∙ omega arith;
       }),
     )
