@@ -36,8 +36,8 @@ sums_none steps cells s = record {
   levels = refl;
 }
 
-sums_machine : TextsDiffer → (steps cells : ℕ) (line : List ℕ) (lines : List (List ℕ)) (old mid new : Summary) → SawMachine steps cells old line mid → Sums steps cells lines mid new → Sums steps cells (line ∷ lines) old new
-sums_machine one steps cells line lines old mid new saw rest =
+sums_machine : TextsDiffer → (steps cells : ℕ) (line : List ℕ) (lines : List (List ℕ)) (old mid new : Summary) (work : ℕ) → SawMachine steps cells old line mid work → Sums steps cells lines mid new → Sums steps cells (line ∷ lines) old new
+sums_machine one steps cells line lines old mid new work saw rest =
     let same : (table : Table) → IsMachine table → text table ≡ line → table ≡ saw.table = λ table machine is. one table saw.table machine saw.machine (is ∙ sym saw.is_text) in
     let last : (table : Table) (n : ℕ) → table ≡ saw.table → IsLastInside table steps cells n → n ≡ saw.last = λ table n e is. last_is_one saw.table steps cells n saw.last (subst (λ t. IsLastInside t steps cells n) e is) saw.is_last in
     record {
@@ -57,8 +57,8 @@ sums_machine one steps cells line lines old mid new saw rest =
       levels = rest.levels ∙ ap (λ (m : Meter). m.most_levels) saw.peak ∙ omega arith;
     }
 
-sums_refusal : (steps cells : ℕ) (line : List ℕ) (lines : List (List ℕ)) (old mid new : Summary) → SawRefusal old line mid → Sums steps cells lines mid new → Sums steps cells (line ∷ lines) old new
-sums_refusal steps cells line lines old mid new saw rest = record {
+sums_refusal : (steps cells : ℕ) (line : List ℕ) (lines : List (List ℕ)) (old mid new : Summary) (work : ℕ) → SawRefusal old line mid work → Sums steps cells lines mid new → Sums steps cells (line ∷ lines) old new
+sums_refusal steps cells line lines old mid new work saw rest = record {
   all_clean = λ e. let r = rest.all_clean e in let wrong : false ≡ true = sym saw.clean ∙ r.0 in cc;
   stays_clean = λ e all. absurd (saw.no_machine all.0);
   peak_steps = Rises-past _ line lines _ _ _ (λ n has. saw.no_machine (record { table = has.table; machine = has.machine; is_text = has.is_text })) (ap (λ (m : Meter). m.steps) saw.peak) rest.peak_steps;
@@ -67,19 +67,19 @@ sums_refusal steps cells line lines old mid new saw rest = record {
   levels = rest.levels ∙ ap (λ (m : Meter). m.most_levels) saw.peak;
 }
 
-module _ {D : Type 0} (bounds : D → Bounds) (summary : D → Summary) where
-  sums : TextsDiffer → (lines : List (List ℕ)) (a b : D) → FoldsTo (λ c line d. (bounds d ≡ bounds c) × Saw (bounds c).steps (bounds c).cells (summary c) line (summary d)) a lines b → Sums (bounds a).steps (bounds a).cells lines (summary a) (summary b)
+module _ {D : Type 0} (bounds : D → Bounds) (summary : D → Summary) (work : D → ℕ) where
+  sums : TextsDiffer → (lines : List (List ℕ)) (a b : D) → FoldsTo (λ c line d. (bounds d ≡ bounds c) × Saw (bounds c).steps (bounds c).cells (summary c) line (summary d) (work d)) a lines b → Sums (bounds a).steps (bounds a).cells lines (summary a) (summary b)
   sums one [] a b e = subst (λ d. Sums (bounds a).steps (bounds a).cells [] (summary a) (summary d)) e (sums_none _ _ _)
   sums one (line ∷ lines) a b folds =
       let c = folds.0 in
       let rest : Sums (bounds a).steps (bounds a).cells lines (summary c) (summary b) = subst (λ (l : Bounds). Sums l.steps l.cells lines (summary c) (summary b)) folds.1.0 (sums one lines c b folds.2) in
       elim folds.1.1 [
-        | inl machine ↦ sums_machine one _ _ line lines _ _ _ machine rest
-        | inr refusal ↦ sums_refusal _ _ line lines _ _ _ refusal rest
+        | inl machine ↦ sums_machine one _ _ line lines _ _ _ _ machine rest
+        | inr refusal ↦ sums_refusal _ _ line lines _ _ _ _ refusal rest
       ]
 
   -- a run that begins with nothing counted is summed up
-  pub summed : TextsDiffer → (lines : List (List ℕ)) (a b : D) → summary a ≡ record { clean = true; peak = zero_meter } → FoldsTo (λ c line d. (bounds d ≡ bounds c) × Saw (bounds c).steps (bounds c).cells (summary c) line (summary d)) a lines b → IsSummary (bounds a).steps (bounds a).cells lines (summary b)
+  pub summed : TextsDiffer → (lines : List (List ℕ)) (a b : D) → summary a ≡ record { clean = true; peak = zero_meter } → FoldsTo (λ c line d. (bounds d ≡ bounds c) × Saw (bounds c).steps (bounds c).cells (summary c) line (summary d) (work d)) a lines b → IsSummary (bounds a).steps (bounds a).cells lines (summary b)
   summed one lines a b begin folds =
       let s = subst (λ (old : Summary). Sums (bounds a).steps (bounds a).cells lines old (summary b)) begin (sums one lines a b folds) in record {
         clean = (λ e. (s.all_clean e).1, λ all. s.stays_clean refl all);

@@ -29,8 +29,8 @@ module _ (line : List ℕ) (kept : ℕ) (enough : FrontIsEnough line kept) where
     })
   ]
 
-  saw_of_front : (steps cells : ℕ) (old new : Summary) → Saw steps cells old (take kept line) new → Saw steps cells old line new
-  saw_of_front steps cells old new is = elim is [
+  saw_of_front : (steps cells : ℕ) (old new : Summary) (work : ℕ) → Saw steps cells old (take kept line) new work → Saw steps cells old line new work
+  saw_of_front steps cells old new work is = elim is [
     | inl m ↦ inl (record {
       table = m.table;
       machine = m.machine;
@@ -39,14 +39,15 @@ module _ (line : List ℕ) (kept : ℕ) (enough : FrontIsEnough line kept) where
       is_last = m.is_last;
       clean = m.clean;
       peak = m.peak;
+      is_work = m.is_work;
     })
-    | inr r ↦ inr (record { no_machine = no_machine_of_front r.no_machine; clean = r.clean; peak = r.peak })
+    | inr r ↦ inr (record { no_machine = no_machine_of_front r.no_machine; clean = r.clean; peak = r.peak; no_work = r.no_work })
   ]
 
 -- a reply to the kept bytes of a line is one to the line
 pub reply_of_kept : (steps cells : ℕ) (line reply : List ℕ) → IsReply steps cells (take (LINE + 1) line) reply → IsReply steps cells line reply
 reply_of_kept steps cells line reply is = reply_of_front line (LINE + 1) (front_enough line (LINE + 1) (omega arith)) steps cells reply is
 
--- what the kept bytes of a line do to the summary, the line does
-pub saw_of_kept : (steps cells : ℕ) (line : List ℕ) (old new : Summary) → Saw steps cells old (take (LINE + 1) line) new → Saw steps cells old line new
-saw_of_kept steps cells line old new saw = saw_of_front line (LINE + 1) (front_enough line (LINE + 1) (omega arith)) steps cells old new saw
+-- what the kept bytes of a line do to the summary, the line does, and it is the same work
+pub saw_of_kept : (steps cells : ℕ) (line : List ℕ) (old new : Summary) (work : ℕ) → Saw steps cells old (take (LINE + 1) line) new work → Saw steps cells old line new work
+saw_of_kept steps cells line old new work saw = saw_of_front line (LINE + 1) (front_enough line (LINE + 1) (omega arith)) steps cells old new work saw

@@ -1,4 +1,4 @@
--- What one line does to the summary so far.
+-- What one line does to the summary so far, and how much work it was: the steps that its run counts.
 use Rattle.std.specs.Prelude.{◌≡◌, ℕ, ◌⊎◌, false, List}
 use Rattle.bb_machine.specs.Machine.{IsMachine, text}
 use Rattle.bb_sim.specs.Configuration.{Table}
@@ -8,7 +8,7 @@ use Rattle.bb.specs.declared.summary.Summary.{Summary}
 use Rattle.bb.specs.Reply.{IsMachineLine}
 
 -- a machine was read: the peak takes in what its run counts
-pub record SawMachine (steps cells : ℕ) (old : Summary) (line : List ℕ) (new : Summary) : Type 0 where
+pub record SawMachine (steps cells : ℕ) (old : Summary) (line : List ℕ) (new : Summary) (work : ℕ) : Type 0 where
   pub table : Table
   pub machine : IsMachine table
   pub is_text : text table ≡ line
@@ -16,12 +16,14 @@ pub record SawMachine (steps cells : ℕ) (old : Summary) (line : List ℕ) (new
   pub is_last : IsLastInside table steps cells last
   pub clean : new.clean ≡ old.clean
   pub peak : new.peak ≡ greatest_of old.peak (counted zero_meter last (span table last))
+  pub is_work : work ≡ last
 
--- a line was refused
-pub record SawRefusal (old : Summary) (line : List ℕ) (new : Summary) : Type 0 where
+-- a line was refused: that is no work
+pub record SawRefusal (old : Summary) (line : List ℕ) (new : Summary) (work : ℕ) : Type 0 where
   pub no_machine : IsMachineLine line → ⊥
   pub clean : new.clean ≡ false
   pub peak : new.peak ≡ old.peak
+  pub no_work : work ≡ 0
 
-abbrev pub Saw : ℕ → ℕ → Summary → List ℕ → Summary → Type 0
-Saw steps cells old line new = SawMachine steps cells old line new ⊎ SawRefusal old line new
+abbrev pub Saw : ℕ → ℕ → Summary → List ℕ → Summary → ℕ → Type 0
+Saw steps cells old line new work = SawMachine steps cells old line new work ⊎ SawRefusal old line new work

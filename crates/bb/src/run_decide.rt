@@ -10,9 +10,10 @@ use crate::refusal::refusal_into;
 use crate::summary::Summary;
 use arrayvec::ArrayVec;
 use bb_cert::{line_into, lines_are_short};
-use bb_lines::answer::{Answer, Effort, REPLY};
+use bb_lines::answer::{Answer, REPLY};
 use bb_lines::fault::Fault;
 use bb_lines::lines::run;
+use bb_lines::output::Waiting;
 use bb_lines::watched::Watched;
 use bb_machine::laws::texts_differ;
 use bb_machine::{LINE, Limits, Machine};
@@ -21,9 +22,6 @@ use bb_tape::Tape;
 use std::alloc::AllocError;
 use std::io::{Read, Write};
 
-/// A reply after more steps than this doesn't wait for those after it.
-const LONG_WORK: u64 = 100_000;
-
 /// What answers a list of machines with their verdicts.
 #[derive(Drop)]
 struct Decider<'a, T> {
@@ -31,6 +29,8 @@ struct Decider<'a, T> {
     plan: Plan,
     bench: &'a mut Bench<T>,
     summary: Summary,
+    // The steps that the last line's run counted; 0 where it was refused, and before the first line.
+    last_steps: u64,
 }
 
 impl<T: Tape> Answer for Decider<'_, T> {
@@ -45,7 +45,9 @@ impl<T: Tape> Answer for Decider<'_, T> {
 
     ghost replies_with = { λ d line reply. IsReply d.limits.steps d.limits.cells line reply };
 
-    ghost saw = { λ a line b. (b.limits ≡ a.limits) × Saw a.limits.steps a.limits.cells a.summary line b.summary };
+    ghost saw = { λ a line b. (b.limits ≡ a.limits) × Saw a.limits.steps a.limits.cells a.summary line b.summary b.last_steps };
+
+    ghost work = { λ d. d.last_steps };
 
     ghost keeps = { λ a b. (b.limits ≡ a.limits) × (b.plan ≡ a.plan) × (b.bench.ghost_name ≡ a.bench.ghost_name) };
 
@@ -67,7 +69,7 @@ impl<T: Tape> Answer for Decider<'_, T> {
 
     ghost reply_by_kept = { λ a line text reply. reply_of_kept a.limits.steps a.limits.cells line text reply };
 
-    ghost saw_by_kept = { λ a line b saw. (saw.0, saw_of_kept a.limits.steps a.limits.cells line a.summary b.summary saw.1) };
+    ghost saw_by_kept = { λ a line b saw. (saw.0, saw_of_kept a.limits.steps a.limits.cells line a.summary b.summary b.last_steps saw.1) };
 
     fn keep(&self) -> usize {
         LINE + 1
@@ -76,14 +78,16 @@ impl<T: Tape> Answer for Decider<'_, T> {
     fn answer(
         &mut self,
         line: &[u8],
+        _waiting: &Waiting,
         text: &mut ArrayVec<u8, REPLY>,
-    ) -> Result<Effort, AllocError> {
+    ) -> Result<u64, AllocError> {
         let machine = match Machine::read(line) {
             Ok(machine) => machine,
             Err(refused) => {
                 self.summary.clean = false;
+                self.last_steps = 0;
                 refusal_into(refused.column, text);
-                return Ok(Effort::Little);
+                return Ok(0);
             }
         };
         let mut meter = Meter::new();
@@ -93,11 +97,8 @@ impl<T: Tape> Answer for Decider<'_, T> {
         lines_are_short();
         line_into(&machine, &verdict, text);
         self.summary.peak = self.summary.peak.greatest(meter);
-        Ok(if meter.steps > LONG_WORK {
-            Effort::Long
-        } else {
-            Effort::Little
-        })
+        self.last_steps = meter.steps;
+        Ok(meter.steps)
     }
 }
 
@@ -137,6 +138,7 @@ pub fn run_decide<R: Read, W: Write, T: Tape>(
             clean: true,
             peak: Meter::new(),
         },
+        last_steps: 0,
     };
     run(reader, writer, &mut decider)?;
     texts_differ();

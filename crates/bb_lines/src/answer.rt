@@ -1,6 +1,7 @@
 //! What answers a line.
-ghost use Rattle.std.specs.Prelude.{◌≡◌, ℕ, ◌<◌, ◌≤◌, Bool, List, [], length, take, IsTrue, OnOk, OnErr};
+ghost use Rattle.std.specs.Prelude.{◌≡◌, ℕ, ◌<◌, ◌≤◌, Bool, List, [], length, take, IsTrue, IfOk, OnOk, OnErr};
 
+use crate::output::Waiting;
 use arrayvec::ArrayVec;
 use std::alloc::AllocError;
 
@@ -10,14 +11,8 @@ pub const REPLY: usize = 1023;
 /// The most bytes of a line that are kept for any answerer.
 pub const MOST_KEPT: usize = 1024;
 
-/// How much work an answer was.
-#[derive(Clone, Copy, Debug, PartialEq, Eq)]
-pub enum Effort {
-    /// Not worth a write of its own.
-    Little,
-    /// Long: the reply, and all that wait, are to be written at once.
-    Long,
-}
+/// An answer of more work than this is long: no line is begun while its reply waits.
+pub const LONG_WORK: u64 = 100_000;
 
 /// What answers the lines of an input, each with one line.
 pub trait Answer {
@@ -26,6 +21,9 @@ pub trait Answer {
 
     // What one line does to the answerer's own state, as the summary that it keeps.
     ghost saw: { Self → List ℕ → Self → Type 0 };
+
+    // How much work the last answer was.
+    ghost work: { Self → ℕ };
 
     // What no answer changes, as the limits, or which value a reference of the answerer points to.
     ghost keeps: { Self → Self → Type 0 };
@@ -43,13 +41,22 @@ pub trait Answer {
     fn keep(&self) -> usize
         ensures { result ≡ KEEP };
 
-    /// Puts the reply to `line` into `text`, which is empty. `Err` is a refused growth: nothing is said of `text` then.
-    fn answer(&mut self, line: &[u8], text: &mut ArrayVec<u8, REPLY>) -> Result<Effort, AllocError>
+    /// Puts the reply to `line` into `text`, which is empty, and tells how much work it was. `waiting` holds the replies to
+    /// lines before this one that aren't written yet. `Err` is a refused growth: nothing is said of `text` then.
+    fn answer(
+        &mut self,
+        line: &[u8],
+        waiting: &Waiting,
+        text: &mut ArrayVec<u8, REPLY>,
+    ) -> Result<u64, AllocError>
         requires ready { is_ready self.old }
         requires kept { length line.now ≤ KEEP }
         requires empty { text.old.items ≡ [] }
+        // No reply waits where the last answer was long work.
+        requires prompt { LONG_WORK < work self.old → waiting.now.items ≡ [] }
         ensures reply { OnOk result (replies_with self.old line.now text.new.items) }
         ensures saw { OnOk result (saw self.old line.now self.new) }
+        ensures work { IfOk result (λ told. told ≡ work self.new) }
         ensures keeps { keeps self.old self.new }
         ensures ready { is_ready self.new }
         ensures grows { OnErr result (IsTrue GROWS) };

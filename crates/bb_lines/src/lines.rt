@@ -1,15 +1,16 @@
 //! Reads lines, answers each, and writes the replies.
-ghost use Rattle.std.specs.Prelude.{◌≡◌, ◌≢◌, ◌↔◌, ℕ, ◌+◌, ◌<◌, ◌≤◌, List, [], ◌∷◌, ◌++◌, true, false, length, take, IsTrue, Option, OnOk, OnErr, IsOkUnless, is_err};
+ghost use Rattle.std.specs.Prelude.{◌≡◌, ◌≢◌, ◌↔◌, ℕ, ◌+◌, ◌<◌, ◌≤◌, ◌^◌, ◌-◌, ◌||◌, min, List, [], ◌∷◌, ◌++◌, true, false, length, take, IsTrue, Option, OnOk, OnErr, IsOkUnless, is_err};
 ghost use Rattle.std.specs.List.{FoldsTo};
-ghost use Rattle.std.specs.Io.KnownBytes.{Consumes, IsAtEnd, Appends};
-ghost use Rattle.bb_lines.specs.Watched.{watched_inner, is_marked};
+ghost use Rattle.std.specs.Io.{ReadsAtMost};
+ghost use Rattle.std.specs.Io.KnownBytes.{Consumes, IsAtEnd, Appends, ReadConsumes};
+ghost use Rattle.bb_lines.specs.Watched.{watched_inner, is_marked, reads_of};
 ghost use Rattle.bb_lines.specs.Lines.{complete, lines};
 ghost use Rattle.bb_lines.specs.Ends.{MatchEnd, AppendsFront, AppendsFrontOfReplies, AppendsReplies, AppendsSome};
 ghost use Rattle.bb_lines.specs.Output.{AppendsBut};
 ghost use Rattle.bb_lines.specs.Progress.{AreAnswered, StandsAfter};
 ghost use Rattle.arrayvec.specs.ArrayVec.{array_vec_len};
 
-use crate::answer::{Answer, Effort, MOST_KEPT, REPLY};
+use crate::answer::{Answer, LONG_WORK, MOST_KEPT, REPLY};
 use crate::fault::Fault;
 use crate::output::{Waiting, add_line, write_and_flush, write_waiting};
 use crate::watched::{Failed, Watched};
@@ -104,6 +105,7 @@ fn answer_reads<R: Read, W: Write, A: Answer>(
         (AppendsReplies Reply held held_then (complete taken))
         (AppendsFrontOfReplies Reply held held_then (lines taken)) }
     ensures kept { OnOk result (length buffers.new.kept.items ≤ A.KEEP) }
+    ensures written { OnOk result (buffers.new.waiting.items ≡ []) }
     ensures memory { result ≡ Err Fault.Memory → IsTrue A.GROWS }
     ensures read { (result ≡ Err Fault.Read) ↔ (is_marked reader.new ≡ true) }
     ensures write { (result ≡ Err Fault.Write) ↔ (is_marked writer.new ≡ true) }
@@ -113,7 +115,7 @@ fn answer_reads<R: Read, W: Write, A: Answer>(
     let mut chunk = [0; CHUNK];
     loop {
         write_waiting(writer, &mut buffers.waiting)?;
-        let n = match reader.read(&mut chunk) {
+        let n = match read_chunk(reader, &mut chunk, &buffers.waiting) {
             Ok(n) => n,
             Err(Failed) => return Err(Fault::Read),
         };
@@ -122,6 +124,22 @@ fn answer_reads<R: Read, W: Write, A: Answer>(
         }
         answer_lines(writer, answerer, &chunk[..n], buffers)?;
     }
+}
+
+// Reads the next bytes. No reply waits meanwhile.
+fn read_chunk<R: Read>(
+    reader: &mut Watched<R>,
+    chunk: &mut [u8],
+    _waiting: &Waiting,
+) -> Result<usize, Failed>
+    requires written { _waiting.now.items ≡ [] }
+    ensures bound { ReadsAtMost result chunk.new }
+    ensures bytes { ReadConsumes (R.remaining (watched_inner reader.old)) (R.remaining (watched_inner reader.new)) result chunk.new }
+    ensures mark { is_marked reader.new ≡ (is_marked reader.old || is_err result) }
+    ensures reads { reads_of reader.new ≡ min (reads_of reader.old + 1) (2 ^ 64 - 1) }
+    ensures turns { OnOk result (reads_of reader.old < 2 ^ 64 - 1) }
+{
+    reader.read(chunk)
 }
 
 // Answers what stands after the last newline, and writes and flushes all that waits.
@@ -133,6 +151,7 @@ fn finish<W: Write, A: Answer>(
     requires writer { is_marked writer.old ≡ false }
     requires ready { A.is_ready answerer.old }
     requires kept { length buffers.old.kept.items ≤ A.KEEP }
+    requires written { buffers.old.waiting.items ≡ [] }
     ensures ends { (old : Option (List ℕ)) (first : A) (past : List ℕ)
         → A.keeps first answerer.old
         → StandsAfter (A.replies_with first) A.saw A.KEEP old (W.contents (watched_inner writer.old))
@@ -162,6 +181,7 @@ fn answer_last<W: Write, A: Answer>(
     requires writer { is_marked writer.old ≡ false }
     requires ready { A.is_ready answerer.old }
     requires kept { length buffers.old.kept.items ≤ A.KEEP }
+    requires written { buffers.old.waiting.items ≡ [] }
     ensures ends { (old : Option (List ℕ)) (first : A) (past : List ℕ)
         → A.keeps first answerer.old
         → StandsAfter (A.replies_with first) A.saw A.KEEP old (W.contents (watched_inner writer.old))
@@ -194,6 +214,7 @@ fn answer_lines<W: Write, A: Answer>(
     requires writer { is_marked writer.old ≡ false }
     requires ready { A.is_ready answerer.old }
     requires kept { length buffers.old.kept.items ≤ A.KEEP }
+    requires prompt { LONG_WORK < A.work answerer.old → buffers.old.waiting.items ≡ [] }
     ensures ends { (old : Option (List ℕ)) (first : A) (past : List ℕ)
         → A.keeps first answerer.old
         → StandsAfter (A.replies_with first) A.saw A.KEEP old (W.contents (watched_inner writer.old))
@@ -208,6 +229,7 @@ fn answer_lines<W: Write, A: Answer>(
         (AppendsFrontOfReplies (A.replies_with first) old (W.contents (watched_inner writer.new))
         (lines (past ++ piece.now))) }
     ensures kept { OnOk result (length buffers.new.kept.items ≤ A.KEEP) }
+    ensures prompt { OnOk result (LONG_WORK < A.work answerer.new → buffers.new.waiting.items ≡ []) }
     ensures memory { result ≡ Err Fault.Memory → IsTrue A.GROWS }
     ensures write { (result ≡ Err Fault.Write) ↔ (is_marked writer.new ≡ true) }
     ensures no_read { result ≢ Err Fault.Read }
@@ -234,6 +256,7 @@ fn answer_kept<W: Write, A: Answer>(
     requires writer { is_marked writer.old ≡ false }
     requires ready { A.is_ready answerer.old }
     requires kept { length buffers.old.kept.items ≤ A.KEEP }
+    requires prompt { LONG_WORK < A.work answerer.old → buffers.old.waiting.items ≡ [] }
     ensures ends { (old : Option (List ℕ)) (first : A) (before : List (List ℕ)) (line : List ℕ)
         → A.keeps first answerer.old
         → AreAnswered (A.replies_with first) A.saw old (W.contents (watched_inner writer.old))
@@ -247,6 +270,7 @@ fn answer_kept<W: Write, A: Answer>(
         (AppendsFrontOfReplies (A.replies_with first) old (W.contents (watched_inner writer.new))
         (before ++ line ∷ [])) }
     ensures kept { OnOk result (buffers.new.kept.items ≡ []) }
+    ensures prompt { OnOk result (LONG_WORK < A.work answerer.new → buffers.new.waiting.items ≡ []) }
     ensures memory { result ≡ Err Fault.Memory → IsTrue A.GROWS }
     ensures write { (result ≡ Err Fault.Write) ↔ (is_marked writer.new ≡ true) }
     ensures no_read { result ≢ Err Fault.Read }
@@ -254,8 +278,8 @@ fn answer_kept<W: Write, A: Answer>(
     ensures ready { A.is_ready answerer.new }
 {
     buffers.text.clear();
-    let effort = match answerer.answer(buffers.kept.as_slice(), &mut buffers.text) {
-        Ok(effort) => effort,
+    let work = match answerer.answer(buffers.kept.as_slice(), &buffers.waiting, &mut buffers.text) {
+        Ok(work) => work,
         Err(_) => {
             write_waiting(writer, &mut buffers.waiting)?;
             return Err(Fault::Memory);
@@ -263,10 +287,10 @@ fn answer_kept<W: Write, A: Answer>(
     };
     buffers.kept.clear();
     add_line(writer, &mut buffers.waiting, buffers.text.as_slice())?;
-    match effort {
-        Effort::Little => Ok(()),
-        Effort::Long => write_waiting(writer, &mut buffers.waiting),
+    if work > LONG_WORK {
+        return write_waiting(writer, &mut buffers.waiting);
     }
+    Ok(())
 }
 
 // Keeps the first `most` bytes of what is kept and a piece that comes after it.

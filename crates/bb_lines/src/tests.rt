@@ -3,9 +3,10 @@ ghost use Rattle.std.specs.Prelude.{◌≡◌, ℕ, ◌+◌, ◌^◌, ◌-◌, L
 ghost use Rattle.std.proofs.Common.{rules};
 ghost use Rattle.std.proofs.lemmas.Grind.{common_steps};
 
-use crate::answer::{Answer, Effort, REPLY};
+use crate::answer::{Answer, LONG_WORK, REPLY};
 use crate::fault::Fault;
 use crate::lines::run;
+use crate::output::Waiting;
 use crate::watched::Watched;
 use arrayvec::ArrayVec;
 use std::alloc::AllocError;
@@ -21,7 +22,9 @@ const OUTPUT: &[u8; 16] = b"-----!\n!\n-----!\n";
 struct Shout<'a> {
     // How many lines are answered before memory is refused.
     before_refusal: u64,
-    effort: Effort,
+    // How much work each answer is, and the last one was.
+    work: u64,
+    last_work: u64,
     seen: &'a mut u64,
 }
 
@@ -29,6 +32,8 @@ impl Answer for Shout<'_> {
     ghost replies_with = { λ _ line text. text ≡ take 5 line ++ 33 ∷ [] };
 
     ghost saw = { λ a _ b. b.seen.now ≡ min (a.seen.now + 1) (2 ^ 64 - 1) };
+
+    ghost work = { λ a. a.last_work };
 
     ghost keeps = { λ a b. b.seen.ghost_name ≡ a.seen.ghost_name };
 
@@ -59,8 +64,9 @@ impl Answer for Shout<'_> {
     fn answer(
         &mut self,
         line: &[u8],
+        _waiting: &Waiting,
         text: &mut ArrayVec<u8, REPLY>,
-    ) -> std::result::Result<Effort, AllocError> {
+    ) -> std::result::Result<u64, AllocError> {
         if self.before_refusal == 0 {
             return Err(AllocError);
         }
@@ -68,7 +74,8 @@ impl Answer for Shout<'_> {
         *self.seen = self.seen.saturating_add(1);
         text.try_extend_from_slice(line).unwrap();
         text.push(b'!');
-        Ok(self.effort)
+        self.last_work = self.work;
+        Ok(self.work)
     }
 }
 
@@ -164,18 +171,14 @@ struct Ended {
     seen: u64,
 }
 
-fn shout_all<R: Read + Drop>(
-    reader: R,
-    mut sink: Sink,
-    before_refusal: u64,
-    effort: Effort,
-) -> Ended {
+fn shout_all<R: Read + Drop>(reader: R, mut sink: Sink, before_refusal: u64, work: u64) -> Ended {
     let mut reader = Watched::new(reader);
     let mut writer = Watched::new(&mut sink);
     let mut seen = 0;
     let mut shout = Shout {
         before_refusal,
-        effort,
+        work,
+        last_work: 0,
         seen: &mut seen,
     };
     let end = run(&mut reader, &mut writer, &mut shout);
@@ -193,7 +196,7 @@ fn shout_all<R: Read + Drop>(
 fn answers_in_any_pieces(rt: HostRuntime) {
     for first in 1..15 {
         for most in [1, 2, 7, 64] {
-            let ended = shout_all(pieces_of(first, most), sink_of(64, 64), 9, Effort::Little);
+            let ended = shout_all(pieces_of(first, most), sink_of(64, 64), 9, 0);
             assert_eq!(rt; ended.end, Ok(()), "{first} and {most}");
             assert_eq!(rt;
                 ended.sink.bytes.as_slice(),
@@ -216,7 +219,7 @@ fn writes_what_was_complete_before_a_failed_read(rt: HostRuntime) {
                 error,
                 ..pieces_of(1, 1)
             };
-            let ended = shout_all(reader, sink_of(64, 64), 9, Effort::Little);
+            let ended = shout_all(reader, sink_of(64, 64), 9, 0);
             let written = match k {
                 1..=7 => 0,
                 8 => 7,
@@ -233,23 +236,23 @@ fn writes_what_was_complete_before_a_failed_read(rt: HostRuntime) {
 #[test]
 fn writes_a_beginning_before_a_failed_write(rt: HostRuntime) {
     for room in 0..16 {
-        let ended = shout_all(pieces_of(14, 14), sink_of(64, room), 9, Effort::Little);
+        let ended = shout_all(pieces_of(14, 14), sink_of(64, room), 9, 0);
         assert_eq!(rt; ended.end, Err(Fault::Write), "room {room}");
         assert_eq!(rt; ended.sink.bytes.as_slice(), &OUTPUT[..room], "room {room}");
         assert_eq!(rt; ended.sink.flushes, 0);
         assert!(rt; !ended.read_failed && ended.write_failed);
     }
-    let ended = shout_all(pieces_of(14, 14), sink_of(0, 64), 9, Effort::Little);
+    let ended = shout_all(pieces_of(14, 14), sink_of(0, 64), 9, 0);
     assert_eq!(rt; ended.end, Err(Fault::Write), "no byte taken");
     assert_eq!(rt; ended.sink.writes, 1);
-    let ended = shout_all(pieces_of(14, 14), sink_of(1, 64), 9, Effort::Little);
+    let ended = shout_all(pieces_of(14, 14), sink_of(1, 64), 9, 0);
     assert_eq!(rt; ended.end, Ok(()), "one byte a call");
     assert_eq!(rt; ended.sink.bytes.as_slice(), OUTPUT.as_slice());
     let stiff = Sink {
         can_flush: false,
         ..sink_of(64, 64)
     };
-    let ended = shout_all(pieces_of(14, 14), stiff, 9, Effort::Little);
+    let ended = shout_all(pieces_of(14, 14), stiff, 9, 0);
     assert_eq!(rt; ended.end, Err(Fault::Write), "no flush");
     assert_eq!(rt; ended.sink.bytes.as_slice(), OUTPUT.as_slice());
     assert_eq!(rt; ended.sink.flushes, 1);
@@ -258,7 +261,7 @@ fn writes_a_beginning_before_a_failed_write(rt: HostRuntime) {
 #[test]
 fn writes_the_replies_before_a_refused_growth(rt: HostRuntime) {
     for (answers, written) in [(0, 0), (1, 7), (2, 9)] {
-        let ended = shout_all(pieces_of(14, 14), sink_of(64, 64), answers, Effort::Little);
+        let ended = shout_all(pieces_of(14, 14), sink_of(64, 64), answers, 0);
         assert_eq!(rt; ended.end, Err(Fault::Memory), "after {answers}");
         assert_eq!(rt;
             ended.sink.bytes.as_slice(),
@@ -271,8 +274,8 @@ fn writes_the_replies_before_a_refused_growth(rt: HostRuntime) {
 
 #[test]
 fn writes_long_work_at_once(rt: HostRuntime) {
-    for (effort, writes) in [(Effort::Little, 2), (Effort::Long, 3)] {
-        let ended = shout_all(pieces_of(14, 14), sink_of(64, 64), 9, effort);
+    for (work, writes) in [(0, 2), (LONG_WORK, 2), (LONG_WORK + 1, 3)] {
+        let ended = shout_all(pieces_of(14, 14), sink_of(64, 64), 9, work);
         assert_eq!(rt; ended.end, Ok(()));
         assert_eq!(rt; ended.sink.writes, writes);
     }
@@ -296,7 +299,7 @@ impl Read for Long {
 #[test]
 fn keeps_the_front_of_a_long_line(rt: HostRuntime) {
     for left in [4, 5, 6, 16384, 1_000_000] {
-        let ended = shout_all(Long { left }, sink_of(64, 64), 9, Effort::Little);
+        let ended = shout_all(Long { left }, sink_of(64, 64), 9, 0);
         let wanted = if left == 4 {
             &b"xxxx!\n"[..]
         } else {

@@ -8,4 +8,4 @@ pub returns-clause-ends : goal.returns-clause-ends
 returns-clause-ends g c =
     let ends = c.in_ok-run.ensures.ends in
     let begin = ap (λ (m : Meter). let s : Summary = record { clean = true; peak = m } in s) c.new.ensures in
-    (ends.0, ends.1, (ends.2.0, ends.2.1, summed (λ d. d.limits) (λ d. d.summary) c.texts_differ.ensures _ _ _ begin ends.2.2))
+    (ends.0, ends.1, (ends.2.0, ends.2.1, summed (λ d. d.limits) (λ d. d.summary) (λ d. d.last_steps) c.texts_differ.ensures _ _ _ begin ends.2.2))

@@ -33,10 +33,10 @@ line_answered g c = λ old first before line keeps answered kept.
     let one = saw_of_kept g.A.Answer.saw g.A.Answer.KEEP c.args.answerer.now c.answer.new.self line c.as_slice.result.now g.met.A.Answer.saw_by_kept is_kept c.in-Ok.ensures.saw in
     answered_next _ _ _ _ _ _ _ _ _ answered _ line _ _ is_reply one (c.in_ok-add_line.ensures.ends old answered.bytes answered.replied)
 
-pub returns-in-Little-clause-ends : goal.returns-in-Little-clause-ends
-returns-in-Little-clause-ends g c = line_answered g (goal.at.returns-in-Little-clause-ends g c).In_ok-add_line
+pub returns-clause-ends : goal.returns-clause-ends
+returns-clause-ends g c = line_answered g (goal.at.returns-clause-ends g c).In_ok-add_line
 
-pub returns-in-Long-clause-ends : goal.returns-in-Long-clause-ends
-returns-in-Long-clause-ends g c = λ old first before line keeps answered kept.
-    let after = c.write_waiting-in-Long.ensures in
-    answered_after_write _ _ _ _ _ _ _ _ _ (line_answered g (goal.at.returns-in-Long-clause-ends g c).In_ok-add_line old first before line keeps answered kept) _ _ _ after.ok after.empty after.only_write after.err
+pub returns-then-work-gt-LONG_WORK-clause-ends : goal.returns-then-work-gt-LONG_WORK-clause-ends
+returns-then-work-gt-LONG_WORK-clause-ends g c = λ old first before line keeps answered kept.
+    let after = c.write_waiting-then-work-gt-LONG_WORK.ensures in
+    answered_after_write _ _ _ _ _ _ _ _ _ (line_answered g (goal.at.returns-then-work-gt-LONG_WORK-clause-ends g c).In_ok-add_line old first before line keeps answered kept) _ _ _ after.ok after.empty after.only_write after.err

@@ -16,6 +16,7 @@ loop-at-init g c = record {
   ready = c.requires.ready;
   keeps = g.met.A.Answer.keeps_at_first c.args.answerer.now;
   few = c.requires.kept;
+  prompt = c.requires.prompt;
   stands = ([], refl, λ old first past keeps before. rw append-nil before);
 }
 
@@ -62,6 +63,7 @@ loop-at-preserved g c =
       ready = done.ready;
       keeps = g.met.A.Answer.keeps_on c.args.answerer.now c.loop-at.answerer c.answer_kept.new.answerer c.loop-at.invariant.keeps done.keeps;
       few = rw done.kept (omega arith);
+      prompt = done.prompt;
       stands = (
         stands.0 ++ (piece ++ 10 ∷ []),
         rw slice_from (whole g at),

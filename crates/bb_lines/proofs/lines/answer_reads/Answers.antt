@@ -27,8 +27,8 @@ returns-then-n-eq0-clause-ends g c =
     let written = c.in_ok-write_waiting.ensures in
     let took = c.in-Ok.ensures.bytes in
     let none = c.if-n-eq0.true in
-    let same : stands.0 ++ take c.in-Ok.n c.read.new.buf ≡ stands.0 = ap (λ n. stands.0 ++ take n c.read.new.buf) none ∙ append-nil stands.0 in
-    let room : 0 < length c.read.new.buf = search rules in
+    let same : stands.0 ++ take c.in-Ok.n c.read_chunk.new.chunk ≡ stands.0 = ap (λ n. stands.0 ++ take n c.read_chunk.new.chunk) none ∙ append-nil stands.0 in
+    let room : 0 < length c.read_chunk.new.chunk = search rules in
     let taken = Consumes-more _ _ _ _ _ stands.1 took.0 in
     (stands.0, rw same at taken, (took.1 none room, StandsAfter-written _ _ _ _ _ _ _ _ _ _ _ stands.2 c.write_waiting.new.waiting.items written.ok written.empty))
 
@@ -44,7 +44,7 @@ loop-reader-preserved g c =
       ready = done.ready;
       keeps = g.met.A.Answer.keeps_on _ _ _ c.loop-reader.invariant.keeps done.keeps;
       few = done.kept;
-      stands = (stands.0 ++ take c.in-Ok.n c.read.new.buf, Consumes-more _ _ _ _ _ stands.1 took.0, done.ends _ _ stands.0 c.loop-reader.invariant.keeps now);
+      stands = (stands.0 ++ take c.in-Ok.n c.read_chunk.new.chunk, Consumes-more _ _ _ _ _ stands.1 took.0, done.ends _ _ stands.0 c.loop-reader.invariant.keeps now);
     }
 
 pub returns-in_err-answer_lines-clause-ends : goal.returns-in_err-answer_lines-clause-ends
@@ -54,4 +54,4 @@ returns-in_err-answer_lines-clause-ends g c =
     let written = c.in_ok-write_waiting.ensures in
     let took = c.in-Ok.ensures.bytes in
     let now = StandsAfter-written _ _ _ _ _ _ _ _ _ _ _ stands.2 c.write_waiting.new.waiting.items written.ok written.empty in
-    (stands.0 ++ take c.in-Ok.n c.read.new.buf, Consumes-more _ _ _ _ _ stands.1 took.0, rw (p.1, p.2) (MatchEnd-no_read _ _ _ _ _ c.in_err-answer_lines.field-0.0 (c.in_err-answer_lines.ensures.ends _ _ stands.0 c.loop-reader.invariant.keeps now)))
+    (stands.0 ++ take c.in-Ok.n c.read_chunk.new.chunk, Consumes-more _ _ _ _ _ stands.1 took.0, rw (p.1, p.2) (MatchEnd-no_read _ _ _ _ _ c.in_err-answer_lines.field-0.0 (c.in_err-answer_lines.ensures.ends _ _ stands.0 c.loop-reader.invariant.keeps now)))

@@ -1,4 +1,5 @@
-use Rattle.std.proofs.Common.{refl, inr}
+use Rattle.std.proofs.Common.{rules, refl, inl, inr, ap, ◌∙◌, arith}
+use Rattle.bb_sim.specs.declared.meter.Meter.{Meter}
 use Rattle.bb.proofs.run_decide.DeciderAnswer.answer.Goals as goal
 
 pub returns-in-Err-clause-reply : goal.returns-in-Err-clause-reply
@@ -16,5 +17,22 @@ returns-in-Err-clause-saw g c = (
     no_machine = λ m. let found = c.in-Err.ensures.only m.table m.machine m.is_text in cc;
     clean = refl;
     peak = refl;
+    no_work = refl;
   }),
 )
+
+pub returns-clause-saw : goal.returns-clause-saw
+returns-clause-saw g c =
+    let counts = c.in-Ok-decide.ensures.counted in (
+      refl,
+      inl (record {
+        table = c.in-Ok.machine;
+        machine = c.in-Ok.ensures.found.0;
+        is_text = c.in-Ok.ensures.found.1;
+        last = counts.last;
+        is_last = counts.is_last;
+        clean = refl;
+        peak = search rules;
+        is_work = ap (λ (m : Meter). m.steps) counts.meter ∙ omega arith;
+      }),
+    )
