@@ -1,211 +1,172 @@
--- What a draft's fields show, after each of its changes.
-use Rattle.std.proofs.Common.{◌≡◌, ℕ, ◌+◌, ◌-◌, ◌*◌, ◌<◌, ◌≤◌, List, [], ◌∷◌, ◌++◌, length, take, drop, get_or, set, inl, inr, refl, sym, ◌∙◌, ap, subst, arith}
-use Rattle.std.proofs.lemmas.List.{length-append, length-take-le, length-drop, length-map, map-set}
-use Rattle.std.specs.List.{AllByRecursion, All}
-use Rattle.bb_machine.specs.declared.machine.TheConstants.{MAX_STATES, MAX_SYMBOLS, PLACES}
-use Rattle.bb_machine.specs.declared.machine.Place.{Place}
+-- What a draft counts, after each of its changes.
+use Rattle.std.proofs.Common.{◌≡◌, ℕ, ◌+◌, ◌<◌, ◌≤◌, ◌↔◌, List, [], ◌∷◌, ◌++◌, length, max, refl, sym, ◌∙◌, ap, subst, append_assoc, arith}
+use Rattle.std.proofs.lemmas.List.{append-nil, length-append}
+use Rattle.std.proofs.lemmas.List.Concat.{flat_map-append}
+use Rattle.std.specs.List.{AllByRecursion, flat_map}
+use Rattle.bb_machine.specs.declared.machine.TheConstants.{MAX_STATES, MAX_SYMBOLS}
+use Rattle.bb_machine.specs.declared.machine.reader.Draft.{Draft}
 use Rattle.bb_machine.specs.declared.entry.Entry.{Entry}
 use Rattle.bb_machine.specs.Entry.{IsEntryOf}
 use Rattle.bb_machine.specs.Machine.{IsGroup, IsMachine, symbols_of}
-use Rattle.bb_machine.specs.Rows.{entries_in, table_in, IsTable}
-use Rattle.bb_machine.specs.Draft.{Begun, begun_in, symbols_limit, IsDraft, IsWhole, IsWholeWithin, table_of}
-use Rattle.bb_machine.proofs.Groups.{every-at, machine_by}
+use Rattle.bb_machine.specs.Rows.{IsTable}
+use Rattle.bb_machine.specs.Draft.{Begun, begun_entries, symbols_limit, IsBegunWithin, IsDraft, IsWhole, IsWholeWithin, table_of}
+use Rattle.bb_machine.proofs.Groups.{every-append, every-front, every-at, every-weaker, entries_weaker, machine_by}
 use Rattle.bb_machine.proofs.Viable.{begun_push, begun_close}
-use Rattle.std.proofs.lemmas.List.Elements.{All-from_recursion, recursion_from_All, All-from_get_or}
-use Rattle.std.proofs.lemmas.Bool.{cases_lt}
-use Rattle.bb_machine.proofs.Tables.{length-rows, rows-set, rows-more, row-more, rows-width, get_or-rows, every_entry, every_place, row_entries}
 
-module _ (ps : List Place) (g m f : ℕ) (draft : IsDraft g m f (begun_in g m f ps)) where
-  symbols_few : m ≤ MAX_SYMBOLS
-  symbols_few = rw draft.symbols_is at draft.begun.symbols
+every-back : {X : Type 0} (P : X → Type 0) (xs ys : List X) → AllByRecursion P (xs ++ ys) → AllByRecursion P ys
+every-back P [] ys p = p
+every-back P (x ∷ xs) ys p = every-back P xs ys p.1
 
-  groups_few : g < MAX_STATES
-  groups_few = rw draft.groups_is at draft.begun.room
+every-both : {X : Type 0} (P Q R : X → Type 0) → ((x : X) → P x → Q x → R x) → (xs : List X) → AllByRecursion P xs → AllByRecursion Q xs → AllByRecursion R xs
+every-both P Q R f [] _ _ = tt
+every-both P Q R f (x ∷ xs) p q = (f x p.0 q.0, every-both P Q R f xs p.1 q.1)
 
-  pub push_shown : length ps ≡ PLACES → (p : Place) → f < m → begun_in g m (f + 1) (set ps (g * MAX_SYMBOLS + f) p) ≡ record { groups = (begun_in g m f ps).groups; group = (begun_in g m f ps).group ++ p.entry ∷ [] }
-  push_shown all p room =
-      let few : m ≤ MAX_SYMBOLS = symbols_few in
-      let below : g < MAX_STATES = groups_few in
-      let count : length (entries_in ps) ≡ PLACES = length-map ps (λ (x : Place). x.entry) ∙ all in
-      let inside : g * MAX_SYMBOLS + f < length (entries_in ps) = omega arith in
-      let entries : entries_in (set ps (g * MAX_SYMBOLS + f) p) ≡ set (entries_in ps) (g * MAX_SYMBOLS + f) p.entry = map-set (λ (x : Place). x.entry) ps (g * MAX_SYMBOLS + f) p in
-      rw (entries, rows-set MAX_SYMBOLS g m (entries_in ps) f p.entry few, row-more (g * MAX_SYMBOLS) f (entries_in ps) p.entry inside) refl
+-- what holds of each entry of each group holds of all entries, one after another
+every-joined : (P : Entry → Type 0) (gs : List (List Entry)) → AllByRecursion (λ g. AllByRecursion P g) gs → AllByRecursion P (flat_map (λ g. g) gs)
+every-joined P [] _ = tt
+every-joined P (g ∷ gs) p = every-append P g (flat_map (λ g. g) gs) p.0 (every-joined P gs p.1)
 
-  pub push_draft : length ps ≡ PLACES → (p : Place) → f < m → IsEntryOf MAX_STATES m p.entry → IsDraft g m (f + 1) (begun_in g m (f + 1) (set ps (g * MAX_SYMBOLS + f) p))
-  push_draft all p room is =
-      let group_room : length (begun_in g m f ps).group < symbols_limit MAX_SYMBOLS (begun_in g m f ps).groups = omega (arith, draft.filled_is, draft.symbols_is) in
-      let named : IsEntryOf MAX_STATES (symbols_limit MAX_SYMBOLS (begun_in g m f ps).groups) p.entry = rw draft.symbols_is is in
-      rw (push_shown all p room) (record { begun = begun_push MAX_STATES MAX_SYMBOLS (begun_in g m f ps) draft.begun p.entry group_room named; groups_is = draft.groups_is; symbols_is = draft.symbols_is; filled_is = omega (arith, length-append (begun_in g m f ps).group (p.entry ∷ []), draft.filled_is) })
+every-apart : (P : Entry → Type 0) (gs : List (List Entry)) → AllByRecursion P (flat_map (λ g. g) gs) → AllByRecursion (λ g. AllByRecursion P g) gs
+every-apart P [] _ = tt
+every-apart P (g ∷ gs) p = (every-front P g (flat_map (λ g. g) gs) p, every-apart P gs (every-back P g (flat_map (λ g. g) gs) p))
 
-  -- the group becomes a row of its own, as long as it is
-  more_groups : (0 < g → m ≡ f) → table_in (g + 1) f ps ≡ (begun_in g m f ps).groups ++ (begun_in g m f ps).group ∷ []
-  more_groups same =
-      rows-more MAX_SYMBOLS g f (entries_in ps) ∙ ap (λ z. z ++ take f (drop (g * MAX_SYMBOLS) (entries_in ps)) ∷ []) (sym (rows-width MAX_SYMBOLS g m f (entries_in ps) same))
+group_entries : (s k : ℕ) (gs : List (List Entry)) → AllByRecursion (IsGroup s k) gs → AllByRecursion (IsEntryOf s k) (flat_map (λ g. g) gs)
+group_entries s k gs p = every-joined (IsEntryOf s k) gs (every-weaker (IsGroup s k) (λ g. AllByRecursion (IsEntryOf s k) g) (λ g q. q.entries) gs p)
 
-  pub close_shown : (0 < g → m ≡ f) → begun_in (g + 1) f 0 ps ≡ record { groups = (begun_in g m f ps).groups ++ (begun_in g m f ps).group ∷ []; group = [] }
-  close_shown same = ap (λ (z : List (List Entry)). let b : Begun = record { groups = z; group = [] } in b) (more_groups same)
+joined_last : (gs : List (List Entry)) (last : List Entry) → flat_map (λ g. g) (gs ++ last ∷ []) ≡ flat_map (λ g. g) gs ++ last
+joined_last gs last = flat_map-append (λ (g : List Entry). g) gs (last ∷ []) ∙ ap (λ z. flat_map (λ g. g) gs ++ z) (append-nil last)
 
-  whole_width_on : (gs : List (List Entry)) (last : List Entry) → length gs ≡ g → symbols_limit MAX_SYMBOLS gs ≡ m → length last ≡ f → IsWholeWithin MAX_STATES gs last → 0 < g → m ≡ f
-  whole_width_on [] last count _ _ _ some = absurd (omega arith)
-  whole_width_on (x ∷ gs) last count limit filled whole some = sym limit ∙ (sym whole ∙ filled)
+pub draft_push : (d : Draft) (b : Begun) (e : Entry) (states symbols n k : ℕ) → IsDraft d b → d.filled < d.symbols → IsEntryOf MAX_STATES d.symbols e → ((s m : ℕ) → IsEntryOf s m e ↔ ((states ≤ s) × (symbols ≤ m))) → n ≡ max d.named_states states → k ≡ max d.named_symbols symbols → IsDraft (record { states = d.states; symbols = d.symbols; filled = d.filled + 1; named_states = n; named_symbols = k }) (record { groups = b.groups; group = b.group ++ e ∷ [] })
+draft_push d b e states symbols n k draft room is names n_is k_is =
+    record {
+      begun = begun_push MAX_STATES MAX_SYMBOLS b draft.begun e (omega (arith, draft.filled_is, draft.symbols_is)) (rw draft.symbols_is is);
+      states_is = draft.states_is;
+      symbols_is = draft.symbols_is;
+      filled_is = omega (arith, length-append b.group (e ∷ []), draft.filled_is);
+      named = λ s m. (there s m, back s m);
+    }
+  where
+    joined : flat_map (λ g. g) b.groups ++ (b.group ++ e ∷ []) ≡ begun_entries b ++ e ∷ []
+    joined = sym (append_assoc (flat_map (λ g. g) b.groups) b.group (e ∷ []))
 
-  pub whole_width : IsWhole (begun_in g m f ps) → 0 < g → m ≡ f
-  whole_width whole some = whole_width_on (begun_in g m f ps).groups (begun_in g m f ps).group draft.groups_is draft.symbols_is draft.filled_is whole some
+    there : (s m : ℕ) → AllByRecursion (IsEntryOf s m) (flat_map (λ g. g) b.groups ++ (b.group ++ e ∷ [])) → (n ≤ s) × (k ≤ m)
+    there s m all =
+        let split : AllByRecursion (IsEntryOf s m) (begun_entries b ++ e ∷ []) = subst (λ z. AllByRecursion (IsEntryOf s m) z) joined all in
+        let before = (draft.named s m).0 (every-front (IsEntryOf s m) (begun_entries b) (e ∷ []) split) in
+        let last = (names s m).0 (every-at (IsEntryOf s m) (begun_entries b) e [] split) in
+        (omega (arith, before.0, last.0), omega (arith, before.1, last.1))
 
-  pub close_draft : IsWhole (begun_in g m f ps) → g + 1 < MAX_STATES → IsDraft (g + 1) f 0 (begun_in (g + 1) f 0 ps)
-  close_draft whole room =
-      let same : 0 < g → m ≡ f = whole_width whole in
-      let group_room : length (begun_in g m f ps).groups + 1 < MAX_STATES = omega (arith, draft.groups_is) in
-      rw (close_shown same) (record {
-        begun = begun_close MAX_STATES MAX_SYMBOLS (begun_in g m f ps) draft.begun group_room whole;
-        groups_is = omega (arith, length-append (begun_in g m f ps).groups ((begun_in g m f ps).group ∷ []), draft.groups_is);
-        symbols_is = closed_symbols (begun_in g m f ps).groups (begun_in g m f ps).group draft.groups_is draft.symbols_is draft.filled_is same;
-        filled_is = refl;
-      })
-    where
-      closed_symbols : (gs : List (List Entry)) (last : List Entry) → length gs ≡ g → symbols_limit MAX_SYMBOLS gs ≡ m → length last ≡ f → (0 < g → m ≡ f) → symbols_limit MAX_SYMBOLS (gs ++ last ∷ []) ≡ f
-      closed_symbols [] last count limit filled same = filled
-      closed_symbols (x ∷ gs) last count limit filled same = limit ∙ same (omega arith)
+    back : (s m : ℕ) → (n ≤ s) × (k ≤ m) → AllByRecursion (IsEntryOf s m) (flat_map (λ g. g) b.groups ++ (b.group ++ e ∷ []))
+    back s m few =
+        let before = (draft.named s m).1 (omega (arith, few.0), omega (arith, few.1)) in
+        let last = (names s m).1 (omega (arith, few.0), omega (arith, few.1)) in
+        subst (λ z. AllByRecursion (IsEntryOf s m) z) (sym joined) (every-append (IsEntryOf s m) (begun_entries b) (e ∷ []) before (last, tt))
 
-  machine_width_on : (gs : List (List Entry)) (last : List Entry) → length gs ≡ g → symbols_limit MAX_SYMBOLS gs ≡ m → length last ≡ f → IsMachine (gs ++ last ∷ []) → 0 < g → m ≡ f
-  machine_width_on [] last count _ _ _ some = absurd (omega arith)
-  machine_width_on (x ∷ gs) last count limit filled machine some =
-      let group = every-at (IsGroup (length (x ∷ gs ++ last ∷ [])) (length x)) (x ∷ gs) last [] machine.groups in
-      sym limit ∙ (sym group.full ∙ filled)
+closed_symbols : (gs : List (List Entry)) (last : List Entry) → IsWholeWithin MAX_STATES gs last → symbols_limit MAX_SYMBOLS (gs ++ last ∷ []) ≡ length last
+closed_symbols [] last whole = refl
+closed_symbols (g ∷ gs) last whole = sym whole
 
-  machine_width : IsMachine (table_of (begun_in g m f ps)) → 0 < g → m ≡ f
-  machine_width machine some = machine_width_on (begun_in g m f ps).groups (begun_in g m f ps).group draft.groups_is draft.symbols_is draft.filled_is machine some
+pub draft_close : (d : Draft) (b : Begun) → IsDraft d b → IsWhole b → d.states < MAX_STATES → IsDraft (record { states = d.states + 1; symbols = d.filled; filled = 0; named_states = d.named_states; named_symbols = d.named_symbols }) (record { groups = b.groups ++ b.group ∷ []; group = [] })
+draft_close d b draft whole room =
+    record {
+      begun = begun_close MAX_STATES MAX_SYMBOLS b draft.begun (omega (arith, draft.states_is)) whole;
+      states_is = omega (arith, length-append b.groups (b.group ∷ []), draft.states_is);
+      symbols_is = closed_symbols b.groups b.group whole ∙ draft.filled_is;
+      filled_is = refl;
+      named = λ s m. rw (append-nil (flat_map (λ g. g) (b.groups ++ b.group ∷ [])), joined_last b.groups b.group) (draft.named s m);
+    }
 
-  -- the table, once the group at work is its last one
-  pub machine_shown : IsMachine (table_of (begun_in g m f ps)) → table_in (g + 1) f ps ≡ table_of (begun_in g m f ps)
-  machine_shown machine = more_groups (machine_width machine)
+later_on : (gs : List (List Entry)) (last : List Entry) → 0 < length gs → IsWholeWithin MAX_STATES gs last ↔ (length last ≡ symbols_limit MAX_SYMBOLS gs)
+later_on [] last some = absurd (omega arith)
+later_on (g ∷ gs) last some = (λ p. p, λ p. p)
 
-  table_symbols : (gs : List (List Entry)) (last : List Entry) → length gs ≡ g → symbols_limit MAX_SYMBOLS gs ≡ m → length last ≡ f → (0 < g → m ≡ f) → symbols_of (gs ++ last ∷ []) ≡ f
-  table_symbols [] last count limit filled same = filled
-  table_symbols (x ∷ gs) last count limit filled same = limit ∙ same (omega arith)
+-- after the first group, a whole group is as long as it
+pub later_whole : (d : Draft) (b : Begun) → IsDraft d b → 1 < d.states → IsWhole b ↔ (d.filled ≡ d.symbols)
+later_whole d b draft later =
+    let on = later_on b.groups b.group (omega (arith, draft.states_is)) in
+    (λ whole. sym draft.filled_is ∙ (on.0 whole ∙ draft.symbols_is), λ same. on.1 (draft.filled_is ∙ (same ∙ sym draft.symbols_is)))
 
-  pub machine_table : IsMachine (table_of (begun_in g m f ps)) → IsTable (g + 1) f (table_in (g + 1) f ps)
-  machine_table machine =
-      rw (machine_shown machine) (record {
-        machine = machine;
-        states_is = omega (arith, length-append (begun_in g m f ps).groups ((begun_in g m f ps).group ∷ []), draft.groups_is);
-        symbols_is = table_symbols (begun_in g m f ps).groups (begun_in g m f ps).group draft.groups_is draft.symbols_is draft.filled_is (machine_width machine);
-      })
+whole_entries : (s k : ℕ) (gs : List (List Entry)) (last : List Entry) → IsBegunWithin s k (record { groups = gs; group = last }) → IsWholeWithin s gs last → AllByRecursion (IsEntryOf s (length last)) (flat_map (λ g. g) gs ++ last)
+whole_entries s k [] last begun whole = whole.1
+whole_entries s k (g ∷ gs) last begun whole =
+    subst (λ z. AllByRecursion (IsEntryOf s z) (flat_map (λ g. g) (g ∷ gs) ++ last)) (sym whole)
+    (every-append (IsEntryOf s (length g)) (flat_map (λ g. g) (g ∷ gs)) last (group_entries s (length g) (g ∷ gs) begun.groups) begun.entries)
 
--- the same, of what a caller sees
-module _ (ps : List Place) (g m f : ℕ) (draft : IsDraft g m f (begun_in g m f ps)) (b : Begun) (is : begun_in g m f ps ≡ b) where
-  room_of : length b.group < symbols_limit MAX_SYMBOLS b.groups → f < m
-  room_of room =
-      let left : length (begun_in g m f ps).group < symbols_limit MAX_SYMBOLS (begun_in g m f ps).groups = subst (λ (x : Begun). length x.group < symbols_limit MAX_SYMBOLS x.groups) (sym is) room in
-      omega (arith, draft.filled_is, draft.symbols_is)
+limit_entries : (s k : ℕ) (b : Begun) → IsBegunWithin s k b → AllByRecursion (IsEntryOf s (symbols_limit k b.groups)) (begun_entries b)
+limit_entries s k b begun =
+    every-append (IsEntryOf s (symbols_limit k b.groups)) (flat_map (λ g. g) b.groups) b.group (group_entries s (symbols_limit k b.groups) b.groups begun.groups) begun.entries
 
-  pub push_keeps : length ps ≡ PLACES → (p : Place) → length b.group < symbols_limit MAX_SYMBOLS b.groups → IsEntryOf MAX_STATES (symbols_limit MAX_SYMBOLS b.groups) p.entry → IsDraft g m (f + 1) (begun_in g m (f + 1) (set ps (g * MAX_SYMBOLS + f) p))
-  push_keeps all p room named =
-      let shown_named : IsEntryOf MAX_STATES (symbols_limit MAX_SYMBOLS (begun_in g m f ps).groups) p.entry = subst (λ (x : Begun). IsEntryOf MAX_STATES (symbols_limit MAX_SYMBOLS x.groups) p.entry) (sym is) named in
-      push_draft ps g m f draft all p (room_of room) (subst (λ x. IsEntryOf MAX_STATES x p.entry) draft.symbols_is shown_named)
+first_on : (gs : List (List Entry)) (last : List Entry) → length gs ≡ 0 → 2 ≤ length last → AllByRecursion (IsEntryOf MAX_STATES (length last)) (flat_map (λ g. g) gs ++ last) → IsWholeWithin MAX_STATES gs last
+first_on [] last _ two all = (two, all)
+first_on (g ∷ gs) last none _ _ = absurd (omega arith)
 
-  pub push_shows : length ps ≡ PLACES → (p : Place) → length b.group < symbols_limit MAX_SYMBOLS b.groups → begun_in g m (f + 1) (set ps (g * MAX_SYMBOLS + f) p) ≡ record { groups = b.groups; group = b.group ++ p.entry ∷ [] }
-  push_shows all p room =
-      push_shown ps g m f draft all p (room_of room) ∙ ap (λ (x : Begun). let d : Begun = record { groups = x.groups; group = x.group ++ p.entry ∷ [] } in d) is
+first_two : (gs : List (List Entry)) (last : List Entry) → length gs ≡ 0 → IsWholeWithin MAX_STATES gs last → 2 ≤ length last
+first_two [] last _ whole = whole.0
+first_two (g ∷ gs) last none _ = absurd (omega arith)
 
-  whole_of : IsWhole b → IsWhole (begun_in g m f ps)
-  whole_of whole = subst IsWhole (sym is) whole
+-- a first group is whole with two or more entries, which write only as many symbols
+pub first_whole : (d : Draft) (b : Begun) → IsDraft d b → d.states ≤ 1 → IsWhole b ↔ ((2 ≤ d.filled) × (d.named_symbols ≤ d.filled))
+first_whole d b draft first = (there, back)
+  where
+    none : length b.groups ≡ 0
+    none = omega (arith, draft.states_is)
 
-  pub close_keeps : IsWhole b → length b.groups + 1 < MAX_STATES → IsDraft (g + 1) f 0 (begun_in (g + 1) f 0 ps)
-  close_keeps whole room =
-      let left : length (begun_in g m f ps).groups + 1 < MAX_STATES = subst (λ (x : Begun). length x.groups + 1 < MAX_STATES) (sym is) room in
-      close_draft ps g m f draft (whole_of whole) (omega (arith, draft.groups_is))
+    there : IsWhole b → (2 ≤ d.filled) × (d.named_symbols ≤ d.filled)
+    there whole =
+        let few = (draft.named MAX_STATES (length b.group)).0 (whole_entries MAX_STATES MAX_SYMBOLS b.groups b.group draft.begun whole) in
+        (omega (arith, first_two b.groups b.group none whole, draft.filled_is), omega (arith, few.1, draft.filled_is))
 
-  pub close_shows : IsWhole b → begun_in (g + 1) f 0 ps ≡ record { groups = b.groups ++ b.group ∷ []; group = [] }
-  close_shows whole =
-      close_shown ps g m f draft (whole_width ps g m f draft (whole_of whole)) ∙ ap (λ (x : Begun). let d : Begun = record { groups = x.groups ++ x.group ∷ []; group = [] } in d) is
+    back : (2 ≤ d.filled) × (d.named_symbols ≤ d.filled) → IsWhole b
+    back parts =
+        let limit = (draft.named MAX_STATES (symbols_limit MAX_SYMBOLS b.groups)).0 (limit_entries MAX_STATES MAX_SYMBOLS b draft.begun) in
+        let all = (draft.named MAX_STATES (length b.group)).1 (limit.0, omega (arith, parts.1, draft.filled_is)) in
+        first_on b.groups b.group none (omega (arith, parts.0, draft.filled_is)) all
 
-  machine_of : IsMachine (table_of b) → IsMachine (table_of (begun_in g m f ps))
-  machine_of machine = subst (λ (x : Begun). IsMachine (table_of x)) (sym is) machine
+two_on : (gs : List (List Entry)) (last : List Entry) → 2 ≤ symbols_limit MAX_SYMBOLS gs → IsWholeWithin MAX_STATES gs last → 2 ≤ length last
+two_on [] last two whole = whole.0
+two_on (g ∷ gs) last two whole = omega arith
 
-  pub machine_keeps : IsMachine (table_of b) → IsTable (g + 1) f (table_in (g + 1) f ps)
-  machine_keeps machine = machine_table ps g m f draft (machine_of machine)
+table_symbols : (gs : List (List Entry)) (last : List Entry) → IsWholeWithin MAX_STATES gs last → symbols_of (gs ++ last ∷ []) ≡ length last
+table_symbols [] last whole = refl
+table_symbols (g ∷ gs) last whole = sym whole
 
-  pub machine_shows : IsMachine (table_of b) → table_in (g + 1) f ps ≡ table_of b
-  machine_shows machine = machine_shown ps g m f draft (machine_of machine) ∙ ap table_of is
+full_on : (s : ℕ) (gs : List (List Entry)) (last : List Entry) → AllByRecursion (IsGroup s (symbols_limit MAX_SYMBOLS gs)) gs → IsWholeWithin MAX_STATES gs last → AllByRecursion (λ g. length g ≡ length last) gs
+full_on s [] last _ _ = tt
+full_on s (g ∷ gs) last groups whole = every-weaker (IsGroup s (length g)) (λ x. length x ≡ length last) (λ x q. q.full ∙ sym whole) (g ∷ gs) groups
 
-whole_first_on : (gs : List (List Entry)) (last : List Entry) → length gs ≡ 0 → 2 ≤ length last → AllByRecursion (IsEntryOf MAX_STATES (length last)) last → IsWholeWithin MAX_STATES gs last
-whole_first_on [] last _ two named = (two, named)
-whole_first_on (x ∷ gs) last none _ _ = absurd (omega arith)
+machine_whole_on : (gs : List (List Entry)) (last : List Entry) → IsMachine (gs ++ last ∷ []) → IsWholeWithin MAX_STATES gs last
+machine_whole_on [] last machine =
+    let group : IsGroup 1 (length last) last = machine.groups.0 in
+    (machine.two_symbols, entries_weaker 1 MAX_STATES (length last) (length last) machine.states (omega arith) last group.entries)
+machine_whole_on (g ∷ gs) last machine =
+    let group = every-at (IsGroup (length (g ∷ gs ++ last ∷ [])) (length g)) (g ∷ gs) last [] machine.groups in
+    group.full
 
-whole_first_parts : (gs : List (List Entry)) (last : List Entry) → length gs ≡ 0 → IsWholeWithin MAX_STATES gs last → (2 ≤ length last) × AllByRecursion (IsEntryOf MAX_STATES (length last)) last
-whole_first_parts [] last _ whole = whole
-whole_first_parts (x ∷ gs) last none _ = absurd (omega arith)
+-- what was read is a machine's table just where the last group is whole and no state is missing
+pub draft_machine : (d : Draft) (b : Begun) → IsDraft d b → IsMachine (table_of b) ↔ (IsWhole b × (d.named_states ≤ d.states))
+draft_machine d b draft = (there, back)
+  where
+    there : IsMachine (table_of b) → IsWhole b × (d.named_states ≤ d.states)
+    there machine =
+        let all = group_entries (length (table_of b)) (symbols_of (table_of b)) (table_of b) machine.groups in
+        let few = (draft.named (length (table_of b)) (symbols_of (table_of b))).0 (subst (λ z. AllByRecursion (IsEntryOf (length (table_of b)) (symbols_of (table_of b))) z) (joined_last b.groups b.group) all) in
+        (machine_whole_on b.groups b.group machine, omega (arith, few.0, length-append b.groups (b.group ∷ []), draft.states_is))
 
--- the row of a group, whose entries name few enough states and symbols
-abbrev pub IsRow : List Place → ℕ → ℕ → ℕ → Type 0
-IsRow ps g f q = All (λ (p : Place). IsEntryOf (g + 1) f p.entry) (take f (drop (q * MAX_SYMBOLS) ps))
+    back : IsWhole b × (d.named_states ≤ d.states) → IsMachine (table_of b)
+    back parts =
+        let width : ℕ = length b.group in
+        let few = (draft.named MAX_STATES width).0 (whole_entries MAX_STATES MAX_SYMBOLS b.groups b.group draft.begun parts.0) in
+        let all : AllByRecursion (IsEntryOf d.states width) (flat_map (λ g. g) b.groups ++ b.group) = (draft.named d.states width).1 (parts.1, few.1) in
+        let apart = every-apart (IsEntryOf d.states width) (table_of b) (subst (λ z. AllByRecursion (IsEntryOf d.states width) z) (sym (joined_last b.groups b.group)) all) in
+        let full : AllByRecursion (λ g. length g ≡ width) (table_of b) = every-append (λ g. length g ≡ width) b.groups (b.group ∷ []) (full_on MAX_STATES b.groups b.group draft.begun.groups parts.0) (refl, tt) in
+        let groups : AllByRecursion (IsGroup d.states width) (table_of b) = every-both (λ g. length g ≡ width) (λ g. AllByRecursion (IsEntryOf d.states width) g) (IsGroup d.states width) (λ g p q. record { full = p; entries = q }) (table_of b) full apart in
+        machine_by MAX_STATES MAX_SYMBOLS width d.states (table_of b) (omega (arith, draft.states_is)) (omega (arith, draft.states_is, draft.begun.room)) (two_on b.groups b.group draft.begun.two_symbols parts.0) (omega (arith, draft.begun.fits, draft.begun.symbols)) (omega (arith, length-append b.groups (b.group ∷ []), draft.states_is)) (table_symbols b.groups b.group parts.0) groups
 
-table_row : (n k : ℕ) (gs : List (List Entry)) (q : ℕ) → IsTable n k gs → q < n → AllByRecursion (IsEntryOf n k) (get_or gs q [])
-table_row n k gs q table below =
-    let inside : q < length gs = omega (arith, table.states_is) in
-    let group : IsGroup (length gs) (symbols_of gs) (get_or gs q []) = All-from_recursion (IsGroup (length gs) (symbols_of gs)) gs table.machine.groups q [] inside in
-    rw (← table.states_is, ← table.symbols_is) group.entries
-
-module _ (ps : List Place) (g m f : ℕ) (draft : IsDraft g m f (begun_in g m f ps)) (b : Begun) (is : begun_in g m f ps ≡ b) where
-  -- after the first group, a whole group is as long
-  pub later_whole : 0 < g → IsWhole b → f ≡ m
-  later_whole some whole = sym (whole_width ps g m f draft (subst IsWhole (sym is) whole) some)
-
-  first_entries : g ≡ 0 → (begun_in g m f ps).group ≡ entries_in (take f ps)
-  first_entries none = ap (λ z. take f (drop (z * MAX_SYMBOLS) (entries_in ps))) none ∙ sym (row_entries 0 f ps)
-
-  pub whole_first : g ≡ 0 → 2 ≤ f → All (λ (p : Place). IsEntryOf MAX_STATES f p.entry) (take f ps) → IsWhole b
-  whole_first none two named =
-      let entries : AllByRecursion (IsEntryOf MAX_STATES f) (begun_in g m f ps).group = subst (λ z. AllByRecursion (IsEntryOf MAX_STATES f) z) (sym (first_entries none)) (every_entry (IsEntryOf MAX_STATES f) (take f ps) named) in
-      subst IsWhole is (whole_first_on (begun_in g m f ps).groups (begun_in g m f ps).group (draft.groups_is ∙ none) (omega (arith, draft.filled_is)) (subst (λ z. AllByRecursion (IsEntryOf MAX_STATES z) (begun_in g m f ps).group) (sym draft.filled_is) entries))
-
-  pub first_whole : g ≡ 0 → IsWhole b → (2 ≤ f) × All (λ (p : Place). IsEntryOf MAX_STATES f p.entry) (take f ps)
-  first_whole none whole =
-      let parts = whole_first_parts (begun_in g m f ps).groups (begun_in g m f ps).group (draft.groups_is ∙ none) (subst IsWhole (sym is) whole) in
-      let entries : AllByRecursion (IsEntryOf MAX_STATES f) (begun_in g m f ps).group = subst (λ z. AllByRecursion (IsEntryOf MAX_STATES z) (begun_in g m f ps).group) draft.filled_is parts.1 in
-      (omega (arith, parts.0, draft.filled_is), every_place (IsEntryOf MAX_STATES f) (take f ps) (subst (λ z. AllByRecursion (IsEntryOf MAX_STATES f) z) (first_entries none) entries))
-
-  shown_whole : IsWhole b → IsWhole (begun_in g m f ps)
-  shown_whole whole = subst IsWhole (sym is) whole
-
-  table_is : (0 < g → m ≡ f) → table_of b ≡ table_in (g + 1) f ps
-  table_is same = ap table_of (sym is) ∙ sym (more_groups ps g m f draft same)
-
-  two_of : IsWhole b → 2 ≤ f
-  two_of whole =
-      elim (cases_lt 0 g) [
-        | inl some ↦ omega (arith, draft.begun.two_symbols, draft.symbols_is, later_whole some whole)
-        | inr none ↦ (first_whole (omega arith) whole).0
-      ]
-
-  pub machine_yes : length ps ≡ PLACES → IsWhole b → ((q : ℕ) → q < g + 1 → IsRow ps g f q) → IsMachine (table_of b)
-  machine_yes all whole named =
-      let same : 0 < g → m ≡ f = whole_width ps g m f draft (shown_whole whole) in
-      let two : 2 ≤ f = two_of whole in
-      let few_symbols : m ≤ MAX_SYMBOLS = symbols_few ps g m f draft in
-      let few_states : g < MAX_STATES = groups_few ps g m f draft in
-      let fits : f ≤ m = omega (arith, draft.begun.fits, draft.symbols_is, draft.filled_is) in
-      let count : length (entries_in ps) ≡ PLACES = length-map ps (λ (x : Place). x.entry) ∙ all in
-      let symbols : symbols_of (table_of (begun_in g m f ps)) ≡ f = table_symbols ps g m f draft (begun_in g m f ps).groups (begun_in g m f ps).group draft.groups_is draft.symbols_is draft.filled_is same in
-      let groups : AllByRecursion (IsGroup (g + 1) f) (table_in (g + 1) f ps) =
-      recursion_from_All (IsGroup (g + 1) f) (table_in (g + 1) f ps)
-      (All-from_get_or (IsGroup (g + 1) f) (table_in (g + 1) f ps) []
-      (λ q below.
-      let inside : q < g + 1 = omega (arith, length-rows MAX_SYMBOLS (g + 1) f (entries_in ps)) in
-      let row : get_or (table_in (g + 1) f ps) q [] ≡ take f (drop (q * MAX_SYMBOLS) (entries_in ps)) = get_or-rows MAX_SYMBOLS (g + 1) f (entries_in ps) q inside in
-      let entries : AllByRecursion (IsEntryOf (g + 1) f) (take f (drop (q * MAX_SYMBOLS) (entries_in ps))) = subst (λ z. AllByRecursion (IsEntryOf (g + 1) f) z) (row_entries (q * MAX_SYMBOLS) f ps) (every_entry (IsEntryOf (g + 1) f) (take f (drop (q * MAX_SYMBOLS) ps)) (named q inside)) in
-      let long : length (take f (drop (q * MAX_SYMBOLS) (entries_in ps))) ≡ f = length-take-le f (drop (q * MAX_SYMBOLS) (entries_in ps)) (omega (arith, length-drop (q * MAX_SYMBOLS) (entries_in ps))) in
-      subst (λ z. IsGroup (g + 1) f z) (sym row) (record { full = long; entries = entries }))) in
-      subst IsMachine (sym (table_is same))
-      (machine_by MAX_STATES MAX_SYMBOLS f (g + 1) (table_in (g + 1) f ps) (omega arith) (omega arith) two (omega arith) (length-rows MAX_SYMBOLS (g + 1) f (entries_in ps)) (ap symbols_of (more_groups ps g m f draft same) ∙ symbols) groups)
-
-  pub machine_rows : IsMachine (table_of b) → (q : ℕ) → q < g + 1 → IsRow ps g f q
-  machine_rows machine q below =
-      let table = machine_keeps ps g m f draft b is machine in
-      let entries : AllByRecursion (IsEntryOf (g + 1) f) (get_or (table_in (g + 1) f ps) q []) = table_row (g + 1) f (table_in (g + 1) f ps) q table below in
-      every_place (IsEntryOf (g + 1) f) (take f (drop (q * MAX_SYMBOLS) ps)) (subst (λ z. AllByRecursion (IsEntryOf (g + 1) f) z) (get_or-rows MAX_SYMBOLS (g + 1) f (entries_in ps) q below ∙ sym (row_entries (q * MAX_SYMBOLS) f ps)) entries)
-
--- a row as the slice from its place on
-pub row_slice : (ps : List Place) (g f q : ℕ) → IsRow ps g f q → All (λ (p : Place). IsEntryOf (g + 1) f p.entry) (take (q * MAX_SYMBOLS + f - q * MAX_SYMBOLS) (drop (q * MAX_SYMBOLS) ps))
-row_slice ps g f q row = let width : q * MAX_SYMBOLS + f - q * MAX_SYMBOLS ≡ f = omega arith in rw width row
+-- the table, with as many states and symbols as the draft counts
+pub draft_table : (d : Draft) (b : Begun) → IsDraft d b → IsMachine (table_of b) → IsTable d.states d.filled (table_of b)
+draft_table d b draft machine =
+    record {
+      machine = machine;
+      states_is = omega (arith, length-append b.groups (b.group ∷ []), draft.states_is);
+      symbols_is = table_symbols b.groups b.group ((draft_machine d b draft).0 machine).0 ∙ draft.filled_is;
+    }

@@ -8,3 +8,4 @@ pub mod Drafts
 pub mod Entries
 pub mod Fronts
 pub mod LawLemmas
+pub mod Filled

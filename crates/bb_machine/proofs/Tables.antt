@@ -2,8 +2,7 @@
 use Rattle.std.proofs.Common.{◌≡◌, ℕ, zero, suc, ◌+◌, ◌*◌, ◌<◌, ◌≤◌, List, [], ◌∷◌, ◌++◌, length, take, drop, get_or, set, refl, sym, ◌∙◌, ap, subst, zero-mul, arith}
 use Rattle.std.proofs.lemmas.List.{length-drop, take-set-le, drop-set-add, drop-drop, take_more_set, get_or-take, get_or-drop}
 use Rattle.std.specs.Prelude.{map}
-use Rattle.std.specs.List.{AllByRecursion, All, take-map, drop-map}
-use Rattle.std.proofs.lemmas.List.Elements.{All-from_recursion, recursion_from_All, All-map, All-cons}
+use Rattle.std.proofs.lemmas.List.Elements.{All-from_recursion}
 use Rattle.bb_machine.specs.declared.machine.TheConstants.{MAX_SYMBOLS}
 use Rattle.bb_machine.specs.declared.machine.Place.{Place}
 use Rattle.bb_machine.specs.declared.entry.Entry.{Entry}
@@ -13,10 +12,6 @@ use Rattle.bb_machine.specs.Machine.{symbols_of, entry_of, IsGroup, IsMachineWit
 use Rattle.bb_machine.specs.Rows.{rows, entries_in, table_in, IsTable}
 
 module _ {X : Type 0} where
-  pub length-rows : (stride count width : ℕ) (xs : List X) → length (rows stride count width xs) ≡ count
-  length-rows stride zero width xs = refl
-  length-rows stride (suc count) width xs = ap suc (length-rows stride count width (drop stride xs))
-
   -- a write past the rows
   pub rows-set : (stride count width : ℕ) (xs : List X) (j : ℕ) (v : X) → width ≤ stride → rows stride count width (set xs (count * stride + j) v) ≡ rows stride count width xs
   rows-set stride zero width xs j v le = refl
@@ -51,11 +46,6 @@ module _ {X : Type 0} where
   pub row-get : (stride count width : ℕ) (xs : List X) (q i : ℕ) (d : X) → q < count → i < width → get_or (get_or (rows stride count width xs) q []) i d ≡ get_or xs (q * stride + i) d
   row-get stride count width xs q i d below inside = rw (get_or-rows stride count width xs q below, get_or-take width (drop (q * stride) xs) i d inside, get_or-drop (q * stride) xs i d) refl
 
-  -- with no row the width is nothing
-  pub rows-width : (stride count width other : ℕ) (xs : List X) → (0 < count → width ≡ other) → rows stride count width xs ≡ rows stride count other xs
-  rows-width stride zero width other xs same = refl
-  rows-width stride (suc count) width other xs same = ap (λ w. rows stride (suc count) w xs) (same (omega arith))
-
 get_or-map : {X Y : Type 0} (f : X → Y) (xs : List X) (i : ℕ) (d : X) → get_or (map f xs) i (f d) ≡ f (get_or xs i d)
 get_or-map f [] i d = refl
 get_or-map f (x ∷ xs) zero d = refl
@@ -75,15 +65,3 @@ pub entry_named : (s k : ℕ) (gs : List (List Entry)) (q i : ℕ) → IsMachine
 entry_named s k gs q i machine below inside =
     let group : IsGroup (length gs) (symbols_of gs) (get_or gs q []) = All-from_recursion (IsGroup (length gs) (symbols_of gs)) gs machine.groups q [] below in
     All-from_recursion (IsEntryOf (length gs) (symbols_of gs)) (get_or gs q []) group.entries i Undefined (omega (arith, group.full))
-
--- of all entries, as they stand in places
-pub every_entry : (Q : Entry → Type 0) (ps : List Place) → All (λ (p : Place). Q p.entry) ps → AllByRecursion Q (entries_in ps)
-every_entry Q ps p = recursion_from_All Q (entries_in ps) (All-map Q (λ (x : Place). x.entry) ps p)
-
-pub every_place : (Q : Entry → Type 0) (ps : List Place) → AllByRecursion Q (entries_in ps) → All (λ (p : Place). Q p.entry) ps
-every_place Q [] p = λ k d below. absurd (omega arith)
-every_place Q (x ∷ ps) p = All-cons (λ (y : Place). Q y.entry) x ps p.0 (every_place Q ps p.1)
-
--- a row of entries, where its places stand
-pub row_entries : (from width : ℕ) (ps : List Place) → entries_in (take width (drop from ps)) ≡ take width (drop from (entries_in ps))
-row_entries from width ps = sym (take-map (λ (x : Place). x.entry) width (drop from ps)) ∙ ap (λ z. take width z) (sym (drop-map (λ (x : Place). x.entry) from ps))

@@ -1,26 +1,17 @@
 -- What the reader of a machine's text has read so far. No public contract speaks of it.
-use Rattle.std.specs.Prelude.{◌≡◌, ℕ, ◌+◌, ◌<◌, ◌≤◌, List, [], ◌∷◌, ◌++◌, ◌*◌, length, take, drop}
+use Rattle.std.specs.Prelude.{◌≡◌, ℕ, ◌+◌, ◌<◌, ◌≤◌, List, [], ◌∷◌, ◌++◌, ◌↔◌, length, take}
 use Rattle.std.specs.List.{AllByRecursion, flat_map}
 use Rattle.bb_machine.specs.declared.machine.TheConstants.{MAX_STATES, MAX_SYMBOLS}
 use Rattle.bb_machine.specs.declared.entry.Entry.{Entry}
 use Rattle.bb_machine.specs.Entry.{entry_text, IsEntryOf}
 use Rattle.bb_machine.specs.Machine.{IsGroup, IsMachineWithin, group_text, text}
-use Rattle.bb_machine.specs.declared.machine.Place.{Place}
-use Rattle.bb_machine.specs.Rows.{entries_in, table_in}
+use Rattle.bb_machine.specs.declared.machine.reader.Draft.{Draft}
 use Rattle.bb_machine.specs.Column.{BeginsWith, IsViableWithin}
 
 -- the groups that a `_` has closed, and the entries of the group at work, which is after them
 pub record Begun : Type 0 where
   pub groups : List (List Entry)
   pub group : List Entry
-
--- what stands in the places, with so many groups of so many symbols, and so many entries of the next
-abbrev pub begun_in : ℕ → ℕ → ℕ → List Place → Begun
-begun_in groups symbols filled places =
-    record {
-      groups = table_in groups symbols places;
-      group = take filled (drop (groups * MAX_SYMBOLS) (entries_in places));
-    }
 
 -- the bytes that were read
 abbrev pub begun_text : Begun → List ℕ
@@ -43,12 +34,17 @@ pub record IsBegunWithin (most_states most_symbols : ℕ) (b : Begun) : Type 0 w
 abbrev pub IsBegun : Begun → Type 0
 IsBegun b = IsBegunWithin MAX_STATES MAX_SYMBOLS b
 
--- what was read, where so many groups, symbols and entries are counted
-pub record IsDraft (groups symbols filled : ℕ) (b : Begun) : Type 0 where
+-- the entries that were read, one after another
+abbrev pub begun_entries : Begun → List Entry
+begun_entries b = flat_map (λ g. g) b.groups ++ b.group
+
+-- the draft counts what was read, and names the fewest states and symbols that all its entries allow
+pub record IsDraft (d : Draft) (b : Begun) : Type 0 where
   pub begun : IsBegun b
-  pub groups_is : length b.groups ≡ groups
-  pub symbols_is : symbols_limit MAX_SYMBOLS b.groups ≡ symbols
-  pub filled_is : length b.group ≡ filled
+  pub states_is : length b.groups + 1 ≡ d.states
+  pub symbols_is : symbols_limit MAX_SYMBOLS b.groups ≡ d.symbols
+  pub filled_is : length b.group ≡ d.filled
+  pub named : (states symbols : ℕ) → AllByRecursion (IsEntryOf states symbols) (begun_entries b) ↔ ((d.named_states ≤ states) × (d.named_symbols ≤ symbols))
 
 -- the group can be closed: it is as long as the groups before it, and the first one has two or
 -- more entries, which write only as many symbols

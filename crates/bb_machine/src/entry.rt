@@ -46,6 +46,16 @@ impl Dir {
             _ => None,
         }
     }
+
+    /// The direction with the letter, where there is one.
+    fn of_letter(letter: u8) -> Dir
+        ensures { (d : Dir) → dir_letter d ≡ letter → result ≡ d }
+    {
+        match letter {
+            b'L' => Dir::L,
+            _ => Dir::R,
+        }
+    }
 }
 
 impl Next {
@@ -78,11 +88,24 @@ impl Next {
             None
         }
     }
+
+    /// The state or halt with the letter, where there is one.
+    fn of_letter(letter: u8) -> Next
+        requires { (n : Next) × IsNextOf MAX_STATES n × (next_letter n ≡ letter) }
+        ensures { (n : Next) → IsNextOf MAX_STATES n → next_letter n ≡ letter → result ≡ n }
+    {
+        match letter {
+            b'Z' => Next::Halt,
+            _ => Next::State(letter - b'A'),
+        }
+    }
 }
 
 impl Entry {
-    ghost use Rattle.std.specs.Prelude.{◌≡◌, ◌≤◌, ◌<◌, ◌↔◌, IsTrue, IfOk, IfErr, length, take};
+    ghost use Rattle.std.specs.Prelude.{◌≡◌, ℕ, ◌≤◌, ◌<◌, ◌↔◌, IfOk, IfErr, length, take};
+    ghost use Rattle.bb_machine.specs.declared.entry.Entry.{Entry};
     ghost use Rattle.bb_machine.specs.Entry.{entry_text, IsEntryOf};
+    ghost use Rattle.bb_machine.specs.Column.{BeginsWith};
     ghost use Rattle.bb_machine.specs.Draft.{IsEntryStop};
 
     /// The entry's text.
@@ -96,23 +119,38 @@ impl Entry {
         }
     }
 
-    /// Whether the entry names only states and symbols of a machine with so many.
-    pub(crate) fn is_of(self, states: usize, symbols: usize) -> bool
-        ensures { IsTrue result ↔ IsEntryOf states symbols self }
+    /// The fewest states and symbols of a machine that may have the entry.
+    pub(crate) fn named(self) -> (usize, usize)
+        ensures { (states symbols : ℕ) → IsEntryOf states symbols self ↔ ((result.0 ≤ states) × (result.1 ≤ symbols)) }
     {
         match self {
-            Entry::Undefined => true,
+            Entry::Undefined => (0, 0),
             Entry::Go {
                 write,
                 dir: _,
-                next,
-            } => {
-                (write as usize) < symbols
-                    && match next {
-                        Next::State(state) => (state as usize) < states,
-                        Next::Halt => true,
-                    }
-            }
+                next: Next::State(state),
+            } => (state as usize + 1, write as usize + 1),
+            Entry::Go {
+                write,
+                dir: _,
+                next: Next::Halt,
+            } => (0, write as usize + 1),
+        }
+    }
+
+    /// The entry whose text the first bytes are.
+    pub(crate) fn at_first(bytes: &[u8]) -> Entry
+        requires { (e : Entry) × IsEntryOf MAX_STATES MAX_SYMBOLS e × BeginsWith bytes.now (entry_text e) }
+        ensures { (e : Entry) → IsEntryOf MAX_STATES MAX_SYMBOLS e → BeginsWith bytes.now (entry_text e) → result ≡ e }
+    {
+        let digit = bytes[0];
+        if digit == b'-' {
+            return Entry::Undefined;
+        }
+        Entry::Go {
+            write: digit - b'0',
+            dir: Dir::of_letter(bytes[1]),
+            next: Next::of_letter(bytes[2]),
         }
     }
 
@@ -124,9 +162,7 @@ impl Entry {
         ensures text { IfOk result (λ e. (3 ≤ length bytes.now) × (take 3 bytes.now ≡ entry_text e)) }
         ensures stop { IfErr result (IsEntryStop MAX_STATES symbols bytes.now) }
     {
-        let first = byte_at(bytes, 0);
-        let second = byte_at(bytes, 1);
-        let third = byte_at(bytes, 2);
+        let (first, second, third) = first_bytes(bytes);
         if first == b'-' {
             return if second != b'-' {
                 Err(1)
@@ -151,7 +187,16 @@ impl Entry {
 
 ghost use Rattle.std.specs.Prelude.{◌≡◌, ◌≢◌, ◌≤◌, ◌<◌, ◌+◌, ℕ, MatchOption, slice_index};
 
-/// The byte at an index, and 0, which no text has, past the end.
+/// The first three bytes, with 0, which no text has, for those past the end.
+fn first_bytes(bytes: &[u8]) -> (u8, u8, u8)
+    ensures { result ≡ (slice_index bytes.now 0, slice_index bytes.now 1, slice_index bytes.now 2) }
+{
+    match bytes {
+        [first, second, third, ..] => (*first, *second, *third),
+        _ => (byte_at(bytes, 0), byte_at(bytes, 1), 0),
+    }
+}
+
 fn byte_at(bytes: &[u8], index: usize) -> u8
     ensures { result ≡ slice_index bytes.now index }
 {
@@ -163,7 +208,10 @@ fn read_digit(byte: u8, symbols: usize) -> Option<u8>
         ((w : ℕ) → w < symbols → 48 + w ≢ byte)
         (λ w. (w < symbols) × (48 + w ≡ byte)) }
 {
-    let digit = byte.checked_sub(b'0')?;
+    if byte < b'0' {
+        return None;
+    }
+    let digit = byte - b'0';
     if (digit as usize) < symbols {
         Some(digit)
     } else {

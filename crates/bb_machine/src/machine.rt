@@ -67,6 +67,7 @@ impl Machine {
 
     /// The machine whose text the line is, or the column of the line where there is none. Nothing
     /// may stand beside the text, no carriage return either.
+    #[inline]
     pub fn read(line: &[u8]) -> Result<Machine, Refused>
         ensures found { IfOk result (λ machine. IsMachine machine × (text machine ≡ line.now)) }
         ensures only { (machine : List (List Entry)) → IsMachine machine → text machine ≡ line.now → result ≡ Ok machine }

@@ -1,101 +1,67 @@
 //! The reader of machine texts.
-ghost use Rattle.std.specs.Prelude.{◌≡◌, ℕ, ◌+◌, ◌*◌, ◌≤◌, ◌<◌, ◌↔◌, List, [], ◌∷◌, ◌++◌, length, take, All, IsTrue, IfOk, IfErr, Ok};
+ghost use Rattle.std.specs.Prelude.{◌≡◌, ℕ, ◌+◌, ◌*◌, ◌≤◌, ◌<◌, ◌↔◌, List, [], ◌∷◌, ◌++◌, length, take, drop, IsTrue, IfOk, IfErr, Ok};
 
 use crate::entry::Entry;
 use crate::machine::{LINE, MAX_STATES, MAX_SYMBOLS, Machine, PLACES, Place};
-use std::marker::Model;
 
-/// What was read of a text so far. The groups before the one at work stand in the table as they do
-/// in a machine; `symbols` is the most that can be, until a `_` has closed the first group.
+/// How much was read of a text so far: `states` counts the groups, with the one at work, and `filled`
+/// the entries of that one; `symbols` is the most that can be, until a `_` has closed the first group.
+/// A machine that has all the entries has the named states and symbols at least.
 #[derive(Drop)]
 struct Draft {
-    places: [Place; PLACES],
-    groups: usize,
+    states: usize,
     symbols: usize,
     filled: usize,
-}
-
-impl Model for Draft {
-    ghost use Rattle.bb_machine.specs.Draft.{Begun, begun_in, IsDraft};
-
-    ghost Value = { Begun };
-
-    ghost view = { λ d. begun_in d.groups d.symbols d.filled d.places };
-
-    ghost invariant = { λ d. IsDraft d.groups d.symbols d.filled (begun_in d.groups d.symbols d.filled d.places) };
+    named_states: usize,
+    named_symbols: usize,
 }
 
 impl Draft {
     ghost use Rattle.bb_machine.specs.Entry.{IsEntryOf};
     ghost use Rattle.bb_machine.specs.Machine.{IsMachine};
-    ghost use Rattle.bb_machine.specs.Draft.{Begun, begun_text, symbols_limit, IsBegun, IsWhole, table_of, IsStop};
+    ghost use Rattle.bb_machine.specs.Draft.{Begun, IsDraft, begun_text, IsWhole, table_of, IsStop};
 
     fn new() -> Draft
-        ensures { result ≡ record { groups = []; group = [] } }
+        ensures { IsDraft result (record { groups = []; group = [] }) }
     {
         Draft {
-            places: [Place {
-                entry: Entry::Undefined,
-                _padding: [0; 3],
-            }; PLACES],
-            groups: 0,
+            states: 1,
             symbols: MAX_SYMBOLS,
             filled: 0,
+            named_states: 0,
+            named_symbols: 0,
         }
-    }
-
-    /// How many symbols the machine can have.
-    fn symbols(&self) -> usize
-        ensures value { result ≡ symbols_limit MAX_SYMBOLS self.now.groups }
-        ensures begun { IsBegun self.now }
-    {
-        self.symbols
-    }
-
-    /// Whether the group at work has an entry for each symbol that there can be.
-    fn is_full(&self) -> bool
-        ensures full { IsTrue result ↔ (length self.now.group ≡ symbols_limit MAX_SYMBOLS self.now.groups) }
-        ensures begun { IsBegun self.now }
-    {
-        self.filled == self.symbols
-    }
-
-    /// Whether no group can follow the one at work.
-    fn is_last(&self) -> bool
-        ensures last { IsTrue result ↔ (length self.now.groups + 1 ≡ MAX_STATES) }
-        ensures begun { IsBegun self.now }
-    {
-        self.groups + 1 == MAX_STATES
     }
 
     /// Whether the group at work can end here.
     fn is_whole(&self) -> bool
-        ensures whole { IsTrue result ↔ IsWhole self.now }
-        ensures begun { IsBegun self.now }
+        ensures { (b : Begun) → IsDraft self.now b → IsTrue result ↔ IsWhole b }
     {
-        if self.groups > 0 {
+        if self.states > 1 {
             return self.filled == self.symbols;
         }
-        self.filled >= 2 && are_of(&self.places[..self.filled], MAX_STATES, self.filled)
+        self.filled >= 2 && self.named_symbols <= self.filled
     }
 
     /// Takes an entry into the group at work.
     fn push(&mut self, entry: Entry)
-        requires room { length self.old.group < symbols_limit MAX_SYMBOLS self.old.groups }
-        requires named { IsEntryOf MAX_STATES (symbols_limit MAX_SYMBOLS self.old.groups) entry }
-        ensures { self.new ≡ record { groups = self.old.groups; group = self.old.group ++ entry ∷ [] } }
+        requires { self.old.filled < self.old.symbols }
+        ensures { (b : Begun) → IsDraft self.old b → IsEntryOf MAX_STATES self.old.symbols entry
+            → IsDraft self.new (record { groups = b.groups; group = b.group ++ entry ∷ [] }) }
     {
-        self.places[self.groups * MAX_SYMBOLS + self.filled].entry = entry;
+        let (states, symbols) = entry.named();
         self.filled += 1;
+        self.named_states = self.named_states.max(states);
+        self.named_symbols = self.named_symbols.max(symbols);
     }
 
     /// Ends the group at work, and begins the next one.
     fn close(&mut self)
-        requires whole { IsWhole self.old }
-        requires room { length self.old.groups + 1 < MAX_STATES }
-        ensures { self.new ≡ record { groups = self.old.groups ++ self.old.group ∷ []; group = [] } }
+        requires { self.old.states < MAX_STATES }
+        ensures { (b : Begun) → IsDraft self.old b → IsWhole b
+            → IsDraft self.new (record { groups = b.groups ++ b.group ∷ []; group = [] }) }
     {
-        self.groups += 1;
+        self.states += 1;
         self.symbols = self.filled;
         self.filled = 0;
     }
@@ -103,22 +69,24 @@ impl Draft {
     /// Reads an entry or a `_`, the first of the bytes, and tells how many bytes it took; or how many
     /// of the bytes some machine's text goes on with.
     fn step(&mut self, bytes: &[u8]) -> Result<usize, usize>
-        requires { 0 < length bytes.now }
+        requires some { 0 < length bytes.now }
+        requires begun { (b : Begun) × IsDraft self.old b }
         ensures taken { IfOk result (λ n. (0 < n) × (n ≤ length bytes.now)) }
-        ensures text { IfOk result (λ n. begun_text self.new ≡ begun_text self.old ++ take n bytes.now) }
-        ensures stop { IfErr result (IsStop (begun_text self.old) bytes.now) }
+        ensures text { (b : Begun) → IsDraft self.old b → IfOk result (λ n.
+            (c : Begun) × IsDraft self.new c × (begun_text c ≡ begun_text b ++ take n bytes.now)) }
+        ensures stop { (b : Begun) → IsDraft self.old b → IfErr result (IsStop (begun_text b) bytes.now) }
     {
         if bytes[0] == b'_' {
-            if self.is_last() || !self.is_whole() {
+            if self.states >= MAX_STATES || !self.is_whole() {
                 return Err(0);
             }
             self.close();
             return Ok(1);
         }
-        if self.is_full() {
+        if self.filled >= self.symbols {
             return Err(0);
         }
-        match Entry::read(bytes, self.symbols()) {
+        match Entry::read(bytes, self.symbols) {
             Ok(entry) => {
                 self.push(entry);
                 Ok(3)
@@ -129,75 +97,41 @@ impl Draft {
 
     /// Whether what was read is a machine's whole text.
     fn is_machine(&self) -> bool
-        ensures machine { IsTrue result ↔ IsMachine (table_of self.now) }
-        ensures begun { IsBegun self.now }
+        ensures { (b : Begun) → IsDraft self.now b → IsTrue result ↔ IsMachine (table_of b) }
     {
-        if !self.is_whole() {
-            return false;
-        }
-        for row in 0..self.groups + 1 {
-            let from = row * MAX_SYMBOLS;
-            if !are_of(
-                &self.places[from..from + self.filled],
-                self.groups + 1,
-                self.filled,
-            ) {
-                return false;
-            }
-        }
-        true
+        self.is_whole() && self.named_states <= self.states
     }
-
-    /// The machine that was read.
-    fn into_machine(self) -> Machine
-        requires { IsMachine (table_of self) }
-        ensures { result ≡ table_of self }
-    {
-        let places = self.places;
-        Machine {
-            places,
-            state_count: self.groups as u8 + 1,
-            symbol_count: self.filled as u8,
-        }
-    }
-}
-
-ghost use Rattle.bb_machine.specs.Entry.{IsEntryOf};
-
-fn are_of(places: &[Place], states: usize, symbols: usize) -> bool
-    ensures { IsTrue result ↔ All (λ place. IsEntryOf states symbols place.entry) places.now }
-{
-    places
-        .iter()
-        .all(|place| place.entry.is_of(states, symbols))
 }
 
 ghost use Rattle.bb_machine.specs.declared.entry.Entry.{Entry};
-ghost use Rattle.bb_machine.specs.Machine.{IsMachine, text};
-ghost use Rattle.bb_machine.specs.Column.{IsViable, IsLongestFront};
-ghost use Rattle.bb_machine.specs.Draft.{begun_text, IsBegun, IsStop};
+ghost use Rattle.bb_machine.specs.Machine.{IsMachine, IsGroup, group_text, text};
+ghost use Rattle.bb_machine.specs.Rows.{IsTable, entries_in, table_in};
+ghost use Rattle.bb_machine.specs.Column.{BeginsWith, IsViable, IsLongestFront};
+ghost use Rattle.bb_machine.specs.Draft.{Begun, IsDraft, begun_text, IsStop};
 
 /// The machine whose text the line is, or how many of its first bytes begin some machine's text.
+#[inline]
 pub(super) fn read_front(line: &[u8]) -> Result<Machine, usize>
     ensures found { IfOk result (λ machine. IsMachine machine × (text machine ≡ line.now)) }
     ensures only { (machine : List (List Entry)) → IsMachine machine → text machine ≡ line.now → result ≡ Ok machine }
     ensures front { IfErr result (IsLongestFront IsViable line.now) }
     ensures near { IfErr result (λ n. n ≤ LINE) }
 {
-    let draft = match scan(line) {
-        Ok(draft) => draft,
-        Err(front) => return Err(front),
-    };
+    let draft = scan(line)?;
     if draft.is_machine() {
-        Ok(draft.into_machine())
+        Ok(machine_of(line, draft.states, draft.filled))
     } else {
         Err(line.len())
     }
 }
 
-/// What was read of the whole line, or how many of its first bytes begin some machine's text.
+/// How much was read of the whole line, or how many of its first bytes begin some machine's text.
+///
+/// It isn't inlined, and neither is `machine_of`, so that `read` stays small and is: a refusal then
+/// copies no machine.
+#[inline(never)]
 fn scan(line: &[u8]) -> Result<Draft, usize>
-    ensures text { IfOk result (λ draft. begun_text draft ≡ line.now) }
+    ensures text { IfOk result (λ draft. (b : Begun) × IsDraft draft b × (begun_text b ≡ line.now)) }
     ensures stop { IfErr result (IsStop [] line.now) }
 {
     let mut draft = Draft::new();
@@ -209,4 +143,38 @@ fn scan(line: &[u8]) -> Result<Draft, usize>
         }
     }
     Ok(draft)
+}
+
+/// The machine with so many states and symbols whose text the line is.
+#[inline(never)]
+fn machine_of(line: &[u8], states: usize, symbols: usize) -> Machine
+    requires { (gs : List (List Entry)) × IsTable states symbols gs × (text gs ≡ line.now) }
+    ensures { (gs : List (List Entry)) → IsTable states symbols gs → text gs ≡ line.now → result ≡ gs }
+{
+    let mut places = [Place {
+        entry: Entry::Undefined,
+        _padding: [0; 3],
+    }; PLACES];
+    for row in 0..states {
+        fill_row(&mut places, row, symbols, &line[row * (3 * symbols + 1)..]);
+    }
+    Machine {
+        places,
+        state_count: states as u8,
+        symbol_count: symbols as u8,
+    }
+}
+
+/// Puts the entries of a group, whose text stands first in the bytes, into a row.
+fn fill_row(places: &mut [Place; PLACES], row: usize, symbols: usize, bytes: &[u8])
+    requires row { row < MAX_STATES }
+    requires symbols { symbols ≤ MAX_SYMBOLS }
+    requires group { (g : List Entry) × IsGroup MAX_STATES symbols g × BeginsWith bytes.now (group_text g) }
+    ensures row { (g : List Entry) → IsGroup MAX_STATES symbols g → BeginsWith bytes.now (group_text g)
+        → take symbols (drop (row * MAX_SYMBOLS) (entries_in places.new)) ≡ g }
+    ensures before { table_in row symbols places.new ≡ table_in row symbols places.old }
+{
+    for symbol in 0..symbols {
+        places[row * MAX_SYMBOLS + symbol].entry = Entry::at_first(&bytes[3 * symbol..]);
+    }
 }

@@ -1,31 +1,52 @@
-use Rattle.std.proofs.Common.{◌∙◌, IsTrue, Ok, ap, sym, rules}
+use Rattle.std.proofs.Common.{◌≡◌, ◌∙◌, IsTrue, Ok, ap, sym, rules}
+use Rattle.std.proofs.lemmas.Result.{err_from_is_err_and}
 use Rattle.bb_machine.specs.Machine.{IsMachine}
 use Rattle.bb_machine.specs.Draft.{table_of}
+use Rattle.bb_machine.proofs.Drafts.{draft_table}
 use Rattle.bb_machine.proofs.Fronts.{longest_front, front_near, whole_front, whole_table, text-table_of}
 use Rattle.bb_machine.proofs.machine.reader.read_front.Goals as goal
 
-pub returns-in-Err-clause-near : goal.returns-in-Err-clause-near
-returns-in-Err-clause-near c =
-    front_near c.args.line.now c.in-Err.front (longest_front c.args.line.now c.in-Err.front c.in-Err.ensures.stop)
+pub returns-in_err-draft-clause-front : goal.returns-in_err-draft-clause-front
+returns-in_err-draft-clause-front c =
+    let p = err_from_is_err_and c.from_residual.result c.from_residual.ensures.1 in
+    rw (p.1, p.2) (longest_front c.args.line.now c.in_err-draft.field-0.0 c.in_err-draft.ensures.stop)
+
+pub returns-in_err-draft-clause-near : goal.returns-in_err-draft-clause-near
+returns-in_err-draft-clause-near c =
+    let p = err_from_is_err_and c.from_residual.result c.from_residual.ensures.1 in
+    rw (p.1, p.2) (front_near c.args.line.now c.in_err-draft.field-0.0 (longest_front c.args.line.now c.in_err-draft.field-0.0 c.in_err-draft.ensures.stop))
+
+pub machine_of-requires : goal.machine_of-requires
+machine_of-requires c =
+    let read = c.in_ok-draft.ensures.text in
+    let machine : IsMachine (table_of read.0) = (c.is_machine.ensures read.0 read.1).0 (search rules) in
+    (table_of read.0, draft_table c.in_ok-draft.draft read.0 read.1 machine, text-table_of read.0 ∙ read.2)
 
 pub returns-then-is_machine-clause-found : goal.returns-then-is_machine-clause-found
 returns-then-is_machine-clause-found c =
-    let machine : IsMachine (table_of c.in-Ok.draft) = search rules in
-    rw c.into_machine.ensures (machine, text-table_of c.in-Ok.draft ∙ c.in-Ok.ensures.text)
+    let read = c.in_ok-draft.ensures.text in
+    let machine : IsMachine (table_of read.0) = (c.is_machine.ensures read.0 read.1).0 (search rules) in
+    let is : c.machine_of.result ≡ table_of read.0 = c.machine_of.ensures (table_of read.0) (draft_table c.in_ok-draft.draft read.0 read.1 machine) (text-table_of read.0 ∙ read.2) in
+    rw is (machine, text-table_of read.0 ∙ read.2)
 
 pub returns-then-is_machine-clause-only : goal.returns-then-is_machine-clause-only
-returns-then-is_machine-clause-only c machine is same =
-    ap Ok (c.into_machine.ensures ∙ sym (whole_table c.args.line.now c.in-Ok.draft machine c.is_machine.ensures.begun c.in-Ok.ensures.text is same))
+returns-then-is_machine-clause-only c other is same =
+    let read = c.in_ok-draft.ensures.text in
+    let machine : IsMachine (table_of read.0) = (c.is_machine.ensures read.0 read.1).0 (search rules) in
+    let found : c.machine_of.result ≡ table_of read.0 = c.machine_of.ensures (table_of read.0) (draft_table c.in_ok-draft.draft read.0 read.1 machine) (text-table_of read.0 ∙ read.2) in
+    ap Ok (found ∙ sym (whole_table c.args.line.now read.0 other read.1.begun read.2 is same))
 
 pub returns-else-is_machine-clause-only : goal.returns-else-is_machine-clause-only
 returns-else-is_machine-clause-only c machine is same =
-    let table = whole_table c.args.line.now c.in-Ok.draft machine c.is_machine.ensures.begun c.in-Ok.ensures.text is same in
-    let yes : IsTrue c.is_machine.result = c.is_machine.ensures.machine.1 (rw table at is) in
+    let read = c.in_ok-draft.ensures.text in
+    let table = whole_table c.args.line.now read.0 machine read.1.begun read.2 is same in
+    let yes : IsTrue c.is_machine.result = (c.is_machine.ensures read.0 read.1).1 (rw table at is) in
     absurd (search rules)
 
 pub returns-else-is_machine-clause-front : goal.returns-else-is_machine-clause-front
 returns-else-is_machine-clause-front c =
-    whole_front c.args.line.now c.in-Ok.draft c.is_machine.ensures.begun c.in-Ok.ensures.text
+    let read = c.in_ok-draft.ensures.text in
+    whole_front c.args.line.now read.0 read.1.begun read.2
 
 pub returns-else-is_machine-clause-near : goal.returns-else-is_machine-clause-near
 returns-else-is_machine-clause-near c =

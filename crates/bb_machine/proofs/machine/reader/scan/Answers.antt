@@ -1,4 +1,4 @@
-use Rattle.std.proofs.Common.{◌≡◌, ◌-◌, ◌++◌, ◌∙◌, length, take, drop, ap, sym, arith}
+use Rattle.std.proofs.Common.{◌≡◌, ◌-◌, ◌++◌, ◌∙◌, List, ℕ, [], length, take, drop, ap, sym, arith, rules}
 use Rattle.std.proofs.lemmas.List.{length-drop, take_rest}
 use Rattle.std.proofs.Math.Seq.{take-add}
 use Rattle.bb_machine.specs.declared.machine.TheConstants.{MAX_STATES, MAX_SYMBOLS}
@@ -6,21 +6,30 @@ use Rattle.bb_machine.specs.Draft.{begun_text, IsStop}
 use Rattle.bb_machine.proofs.Fronts.{stop_joined}
 use Rattle.bb_machine.proofs.machine.reader.scan.Goals as goal
 
+pub loop-at-init : goal.loop-at-init
+loop-at-init c = record { inside = omega arith; read = (record { groups = []; group = [] }, c.new-draft.ensures, search rules) }
+
+pub step-requires-clause-begun : goal.step-requires-clause-begun
+step-requires-clause-begun c = let read = c.loop-at.invariant.read in (read.0, read.1)
+
 pub loop-at-preserved : goal.loop-at-preserved
 loop-at-preserved c =
-    let line = c.args.line.now in
-    let at = c.loop-at.at in
-    let taken = c.in-Ok.taken in
+    let line : List ℕ = c.args.line.now in
+    let at : ℕ = c.loop-at.at in
+    let taken : ℕ = c.in-Ok.taken in
+    let read = c.loop-at.invariant.read in
     let rest : take (length line - at) (drop at line) ≡ drop at line = take_rest line at in
-    let text : begun_text c.step.new.self ≡ begun_text c.loop-at.draft ++ take taken (drop at line) = rw (← rest) c.in-Ok.ensures.text in
+    let next = c.in-Ok.ensures.text read.0 read.1 in
+    let text : begun_text next.0 ≡ begun_text read.0 ++ take taken (drop at line) = rw (← rest) next.2 in
     record {
       inside = omega (arith, c.in-Ok.ensures.taken.1, ap length rest, length-drop at line);
-      text = text ∙ (ap (λ z. z ++ take taken (drop at line)) c.loop-at.invariant.text ∙ sym (take-add at taken line));
+      read = (next.0, next.1, text ∙ (ap (λ z. z ++ take taken (drop at line)) read.2 ∙ sym (take-add at taken line)));
     }
 
 pub returns-in-Err-clause-stop : goal.returns-in-Err-clause-stop
 returns-in-Err-clause-stop c =
-    let line = c.args.line.now in
-    let at = c.loop-at.at in
-    let stop : IsStop (take at line) (drop at line) c.in-Err.more = rw (← take_rest line at, ← c.loop-at.invariant.text) c.in-Err.ensures.stop in
+    let line : List ℕ = c.args.line.now in
+    let at : ℕ = c.loop-at.at in
+    let read = c.loop-at.invariant.read in
+    let stop : IsStop (take at line) (drop at line) c.in-Err.more = rw (← take_rest line at, ← read.2) (c.in-Err.ensures.stop read.0 read.1) in
     stop_joined MAX_STATES MAX_SYMBOLS line at c.in-Err.more c.loop-at.invariant.inside stop

@@ -1,23 +1,15 @@
-use Rattle.std.proofs.Common.{◌≡◌, length, IsTrue, rules, arith}
-use Rattle.bb_machine.specs.declared.machine.TheConstants.{PLACES}
-use Rattle.bb_machine.specs.Draft.{IsWhole}
-use Rattle.bb_machine.proofs.Drafts.{machine_yes, machine_rows, row_slice}
+use Rattle.std.proofs.Common.{◌≤◌, rules}
+use Rattle.bb_machine.proofs.Drafts.{draft_machine}
 use Rattle.bb_machine.proofs.machine.reader.Draft.is_machine.Goals as goal
 
-pub returns-then-not-are_of-clause-machine : goal.returns-then-not-are_of-clause-machine
-returns-then-not-are_of-clause-machine c =
-    let fields = c.self.inside in (
-      λ h. cc,
-      λ machine.
-          let row = machine_rows fields.places fields.groups fields.symbols fields.filled c.self.invariant c.args.self.now c.self.view_is machine c.loop-row.row (omega arith) in
-          let yes : IsTrue c.are_of.result = c.are_of.ensures.1 (row_slice fields.places fields.groups fields.filled c.loop-row.row row) in
-          search rules,
+pub returns-then-is_whole : goal.returns-then-is_whole
+returns-then-is_whole c b draft =
+    let on = draft_machine c.args.self.now b draft in (
+      λ yes. let few : c.args.self.now.named_states ≤ c.args.self.now.states = search rules in on.1 ((c.is_whole.ensures b draft).0 (search rules), few),
+      λ machine. let few : c.args.self.now.named_states ≤ c.args.self.now.states = (on.0 machine).1 in search rules,
     )
 
-pub returns-clause-machine : goal.returns-clause-machine
-returns-clause-machine c =
-    let fields = c.self.inside in
-    let all : length c.self.inside.places ≡ PLACES = search rules in
-    let whole : IsWhole c.args.self.now = search rules in
-    let yes = machine_yes fields.places fields.groups fields.symbols fields.filled c.self.invariant c.args.self.now c.self.view_is all whole in
-    (λ h. yes (λ q below. c.loop-row.invariant q (omega arith)), λ machine. search rules)
+pub returns-else-is_whole : goal.returns-else-is_whole
+returns-else-is_whole c b draft =
+    let on = draft_machine c.args.self.now b draft in
+    (λ yes. absurd (search rules), λ machine. let whole = (c.is_whole.ensures b draft).1 (on.0 machine).0 in search rules)

@@ -1,17 +1,20 @@
-use Rattle.std.proofs.Common.{◌≡◌, ◌≤◌, arith}
-use Rattle.bb_machine.proofs.Drafts.{whole_first, first_whole}
+use Rattle.std.proofs.Common.{◌≤◌, rules}
+use Rattle.bb_machine.proofs.Drafts.{later_whole, first_whole}
 use Rattle.bb_machine.proofs.machine.reader.Draft.is_whole.Goals as goal
 
-pub returns-then-self-ge2-clause-whole : goal.returns-then-self-ge2-clause-whole
-returns-then-self-ge2-clause-whole c =
-    let fields = c.self.inside in
-    let none : c.self.inside.groups ≡ 0 = omega arith in
-    let two : 2 ≤ c.self.inside.filled = c.if-self-ge2.true in (
-      λ yes. whole_first fields.places fields.groups fields.symbols fields.filled c.self.invariant c.args.self.now c.self.view_is none two (c.are_of.ensures.0 yes),
-      λ whole.
-          let parts = first_whole fields.places fields.groups fields.symbols fields.filled c.self.invariant c.args.self.now c.self.view_is none whole in
-          c.are_of.ensures.1 parts.1,
+pub returns-then-self-gt1 : goal.returns-then-self-gt1
+returns-then-self-gt1 c b draft =
+    let on = later_whole c.args.self.now b draft c.if-self-gt1.true in
+    (λ yes. on.1 (search rules), λ whole. let same = on.0 whole in search rules)
+
+pub returns-then-self-ge2 : goal.returns-then-self-ge2
+returns-then-self-ge2 c b draft =
+    let on = first_whole c.args.self.now b draft c.if-self-gt1.false in (
+      λ yes. let few : c.args.self.now.named_symbols ≤ c.args.self.now.filled = search rules in on.1 (c.if-self-ge2.true, few),
+      λ whole. let few : c.args.self.now.named_symbols ≤ c.args.self.now.filled = (on.0 whole).1 in search rules,
     )
 
-pub returns-then-self-ge2-clause-begun : goal.returns-then-self-ge2-clause-begun
-returns-then-self-ge2-clause-begun c = rw (← c.self.view_is) c.self.invariant.begun
+pub returns-else-self-ge2 : goal.returns-else-self-ge2
+returns-else-self-ge2 c b draft =
+    let on = first_whole c.args.self.now b draft c.if-self-gt1.false in
+    (λ yes. absurd (search rules), λ whole. let two = (on.0 whole).0 in absurd (search rules))

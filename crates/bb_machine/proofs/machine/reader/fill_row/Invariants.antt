@@ -1,0 +1,15 @@
+use Rattle.std.proofs.Common.{◌≡◌, ◌*◌, List, length, take, drop}
+use Rattle.bb_machine.specs.declared.machine.TheConstants.{MAX_STATES, MAX_SYMBOLS, PLACES}
+use Rattle.bb_machine.specs.declared.entry.Entry.{Entry}
+use Rattle.bb_machine.specs.Machine.{IsGroup, group_text}
+use Rattle.bb_machine.specs.Rows.{entries_in, table_in}
+use Rattle.bb_machine.specs.Column.{BeginsWith}
+use Rattle.bb_machine.proofs.machine.reader.fill_row.Given as goal
+
+-- the row's first entries are those of the group, and the rows before it are as they were
+abbrev pub invariant-loop-symbol : goal.invariant-loop-symbol
+invariant-loop-symbol l = record {
+  count : length l.places ≡ PLACES;
+  row : (g : List Entry) → IsGroup MAX_STATES l.symbols g → BeginsWith l.bytes (group_text g) → take l.symbol (drop (l.row * MAX_SYMBOLS) (entries_in l.places)) ≡ take l.symbol g;
+  before : table_in l.row l.symbols l.places ≡ table_in l.row l.symbols l.initial.places;
+}
