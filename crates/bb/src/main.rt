@@ -1,8 +1,9 @@
 //! `bb`: verdicts on small Turing machines. `docs/model.md` says what a verdict is.
 #![tactic(auto)]
 
-ghost use Rattle.std.specs.Prelude.{IfOk};
-ghost use Rattle.bb.specs.Command.{CanServe};
+ghost use Rattle.std.specs.Prelude.{IfErr, IfOk, map};
+ghost use Rattle.std.specs.String.{string_bytes};
+ghost use Rattle.bb.specs.Command.{CanServe, IsAskedBy, IsStopOf};
 
 mod bench;
 mod command;
@@ -19,13 +20,17 @@ use bb_lines::fault::Fault;
 use bb_lines::watched::Watched;
 use command::{Asked, Stop, ask};
 use serve::{serve, status};
-use std::alloc::AllocError;
+use std::alloc::{AllocError, Global};
 use std::process::ExitCode;
 use std::{env, fs, io};
 use summary::Summary;
 
 fn main(rt: HostRuntime) -> ExitCode {
-    let end = match asked(&rt) {
+    let asked = match arguments(&rt) {
+        Ok(arguments) => asked(rt.alloc(), arguments.as_slice()),
+        Err(error) => Err(Stop::from(error)),
+    };
+    let end = match asked {
         Ok(asked) => {
             let end = served(&rt, &asked);
             if let Err(fault) = &end {
@@ -41,19 +46,22 @@ fn main(rt: HostRuntime) -> ExitCode {
     ExitCode::from(end)
 }
 
-/// What the process's arguments ask for.
-fn asked(rt: &HostRuntime) -> Result<Asked, Stop>
-    ensures { IfOk result (λ asked. CanServe asked.work) }
+/// The process's arguments.
+fn arguments(rt: &HostRuntime) -> Result<Vec<String>, AllocError> {
+    match env::args(rt) {
+        Ok(arguments) => arguments.collect(rt.alloc()),
+        Err(_) => Err(AllocError),
+    }
+}
+
+/// What the arguments ask for.
+fn asked(alloc: Global, arguments: &[String]) -> Result<Asked, Stop>
+    ensures asked { IfOk result (IsAskedBy (map string_bytes arguments.now)) }
+    ensures served { IfOk result (λ asked. CanServe asked.work) }
+    ensures stop { IfErr result (IsStopOf (map string_bytes arguments.now)) }
 {
-    let Ok(arguments) = env::args(rt) else {
-        return Err(Stop::Memory);
-    };
-    let arguments: Vec<String> = arguments.collect(rt.alloc())?;
-    let words: Vec<&str> = arguments
-        .iter()
-        .map(|word| word.as_str())
-        .collect(rt.alloc())?;
-    ask(rt.alloc(), words.as_slice())
+    let words: Vec<&str> = arguments.iter().map(|word| word.as_str()).collect(alloc)?;
+    ask(alloc, words.as_slice())
 }
 
 /// Opens the input and does the work. A file that can't be opened is a failed read.
