@@ -1,9 +1,8 @@
 -- What a parse of the program's command line gives.
 use Rattle.std.proofs.Common.{◌≡◌, ◌⊎◌, ◌∙◌, ◌∷◌, Bool, true, false, List, [], Option, Some, None, refl, sym, subst, ap, inl, inr, codes, option_map}
-use Rattle.std.specs.Prelude.{Box}
+use Rattle.std.specs.Prelude.{Box, find}
 use Rattle.std.specs.Box.{box_value}
 use Rattle.clap.specs.declared.parser.matches.SubCommand.{SubCommand}
-use Rattle.std.specs.Prelude.{find}
 use Rattle.std.specs.Option.{option_map_or}
 use Rattle.clap.specs.Walk.{answers_to, stop_after}
 use Rattle.clap.specs.Simple.{argument_words, built, built_leaf, entered, inherited, marked_built, with_leaf_noted, label_of, names_of, rows_at, subcommand_rows}

@@ -44,6 +44,7 @@ is_given name rows = option_map_or (λ text. bytes_eq text (codes "true")) (one_
 
 -- ---- the two commands
 
+-- the limits of a list: the four numbers that are given, or their defaults
 abbrev pub decide_bounds : List Row → Bounds
 decide_bounds rows = record {
   steps = number_of (codes "steps") rows;
@@ -60,7 +61,7 @@ decide_plan rows = record {
   backward = not (is_given (codes "no-backward") rows);
 }
 
--- a trace goes over no tree
+-- the limits of a trace: its last step is the limit of steps, and it goes over no tree
 abbrev pub trace_bounds : List Row → Bounds
 trace_bounds rows = record {
   steps = number_of (codes "upto") rows;
@@ -69,6 +70,7 @@ trace_bounds rows = record {
   nodes = 0;
 }
 
+-- verdicts for a list, by this plan, under these limits, from this file
 pub record IsDecide (rows : List Row) (asked : Asked) : Type 0 where
   pub work : asked.work ≡ Decide (decide_plan rows)
   pub limits : asked.limits ≡ decide_bounds rows
@@ -79,6 +81,7 @@ abbrev pub IsTraceOf : Text → Work → Type 0
 IsTraceOf text (Trace machine) = string_bytes machine ≡ text
 IsTraceOf text (Decide plan) = ⊥
 
+-- a trace of the machine with the text that is given, under these limits; it reads no file
 pub record IsTrace (rows : List Row) (asked : Asked) : Type 0 where
   pub work : IsTraceOf (unwrap_or (first_of (codes "machine") rows) []) asked.work
   pub limits : asked.limits ≡ trace_bounds rows

@@ -19,6 +19,7 @@ number_rule name = record (new_rule name) {
 abbrev pub by_default : Text → Rule → Rule
 by_default text rule = record rule { defaults = text ∷ [] }
 
+-- --cells N, which both commands have
 abbrev pub cells_rule : Rule
 cells_rule = by_default (codes "65536") (number_rule (codes "cells"))
 
@@ -30,6 +31,7 @@ switch_rule name = record (new_rule name) { long = Some name; action = Some SetT
 abbrev pub place_rule : Text → Rule
 place_rule name = record (new_rule name) { value_names = 1 }
 
+-- what has to be given
 abbrev pub must : Rule → Rule
 must rule = record rule { required = true }
 

@@ -25,5 +25,6 @@ pub record SawRefusal (old : Summary) (line : List ℕ) (new : Summary) (work : 
   pub peak : new.peak ≡ old.peak
   pub no_work : work ≡ 0
 
+-- one line was answered: a machine's or another
 abbrev pub Saw : ℕ → ℕ → Summary → List ℕ → Summary → ℕ → Type 0
 Saw steps cells old line new work = SawMachine steps cells old line new work ⊎ SawRefusal old line new work
