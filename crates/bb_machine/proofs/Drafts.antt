@@ -10,7 +10,7 @@ use Rattle.bb_machine.specs.Entry.{IsEntryOf}
 use Rattle.bb_machine.specs.Machine.{IsGroup, IsMachine, symbols_of}
 use Rattle.bb_machine.specs.Rows.{IsTable}
 use Rattle.bb_machine.specs.Draft.{Begun, begun_entries, symbols_limit, IsBegunWithin, IsDraft, IsWhole, IsWholeWithin, table_of}
-use Rattle.bb_machine.proofs.Groups.{every-append, every-front, every-at, every-weaker, entries_weaker, machine_by}
+use Rattle.bb_machine.proofs.Groups.{every-append, every-prefix, every-at, every-weaker, entries_weaker, machine_by}
 use Rattle.bb_machine.proofs.Viable.{begun_push, begun_close}
 
 every-back : {X : Type 0} (P : X → Type 0) (xs ys : List X) → AllByRecursion P (xs ++ ys) → AllByRecursion P ys
@@ -28,7 +28,7 @@ every-joined P (g ∷ gs) p = every-append P g (flat_map (λ g. g) gs) p.0 (ever
 
 every-apart : (P : Entry → Type 0) (gs : List (List Entry)) → AllByRecursion P (flat_map (λ g. g) gs) → AllByRecursion (λ g. AllByRecursion P g) gs
 every-apart P [] _ = tt
-every-apart P (g ∷ gs) p = (every-front P g (flat_map (λ g. g) gs) p, every-apart P gs (every-back P g (flat_map (λ g. g) gs) p))
+every-apart P (g ∷ gs) p = (every-prefix P g (flat_map (λ g. g) gs) p, every-apart P gs (every-back P g (flat_map (λ g. g) gs) p))
 
 group_entries : (s k : ℕ) (gs : List (List Entry)) → AllByRecursion (IsGroup s k) gs → AllByRecursion (IsEntryOf s k) (flat_map (λ g. g) gs)
 group_entries s k gs p = every-joined (IsEntryOf s k) gs (every-weaker (IsGroup s k) (λ g. AllByRecursion (IsEntryOf s k) g) (λ g q. q.entries) gs p)
@@ -52,7 +52,7 @@ draft_push d b e states symbols n k draft room is names n_is k_is =
     there : (s m : ℕ) → AllByRecursion (IsEntryOf s m) (flat_map (λ g. g) b.groups ++ (b.group ++ e ∷ [])) → (n ≤ s) × (k ≤ m)
     there s m all =
         let split : AllByRecursion (IsEntryOf s m) (begun_entries b ++ e ∷ []) = subst (λ z. AllByRecursion (IsEntryOf s m) z) joined all in
-        let before = (draft.named s m).0 (every-front (IsEntryOf s m) (begun_entries b) (e ∷ []) split) in
+        let before = (draft.named s m).0 (every-prefix (IsEntryOf s m) (begun_entries b) (e ∷ []) split) in
         let last = (names s m).0 (every-at (IsEntryOf s m) (begun_entries b) e [] split) in
         (omega (arith, before.0, last.0), omega (arith, before.1, last.1))
 

@@ -12,7 +12,7 @@ use Rattle.bb_machine.specs.Entry.{dir_letter, next_letter, entry_text, IsNextOf
 use Rattle.bb_machine.specs.Column.{BeginsWith}
 use Rattle.bb_machine.specs.Draft.{IsEntryStop}
 
--- a front of a list has its elements
+-- a prefix of a list has its elements
 reads : (whole bytes : List ℕ) (n i : ℕ) → BeginsWith whole (take (n + 1) bytes) → n < length bytes → i ≤ n → get_or whole i 0 ≡ get_or bytes i 0
 reads whole bytes n i begins inside low =
     let long : length (take (n + 1) bytes) ≡ n + 1 = length-take-le (n + 1) bytes (omega arith) in
@@ -40,8 +40,8 @@ module _ (s k : ℕ) (bytes : List ℕ) where
   -- a `-` with no other after it
   pub stop_dash : get_or bytes 0 0 ≡ 45 → get_or bytes 1 0 ≢ 45 → IsEntryStop s k bytes 1
   stop_dash dash no_dash =
-      let front = one bytes (λ none. omega arith) in
-      record { within = front.1; part = omega arith; holds = (Undefined, tt, (45 ∷ 45 ∷ [], ap (λ x. x ++ 45 ∷ 45 ∷ []) (sym (front.0 ∙ ap (λ x. x ∷ []) dash)))); longest = λ inside more. next more.0 more.1 more.2 inside }
+      let prefix = one bytes (λ none. omega arith) in
+      record { within = prefix.1; part = omega arith; holds = (Undefined, tt, (45 ∷ 45 ∷ [], ap (λ x. x ++ 45 ∷ 45 ∷ []) (sym (prefix.0 ∙ ap (λ x. x ∷ []) dash)))); longest = λ inside more. next more.0 more.1 more.2 inside }
     where
       next : (e : Entry) → IsEntryOf s k e → BeginsWith (entry_text e) (take (1 + 1) bytes) → 1 < length bytes → ⊥
       next Undefined is begins inside = no_dash (sym (reads (entry_text Undefined) bytes 1 1 begins inside (omega arith)))
@@ -50,9 +50,9 @@ module _ (s k : ℕ) (bytes : List ℕ) where
   -- two `-` with no third
   pub stop_dashes : get_or bytes 0 0 ≡ 45 → get_or bytes 1 0 ≡ 45 → get_or bytes 2 0 ≢ 45 → IsEntryStop s k bytes 2
   stop_dashes dash dashes no_dash =
-      let front = two bytes (λ none. omega arith) in
+      let prefix = two bytes (λ none. omega arith) in
       let is : take 2 bytes ≡ 45 ∷ 45 ∷ [] = cc in
-      record { within = front.1; part = omega arith; holds = (Undefined, tt, (45 ∷ [], ap (λ x. x ++ 45 ∷ []) (sym is))); longest = λ inside more. next more.0 more.1 more.2 inside }
+      record { within = prefix.1; part = omega arith; holds = (Undefined, tt, (45 ∷ [], ap (λ x. x ++ 45 ∷ []) (sym is))); longest = λ inside more. next more.0 more.1 more.2 inside }
     where
       next : (e : Entry) → IsEntryOf s k e → BeginsWith (entry_text e) (take (2 + 1) bytes) → 2 < length bytes → ⊥
       next Undefined is begins inside = no_dash (sym (reads (entry_text Undefined) bytes 2 2 begins inside (omega arith)))
@@ -61,8 +61,8 @@ module _ (s k : ℕ) (bytes : List ℕ) where
   -- a symbol with no direction
   pub stop_second : (w : ℕ) → w < k → 48 + w ≡ get_or bytes 0 0 → ((d : Dir) → dir_letter d ≢ get_or bytes 1 0) → IsEntryStop s k bytes 1
   stop_second w below digit no_dir =
-      let front = one bytes (λ none. omega arith) in
-      record { within = front.1; part = omega arith; holds = (Go w L Halt, (below, tt), (76 ∷ 90 ∷ [], ap (λ x. x ++ 76 ∷ 90 ∷ []) (sym (front.0 ∙ ap (λ x. x ∷ []) (sym digit))))); longest = λ inside more. next more.0 more.1 more.2 inside }
+      let prefix = one bytes (λ none. omega arith) in
+      record { within = prefix.1; part = omega arith; holds = (Go w L Halt, (below, tt), (76 ∷ 90 ∷ [], ap (λ x. x ++ 76 ∷ 90 ∷ []) (sym (prefix.0 ∙ ap (λ x. x ∷ []) (sym digit))))); longest = λ inside more. next more.0 more.1 more.2 inside }
     where
       next : (e : Entry) → IsEntryOf s k e → BeginsWith (entry_text e) (take (1 + 1) bytes) → 1 < length bytes → ⊥
       next Undefined is begins inside = let first : 45 ≡ get_or bytes 0 0 = reads (entry_text Undefined) bytes 1 0 begins inside (omega arith) in omega arith
@@ -72,9 +72,9 @@ module _ (s k : ℕ) (bytes : List ℕ) where
   pub stop_third : (w : ℕ) (d : Dir) → w < k → 48 + w ≡ get_or bytes 0 0 → dir_letter d ≡ get_or bytes 1 0 → ((n : Next) → IsNextOf s n → next_letter n ≢ get_or bytes 2 0) → IsEntryStop s k bytes 2
   stop_third w d below digit dir no_next =
       let some : get_or bytes 1 0 ≢ 0 = λ none. dir_some d (dir ∙ none) in
-      let front = two bytes some in
+      let prefix = two bytes some in
       let is : take 2 bytes ≡ (48 + w) ∷ dir_letter d ∷ [] = cc in
-      record { within = front.1; part = omega arith; holds = (Go w d Halt, (below, tt), (90 ∷ [], ap (λ x. x ++ 90 ∷ []) (sym is))); longest = λ inside more. next more.0 more.1 more.2 inside }
+      record { within = prefix.1; part = omega arith; holds = (Go w d Halt, (below, tt), (90 ∷ [], ap (λ x. x ++ 90 ∷ []) (sym is))); longest = λ inside more. next more.0 more.1 more.2 inside }
     where
       dir_some : (a : Dir) → dir_letter a ≡ 0 → ⊥
       dir_some L none = omega arith

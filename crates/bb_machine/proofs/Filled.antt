@@ -1,12 +1,12 @@
--- Where entries stand in a text, and in the places that are filled from it.
+-- Where entries stand in a text, and in the slots that are filled from it.
 use Rattle.std.proofs.Common.{ap, ◌≡◌, ℕ, zero, suc, ◌+◌, ◌-◌, ◌*◌, ◌<◌, ◌≤◌, List, [], ◌∷◌, ◌++◌, length, take, drop, get_or, set, refl, ◌∙◌, append_assoc, zero-mul, arith}
 use Rattle.std.proofs.lemmas.List.{length-append, drop-drop, take_rest, length-map, map-set, take_more}
 use Rattle.std.proofs.lemmas.List.Elements.{All-from_recursion}
 use Rattle.std.proofs.Math.Seq.{drop-append-add}
 use Rattle.std.proofs.Math.Nat.{mul-le-mul}
 use Rattle.std.specs.List.{AllByRecursion}
-use Rattle.bb_machine.specs.declared.machine.TheConstants.{MAX_STATES, MAX_SYMBOLS, PLACES}
-use Rattle.bb_machine.specs.declared.machine.Place.{Place}
+use Rattle.bb_machine.specs.declared.machine.TheConstants.{MAX_STATES, MAX_SYMBOLS, SLOTS}
+use Rattle.bb_machine.specs.declared.machine.Slot.{Slot}
 use Rattle.bb_machine.specs.declared.entry.Entry.{Entry}
 use Rattle.bb_machine.specs.declared.entry.Entry.TheVariants.{Undefined}
 use Rattle.bb_machine.specs.Entry.{entry_text, IsEntryOf}
@@ -24,8 +24,8 @@ entry_on [] rest i below = absurd (omega arith)
 entry_on (e ∷ g) rest zero below = (group_text g ++ rest, append_assoc (entry_text e) (group_text g) rest)
 entry_on (e ∷ g) rest (suc i) below =
     let more = entry_on g rest i (omega arith) in
-    let place : 3 * suc i ≡ length (entry_text e) + 3 * i = omega (arith, entry_length e) in
-    (more.0, rw (place, append_assoc (entry_text e) (group_text g) rest, drop-append-add (entry_text e) (group_text g ++ rest) (3 * i)) more.1)
+    let offset : 3 * suc i ≡ length (entry_text e) + 3 * i = omega (arith, entry_length e) in
+    (more.0, rw (offset, append_assoc (entry_text e) (group_text g) rest, drop-append-add (entry_text e) (group_text g ++ rest) (3 * i)) more.1)
 
 -- an entry's text in that of its group
 pub entry_stands : (g : List Entry) (bytes : List ℕ) (i : ℕ) → i < length g → BeginsWith bytes (group_text g) → BeginsWith (drop (3 * i) bytes) (entry_text (get_or g i Undefined))
@@ -36,8 +36,8 @@ tail_on s k [] q below _ = absurd (omega arith)
 tail_on s k (g ∷ gs) zero below _ = (tail_text gs, simp zero-mul)
 tail_on s k (g ∷ gs) (suc q) below p =
     let more = tail_on s k gs q (omega arith) p.1 in
-    let place : suc q * (3 * k + 1) ≡ length (95 ∷ group_text g) + q * (3 * k + 1) = omega (arith, length-group_text g, p.0.full) in
-    (more.0, rw (place, drop-append-add (95 ∷ group_text g) (tail_text gs) (q * (3 * k + 1))) more.1)
+    let offset : suc q * (3 * k + 1) ≡ length (95 ∷ group_text g) + q * (3 * k + 1) = omega (arith, length-group_text g, p.0.full) in
+    (more.0, rw (offset, drop-append-add (95 ∷ group_text g) (tail_text gs) (q * (3 * k + 1))) more.1)
 
 -- a group's text in that of its table
 pub group_stands : (s k : ℕ) (gs : List (List Entry)) (q : ℕ) → q < length gs → AllByRecursion (IsGroup s k) gs → BeginsWith (drop (q * (3 * k + 1)) (text gs)) (group_text (get_or gs q []))
@@ -45,24 +45,24 @@ group_stands s k [] q below _ = absurd (omega arith)
 group_stands s k (g ∷ gs) zero below _ = (tail_text gs, simp zero-mul)
 group_stands s k (g ∷ gs) (suc q) below p =
     let more = tail_on s k gs q (omega arith) p.1 in
-    let place : suc q * (3 * k + 1) ≡ length (group_text g) + (q * (3 * k + 1) + 1) = omega (arith, length-group_text g, p.0.full) in
-    (more.0, rw (place, drop-append-add (group_text g) (tail_text gs) (q * (3 * k + 1) + 1), ← drop-drop 1 (q * (3 * k + 1)) (tail_text gs), more.1) refl)
+    let offset : suc q * (3 * k + 1) ≡ length (group_text g) + (q * (3 * k + 1) + 1) = omega (arith, length-group_text g, p.0.full) in
+    (more.0, rw (offset, drop-append-add (group_text g) (tail_text gs) (q * (3 * k + 1) + 1), ← drop-drop 1 (q * (3 * k + 1)) (tail_text gs), more.1) refl)
 
 -- one more entry of a row
-pub row_grows : (ps : List Place) (row symbols symbol : ℕ) (p : Place) (g : List Entry) → length ps ≡ PLACES → row < MAX_STATES → symbols ≤ MAX_SYMBOLS → symbol < symbols → length g ≡ symbols → p.entry ≡ get_or g symbol Undefined → take symbol (drop (row * MAX_SYMBOLS) (entries_in ps)) ≡ take symbol g → take (symbol + 1) (drop (row * MAX_SYMBOLS) (entries_in (set ps (row * MAX_SYMBOLS + symbol) p))) ≡ take (symbol + 1) g
+pub row_grows : (ps : List Slot) (row symbols symbol : ℕ) (p : Slot) (g : List Entry) → length ps ≡ SLOTS → row < MAX_STATES → symbols ≤ MAX_SYMBOLS → symbol < symbols → length g ≡ symbols → p.entry ≡ get_or g symbol Undefined → take symbol (drop (row * MAX_SYMBOLS) (entries_in ps)) ≡ take symbol g → take (symbol + 1) (drop (row * MAX_SYMBOLS) (entries_in (set ps (row * MAX_SYMBOLS + symbol) p))) ≡ take (symbol + 1) g
 row_grows ps row symbols symbol p g all below few inside long is so_far =
-    let count : length (entries_in ps) ≡ PLACES = length-map ps (λ (x : Place). x.entry) ∙ all in
+    let count : length (entries_in ps) ≡ SLOTS = length-map ps (λ (x : Slot). x.entry) ∙ all in
     let room : row * MAX_SYMBOLS + symbol < length (entries_in ps) = omega arith in
-    let entries : entries_in (set ps (row * MAX_SYMBOLS + symbol) p) ≡ set (entries_in ps) (row * MAX_SYMBOLS + symbol) p.entry = map-set (λ (x : Place). x.entry) ps (row * MAX_SYMBOLS + symbol) p in
+    let entries : entries_in (set ps (row * MAX_SYMBOLS + symbol) p) ≡ set (entries_in ps) (row * MAX_SYMBOLS + symbol) p.entry = map-set (λ (x : Slot). x.entry) ps (row * MAX_SYMBOLS + symbol) p in
     rw (entries, row-more (row * MAX_SYMBOLS) symbol (entries_in ps) p.entry room, so_far, is, take_more g symbol Undefined (omega arith)) refl
 
-pub rows_stay : (ps : List Place) (row symbols symbol : ℕ) (p : Place) → symbols ≤ MAX_SYMBOLS → table_in row symbols (set ps (row * MAX_SYMBOLS + symbol) p) ≡ table_in row symbols ps
+pub rows_stay : (ps : List Slot) (row symbols symbol : ℕ) (p : Slot) → symbols ≤ MAX_SYMBOLS → table_in row symbols (set ps (row * MAX_SYMBOLS + symbol) p) ≡ table_in row symbols ps
 rows_stay ps row symbols symbol p few =
-    let entries : entries_in (set ps (row * MAX_SYMBOLS + symbol) p) ≡ set (entries_in ps) (row * MAX_SYMBOLS + symbol) p.entry = map-set (λ (x : Place). x.entry) ps (row * MAX_SYMBOLS + symbol) p in
+    let entries : entries_in (set ps (row * MAX_SYMBOLS + symbol) p) ≡ set (entries_in ps) (row * MAX_SYMBOLS + symbol) p.entry = map-set (λ (x : Slot). x.entry) ps (row * MAX_SYMBOLS + symbol) p in
     rw (entries, rows-set MAX_SYMBOLS row symbols (entries_in ps) symbol p.entry few) refl
 
 -- one more row of a table
-pub table_grows : (old new : List Place) (row symbols : ℕ) (gs : List (List Entry)) → row < length gs → table_in row symbols old ≡ take row gs → table_in row symbols new ≡ table_in row symbols old → take symbols (drop (row * MAX_SYMBOLS) (entries_in new)) ≡ get_or gs row [] → table_in (row + 1) symbols new ≡ take (row + 1) gs
+pub table_grows : (old new : List Slot) (row symbols : ℕ) (gs : List (List Entry)) → row < length gs → table_in row symbols old ≡ take row gs → table_in row symbols new ≡ table_in row symbols old → take symbols (drop (row * MAX_SYMBOLS) (entries_in new)) ≡ get_or gs row [] → table_in (row + 1) symbols new ≡ take (row + 1) gs
 table_grows old new row symbols gs below so_far stays filled =
     rw (rows-more MAX_SYMBOLS row symbols (entries_in new), stays, so_far, filled, take_more gs row [] below) refl
 

@@ -26,9 +26,9 @@ module _ {X : Type 0} (P : X → Type 0) where
   every-at [] y ys p = p.0
   every-at (x ∷ xs) y ys p = every-at xs y ys p.1
 
-  pub every-front : (xs ys : List X) → AllByRecursion P (xs ++ ys) → AllByRecursion P xs
-  every-front [] ys _ = tt
-  every-front (x ∷ xs) ys p = (p.0, every-front xs ys p.1)
+  pub every-prefix : (xs ys : List X) → AllByRecursion P (xs ++ ys) → AllByRecursion P xs
+  every-prefix [] ys _ = tt
+  every-prefix (x ∷ xs) ys p = (p.0, every-prefix xs ys p.1)
 
 pub every-weaker : {X : Type 0} (P Q : X → Type 0) → ((x : X) → P x → Q x) → (xs : List X) → AllByRecursion P xs → AllByRecursion Q xs
 every-weaker P Q f [] _ = tt

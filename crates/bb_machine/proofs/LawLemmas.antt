@@ -6,17 +6,17 @@ use Rattle.std.specs.List.{AllByRecursion}
 use Rattle.bb_machine.specs.declared.machine.TheConstants.{MAX_STATES, MAX_SYMBOLS, LINE}
 use Rattle.bb_machine.specs.declared.entry.Entry.{Entry}
 use Rattle.bb_machine.specs.Machine.{IsMachine, text}
-use Rattle.bb_machine.specs.Column.{IsViable, IsLongestFront, IsColumn}
+use Rattle.bb_machine.specs.Column.{IsViable, IsLongestPrefix, IsColumn}
 use Rattle.bb_machine.specs.Draft.{Begun, begun_text, table_of}
-use Rattle.bb_machine.specs.Laws.{FrontIsEnough}
+use Rattle.bb_machine.specs.Laws.{PrefixIsEnough}
 use Rattle.bb_machine.proofs.Texts.{ArePlain, GoesOn, text_peel}
-use Rattle.bb_machine.proofs.Groups.{machine_plain, every-front, every-at}
+use Rattle.bb_machine.proofs.Groups.{machine_plain, every-prefix, every-at}
 use Rattle.bb_machine.proofs.Lengths.{text_short}
-use Rattle.bb_machine.proofs.Fronts.{front_near, viable_near, text-table_of}
+use Rattle.bb_machine.proofs.Prefixes.{prefix_bounded, viable_bounded, text-table_of}
 use Rattle.bb_machine.proofs.Stops.{whole_text_by}
 
--- of two longest fronts neither is longer
-pub longest_unique : (P : List ℕ → Type 0) (line : List ℕ) (a b : ℕ) → IsLongestFront P line a → IsLongestFront P line b → a ≡ b
+-- of two longest prefixes neither is longer
+pub longest_unique : (P : List ℕ → Type 0) (line : List ℕ) (a b : ℕ) → IsLongestPrefix P line a → IsLongestPrefix P line b → a ≡ b
 longest_unique P line a b p q =
     let below : a ≤ b = q.longest a p.within p.holds in
     let above : b ≤ a = p.longest b q.within q.holds in
@@ -45,34 +45,34 @@ module _ (line : List ℕ) (kept : ℕ) (many : LINE < kept) where
     λ is. is ∙ sym (same_when_short (short_text gs machine line is)),
   )
 
-  from_kept : (n : ℕ) → IsLongestFront IsViable (take kept line) n → IsLongestFront IsViable line n
-  from_kept n front =
-      let near : n ≤ LINE = front_near (take kept line) n front in
+  from_kept : (n : ℕ) → IsLongestPrefix IsViable (take kept line) n → IsLongestPrefix IsViable line n
+  from_kept n prefix =
+      let bound : n ≤ LINE = prefix_bounded (take kept line) n prefix in
       record {
-        within = omega (arith, front.within, length-take kept line);
-        holds = subst IsViable (take-take n kept line (omega arith)) front.holds;
+        within = omega (arith, prefix.within, length-take kept line);
+        holds = subst IsViable (take-take n kept line (omega arith)) prefix.holds;
         longest = longest;
       }
     where
       longest : (m : ℕ) → m ≤ length line → IsViable (take m line) → m ≤ n
       longest m fits viable =
-          let near : m ≤ LINE = viable_near line m fits viable in
-          front.longest m (omega (arith, length-take kept line)) (subst IsViable (sym (take-take m kept line (omega arith))) viable)
+          let bound : m ≤ LINE = viable_bounded line m fits viable in
+          prefix.longest m (omega (arith, length-take kept line)) (subst IsViable (sym (take-take m kept line (omega arith))) viable)
 
-  to_kept : (n : ℕ) → IsLongestFront IsViable line n → IsLongestFront IsViable (take kept line) n
-  to_kept n front =
-      let near : n ≤ LINE = front_near line n front in
+  to_kept : (n : ℕ) → IsLongestPrefix IsViable line n → IsLongestPrefix IsViable (take kept line) n
+  to_kept n prefix =
+      let bound : n ≤ LINE = prefix_bounded line n prefix in
       record {
-        within = omega (arith, front.within, length-take kept line);
-        holds = subst IsViable (sym (take-take n kept line (omega arith))) front.holds;
+        within = omega (arith, prefix.within, length-take kept line);
+        holds = subst IsViable (sym (take-take n kept line (omega arith))) prefix.holds;
         longest = λ m fits viable.
             let inside : m ≤ length line = omega (arith, length-take kept line) in
             let low : m ≤ kept = omega (arith, length-take kept line) in
-            front.longest m inside (subst IsViable (take-take m kept line low) viable);
+            prefix.longest m inside (subst IsViable (take-take m kept line low) viable);
       }
 
-  pub front_enough : FrontIsEnough line kept
-  front_enough =
+  pub prefix_enough : PrefixIsEnough line kept
+  prefix_enough =
       record {
         same_text = same_text;
         same_column = λ column. (λ c. (c.0, c.1, from_kept c.0 c.2), λ c. (c.0, c.1, to_kept c.0 c.2));
@@ -93,7 +93,7 @@ text_unique_of b gs hs is p q same =
     let plain : AllByRecursion ArePlain (table_of b) = subst (λ z. AllByRecursion ArePlain z) (sym is) (machine_plain MAX_STATES MAX_SYMBOLS (omega arith) (omega arith) hs q) in
     let plain_gs : AllByRecursion ArePlain gs = machine_plain MAX_STATES MAX_SYMBOLS (omega arith) (omega arith) gs p in
     let text_is : text gs ≡ begun_text b ++ [] = same ∙ (ap text (sym is) ∙ (text-table_of b ∙ sym (append-nil (begun_text b)))) in
-    let on : GoesOn b gs [] = text_peel b gs [] (every-front ArePlain b.groups (b.group ∷ []) plain) (every-at ArePlain b.groups b.group [] plain) plain_gs p.some_state text_is in
+    let on : GoesOn b gs [] = text_peel b gs [] (every-prefix ArePlain b.groups (b.group ∷ []) plain) (every-at ArePlain b.groups b.group [] plain) plain_gs p.some_state text_is in
     whole_text_by b gs on.entries on.rest on.is on.text_is ∙ is
 
 -- different machines have different texts

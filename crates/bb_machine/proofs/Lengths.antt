@@ -34,9 +34,9 @@ text_short s k gs machine =
     omega arith
 
 -- a table's first groups have a text that is no longer than the whole text
-pub length-text-front : (xs ys : List (List Entry)) → length (text xs) ≤ length (text (xs ++ ys))
-length-text-front [] ys = omega arith
-length-text-front (g ∷ gs) ys =
+pub length-text-prefix : (xs ys : List (List Entry)) → length (text xs) ≤ length (text (xs ++ ys))
+length-text-prefix [] ys = omega arith
+length-text-prefix (g ∷ gs) ys =
     omega (arith, ap length (flat_map-append (λ y. (95 ∷ []) ++ group_text y) gs ys), length-append (tail_text gs) (tail_text ys), length-append (group_text g) (tail_text gs), length-append (group_text g) (tail_text (gs ++ ys)))
 
 text-push : (gs : List (List Entry)) (g : List Entry) → 0 < length gs → text (gs ++ g ∷ []) ≡ text gs ++ 95 ∷ group_text g
@@ -55,7 +55,7 @@ text-more gs n some below =
     rw (take_more gs n [] below) (text-push (take n gs) (get_or gs n []) (omega (arith, length-take-le n gs)))
 
 length-text-take : (n : ℕ) (gs : List (List Entry)) → length (text (take n gs)) ≤ length (text gs)
-length-text-take n gs = rw take-append-drop at (length-text-front (take n gs) (drop n gs))
+length-text-take n gs = rw take-append-drop at (length-text-prefix (take n gs) (drop n gs))
 
 length-group_of : (s k : ℕ) (gs : List (List Entry)) (n : ℕ) → IsMachineWithin s k gs → n < length gs → length (group_text (get_or gs n [])) ≡ 3 * symbols_of gs
 length-group_of s k gs n machine below =

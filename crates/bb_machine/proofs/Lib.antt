@@ -6,6 +6,7 @@ pub mod Tables
 pub mod Lengths
 pub mod Drafts
 pub mod Entries
-pub mod Fronts
+pub mod Prefixes
 pub mod LawLemmas
 pub mod Filled
+pub mod Facts

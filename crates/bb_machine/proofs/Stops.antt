@@ -11,13 +11,13 @@ use Rattle.bb_machine.specs.Column.{BeginsWith, IsViableWithin}
 use Rattle.bb_machine.specs.Draft.{Begun, begun_text, symbols_limit, IsBegunWithin, IsWholeWithin, table_of, IsStopWithin, IsEntryStop}
 use Rattle.bb_machine.proofs.Texts.{tail_text, GoesOn, text_peel, bar_peel}
 use Rattle.bb_machine.proofs.Groups.{every-at, entry_weaker, entries_weaker, groups_plain, machine_plain, symbols_within}
-use Rattle.bb_machine.proofs.Viable.{viable_begun, viable_front, begun_push, begun_text-push}
+use Rattle.bb_machine.proofs.Viable.{viable_begun, viable_prefix, begun_push, begun_text-push}
 
 pub entry_length : (e : Entry) → length (entry_text e) ≡ 3
 entry_length Undefined = refl
 entry_length (Go w d n) = refl
 
--- of two fronts of a list the shorter begins the longer
+-- of two prefixes of a list the shorter begins the longer
 begins_by : (a b c d : List ℕ) → a ++ b ≡ c ++ d → length c ≤ length a → BeginsWith a c
 begins_by a b [] d _ _ = (a, refl)
 begins_by [] b (y ∷ c) d _ le = absurd (omega arith)
@@ -116,7 +116,7 @@ stop_by s k before bytes n within holds further whole =
     shorter m above v =
         let parts : take m bytes ≡ take (n + 1) bytes ++ drop (n + 1) (take m bytes) = sym (ap (λ x. x ++ drop (n + 1) (take m bytes)) (sym (take-take (n + 1) m bytes (omega arith))) ∙ take-append-drop (n + 1) (take m bytes)) in
         let is : before ++ take m bytes ≡ (before ++ take (n + 1) bytes) ++ drop (n + 1) (take m bytes) = ap (λ x. before ++ x) parts ∙ sym (append_assoc before (take (n + 1) bytes) (drop (n + 1) (take m bytes))) in
-        viable_front s k (before ++ take (n + 1) bytes) (drop (n + 1) (take m bytes)) (subst (λ x. IsViableWithin s k x) is v)
+        viable_prefix s k (before ++ take (n + 1) bytes) (drop (n + 1) (take m bytes)) (subst (λ x. IsViableWithin s k x) is v)
 
     longest : (m : ℕ) → m ≤ length bytes → IsViableWithin s k (before ++ take m bytes) → m ≤ n
     longest m fits v = elim (cases_lt n m) [ inl above ↦ absurd (further (omega arith) (shorter m above v)) | inr below ↦ below ]
@@ -151,11 +151,11 @@ module _ (s k : ℕ) (few_states : s ≤ 25) (few_symbols : k ≤ 10) (b : Begun
       (λ _ v. no_bar (full_follows s k few_states few_symbols b begun v.0 v.1 x v.2.0 full (v.2.1 ∙ append_assoc (begun_text b) (x ∷ []) v.2.0)))
       (λ past. absurd (omega arith))
 
-  viable_entry : (e : Entry) (front : List ℕ) → length b.group < symbols_limit k b.groups → IsEntryOf s (symbols_limit k b.groups) e → BeginsWith (entry_text e) front → IsViableWithin s k (begun_text b ++ front)
-  viable_entry e front room is begins =
+  viable_entry : (e : Entry) (prefix : List ℕ) → length b.group < symbols_limit k b.groups → IsEntryOf s (symbols_limit k b.groups) e → BeginsWith (entry_text e) prefix → IsViableWithin s k (begun_text b ++ prefix)
+  viable_entry e prefix room is begins =
       let longer = viable_begun s k (record { groups = b.groups; group = b.group ++ e ∷ [] }) (begun_push s k b begun e room is) in
-      let text_is : begun_text (record { groups = b.groups; group = b.group ++ e ∷ [] }) ≡ (begun_text b ++ front) ++ begins.0 = begun_text-push b e ∙ (ap (λ x. begun_text b ++ x) begins.1 ∙ sym (append_assoc (begun_text b) front begins.0)) in
-      viable_front s k (begun_text b ++ front) begins.0 (subst (λ x. IsViableWithin s k x) text_is longer)
+      let text_is : begun_text (record { groups = b.groups; group = b.group ++ e ∷ [] }) ≡ (begun_text b ++ prefix) ++ begins.0 = begun_text-push b e ∙ (ap (λ x. begun_text b ++ x) begins.1 ∙ sym (append_assoc (begun_text b) prefix begins.0)) in
+      viable_prefix s k (begun_text b ++ prefix) begins.0 (subst (λ x. IsViableWithin s k x) text_is longer)
 
   entry_stop_on : (x : ℕ) (ys : List ℕ) (n : ℕ) → x ≢ 95 → length b.group < symbols_limit k b.groups → IsEntryStop s (symbols_limit k b.groups) (x ∷ ys) n → IsStopWithin s k (begun_text b) (x ∷ ys) n
   entry_stop_on x ys n no_bar room stop =
@@ -165,11 +165,11 @@ module _ (s k : ℕ) (few_states : s ≤ 25) (few_symbols : k ≤ 10) (b : Begun
     where
       further : n < length (x ∷ ys) → IsViableWithin s k (begun_text b ++ take (n + 1) (x ∷ ys)) → ⊥
       further inside v =
-          let front_is : take (n + 1) (x ∷ ys) ≡ x ∷ take n ys = rw add-one refl in
-          let eq : text v.0 ≡ begun_text b ++ x ∷ (take n ys ++ v.2.0) = v.2.1 ∙ (append_assoc (begun_text b) (take (n + 1) (x ∷ ys)) v.2.0 ∙ ap (λ z. begun_text b ++ (z ++ v.2.0)) front_is) in
+          let prefix_is : take (n + 1) (x ∷ ys) ≡ x ∷ take n ys = rw add-one refl in
+          let eq : text v.0 ≡ begun_text b ++ x ∷ (take n ys ++ v.2.0) = v.2.1 ∙ (append_assoc (begun_text b) (take (n + 1) (x ∷ ys)) v.2.0 ∙ ap (λ z. begun_text b ++ (z ++ v.2.0)) prefix_is) in
           let follows = entry_follows s k few_states few_symbols b begun v.0 v.1 x (take n ys ++ v.2.0) no_bar eq in
           let short : length (take (n + 1) (x ∷ ys)) ≤ length (entry_text follows.0) = omega (arith, length-take-le (n + 1) (x ∷ ys), entry_length follows.0, stop.part) in
-          let same : entry_text follows.0 ++ follows.2.0 ≡ take (n + 1) (x ∷ ys) ++ v.2.0 = sym (ap (λ z. z ++ v.2.0) front_is ∙ follows.2.1) in
+          let same : entry_text follows.0 ++ follows.2.0 ≡ take (n + 1) (x ∷ ys) ++ v.2.0 = sym (ap (λ z. z ++ v.2.0) prefix_is ∙ follows.2.1) in
           stop.longest inside (follows.0, follows.1, begins_by (entry_text follows.0) follows.2.0 (take (n + 1) (x ∷ ys)) v.2.0 same short)
 
       whole : length (x ∷ ys) ≤ n → (gs : List (List Entry)) → IsMachineWithin s k gs → text gs ≡ begun_text b ++ x ∷ ys → ⊥
@@ -183,7 +183,7 @@ module _ (s k : ℕ) (few_states : s ≤ 25) (few_symbols : k ≤ 10) (b : Begun
   bar_stop [] some _ _ = absurd (omega arith)
   bar_stop (x ∷ ys) _ is refused = bar_stop_on x ys is refused
 
-  -- the bytes ahead begin with an entry for which the group has no place
+  -- the bytes ahead begin with an entry for which the group has no room
   pub full_stop : (bytes : List ℕ) → 0 < length bytes → get_or bytes 0 0 ≢ 95 → length b.group ≡ symbols_limit k b.groups → IsStopWithin s k (begun_text b) bytes 0
   full_stop [] some _ _ = absurd (omega arith)
   full_stop (x ∷ ys) _ no_bar full = full_stop_on x ys no_bar full

@@ -4,7 +4,7 @@ use Rattle.std.proofs.lemmas.List.{length-drop, take-set-le, drop-set-add, drop-
 use Rattle.std.specs.Prelude.{map}
 use Rattle.std.proofs.lemmas.List.Elements.{All-from_recursion}
 use Rattle.bb_machine.specs.declared.machine.TheConstants.{MAX_SYMBOLS}
-use Rattle.bb_machine.specs.declared.machine.Place.{Place}
+use Rattle.bb_machine.specs.declared.machine.Slot.{Slot}
 use Rattle.bb_machine.specs.declared.entry.Entry.{Entry}
 use Rattle.bb_machine.specs.declared.entry.Entry.TheVariants.{Undefined}
 use Rattle.bb_machine.specs.Entry.{IsEntryOf}
@@ -16,25 +16,25 @@ module _ {X : Type 0} where
   pub rows-set : (stride count width : ℕ) (xs : List X) (j : ℕ) (v : X) → width ≤ stride → rows stride count width (set xs (count * stride + j) v) ≡ rows stride count width xs
   rows-set stride zero width xs j v le = refl
   rows-set stride (suc count) width xs j v le =
-      let place : suc count * stride + j ≡ stride + (count * stride + j) = omega arith in
+      let offset : suc count * stride + j ≡ stride + (count * stride + j) = omega arith in
       let first : take width (set xs (stride + (count * stride + j)) v) ≡ take width xs = take-set-le width xs (stride + (count * stride + j)) v (omega arith) in
       let rest : drop stride (set xs (stride + (count * stride + j)) v) ≡ set (drop stride xs) (count * stride + j) v = drop-set-add stride xs (count * stride + j) v in
-      rw (place, first, rest) (ap (λ z. take width xs ∷ z) (rows-set stride count width (drop stride xs) j v le))
+      rw (offset, first, rest) (ap (λ z. take width xs ∷ z) (rows-set stride count width (drop stride xs) j v le))
 
   -- one more row
   pub rows-more : (stride count width : ℕ) (xs : List X) → rows stride (count + 1) width xs ≡ rows stride count width xs ++ take width (drop (count * stride) xs) ∷ []
   rows-more stride zero width xs = simp zero-mul
   rows-more stride (suc count) width xs =
-      let place : suc count * stride ≡ stride + count * stride = omega arith in
+      let offset : suc count * stride ≡ stride + count * stride = omega arith in
       let next : suc count + 1 ≡ suc (count + 1) = omega arith in
-      rw (place, next, ← drop-drop (count * stride) stride xs) (ap (λ z. take width xs ∷ z) (rows-more stride count width (drop stride xs)))
+      rw (offset, next, ← drop-drop (count * stride) stride xs) (ap (λ z. take width xs ∷ z) (rows-more stride count width (drop stride xs)))
 
   pub get_or-rows : (stride count width : ℕ) (xs : List X) (q : ℕ) → q < count → get_or (rows stride count width xs) q [] ≡ take width (drop (q * stride) xs)
   get_or-rows stride zero width xs q below = absurd (omega arith)
   get_or-rows stride (suc count) width xs zero below = simp zero-mul
   get_or-rows stride (suc count) width xs (suc q) below =
-      let place : suc q * stride ≡ stride + q * stride = omega arith in
-      rw (place, ← drop-drop (q * stride) stride xs) (get_or-rows stride count width (drop stride xs) q (omega arith))
+      let offset : suc q * stride ≡ stride + q * stride = omega arith in
+      rw (offset, ← drop-drop (q * stride) stride xs) (get_or-rows stride count width (drop stride xs) q (omega arith))
 
   -- one more element of a row
   pub row-more : (from filled : ℕ) (xs : List X) (v : X) → from + filled < length xs → take (filled + 1) (drop from (set xs (from + filled) v)) ≡ take filled (drop from xs) ++ v ∷ []
@@ -52,13 +52,13 @@ get_or-map f (x ∷ xs) zero d = refl
 get_or-map f (x ∷ xs) (suc i) d = get_or-map f xs i d
 
 -- the entry of a table, where it stands
-pub entry_of-table_in : (n k : ℕ) (ps : List Place) (gs : List (List Entry)) (q i : ℕ) (d : Place) → d.entry ≡ Undefined → table_in n k ps ≡ gs → IsTable n k (table_in n k ps) → q < length gs → i < symbols_of gs → (get_or ps (q * MAX_SYMBOLS + i) d).entry ≡ entry_of gs q i
+pub entry_of-table_in : (n k : ℕ) (ps : List Slot) (gs : List (List Entry)) (q i : ℕ) (d : Slot) → d.entry ≡ Undefined → table_in n k ps ≡ gs → IsTable n k (table_in n k ps) → q < length gs → i < symbols_of gs → (get_or ps (q * MAX_SYMBOLS + i) d).entry ≡ entry_of gs q i
 entry_of-table_in n k ps gs q i d blank is table below inside =
     let states : length gs ≡ n = subst (λ (x : List (List Entry)). length x ≡ n) is table.states_is in
     let symbols : symbols_of gs ≡ k = subst (λ (x : List (List Entry)). symbols_of x ≡ k) is table.symbols_is in
     let there : entry_of (table_in n k ps) q i ≡ get_or (entries_in ps) (q * MAX_SYMBOLS + i) Undefined = row-get MAX_SYMBOLS n k (entries_in ps) q i Undefined (omega arith) (omega arith) in
-    let place : get_or (entries_in ps) (q * MAX_SYMBOLS + i) d.entry ≡ (get_or ps (q * MAX_SYMBOLS + i) d).entry = get_or-map (λ (p : Place). p.entry) ps (q * MAX_SYMBOLS + i) d in
-    sym place ∙ (ap (λ e. get_or (entries_in ps) (q * MAX_SYMBOLS + i) e) blank ∙ (sym there ∙ ap (λ (x : List (List Entry)). entry_of x q i) is))
+    let offset : get_or (entries_in ps) (q * MAX_SYMBOLS + i) d.entry ≡ (get_or ps (q * MAX_SYMBOLS + i) d).entry = get_or-map (λ (p : Slot). p.entry) ps (q * MAX_SYMBOLS + i) d in
+    sym offset ∙ (ap (λ e. get_or (entries_in ps) (q * MAX_SYMBOLS + i) e) blank ∙ (sym there ∙ ap (λ (x : List (List Entry)). entry_of x q i) is))
 
 -- each entry of a machine's table names its states and symbols
 pub entry_named : (s k : ℕ) (gs : List (List Entry)) (q i : ℕ) → IsMachineWithin s k gs → q < length gs → i < symbols_of gs → IsEntryOf (length gs) (symbols_of gs) (entry_of gs q i)

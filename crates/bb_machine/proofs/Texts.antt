@@ -95,7 +95,7 @@ bar_peel [] (r ∷ more) ys _ eq = record { at_end = refl; next = r; others = mo
 bar_peel (e ∷ h) rest ys p eq =
     absurd (entry_no_bar e (group_text h ++ tail_text rest) ys p.0 (sym (append_assoc (entry_text e) (group_text h) (tail_text rest)) ∙ eq))
 
--- the table has the groups and the entries that were read in front, and the rest of its text is `more`
+-- the table has the groups and the entries that were read in prefix, and the rest of its text is `more`
 pub record GoesOn (b : Begun) (table : List (List Entry)) (more : List ℕ) : Type 0 where
   pub entries : List Entry
   pub rest : List (List Entry)
@@ -136,6 +136,6 @@ text_from : (cs : List (List Entry)) (g entries : List Entry) (rest : List (List
 text_from [] g entries rest = rw (flat_map-append entry_text g entries) (simp append_assoc)
 text_from (c ∷ cs) g entries rest = rw (bars cs (g ++ entries) rest, flat_map-append entry_text g entries) (simp append_assoc)
 
--- the text of a table that has what was read in front
+-- the text of a table that has what was read in prefix
 pub text_on : (b : Begun) (entries : List Entry) (rest : List (List Entry)) → text (b.groups ++ (b.group ++ entries) ∷ rest) ≡ begun_text b ++ (group_text entries ++ tail_text rest)
 text_on b entries rest = text_from b.groups b.group entries rest

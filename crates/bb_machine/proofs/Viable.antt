@@ -12,9 +12,9 @@ use Rattle.bb_machine.specs.Draft.{Begun, begun_text, symbols_limit, IsBegunWith
 use Rattle.bb_machine.proofs.Texts.{tail_text, text_on}
 use Rattle.bb_machine.proofs.Groups.{every-append, every-push, every-replicate, symbols_fixed, machine_by}
 
--- a front of a viable front is viable
-pub viable_front : (s k : ℕ) (xs ys : List ℕ) → IsViableWithin s k (xs ++ ys) → IsViableWithin s k xs
-viable_front s k xs ys v = (v.0, v.1, (ys ++ v.2.0, v.2.1 ∙ append_assoc xs ys v.2.0))
+-- a prefix of a viable prefix is viable
+pub viable_prefix : (s k : ℕ) (xs ys : List ℕ) → IsViableWithin s k (xs ++ ys) → IsViableWithin s k xs
+viable_prefix s k xs ys v = (v.0, v.1, (ys ++ v.2.0, v.2.1 ∙ append_assoc xs ys v.2.0))
 
 module _ (s k : ℕ) (b : Begun) (begun : IsBegunWithin s k b) where
   -- what was read, with `---` for all that is missing

@@ -73,8 +73,8 @@ IsStop before bytes n = IsStopWithin MAX_STATES MAX_SYMBOLS before bytes n
 
 -- the first bytes of an entry's text
 abbrev pub BeginsEntry : ℕ → ℕ → List ℕ → Type 0
-BeginsEntry states symbols front =
-    (e : Entry) × IsEntryOf states symbols e × BeginsWith (entry_text e) front
+BeginsEntry states symbols prefix =
+    (e : Entry) × IsEntryOf states symbols e × BeginsWith (entry_text e) prefix
 
 -- the first `n` of `bytes` begin an entry's text but are not all of it, and the first `n + 1` begin none
 pub record IsEntryStop (states symbols : ℕ) (bytes : List ℕ) (n : ℕ) : Type 0 where

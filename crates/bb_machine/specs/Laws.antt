@@ -1,13 +1,12 @@
 -- Laws of texts and columns.
 use Rattle.std.specs.Prelude.{◌≡◌, ℕ, ◌<◌, ◌↔◌, List, take}
 use Rattle.bb_machine.specs.declared.machine.TheConstants.{LINE}
-use Rattle.bb_machine.specs.declared.entry.Entry.{Entry}
-use Rattle.bb_machine.specs.Machine.{IsMachine, text}
+use Rattle.bb_machine.specs.Machine.{Table, IsMachine, text}
 use Rattle.bb_machine.specs.Column.{IsColumn}
 
 -- different machines have different texts
 abbrev pub TextsDiffer : Type 0
-TextsDiffer = (a b : List (List Entry)) → IsMachine a → IsMachine b → text a ≡ text b → a ≡ b
+TextsDiffer = (a b : Table) → IsMachine a → IsMachine b → text a ≡ text b → a ≡ b
 
 -- a line has one column
 abbrev pub ColumnIsUnique : Type 0
@@ -15,9 +14,9 @@ ColumnIsUnique = (line : List ℕ) (a b : ℕ) → IsColumn line a → IsColumn 
 
 -- of a line only its first bytes matter, where these are more than the longest text has: they are a
 -- machine's text just where the whole line is, and they have the line's column
-pub record FrontIsEnough (line : List ℕ) (kept : ℕ) : Type 0 where
-  pub same_text : (gs : List (List Entry)) → IsMachine gs → (text gs ≡ take kept line) ↔ (text gs ≡ line)
+pub record PrefixIsEnough (line : List ℕ) (kept : ℕ) : Type 0 where
+  pub same_text : (gs : Table) → IsMachine gs → (text gs ≡ take kept line) ↔ (text gs ≡ line)
   pub same_column : (column : ℕ) → IsColumn (take kept line) column ↔ IsColumn line column
 
-abbrev pub LongFrontsAreEnough : Type 0
-LongFrontsAreEnough = (line : List ℕ) (kept : ℕ) → LINE < kept → FrontIsEnough line kept
+abbrev pub LongPrefixesAreEnough : Type 0
+LongPrefixesAreEnough = (line : List ℕ) (kept : ℕ) → LINE < kept → PrefixIsEnough line kept

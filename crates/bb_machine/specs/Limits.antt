@@ -1,6 +1,7 @@
 -- The limits of a run and of the backward tree, which of them are accepted, and the text of each
 -- refusal. Ranges, their order and the texts are this project's own.
 use Rattle.std.specs.Prelude.{ℕ, ◌+◌, ◌*◌, ◌<◌, ◌≤◌, ◌⊎◌, List, codes}
+use Rattle.bb_machine.specs.declared.limits.TheConstants.{MOST_STEPS, MOST_CELLS, MOST_LEVELS, MOST_NODES}
 use Rattle.bb_machine.specs.declared.limits.LimitFault.{LimitFault}
 use Rattle.bb_machine.specs.declared.limits.LimitFault.TheVariants.{Steps, Cells, Depth, Nodes, DepthCells}
 
@@ -14,33 +15,33 @@ pub record Bounds : Type 0 where
 
 -- limits that are accepted; so `2 * depth - 1` cells, which a backward walk may touch, fit
 pub record IsAccepted (b : Bounds) : Type 0 where
-  pub steps : b.steps ≤ 1000000000000
+  pub steps : b.steps ≤ MOST_STEPS
   pub some_cell : 1 ≤ b.cells
-  pub cells : b.cells ≤ 67108864
-  pub depth : b.depth ≤ 10000
-  pub nodes : b.nodes ≤ 1000000000000
+  pub cells : b.cells ≤ MOST_CELLS
+  pub depth : b.depth ≤ MOST_LEVELS
+  pub nodes : b.nodes ≤ MOST_NODES
   pub depth_fits : 2 * b.depth ≤ b.cells + 1
 
 -- where a fault holds, whatever other faults do
 abbrev pub Holds : Bounds → LimitFault → Type 0
-Holds b Steps = 1000000000000 < b.steps
-Holds b Cells = (b.cells < 1) ⊎ (67108864 < b.cells)
-Holds b Depth = 10000 < b.depth
-Holds b Nodes = 1000000000000 < b.nodes
+Holds b Steps = MOST_STEPS < b.steps
+Holds b Cells = (b.cells < 1) ⊎ (MOST_CELLS < b.cells)
+Holds b Depth = MOST_LEVELS < b.depth
+Holds b Nodes = MOST_NODES < b.nodes
 Holds b DepthCells = b.cells + 1 < 2 * b.depth
 
--- the place of a fault in the order in which faults are told
-abbrev pub place : LimitFault → ℕ
-place Steps = 1
-place Cells = 2
-place Depth = 3
-place Nodes = 4
-place DepthCells = 5
+-- the rank of a fault in the order in which faults are told
+abbrev pub rank : LimitFault → ℕ
+rank Steps = 1
+rank Cells = 2
+rank Depth = 3
+rank Nodes = 4
+rank DepthCells = 5
 
--- the fault holds, and none in an earlier place does
+-- the fault holds, and none of a lower rank does
 pub record IsFirstFault (b : Bounds) (fault : LimitFault) : Type 0 where
   pub holds : Holds b fault
-  pub first : (other : LimitFault) → Holds b other → place fault ≤ place other
+  pub first : (other : LimitFault) → Holds b other → rank fault ≤ rank other
 
 -- what is printed of a fault
 abbrev pub fault_text : LimitFault → List ℕ

@@ -1,7 +1,7 @@
--- How a table stands in a flat list: each row at a multiple of the stride, in its first places.
+-- How a table stands in a flat list: each row at a multiple of the stride, in its first slots.
 use Rattle.std.specs.Prelude.{◌≡◌, ℕ, zero, suc, List, [], ◌∷◌, length, map, take, drop}
 use Rattle.bb_machine.specs.declared.machine.TheConstants.{MAX_SYMBOLS}
-use Rattle.bb_machine.specs.declared.machine.Place.{Place}
+use Rattle.bb_machine.specs.declared.machine.Slot.{Slot}
 use Rattle.bb_machine.specs.declared.entry.Entry.{Entry}
 use Rattle.bb_machine.specs.Machine.{IsMachine, symbols_of}
 
@@ -10,12 +10,12 @@ abbrev pub rows : {X : Type 0} → ℕ → ℕ → ℕ → List X → List (List
 rows stride zero width xs = []
 rows stride (suc count) width xs = take width xs ∷ rows stride count width (drop stride xs)
 
-abbrev pub entries_in : List Place → List Entry
-entries_in places = map (λ p. p.entry) places
+abbrev pub entries_in : List Slot → List Entry
+entries_in slots = map (λ p. p.entry) slots
 
--- the table of so many states and symbols that stands in the places
-abbrev pub table_in : ℕ → ℕ → List Place → List (List Entry)
-table_in states symbols places = rows MAX_SYMBOLS states symbols (entries_in places)
+-- the table of so many states and symbols that stands in the slots
+abbrev pub table_in : ℕ → ℕ → List Slot → List (List Entry)
+table_in states symbols slots = rows MAX_SYMBOLS states symbols (entries_in slots)
 
 -- a machine's table, with as many states and symbols as are counted
 pub record IsTable (states symbols : ℕ) (gs : List (List Entry)) : Type 0 where

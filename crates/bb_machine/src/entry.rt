@@ -63,7 +63,8 @@ impl Next {
     ghost use Rattle.bb_machine.specs.declared.entry.Next.{Next};
     ghost use Rattle.bb_machine.specs.Entry.{next_letter, IsNextOf};
 
-    fn letter(self) -> u8
+    /// The letter of a state, or `Z`.
+    pub fn letter(self) -> u8
         requires { IsNextOf MAX_STATES self }
         ensures { result ≡ next_letter self }
     {

@@ -1,5 +1,5 @@
 //! Laws of texts and columns, as contracts: a call of each does nothing.
-ghost use Rattle.bb_machine.specs.Laws.{TextsDiffer, ColumnIsUnique, LongFrontsAreEnough};
+ghost use Rattle.bb_machine.specs.Laws.{TextsDiffer, ColumnIsUnique, LongPrefixesAreEnough};
 
 /// Different machines have different texts.
 pub fn texts_differ()
@@ -12,6 +12,6 @@ pub fn column_is_unique()
 {}
 
 /// A line of which more than `LINE` first bytes are kept is read as the whole line is.
-pub fn long_fronts_are_enough()
-    ensures { LongFrontsAreEnough }
+pub fn long_prefixes_are_enough()
+    ensures { LongPrefixesAreEnough }
 {}

@@ -4,6 +4,18 @@ use std::fmt;
 use std::fmt::{Display, Formatter};
 use std::marker::Model;
 
+/// The greatest limit of the steps of one simulation.
+pub const MOST_STEPS: u64 = 1_000_000_000_000;
+
+/// The greatest limit of the cells of one tape.
+pub const MOST_CELLS: u64 = 67_108_864;
+
+/// The greatest limit of the levels of one backward tree.
+pub const MOST_LEVELS: u64 = 10_000;
+
+/// The greatest limit of the nodes of one backward tree.
+pub const MOST_NODES: u64 = 1_000_000_000_000;
+
 /// Why limits are refused. Its text is what a program prints.
 #[derive(Clone, Copy, Debug, PartialEq, Eq)]
 pub enum LimitFault {
@@ -64,13 +76,13 @@ impl Limits {
         ensures given { IfOk result (λ limits. limits ≡ record { steps = t; cells = s; depth = d; nodes = n }) }
         ensures first_fault { IfErr result (IsFirstFault (record { steps = t; cells = s; depth = d; nodes = n })) }
     {
-        if t > 1_000_000_000_000 {
+        if t > MOST_STEPS {
             Err(LimitFault::Steps)
-        } else if s < 1 || s > 67_108_864 {
+        } else if s < 1 || s > MOST_CELLS {
             Err(LimitFault::Cells)
-        } else if d > 10_000 {
+        } else if d > MOST_LEVELS {
             Err(LimitFault::Depth)
-        } else if n > 1_000_000_000_000 {
+        } else if n > MOST_NODES {
             Err(LimitFault::Nodes)
         } else if 2 * d > s + 1 {
             Err(LimitFault::DepthCells)

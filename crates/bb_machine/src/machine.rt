@@ -7,7 +7,7 @@ mod writer;
 
 use crate::entry::Entry;
 use arrayvec::ArrayVec;
-use reader::read_front;
+use reader::read_prefix;
 use std::marker::Model;
 use thiserror::Error;
 
@@ -20,7 +20,7 @@ pub const MAX_SYMBOLS: usize = 2;
 /// The bytes of the longest text: three for each entry, and one between groups.
 pub const LINE: usize = MAX_STATES * (3 * MAX_SYMBOLS + 1) - 1;
 
-const PLACES: usize = MAX_STATES * MAX_SYMBOLS;
+const SLOTS: usize = MAX_STATES * MAX_SYMBOLS;
 
 /// A line that is no machine's text. The column is 1 plus the number of the line's first bytes with
 /// which some machine's text begins.
@@ -33,7 +33,7 @@ pub struct Refused {
 /// An entry where it stands in a table. It fills eight bytes, since a step of a run then finds it
 /// without a multiplication.
 #[derive(Clone, Copy)]
-struct Place {
+struct Slot {
     entry: Entry,
     _padding: [u8; 3],
 }
@@ -42,7 +42,7 @@ struct Place {
 /// `MAX_SYMBOLS`.
 #[derive(Drop)]
 pub struct Machine {
-    places: [Place; PLACES],
+    slots: [Slot; SLOTS],
     state_count: u8,
     symbol_count: u8,
 }
@@ -54,15 +54,15 @@ impl Model for Machine {
 
     ghost Value = { List (List Entry) };
 
-    ghost view = { λ m. table_in m.state_count m.symbol_count m.places };
+    ghost view = { λ m. table_in m.state_count m.symbol_count m.slots };
 
-    ghost invariant = { λ m. IsTable m.state_count m.symbol_count (table_in m.state_count m.symbol_count m.places) };
+    ghost invariant = { λ m. IsTable m.state_count m.symbol_count (table_in m.state_count m.symbol_count m.slots) };
 }
 
 impl Machine {
     ghost use Rattle.bb_machine.specs.declared.entry.Entry.{Entry};
     ghost use Rattle.bb_machine.specs.Entry.{IsEntryOf};
-    ghost use Rattle.bb_machine.specs.Machine.{IsMachine, symbols_of, entry_of, text};
+    ghost use Rattle.bb_machine.specs.Machine.{Table, IsMachine, symbols_of, entry_of, text};
     ghost use Rattle.bb_machine.specs.Column.{IsColumn};
 
     /// The machine whose text the line is, or the column of the line where there is none. Nothing
@@ -70,14 +70,14 @@ impl Machine {
     #[inline]
     pub fn read(line: &[u8]) -> Result<Machine, Refused>
         ensures found { IfOk result (λ machine. IsMachine machine × (text machine ≡ line.now)) }
-        ensures only { (machine : List (List Entry)) → IsMachine machine → text machine ≡ line.now → result ≡ Ok machine }
+        ensures only { (machine : Table) → IsMachine machine → text machine ≡ line.now → result ≡ Ok machine }
         ensures column { IfErr result (λ refused. IsColumn line.now refused.column) }
-        ensures near { IfErr result (λ refused. refused.column ≤ LINE + 1) }
+        ensures bounded { IfErr result (λ refused. refused.column ≤ LINE + 1) }
     {
-        match read_front(line) {
+        match read_prefix(line) {
             Ok(machine) => Ok(machine),
-            Err(front) => Err(Refused {
-                column: front as u32 + 1,
+            Err(prefix) => Err(Refused {
+                column: prefix as u32 + 1,
             }),
         }
     }
@@ -106,7 +106,7 @@ impl Machine {
         ensures named { IsEntryOf (length self.now) (symbols_of self.now) result }
         ensures machine { IsMachine self.now }
     {
-        self.places[state as usize * MAX_SYMBOLS + symbol as usize].entry
+        self.slots[state as usize * MAX_SYMBOLS + symbol as usize].entry
     }
 
     /// How many states the machine has, the halting state not counted.

@@ -1,4 +1,4 @@
-//! Worked lines, and a comparison with a second reader that only tries each front of a line.
+//! Worked lines, and a comparison with a second reader that only tries each prefix of a line.
 ghost use Rattle.std.specs.Prelude.{◌≤◌};
 
 use crate::{Dir, Entry, LimitFault, Limits, MAX_STATES, MAX_SYMBOLS, Machine, Next};
@@ -105,10 +105,10 @@ fn expected(line: &[u8]) -> usize {
         }
     }
     let mut column = 1;
-    for front in 0..line.len() + 1 {
+    for prefix in 0..line.len() + 1 {
         for symbols in 2..MAX_SYMBOLS + 1 {
-            if begins_text(&line[..front], MAX_STATES, symbols) {
-                column = front + 1;
+            if begins_text(&line[..prefix], MAX_STATES, symbols) {
+                column = prefix + 1;
             }
         }
     }
@@ -165,19 +165,19 @@ fn entries_are_the_table(rt: HostRuntime) -> Result<(), Fail> {
 }
 
 #[test]
-fn each_changed_byte_is_refused_where_no_front_goes_on(rt: HostRuntime) {
+fn each_changed_byte_is_refused_where_no_prefix_goes_on(rt: HostRuntime) {
     for machine in MACHINES {
         let mut line = [0; 48];
         let length = machine.len();
         assert!(rt; length <= line.len());
         line[..length].copy_from_slice(machine);
-        for place in 0..length {
+        for index in 0..length {
             for byte in 0..=255 {
-                line[place] = byte;
+                line[index] = byte;
                 let changed = &line[..length];
                 assert_eq!(rt; answer(changed), expected(changed), "{changed:?}");
             }
-            line[place] = machine[place];
+            line[index] = machine[index];
         }
     }
 }

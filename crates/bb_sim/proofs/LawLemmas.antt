@@ -1,6 +1,8 @@
 -- Within limits there is a last step: going up from the start, each step is inside or not.
 use Rattle.std.proofs.Common.{◌≡◌, ℕ, zero, suc, ◌<◌, ◌≤◌, ◌⊎◌, inl, inr, Option, Some, None, refl, subst, arith}
-use Rattle.bb_sim.specs.Configuration.{Table, Configuration}
+use Rattle.bb_machine.specs.Limits.{Bounds}
+use Rattle.bb_machine.specs.Machine.{Table}
+use Rattle.bb_sim.specs.Configuration.{Configuration}
 use Rattle.bb_sim.specs.Run.{conf}
 use Rattle.bb_sim.specs.Span.{span, Inside}
 use Rattle.bb_sim.specs.Laws.{LastStepExists}
@@ -8,12 +10,12 @@ use Rattle.bb_sim.proofs.Steps.{conf-start}
 use Rattle.bb_sim.proofs.Outcomes.{span-start}
 
 -- of the steps up to a number, the last one inside
-record IsLastUpTo (table : Table) (steps cells most n : ℕ) : Type 0 where
-  inside : Inside table steps cells n
-  greatest : (m : ℕ) → m ≤ most → Inside table steps cells m → m ≤ n
+record IsLastUpTo (table : Table) (bounds : Bounds) (most n : ℕ) : Type 0 where
+  inside : Inside table bounds n
+  greatest : (m : ℕ) → m ≤ most → Inside table bounds m → m ≤ n
 
-module _ (table : Table) (steps cells : ℕ) (some : 0 < cells) where
-  start_inside : Inside table steps cells 0
+module _ (table : Table) (bounds : Bounds) (some : 0 < bounds.cells) where
+  start_inside : Inside table bounds 0
   start_inside = record { here = _; exists = conf-start table; within_steps = omega arith; within_cells = let one = span-start table in omega (arith, one, some) }
 
   fits_or_not : (a b : ℕ) → (a ≤ b) ⊎ (b < a)
@@ -22,30 +24,30 @@ module _ (table : Table) (steps cells : ℕ) (some : 0 < cells) where
   fits_or_not (suc a) (suc b) = elim (fits_or_not a b) [ inl h ↦ inl (omega (arith, h)) | inr h ↦ inr (omega (arith, h)) ]
 
   -- a step is inside or not
-  inside_or_not : (n : ℕ) → n ≤ steps → (here : Option Configuration) → conf table n ≡ here → Inside table steps cells n ⊎ (Inside table steps cells n → ⊥)
+  inside_or_not : (n : ℕ) → n ≤ bounds.steps → (here : Option Configuration) → conf table n ≡ here → Inside table bounds n ⊎ (Inside table bounds n → ⊥)
   inside_or_not n few None at = inr (λ inside. let exists = inside.exists in cc)
-  inside_or_not n few (Some c) at = elim (fits_or_not (span table n) cells) [
+  inside_or_not n few (Some c) at = elim (fits_or_not (span table n) bounds.cells) [
     | inl fits ↦ inl (record { here = c; exists = at; within_steps = few; within_cells = fits })
     | inr wide ↦ inr (λ inside. let fits = inside.within_cells in absurd (omega (arith, fits, wide)))
   ]
 
   -- the last one up to one step more
-  last_next : (most n : ℕ) → IsLastUpTo table steps cells most n → (Inside table steps cells (suc most) ⊎ (Inside table steps cells (suc most) → ⊥)) → (k : ℕ) × IsLastUpTo table steps cells (suc most) k
+  last_next : (most n : ℕ) → IsLastUpTo table bounds most n → (Inside table bounds (suc most) ⊎ (Inside table bounds (suc most) → ⊥)) → (k : ℕ) × IsLastUpTo table bounds (suc most) k
   last_next most n last (inl inside) = (suc most, record { inside = inside; greatest = λ m h other. omega (arith, h) })
   last_next most n last (inr never) = (n, record { inside = last.inside; greatest = λ m h other. below m h other }) where
     at_most : (m : ℕ) → m ≤ suc most → (m ≡ suc most → ⊥) → m ≤ most
     at_most m h apart = omega (arith, h, apart)
 
-    below : (m : ℕ) → m ≤ suc most → Inside table steps cells m → m ≤ n
-    below m h other = last.greatest m (at_most m h (λ e. never (subst (λ k. Inside table steps cells k) e other))) other
+    below : (m : ℕ) → m ≤ suc most → Inside table bounds m → m ≤ n
+    below m h other = last.greatest m (at_most m h (λ e. never (subst (λ k. Inside table bounds k) e other))) other
 
-  last_up_to : (most : ℕ) → most ≤ steps → (n : ℕ) × IsLastUpTo table steps cells most n
+  last_up_to : (most : ℕ) → most ≤ bounds.steps → (n : ℕ) × IsLastUpTo table bounds most n
   last_up_to zero h = (0, record { inside = start_inside; greatest = λ m few other. omega (arith, few) })
   last_up_to (suc most) h =
       let before = last_up_to most (omega (arith, h)) in
       last_next most before.0 before.1 (inside_or_not (suc most) h _ refl)
 
 pub last_step_exists : LastStepExists
-last_step_exists table steps cells some =
-    let last = last_up_to table steps cells some steps (omega arith) in
+last_step_exists table bounds some =
+    let last = last_up_to table bounds some bounds.steps (omega arith) in
     (last.0, record { inside = last.1.inside; greatest = λ m other. last.1.greatest m other.within_steps other })

@@ -6,18 +6,20 @@ use Rattle.bb_tape.specs.Content.{score}
 use Rattle.bb_tape.specs.Strip.{Strip, IsSound}
 use Rattle.bb_sim.specs.declared.runner.Runner.{Runner}
 use Rattle.bb_sim.specs.declared.meter.Meter.{Meter}
-use Rattle.bb_sim.specs.Configuration.{Table, Configuration, start, next}
+use Rattle.bb_machine.specs.Limits.{Bounds}
+use Rattle.bb_machine.specs.Machine.{Table}
+use Rattle.bb_sim.specs.Configuration.{Configuration, start, next}
 use Rattle.bb_sim.specs.Run.{after, conf, HaltsAt, IsScore}
-use Rattle.bb_sim.specs.Reach.{places}
-use Rattle.bb_sim.specs.Span.{counted_seat, seat, least, greatest, span, Inside, IsLastInside}
+use Rattle.bb_sim.specs.CellsBetween.{cells_between}
+use Rattle.bb_sim.specs.Span.{counted_position_in, counted_head, least, greatest, span, Inside, IsLastInside}
 use Rattle.bb_sim.specs.Meter.{stepped, counted, CountsRun}
 use Rattle.bb_sim.specs.Outcome.{HaltsInside}
 use Rattle.bb_sim.specs.Runner.{Stands}
-use Rattle.bb_sim.proofs.Places.{least_last, greatest_last, places-is, places_wider, min-same, max-same}
-use Rattle.bb_sim.proofs.Steps.{seat-start}
+use Rattle.bb_sim.proofs.Positions.{least_last, greatest_last, cells_between-is, cells_between_wider, min-same, max-same}
+use Rattle.bb_sim.proofs.Steps.{counted_head-start}
 
 -- from a step that doesn't exist on, none does
-none_on : (table : Table) (n k : ℕ) → conf table n ≡ None → conf table (k + n) ≡ None
+pub none_on : (table : Table) (n k : ℕ) → conf table n ≡ None → conf table (k + n) ≡ None
 unfolding conf
 none_on table n zero e = let same : zero + n ≡ n = omega arith in rw same e
 none_on table n (suc k) e =
@@ -39,7 +41,7 @@ halt_is_last table n m c halts exists = no_more (λ beyond.
       no_more : (n < m → ⊥) → m ≤ n
       no_more never = omega (arith, never)
 
-least_falls : (f : ℕ → ℤ) (n k : ℕ) → least f (k + n) ≤ℤ least f n
+pub least_falls : (f : ℕ → ℤ) (n k : ℕ) → least f (k + n) ≤ℤ least f n
 least_falls f n zero = let e : zero + n ≡ n = omega arith in rw e (omega (arith, ints))
 least_falls f n (suc k) =
     let before = least_falls f n k in
@@ -47,7 +49,7 @@ least_falls f n (suc k) =
     let here : int_min (least f (k + n)) (f (suc (k + n))) ≤ℤ least f n = omega (arith, ints, clamps) in
     subst (λ m. least f m ≤ℤ least f n) (sym e) here
 
-greatest_rises : (f : ℕ → ℤ) (n k : ℕ) → greatest f n ≤ℤ greatest f (k + n)
+pub greatest_rises : (f : ℕ → ℤ) (n k : ℕ) → greatest f n ≤ℤ greatest f (k + n)
 greatest_rises f n zero = let e : zero + n ≡ n = omega arith in rw e (omega (arith, ints))
 greatest_rises f n (suc k) =
     let before = greatest_rises f n k in
@@ -62,34 +64,34 @@ ends_in_order f n = let a = least_last f n in let b = greatest_last f n in omega
 pub span_grows : (table : Table) (m n : ℕ) → m ≤ n → span table m ≤ span table n
 span_grows table m n h =
     let e : (n - m) + m ≡ n = omega arith in
-    let low = least_falls (seat table) m (n - m) in
-    let high = greatest_rises (seat table) m (n - m) in
-    subst (λ k. span table m ≤ span table k) e (places_wider _ _ _ _ (ends_in_order (seat table) m) low high)
+    let low = least_falls (counted_head table) m (n - m) in
+    let high = greatest_rises (counted_head table) m (n - m) in
+    subst (λ k. span table m ≤ span table k) e (cells_between_wider _ _ _ _ (ends_in_order (counted_head table) m) low high)
 
 pub span-start : (table : Table) → span table 0 ≡ 1
-span-start table = rw seat-start refl
+span-start table = rw counted_head-start refl
 
-seat-none : (table : Table) (n : ℕ) → conf table n ≡ None → seat table n ≡ pos 0
-unfolding seat
-seat-none table n e = ap counted_seat e
+pub counted_head-none : (table : Table) (n : ℕ) → conf table n ≡ None → counted_head table n ≡ pos 0
+unfolding counted_head
+counted_head-none table n e = ap counted_position_in e
 
--- a halted machine's head takes in no more places
-ends_halted : (table : Table) (n k : ℕ) → HaltsAt table n → (least (seat table) (k + n) ≡ least (seat table) n) × (greatest (seat table) (k + n) ≡ greatest (seat table) n)
+-- a halted machine's head takes in no more positions
+ends_halted : (table : Table) (n k : ℕ) → HaltsAt table n → (least (counted_head table) (k + n) ≡ least (counted_head table) n) × (greatest (counted_head table) (k + n) ≡ greatest (counted_head table) n)
 ends_halted table n zero halts = let e : zero + n ≡ n = omega arith in (rw e refl, rw e refl)
 ends_halted table n (suc k) halts =
     let before = ends_halted table n k halts in
     let none : conf table (k + suc n) ≡ None = none_on table (suc n) k (halt_next table n halts) in
     let e : suc k + n ≡ suc (k + n) = omega arith in
     let d : k + suc n ≡ suc (k + n) = omega arith in
-    let here : seat table (suc (k + n)) ≡ pos 0 = seat-none table (suc (k + n)) (subst (λ m. conf table m ≡ None) d none) in
-    let low = least_falls (seat table) 0 (k + n) in
-    let high = greatest_rises (seat table) 0 (k + n) in
-    let zeroth = seat-start table in
+    let here : counted_head table (suc (k + n)) ≡ pos 0 = counted_head-none table (suc (k + n)) (subst (λ m. conf table m ≡ None) d none) in
+    let low = least_falls (counted_head table) 0 (k + n) in
+    let high = greatest_rises (counted_head table) 0 (k + n) in
+    let zeroth = counted_head-start table in
     let same : (k + n) + 0 ≡ k + n = omega arith in
-    let low_here : least (seat table) (k + n) ≤ℤ pos 0 = rw (same, zeroth) at low in
-    let high_here : pos 0 ≤ℤ greatest (seat table) (k + n) = rw (same, zeroth) at high in
-    let kept_low : int_min (least (seat table) (k + n)) (seat table (suc (k + n))) ≡ least (seat table) (k + n) = rw here (min-same _ _ low_here) in
-    let kept_high : int_max (greatest (seat table) (k + n)) (seat table (suc (k + n))) ≡ greatest (seat table) (k + n) = rw here (max-same _ _ high_here) in
+    let low_here : least (counted_head table) (k + n) ≤ℤ pos 0 = rw (same, zeroth) at low in
+    let high_here : pos 0 ≤ℤ greatest (counted_head table) (k + n) = rw (same, zeroth) at high in
+    let kept_low : int_min (least (counted_head table) (k + n)) (counted_head table (suc (k + n))) ≡ least (counted_head table) (k + n) = rw here (min-same _ _ low_here) in
+    let kept_high : int_max (greatest (counted_head table) (k + n)) (counted_head table (suc (k + n))) ≡ greatest (counted_head table) (k + n) = rw here (max-same _ _ high_here) in
     (rw e (kept_low ∙ before.0), rw e (kept_high ∙ before.1))
 
 -- the span of a halt stays
@@ -105,12 +107,12 @@ span_fits table runner strip stands sound =
     let a = sound.from_zero in
     let b = sound.to_zero in
     let d = sound.within in
-    let n = places-is strip.low strip.high (omega (arith, ints)) in
-    let e : span table runner.steps ≡ places strip.low strip.high = rw (stands.window_low, stands.window_high, stands.low, stands.high) refl in
+    let n = cells_between-is strip.low strip.high (omega (arith, ints)) in
+    let e : span table runner.steps ≡ cells_between strip.low strip.high = rw (stands.window_low, stands.window_high, stands.low, stands.high) refl in
     omega (arith, ints, e)
 
-pub inside_here : (table : Table) (runner : Runner) (strip : Strip) (steps cells : ℕ) → Stands table runner strip → IsSound strip → strip.limit ≡ cells → runner.steps ≤ steps → Inside table steps cells runner.steps
-inside_here table runner strip steps cells stands sound limit few = record {
+pub inside_here : (table : Table) (runner : Runner) (strip : Strip) (bounds : Bounds) → Stands table runner strip → IsSound strip → strip.limit ≡ bounds.cells → runner.steps ≤ bounds.steps → Inside table bounds runner.steps
+inside_here table runner strip bounds stands sound limit few = record {
   here = _;
   exists = stands.at;
   within_steps = few;
@@ -123,42 +125,42 @@ unfolding conf
 next_exists table n c at goes None is = absurd (goes (record { last = c; exists = at; no_next = is }))
 next_exists table n c at goes (Some d) is = (d, rw add-one (ap (option_and_then (next table)) at ∙ is))
 
-module _ (table : Table) (steps cells n : ℕ) (inside : Inside table steps cells n) where
+module _ (table : Table) (bounds : Bounds) (n : ℕ) (inside : Inside table bounds n) where
   -- a step that is wanted is inside
-  pub next_inside : (HaltsAt table n → ⊥) → n ≢ steps → span table (n + 1) ≤ cells → Inside table steps cells (n + 1)
+  pub next_inside : (HaltsAt table n → ⊥) → n ≢ bounds.steps → span table (n + 1) ≤ bounds.cells → Inside table bounds (n + 1)
   next_inside goes apart fits =
       let there = next_exists table n inside.here inside.exists goes _ refl in
       record { here = there.0; exists = there.1; within_steps = omega (arith, apart, inside.within_steps); within_cells = fits }
 
   -- a run that ends here, at the last step inside, stays within the cells up to the limit of steps
-  pub fits_at_halt : HaltsAt table n → span table steps ≤ cells
-  fits_at_halt halts = let same = span_halted table n steps halts inside.within_steps in let fits = inside.within_cells in omega (arith, same, fits)
+  pub fits_at_halt : HaltsAt table n → span table bounds.steps ≤ bounds.cells
+  fits_at_halt halts = let same = span_halted table n bounds.steps halts inside.within_steps in let fits = inside.within_cells in omega (arith, same, fits)
 
-  pub halts_last : HaltsAt table n → IsLastInside table steps cells n
+  pub halts_last : HaltsAt table n → IsLastInside table bounds n
   halts_last halts = record { inside = inside; greatest = λ m other. halt_is_last table n m other.here halts other.exists }
 
-  pub steps_last : n ≡ steps → IsLastInside table steps cells n
+  pub steps_last : n ≡ bounds.steps → IsLastInside table bounds n
   steps_last e = record { inside = inside; greatest = λ m other. omega (arith, e, other.within_steps) }
 
-  below : (m : ℕ) → cells < span table (n + 1) → span table m ≤ cells → m ≤ n
+  below : (m : ℕ) → bounds.cells < span table (n + 1) → span table m ≤ bounds.cells → m ≤ n
   below m wide narrow = not_above (λ beyond. let grows = span_grows table (n + 1) m (omega (arith, beyond)) in omega (arith, grows, wide, narrow)) where
     not_above : (n < m → ⊥) → m ≤ n
     not_above never = omega (arith, never)
 
-  pub cells_last : cells < span table (n + 1) → IsLastInside table steps cells n
+  pub cells_last : bounds.cells < span table (n + 1) → IsLastInside table bounds n
   cells_last wide = record { inside = inside; greatest = λ m other. below m wide other.within_cells }
 
   -- where the last step inside is no halt, no step inside is
-  pub no_halt_inside : IsLastInside table steps cells n → (HaltsAt table n → ⊥) → (m : ℕ) → HaltsInside table steps cells m → ⊥
+  pub no_halt_inside : IsLastInside table bounds n → (HaltsAt table n → ⊥) → (m : ℕ) → HaltsInside table bounds m → ⊥
   no_halt_inside last goes m halts =
       let most = last.greatest m halts.inside in
       let least = halt_is_last table m n inside.here halts.halts inside.exists in
       let same : m ≡ n = omega arith in
       goes (subst (λ k. HaltsAt table k) same halts.halts)
 
-  pub wide_at_end : cells < span table (n + 1) → n ≢ steps → cells < span table steps
+  pub wide_at_end : bounds.cells < span table (n + 1) → n ≢ bounds.steps → bounds.cells < span table bounds.steps
   wide_at_end wide apart =
-      let grows = span_grows table (n + 1) steps (omega (arith, apart, inside.within_steps)) in
+      let grows = span_grows table (n + 1) bounds.steps (omega (arith, apart, inside.within_steps)) in
       omega (arith, grows, wide)
 
 -- the meter of a run that has not stepped
@@ -171,13 +173,13 @@ counted-next meter n a b h = both _ _ _ _ (omega arith) (omega arith) where
   both : (i j k l : ℕ) → i ≡ j → k ≡ l → record meter { steps = i; most_cells = k } ≡ record meter { steps = j; most_cells = l }
   both i j k l e d = cc
 
-module _ (table : Table) (runner : Runner) (strip : Strip) (steps cells : ℕ) (stands : Stands table runner strip) (inside : Inside table steps cells runner.steps) where
+module _ (table : Table) (runner : Runner) (strip : Strip) (bounds : Bounds) (stands : Stands table runner strip) (inside : Inside table bounds runner.steps) where
   -- a runner that stands at a halt
-  pub halted_end : HaltsAt table runner.steps → (n ones : ℕ) → n ≡ runner.steps → ones ≡ score strip.content → HaltsInside table steps cells n × IsScore table n ones
+  pub halted_end : HaltsAt table runner.steps → (n ones : ℕ) → n ≡ runner.steps → ones ≡ score strip.content → HaltsInside table bounds n × IsScore table n ones
   halted_end halts n ones e counted_is =
-      let P : ℕ → Type 0 = λ k. HaltsInside table steps cells k × IsScore table k ones in
+      let P : ℕ → Type 0 = λ k. HaltsInside table bounds k × IsScore table k ones in
       subst P (sym e) (record { halts = halts; inside = inside }, record { here = _; exists = stands.at; counted = counted_is })
 
   -- the run is counted where it ended
-  pub counts_end : (old new : Meter) → IsLastInside table steps cells runner.steps → new ≡ counted old runner.steps (span table runner.steps) → CountsRun table steps cells old new
-  counts_end old new last meter = record { last = runner.steps; is_last = last; meter = meter }
+  pub counts_end : (old new : Meter) → IsLastInside table bounds runner.steps → new ≡ counted old runner.steps (span table runner.steps) → CountsRun table bounds old new
+  counts_end old new last meter = record { last = runner.steps; is_last = last; counts = meter }

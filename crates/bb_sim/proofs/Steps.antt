@@ -4,21 +4,22 @@ use Rattle.std.specs.Int.{int_min, int_max}
 use Rattle.bb_machine.specs.declared.entry.Dir.{Dir}
 use Rattle.bb_machine.specs.declared.entry.Next.{Next}
 use Rattle.bb_machine.specs.declared.entry.Entry.TheVariants.{Undefined, Go}
+use Rattle.bb_machine.specs.Machine.{Table}
 use Rattle.bb_tape.specs.Content.{cell, with_cell}
-use Rattle.bb_sim.specs.Configuration.{Table, Configuration, start, beside, followed, entry_at, next}
+use Rattle.bb_sim.specs.Configuration.{Configuration, start, beside, followed, entry_at, next}
 use Rattle.bb_sim.specs.Run.{conf, HaltsAt}
-use Rattle.bb_sim.specs.Reach.{places}
-use Rattle.bb_sim.specs.Span.{counted_place, counted_seat, seat, least, greatest, span}
-use Rattle.bb_sim.proofs.Places.{least-next, greatest-next}
+use Rattle.bb_sim.specs.CellsBetween.{cells_between}
+use Rattle.bb_sim.specs.Span.{counted_position, counted_position_in, counted_head, least, greatest, span}
+use Rattle.bb_sim.proofs.Positions.{least-next, greatest-next}
 
 -- the configuration that an entry leads to
 abbrev pub led : Configuration → ℕ → Dir → Next → Configuration
 led c write dir state = record { state = state; head = beside dir c.head; tape = with_cell c.tape c.head write }
 
 module _ (table : Table) (n : ℕ) (c : Configuration) (at : conf table n ≡ Some c) where
-  pub seat-at : seat table n ≡ counted_place c.state c.head
-  unfolding seat
-  seat-at = ap counted_seat at
+  pub counted_head-at : counted_head table n ≡ counted_position c.state c.head
+  unfolding counted_head
+  counted_head-at = ap counted_position_in at
 
   pub halts_here : entry_at table c.state (cell c.tape c.head) ≡ Undefined → HaltsAt table n
   unfolding next
@@ -40,9 +41,9 @@ pub conf-start : (table : Table) → conf table 0 ≡ Some start
 unfolding conf
 conf-start table = refl
 
-pub seat-start : (table : Table) → seat table 0 ≡ pos 0
-unfolding seat conf
-seat-start table = refl
+pub counted_head-start : (table : Table) → counted_head table 0 ≡ pos 0
+unfolding counted_head conf
+counted_head-start table = refl
 
-pub span-next : (table : Table) (n : ℕ) → span table (n + 1) ≡ places (int_min (least (seat table) n) (seat table (n + 1))) (int_max (greatest (seat table) n) (seat table (n + 1)))
+pub span-next : (table : Table) (n : ℕ) → span table (n + 1) ≡ cells_between (int_min (least (counted_head table) n) (counted_head table (n + 1))) (int_max (greatest (counted_head table) n) (counted_head table (n + 1)))
 span-next table n = rw (least-next, greatest-next) refl

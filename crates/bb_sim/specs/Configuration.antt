@@ -1,27 +1,23 @@
 -- A configuration and the step to the next one, as Radó and Lin and Radó (1965) have them: a table, a
 -- head on an endless tape, and one state that halts. That an undefined entry makes no step is this
 -- project's choice.
-use Rattle.std.specs.Prelude.{ℕ, Option, Some, None, List, ℤ, pos, ◌+ℤ◌, ◌-ℤ◌}
+use Rattle.std.specs.Prelude.{ℕ, Option, Some, None, ℤ, pos, ◌+ℤ◌, ◌-ℤ◌}
 use Rattle.bb_machine.specs.declared.entry.Dir.{Dir}
 use Rattle.bb_machine.specs.declared.entry.Dir.TheVariants.{L, R}
 use Rattle.bb_machine.specs.declared.entry.Next.{Next}
 use Rattle.bb_machine.specs.declared.entry.Next.TheVariants.{State, Halt}
 use Rattle.bb_machine.specs.declared.entry.Entry.{Entry}
 use Rattle.bb_machine.specs.declared.entry.Entry.TheVariants.{Undefined, Go}
-use Rattle.bb_machine.specs.Machine.{entry_of}
+use Rattle.bb_machine.specs.Machine.{Table, entry_of}
 use Rattle.bb_tape.specs.Content.{Content, blank, cell, with_cell}
 
--- a machine's table: a group for each state, an entry for each symbol
-abbrev pub Table : Type 0
-Table = List (List Entry)
-
--- where a machine stands: its state (`Halt` is Z), the place of the head, and the tape
+-- where a machine stands: its state (`Halt` is Z), the position of the head, and the tape
 pub record Configuration : Type 0 where
   pub state : Next
   pub head : ℤ
   pub tape : Content
 
--- state A, at place 0, on the blank tape
+-- state A, at position 0, on the blank tape
 abbrev pub start : Configuration
 start = record { state = State 0; head = pos 0; tape = blank }
 

@@ -1,8 +1,9 @@
 pub mod Configuration
 pub mod Run
-pub mod Reach
+pub mod CellsBetween
 pub mod Span
 pub mod Meter
 pub mod Runner
+pub mod Widening
 pub mod Outcome
 pub mod Laws

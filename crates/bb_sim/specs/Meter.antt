@@ -1,7 +1,8 @@
 -- What is counted: this project's own.
 use Rattle.std.specs.Prelude.{◌≡◌, ℕ, ◌+◌, ◌≤◌, max}
 use Rattle.bb_sim.specs.declared.meter.Meter.{Meter}
-use Rattle.bb_sim.specs.Configuration.{Table}
+use Rattle.bb_machine.specs.Limits.{Bounds}
+use Rattle.bb_machine.specs.Machine.{Table}
 use Rattle.bb_sim.specs.Span.{span, IsLastInside}
 
 -- nothing counted
@@ -16,19 +17,28 @@ stepped meter cells = record meter { steps = meter.steps + 1; most_cells = max m
 abbrev pub counted : Meter → ℕ → ℕ → Meter
 counted meter steps cells = record meter { steps = meter.steps + steps; most_cells = max meter.most_cells cells }
 
--- a whole run within limits was counted: the steps up to the last one inside, and the cells of its span
-pub record CountsRun (table : Table) (steps cells : ℕ) (old new : Meter) : Type 0 where
-  pub last : ℕ
-  pub is_last : IsLastInside table steps cells last
-  pub meter : new ≡ counted old last (span table last)
+-- the run from its start to step n was counted: so many steps, and the cells of its span
+abbrev pub CountsTo : Table → ℕ → Meter → Meter → Type 0
+CountsTo table n old new = new ≡ counted old n (span table n)
 
--- no more than a run within limits was counted
-pub record IsWithinRun (most_steps cells : ℕ) (old new : Meter) : Type 0 where
-  pub steps : new.steps ≤ old.steps + most_steps
-  pub most_cells : new.most_cells ≤ max old.most_cells cells
+-- a whole run within bounds was counted: the run to the last step inside
+pub record CountsRun (table : Table) (bounds : Bounds) (old new : Meter) : Type 0 where
+  pub last : ℕ
+  pub is_last : IsLastInside table bounds last
+  pub counts : CountsTo table last old new
+
+-- no more than a run within bounds was counted
+pub record IsWithinRun (bounds : Bounds) (old new : Meter) : Type 0 where
+  pub steps : new.steps ≤ old.steps + bounds.steps
+  pub most_cells : new.most_cells ≤ max old.most_cells bounds.cells
   pub nodes : new.nodes ≡ old.nodes
   pub most_levels : new.most_levels ≡ old.most_levels
 
 -- the greater of each count
 abbrev pub greatest_of : Meter → Meter → Meter
-greatest_of a b = record { steps = max a.steps b.steps; most_cells = max a.most_cells b.most_cells; nodes = max a.nodes b.nodes; most_levels = max a.most_levels b.most_levels }
+greatest_of a b = record {
+  steps = max a.steps b.steps;
+  most_cells = max a.most_cells b.most_cells;
+  nodes = max a.nodes b.nodes;
+  most_levels = max a.most_levels b.most_levels;
+}

@@ -1,7 +1,57 @@
-//! Laws of runs within limits, as contracts: a call of each does nothing.
-ghost use Rattle.bb_sim.specs.Laws.{LastStepExists};
+//! Laws of runs, with and without bounds, as contracts: a call of each does nothing.
+ghost use Rattle.bb_sim.specs.Laws.{CountIsWithin, EarlierExists, EarlierIsInside, HaltIsLast, HaltIsUnique, LastStepExists, LastStepIsUnique, OutcomeIsUnique, ScoreIsUnique, SpanGrows, SpanIsReached};
 
-/// A run within limits has a last step.
+/// A run within bounds has a last step.
 pub fn last_step_exists()
     ensures { LastStepExists }
+{}
+
+/// It has one only.
+pub fn last_step_is_unique()
+    ensures { LastStepIsUnique }
+{}
+
+/// What is before a configuration exists.
+pub fn earlier_exists()
+    ensures { EarlierExists }
+{}
+
+/// A halt is at the last configuration: there is no step after it.
+pub fn halt_is_last()
+    ensures { HaltIsLast }
+{}
+
+/// A machine halts at one step only.
+pub fn halt_is_unique()
+    ensures { HaltIsUnique }
+{}
+
+/// A step has one score.
+pub fn score_is_unique()
+    ensures { ScoreIsUnique }
+{}
+
+/// A simulation finds one thing only.
+pub fn outcome_is_unique()
+    ensures { OutcomeIsUnique }
+{}
+
+/// The span never shrinks.
+pub fn span_grows()
+    ensures { SpanGrows }
+{}
+
+/// A step before one inside is inside.
+pub fn earlier_is_inside()
+    ensures { EarlierIsInside }
+{}
+
+/// The ends of the span are positions of the head at steps not in Z, and all such positions lie between them.
+pub fn span_is_reached()
+    ensures { SpanIsReached }
+{}
+
+/// What is counted up to a step inside is within the run's bounds.
+pub fn count_is_within()
+    ensures { CountIsWithin }
 {}

@@ -5,14 +5,16 @@ ghost use Rattle.bb_tape.specs.Content.{cell};
 ghost use Rattle.bb_tape.specs.Strip.{visited, IsBeside};
 ghost use Rattle.bb_sim.specs.Configuration as configuration;
 ghost use Rattle.bb_sim.specs.Configuration.{entry_at};
-ghost use Rattle.bb_sim.specs.Reach.{places};
-ghost use Rattle.bb_sim.specs.Span.{counted_place};
-ghost use Rattle.bb_sim.specs.Runner.{Stands, Answers, Moves, Widens};
+ghost use Rattle.bb_sim.specs.CellsBetween.{cells_between};
+ghost use Rattle.bb_sim.specs.Span.{counted_position};
+ghost use Rattle.bb_sim.specs.Runner.{Answers, Moves, Reaches, Stands, high_of, low_of, position_of, state_of, steps_of};
+ghost use Rattle.bb_sim.specs.Span.{Inside};
+ghost use Rattle.bb_sim.specs.Widening.{Widens};
 ghost use Rattle.bb_sim.specs.declared.runner.Moved.{Moved};
 
 use crate::meter::Meter;
 use bb_machine::{Dir, Entry, Limits, Machine, Next};
-use bb_tape::tape::{Memory, Tape, TapeFault};
+use bb_tape::tape::{MOST_CELLS, Memory, Tape, TapeFault};
 
 /// What a call of `Runner::advance` did. All but `Stepped` change nothing.
 #[derive(Clone, Copy, Debug, PartialEq, Eq)]
@@ -38,10 +40,10 @@ pub struct Runner {
 }
 
 impl Runner {
-    /// Resets the tape and stands at configuration 0: state A, at place 0.
+    /// Resets the tape and stands at configuration 0: state A, at position 0.
     pub fn start<T: Tape>(machine: &Machine, tape: &mut T) -> Runner
         ensures stands { Stands machine.now result (T.strip tape.new) }
-        ensures steps { result.steps ≡ 0 }
+        ensures steps { steps_of result ≡ 0 }
         ensures limit { (T.strip tape.new).limit ≡ (T.strip tape.old).limit }
     {
         let _states = machine.states();
@@ -68,14 +70,17 @@ impl Runner {
     ) -> Result<Moved, Memory>
         requires stands { Stands machine.now self.old (T.strip tape.old) }
         requires limit { (T.strip tape.old).limit ≡ limits.now.cells }
-        requires steps { self.old.steps ≤ limits.now.steps }
+        requires steps { steps_of self.old ≤ limits.now.steps }
         requires room { meter.old.steps + 1 < 2 ^ 64 }
-        ensures answers { IfOk result (Answers machine.now limits.now.steps limits.now.cells self.old.steps) }
-        ensures moves { IfOk result (Moves machine.now self.old self.new (T.strip tape.old) (T.strip tape.new) meter.old meter.new) }
+        ensures before { Inside machine.now limits.now (steps_of self.old) }
+        ensures answers { IfOk result (Answers machine.now limits.now (steps_of self.old)) }
+        ensures moves { IfOk result (Moves machine.now self.old self.new (T.strip tape.old) (T.strip tape.new)
+            meter.old meter.new) }
+        ensures reaches { IfOk result (Reaches machine.now limits.now self.new (T.strip tape.new)) }
         ensures stands { OnOk result (Stands machine.now self.new (T.strip tape.new)) }
         ensures limit { (T.strip tape.new).limit ≡ (T.strip tape.old).limit }
         ensures memory { OnErr result (IsTrue T.GROWS) }
-        ensures wanted { OnErr result (Answers machine.now limits.now.steps limits.now.cells self.old.steps Moved.Stepped) }
+        ensures wanted { OnErr result (Answers machine.now limits.now (steps_of self.old) Moved.Stepped) }
         ensures uncounted { OnErr result (meter.new ≡ meter.old) }
     {
         let Entry::Go { write, dir, next } = self.entry(machine, tape) else {
@@ -114,13 +119,13 @@ impl Runner {
         }
     }
 
-    /// Lets the head into a place beside the window, or into Z, if the limit of cells allows it.
+    /// Lets the head into a position beside the window, or into Z, if the limit of cells allows it.
     #[inline]
     fn enter<T: Tape>(&mut self, tape: &mut T, next: Next, position: i64) -> bool
         requires near { IsBeside (T.strip tape.old) position }
         requires low { (T.strip tape.old).low ≡ self.old.low }
         requires high { (T.strip tape.old).high ≡ self.old.high }
-        ensures { Widens self.old self.new (T.strip tape.old) (T.strip tape.new) (counted_place next position) result }
+        ensures { Widens self.old self.new (T.strip tape.old) (T.strip tape.new) (counted_position next position) result }
     {
         match next {
             Next::State(_) => self.widen(tape, position),
@@ -128,21 +133,21 @@ impl Runner {
         }
     }
 
-    /// Widens the window to a place beside it, if the limit of cells allows it.
+    /// Widens the window to a position beside it, if the limit of cells allows it.
     #[inline]
-    fn widen<T: Tape>(&mut self, tape: &mut T, place: i64) -> bool
-        requires near { IsBeside (T.strip tape.old) place }
+    fn widen<T: Tape>(&mut self, tape: &mut T, position: i64) -> bool
+        requires near { IsBeside (T.strip tape.old) position }
         requires low { (T.strip tape.old).low ≡ self.old.low }
         requires high { (T.strip tape.old).high ≡ self.old.high }
-        ensures { Widens self.old self.new (T.strip tape.old) (T.strip tape.new) place result }
+        ensures { Widens self.old self.new (T.strip tape.old) (T.strip tape.new) position result }
     {
-        if self.low <= place && place <= self.high {
+        if self.low <= position && position <= self.high {
             return true;
         }
-        match tape.visit(place) {
+        match tape.visit(position) {
             Ok(()) => {
-                self.low = self.low.min(place);
-                self.high = self.high.max(place);
+                self.low = self.low.min(position);
+                self.high = self.high.max(position);
                 true
             }
             Err(_) => false,
@@ -151,17 +156,17 @@ impl Runner {
 
     /// How many cells the window has.
     #[inline]
-    fn cells(&self) -> u64
-        requires order { self.now.low ≤ℤ self.now.high }
-        requires small { places self.now.low self.now.high ≤ 67108864 }
-        ensures { result ≡ places self.now.low self.now.high }
+    pub fn cells(&self) -> u64
+        requires order { low_of self.now ≤ℤ high_of self.now }
+        requires small { cells_between (low_of self.now) (high_of self.now) ≤ MOST_CELLS }
+        ensures { result ≡ cells_between (low_of self.now) (high_of self.now) }
     {
         (self.high - self.low) as u64 + 1
     }
 
     /// The state, from 0 for A; none in Z.
     pub fn state(&self) -> Option<u8>
-        ensures { MatchOption result (self.now.state ≡ Next.Halt) (λ state. self.now.state ≡ Next.State state) }
+        ensures { MatchOption result (state_of self.now ≡ Next.Halt) (λ state. state_of self.now ≡ Next.State state) }
     {
         match self.state {
             Next::State(state) => Some(state),
@@ -171,7 +176,7 @@ impl Runner {
 
     /// Where the head stands. In Z this may lie outside the window.
     pub fn position(&self) -> i64
-        ensures { result ≡ self.now.position }
+        ensures { result ≡ position_of self.now }
     {
         self.position
     }
@@ -179,31 +184,31 @@ impl Runner {
     /// How many steps were made.
     #[inline]
     pub fn steps(&self) -> u64
-        ensures { result ≡ self.now.steps }
+        ensures { result ≡ steps_of self.now }
     {
         self.steps
     }
 
-    /// The least place of the window.
+    /// The least position of the window.
     pub fn low(&self) -> i64
-        ensures { result ≡ self.now.low }
+        ensures { result ≡ low_of self.now }
     {
         self.low
     }
 
-    /// The greatest place of the window.
+    /// The greatest position of the window.
     pub fn high(&self) -> i64
-        ensures { result ≡ self.now.high }
+        ensures { result ≡ high_of self.now }
     {
         self.high
     }
 }
 
-/// The place beside another.
+/// The position beside another.
 #[inline]
 fn beside(position: i64, dir: Dir) -> i64
-    requires low { neg_ℤ (pos 67108864) ≤ℤ position }
-    requires high { position ≤ℤ pos 67108864 }
+    requires low { neg_ℤ (pos MOST_CELLS) ≤ℤ position }
+    requires high { position ≤ℤ pos MOST_CELLS }
     ensures { result ≡ configuration.beside dir position }
 {
     match dir {

@@ -29,9 +29,9 @@ pub fn simulate<T: Tape>(
 ) -> Result<Outcome, Memory>
     requires limit { (T.strip tape.old).limit ≡ limits.now.cells }
     requires room { meter.old.steps + limits.now.steps + 1 < 2 ^ 64 }
-    ensures outcome { IfOk result (IsOutcome machine.now limits.now.steps limits.now.cells) }
-    ensures counted { OnOk result (CountsRun machine.now limits.now.steps limits.now.cells meter.old meter.new) }
-    ensures within { IsWithinRun limits.now.steps limits.now.cells meter.old meter.new }
+    ensures outcome { IfOk result (IsOutcome machine.now limits.now) }
+    ensures counted { OnOk result (CountsRun machine.now limits.now meter.old meter.new) }
+    ensures within { IsWithinRun limits.now meter.old meter.new }
     ensures limit { (T.strip tape.new).limit ≡ (T.strip tape.old).limit }
     ensures memory { OnErr result (IsTrue T.GROWS) }
 {

@@ -7,7 +7,7 @@ use bb_machine::{Limits, Machine};
 use bb_tape::{MapTape, RingTape, Tape};
 use std::process::Abort;
 
-/// A configuration: the state's letter, the head's place, the places that have a 1, and the span.
+/// A configuration: the state's letter, the head's position, the positions that have a 1, and the span.
 type Seen = (char, i64, &'static [i64], i64);
 
 const CELLS: u64 = 64;
@@ -94,12 +94,12 @@ fn follows<T: Tape>(rt: &impl Abort, mut tape: T, text: &[u8], run: &[Seen])
         assert_eq!(rt; runner.steps(), n as u64);
         assert_eq!(rt; letter(runner.state()), *state, "at step {n}");
         assert_eq!(rt; runner.position(), *position, "at step {n}");
-        for place in -40..41 {
-            let one = ones.contains(&place);
+        for position in -40..41 {
+            let one = ones.contains(&position);
             assert_eq!(rt;
-                tape.read(place),
+                tape.read(position),
                 u8::from(one),
-                "at step {n}, cell {place}"
+                "at step {n}, cell {position}"
             );
         }
         let width = runner.high().checked_sub(runner.low());

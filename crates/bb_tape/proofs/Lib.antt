@@ -12,3 +12,4 @@ mod Rings
 mod RingSteps
 mod Pieces
 mod Wholes
+pub mod Facts

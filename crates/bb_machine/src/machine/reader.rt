@@ -2,7 +2,7 @@
 ghost use Rattle.std.specs.Prelude.{◌≡◌, ℕ, ◌+◌, ◌*◌, ◌≤◌, ◌<◌, ◌↔◌, List, [], ◌∷◌, ◌++◌, length, take, drop, IsTrue, IfOk, IfErr, Ok};
 
 use crate::entry::Entry;
-use crate::machine::{LINE, MAX_STATES, MAX_SYMBOLS, Machine, PLACES, Place};
+use crate::machine::{LINE, MAX_STATES, MAX_SYMBOLS, Machine, SLOTS, Slot};
 
 /// How much was read of a text so far: `states` counts the groups, with the one at work, and `filled`
 /// the entries of that one; `symbols` is the most that can be, until a `_` has closed the first group.
@@ -91,7 +91,7 @@ impl Draft {
                 self.push(entry);
                 Ok(3)
             }
-            Err(front) => Err(front),
+            Err(prefix) => Err(prefix),
         }
     }
 
@@ -106,16 +106,16 @@ impl Draft {
 ghost use Rattle.bb_machine.specs.declared.entry.Entry.{Entry};
 ghost use Rattle.bb_machine.specs.Machine.{IsMachine, IsGroup, group_text, text};
 ghost use Rattle.bb_machine.specs.Rows.{IsTable, entries_in, table_in};
-ghost use Rattle.bb_machine.specs.Column.{BeginsWith, IsViable, IsLongestFront};
+ghost use Rattle.bb_machine.specs.Column.{BeginsWith, IsViable, IsLongestPrefix};
 ghost use Rattle.bb_machine.specs.Draft.{Begun, IsDraft, begun_text, IsStop};
 
 /// The machine whose text the line is, or how many of its first bytes begin some machine's text.
 #[inline]
-pub(super) fn read_front(line: &[u8]) -> Result<Machine, usize>
+pub(super) fn read_prefix(line: &[u8]) -> Result<Machine, usize>
     ensures found { IfOk result (λ machine. IsMachine machine × (text machine ≡ line.now)) }
     ensures only { (machine : List (List Entry)) → IsMachine machine → text machine ≡ line.now → result ≡ Ok machine }
-    ensures front { IfErr result (IsLongestFront IsViable line.now) }
-    ensures near { IfErr result (λ n. n ≤ LINE) }
+    ensures prefix { IfErr result (IsLongestPrefix IsViable line.now) }
+    ensures bounded { IfErr result (λ n. n ≤ LINE) }
 {
     let draft = scan(line)?;
     if draft.is_machine() {
@@ -151,30 +151,30 @@ fn machine_of(line: &[u8], states: usize, symbols: usize) -> Machine
     requires { (gs : List (List Entry)) × IsTable states symbols gs × (text gs ≡ line.now) }
     ensures { (gs : List (List Entry)) → IsTable states symbols gs → text gs ≡ line.now → result ≡ gs }
 {
-    let mut places = [Place {
+    let mut slots = [Slot {
         entry: Entry::Undefined,
         _padding: [0; 3],
-    }; PLACES];
+    }; SLOTS];
     for row in 0..states {
-        fill_row(&mut places, row, symbols, &line[row * (3 * symbols + 1)..]);
+        fill_row(&mut slots, row, symbols, &line[row * (3 * symbols + 1)..]);
     }
     Machine {
-        places,
+        slots,
         state_count: states as u8,
         symbol_count: symbols as u8,
     }
 }
 
 /// Puts the entries of a group, whose text stands first in the bytes, into a row.
-fn fill_row(places: &mut [Place; PLACES], row: usize, symbols: usize, bytes: &[u8])
+fn fill_row(slots: &mut [Slot; SLOTS], row: usize, symbols: usize, bytes: &[u8])
     requires row { row < MAX_STATES }
     requires symbols { symbols ≤ MAX_SYMBOLS }
     requires group { (g : List Entry) × IsGroup MAX_STATES symbols g × BeginsWith bytes.now (group_text g) }
     ensures row { (g : List Entry) → IsGroup MAX_STATES symbols g → BeginsWith bytes.now (group_text g)
-        → take symbols (drop (row * MAX_SYMBOLS) (entries_in places.new)) ≡ g }
-    ensures before { table_in row symbols places.new ≡ table_in row symbols places.old }
+        → take symbols (drop (row * MAX_SYMBOLS) (entries_in slots.new)) ≡ g }
+    ensures before { table_in row symbols slots.new ≡ table_in row symbols slots.old }
 {
     for symbol in 0..symbols {
-        places[row * MAX_SYMBOLS + symbol].entry = Entry::at_first(&bytes[3 * symbol..]);
+        slots[row * MAX_SYMBOLS + symbol].entry = Entry::at_first(&bytes[3 * symbol..]);
     }
 }

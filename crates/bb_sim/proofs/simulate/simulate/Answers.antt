@@ -24,43 +24,43 @@ returns-in-Halted-clause-outcome g c =
     let here = c.loop-runner.invariant in
     let halts = rw c.in-Halted.is at c.in_ok-advance.ensures.answers in
     let stays = rw c.in-Halted.is at c.in_ok-advance.ensures.moves in
-    let inside = inside_here _ _ _ _ _ here.stands (g.met.T.Tape.sound c.loop-runner.tape) here.limit here.steps in
-    halted_end _ _ _ _ _ here.stands inside halts _ _ (c.steps.ensures ∙ ap (λ r. r.steps) stays.runner) (c.score.ensures ∙ ap (λ (s : Strip). score s.content) stays.strip)
+    let inside = inside_here _ _ _ _ here.stands (g.met.T.Tape.sound c.loop-runner.tape) here.limit here.steps in
+    halted_end _ _ _ _ here.stands inside halts _ _ (c.steps.ensures ∙ ap (λ r. r.steps) stays.runner) (c.score.ensures ∙ ap (λ (s : Strip). score s.content) stays.strip)
 
 pub returns-in-Halted-clause-counted : goal.returns-in-Halted-clause-counted
 returns-in-Halted-clause-counted g c =
     let here = c.loop-runner.invariant in
     let halts = rw c.in-Halted.is at c.in_ok-advance.ensures.answers in
     let stays = rw c.in-Halted.is at c.in_ok-advance.ensures.moves in
-    let inside = inside_here _ _ _ _ _ here.stands (g.met.T.Tape.sound c.loop-runner.tape) here.limit here.steps in
-    counts_end _ _ _ _ _ here.stands inside _ _ (halts_last _ _ _ _ inside halts) (stays.meter ∙ here.meter)
+    let inside = inside_here _ _ _ _ here.stands (g.met.T.Tape.sound c.loop-runner.tape) here.limit here.steps in
+    counts_end _ _ _ _ here.stands inside _ _ (halts_last _ _ _ inside halts) (stays.meter ∙ here.meter)
 
 pub returns-in-NoSteps-clause-outcome : goal.returns-in-NoSteps-clause-outcome
 returns-in-NoSteps-clause-outcome g c =
     let here = c.loop-runner.invariant in
     let answers = rw c.in-NoSteps.is at c.in_ok-advance.ensures.answers in
-    let inside = inside_here _ _ _ _ _ here.stands (g.met.T.Tape.sound c.loop-runner.tape) here.limit here.steps in
-    (no_halt_inside _ _ _ _ inside (steps_last _ _ _ _ inside answers.1) answers.0, rw (← answers.1) inside.within_cells)
+    let inside = inside_here _ _ _ _ here.stands (g.met.T.Tape.sound c.loop-runner.tape) here.limit here.steps in
+    (no_halt_inside _ _ _ inside (steps_last _ _ _ inside answers.1) answers.0, rw (← answers.1) inside.within_cells)
 
 pub returns-in-NoSteps-clause-counted : goal.returns-in-NoSteps-clause-counted
 returns-in-NoSteps-clause-counted g c =
     let here = c.loop-runner.invariant in
     let answers = rw c.in-NoSteps.is at c.in_ok-advance.ensures.answers in
     let stays = rw c.in-NoSteps.is at c.in_ok-advance.ensures.moves in
-    let inside = inside_here _ _ _ _ _ here.stands (g.met.T.Tape.sound c.loop-runner.tape) here.limit here.steps in
-    counts_end _ _ _ _ _ here.stands inside _ _ (steps_last _ _ _ _ inside answers.1) (stays.meter ∙ here.meter)
+    let inside = inside_here _ _ _ _ here.stands (g.met.T.Tape.sound c.loop-runner.tape) here.limit here.steps in
+    counts_end _ _ _ _ here.stands inside _ _ (steps_last _ _ _ inside answers.1) (stays.meter ∙ here.meter)
 
 pub returns-in-NoCells-clause-outcome : goal.returns-in-NoCells-clause-outcome
 returns-in-NoCells-clause-outcome g c =
     let here = c.loop-runner.invariant in
     let answers = rw c.in-NoCells.is at c.in_ok-advance.ensures.answers in
-    let inside = inside_here _ _ _ _ _ here.stands (g.met.T.Tape.sound c.loop-runner.tape) here.limit here.steps in
-    (no_halt_inside _ _ _ _ inside (cells_last _ _ _ _ inside answers.2) answers.0, wide_at_end _ _ _ _ inside answers.2 answers.1)
+    let inside = inside_here _ _ _ _ here.stands (g.met.T.Tape.sound c.loop-runner.tape) here.limit here.steps in
+    (no_halt_inside _ _ _ inside (cells_last _ _ _ inside answers.2) answers.0, wide_at_end _ _ _ inside answers.2 answers.1)
 
 pub returns-in-NoCells-clause-counted : goal.returns-in-NoCells-clause-counted
 returns-in-NoCells-clause-counted g c =
     let here = c.loop-runner.invariant in
     let answers = rw c.in-NoCells.is at c.in_ok-advance.ensures.answers in
     let stays = rw c.in-NoCells.is at c.in_ok-advance.ensures.moves in
-    let inside = inside_here _ _ _ _ _ here.stands (g.met.T.Tape.sound c.loop-runner.tape) here.limit here.steps in
-    counts_end _ _ _ _ _ here.stands inside _ _ (cells_last _ _ _ _ inside answers.2) (stays.meter ∙ here.meter)
+    let inside = inside_here _ _ _ _ here.stands (g.met.T.Tape.sound c.loop-runner.tape) here.limit here.steps in
+    counts_end _ _ _ _ here.stands inside _ _ (cells_last _ _ _ inside answers.2) (stays.meter ∙ here.meter)

@@ -24,4 +24,4 @@ fill_row-requires-clause-group c =
 pub loop-row-preserved : goal.loop-row-preserved
 loop-row-preserved c gs table is =
     let read = group_read gs c.args.line.now c.args.states c.args.symbols c.loop-row.row table is c.loop-row-test.true in
-    table_grows c.loop-row.places c.fill_row.new.places c.loop-row.row c.args.symbols gs (omega (arith, table.states_is, c.loop-row-test.true)) (c.loop-row.invariant gs table is) c.fill_row.ensures.before (c.fill_row.ensures.row (get_or gs c.loop-row.row []) read.0 read.1)
+    table_grows c.loop-row.slots c.fill_row.new.slots c.loop-row.row c.args.symbols gs (omega (arith, table.states_is, c.loop-row-test.true)) (c.loop-row.invariant gs table is) c.fill_row.ensures.before (c.fill_row.ensures.row (get_or gs c.loop-row.row []) read.0 read.1)

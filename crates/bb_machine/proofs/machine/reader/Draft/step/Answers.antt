@@ -23,4 +23,4 @@ returns-then-self-clause-stop c b draft =
 pub returns-in-Err-clause-stop : goal.returns-in-Err-clause-stop
 returns-in-Err-clause-stop c b draft =
     let room : length b.group < symbols_limit MAX_SYMBOLS b.groups = omega (arith, draft.filled_is, draft.symbols_is, c.if-self.false) in
-    entry_stop MAX_STATES MAX_SYMBOLS (omega arith) (omega arith) b draft.begun c.args.bytes.now c.in-Err.front (search rules) (search rules) room (rw draft.symbols_is c.in-Err.ensures.stop)
+    entry_stop MAX_STATES MAX_SYMBOLS (omega arith) (omega arith) b draft.begun c.args.bytes.now c.in-Err.prefix (search rules) (search rules) room (rw draft.symbols_is c.in-Err.ensures.stop)

@@ -1,4 +1,4 @@
--- From where the reader stops to the longest front of the whole line.
+-- From where the reader stops to the longest prefix of the whole line.
 use Rattle.std.proofs.Common.{◌≡◌, ℕ, ◌+◌, ◌-◌, ◌≤◌, List, [], ◌∷◌, ◌++◌, length, take, drop, sym, ◌∙◌, ap, subst, inl, inr, arith}
 use Rattle.std.proofs.lemmas.List.{append-nil, length-append, take-append-drop, length-drop, length-take-le, take_all}
 use Rattle.std.proofs.lemmas.Bool.{cases_lt}
@@ -6,7 +6,7 @@ use Rattle.std.proofs.Math.Seq.{take-add}
 use Rattle.bb_machine.specs.declared.machine.TheConstants.{MAX_STATES, MAX_SYMBOLS, LINE}
 use Rattle.bb_machine.specs.declared.entry.Entry.{Entry}
 use Rattle.bb_machine.specs.Machine.{IsMachine, text}
-use Rattle.bb_machine.specs.Column.{IsViableWithin, IsViable, IsLongestFront}
+use Rattle.bb_machine.specs.Column.{IsViableWithin, IsViable, IsLongestPrefix}
 use Rattle.bb_machine.specs.Draft.{Begun, begun_text, IsBegun, IsStopWithin, IsStop, table_of}
 use Rattle.bb_machine.proofs.Texts.{text_on}
 use Rattle.bb_machine.proofs.Viable.{viable_begun}
@@ -34,20 +34,20 @@ stop_joined s k line at n here stop =
           | inr below ↦ omega arith
         ]
 
-pub longest_front : (line : List ℕ) (n : ℕ) → IsStop [] line n → IsLongestFront IsViable line n
-longest_front line n stop = record { within = stop.within; holds = stop.holds; longest = stop.longest }
+pub longest_prefix : (line : List ℕ) (n : ℕ) → IsStop [] line n → IsLongestPrefix IsViable line n
+longest_prefix line n stop = record { within = stop.within; holds = stop.holds; longest = stop.longest }
 
--- no viable front is longer than the longest text
-pub viable_near : (line : List ℕ) (n : ℕ) → n ≤ length line → IsViable (take n line) → n ≤ LINE
-viable_near line n within viable =
+-- no viable prefix is longer than the longest text
+pub viable_bounded : (line : List ℕ) (n : ℕ) → n ≤ length line → IsViable (take n line) → n ≤ LINE
+viable_bounded line n within viable =
     omega (arith, text_short MAX_STATES MAX_SYMBOLS viable.0 viable.1, ap length viable.2.1, length-append (take n line) viable.2.0, length-take-le n line within)
 
-pub front_near : (line : List ℕ) (n : ℕ) → IsLongestFront IsViable line n → n ≤ LINE
-front_near line n front = viable_near line n front.within front.holds
+pub prefix_bounded : (line : List ℕ) (n : ℕ) → IsLongestPrefix IsViable line n → n ≤ LINE
+prefix_bounded line n prefix = viable_bounded line n prefix.within prefix.holds
 
--- a line that was read whole is its own longest front
-pub whole_front : (line : List ℕ) (b : Begun) → IsBegun b → begun_text b ≡ line → IsLongestFront IsViable line (length line)
-whole_front line b begun is =
+-- a line that was read whole is its own longest prefix
+pub whole_prefix : (line : List ℕ) (b : Begun) → IsBegun b → begun_text b ≡ line → IsLongestPrefix IsViable line (length line)
+whole_prefix line b begun is =
     let all : take (length line) line ≡ line = take_all (length line) line (omega arith) in
     record {
       within = omega arith;

@@ -3,18 +3,18 @@ use Rattle.std.proofs.lemmas.Result.{err_from_is_err_and}
 use Rattle.bb_machine.specs.Machine.{IsMachine}
 use Rattle.bb_machine.specs.Draft.{table_of}
 use Rattle.bb_machine.proofs.Drafts.{draft_table}
-use Rattle.bb_machine.proofs.Fronts.{longest_front, front_near, whole_front, whole_table, text-table_of}
-use Rattle.bb_machine.proofs.machine.reader.read_front.Goals as goal
+use Rattle.bb_machine.proofs.Prefixes.{longest_prefix, prefix_bounded, whole_prefix, whole_table, text-table_of}
+use Rattle.bb_machine.proofs.machine.reader.read_prefix.Goals as goal
 
-pub returns-in_err-draft-clause-front : goal.returns-in_err-draft-clause-front
-returns-in_err-draft-clause-front c =
+pub returns-in_err-draft-clause-prefix : goal.returns-in_err-draft-clause-prefix
+returns-in_err-draft-clause-prefix c =
     let p = err_from_is_err_and c.from_residual.result c.from_residual.ensures.1 in
-    rw (p.1, p.2) (longest_front c.args.line.now c.in_err-draft.field-0.0 c.in_err-draft.ensures.stop)
+    rw (p.1, p.2) (longest_prefix c.args.line.now c.in_err-draft.field-0.0 c.in_err-draft.ensures.stop)
 
-pub returns-in_err-draft-clause-near : goal.returns-in_err-draft-clause-near
-returns-in_err-draft-clause-near c =
+pub returns-in_err-draft-clause-bounded : goal.returns-in_err-draft-clause-bounded
+returns-in_err-draft-clause-bounded c =
     let p = err_from_is_err_and c.from_residual.result c.from_residual.ensures.1 in
-    rw (p.1, p.2) (front_near c.args.line.now c.in_err-draft.field-0.0 (longest_front c.args.line.now c.in_err-draft.field-0.0 c.in_err-draft.ensures.stop))
+    rw (p.1, p.2) (prefix_bounded c.args.line.now c.in_err-draft.field-0.0 (longest_prefix c.args.line.now c.in_err-draft.field-0.0 c.in_err-draft.ensures.stop))
 
 pub machine_of-requires : goal.machine_of-requires
 machine_of-requires c =
@@ -43,11 +43,11 @@ returns-else-is_machine-clause-only c machine is same =
     let yes : IsTrue c.is_machine.result = (c.is_machine.ensures read.0 read.1).1 (rw table at is) in
     absurd (search rules)
 
-pub returns-else-is_machine-clause-front : goal.returns-else-is_machine-clause-front
-returns-else-is_machine-clause-front c =
+pub returns-else-is_machine-clause-prefix : goal.returns-else-is_machine-clause-prefix
+returns-else-is_machine-clause-prefix c =
     let read = c.in_ok-draft.ensures.text in
-    whole_front c.args.line.now read.0 read.1.begun read.2
+    whole_prefix c.args.line.now read.0 read.1.begun read.2
 
-pub returns-else-is_machine-clause-near : goal.returns-else-is_machine-clause-near
-returns-else-is_machine-clause-near c =
-    front_near c.args.line.now _ (returns-else-is_machine-clause-front c)
+pub returns-else-is_machine-clause-bounded : goal.returns-else-is_machine-clause-bounded
+returns-else-is_machine-clause-bounded c =
+    prefix_bounded c.args.line.now _ (returns-else-is_machine-clause-prefix c)

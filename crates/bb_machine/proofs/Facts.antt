@@ -1,0 +1,3 @@
+-- What the proofs of other crates may cite of machines, their texts and their limits.
+pub use Rattle.bb_machine.proofs.Lengths.{text_short}
+pub use Rattle.bb_machine.proofs.LawLemmas.{text_unique, column_unique, prefix_enough}

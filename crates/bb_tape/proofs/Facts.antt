@@ -1,0 +1,2 @@
+-- What the proofs of other crates may cite of tapes.
+pub use Rattle.bb_tape.proofs.Content.{cell-blank, cell-with_cell-same, cell-with_cell-other, by_place as by_position}
