@@ -5,3 +5,12 @@ pub mod Numbers
 pub mod MachineTexts
 pub mod Verdicts
 pub mod Lines
+pub mod Runs
+pub mod Regions
+pub mod Repeats
+pub mod Positions
+pub mod Records
+pub mod Agreements
+pub mod RecordPairs
+pub mod NoRecords
+pub mod Facts

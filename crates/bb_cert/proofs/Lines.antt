@@ -3,7 +3,7 @@ use Rattle.std.proofs.Common.{◌≡◌, ◌≢◌, ℕ, ◌+◌, ◌<◌, ◌�
 use Rattle.bb_machine.specs.declared.machine.TheConstants.{LINE}
 use Rattle.bb_machine.specs.declared.entry.Entry.{Entry}
 use Rattle.bb_machine.specs.Machine.{IsMachine, text}
-use Rattle.bb_machine.proofs.LawLemmas.{text_unique}
+use Rattle.bb_machine.proofs.Facts.{text_unique}
 use Rattle.std.proofs.lemmas.Fmt.{decimal_injective}
 use Rattle.bb_cert.specs.declared.verdict.Verdict.{Verdict}
 use Rattle.bb_cert.specs.declared.reader.Line.{Line}
@@ -15,11 +15,11 @@ use Rattle.bb_cert.proofs.MachineTexts.{text_no_space, text_no_r}
 use Rattle.bb_cert.proofs.Verdicts.{words_of, verdict_words, words_apart}
 
 -- a line is split at its first space into the machine's text and the verdict's words
-pub line_split : (table : List (List Entry)) (verdict : Verdict) (front rest bytes : List ℕ) → HasNoSpace front → front ++ 32 ∷ rest ≡ bytes → line_text table verdict ≡ bytes → (text table ≡ front) × (verdict_text verdict ≡ 32 ∷ rest)
-line_split table verdict front rest bytes none parts is =
+pub line_split : (table : List (List Entry)) (verdict : Verdict) (prefix rest bytes : List ℕ) → HasNoSpace prefix → prefix ++ 32 ∷ rest ≡ bytes → line_text table verdict ≡ bytes → (text table ≡ prefix) × (verdict_text verdict ≡ 32 ∷ rest)
+line_split table verdict prefix rest bytes none parts is =
     let words = verdict_words verdict in
-    let joined : text table ++ 32 ∷ words_of verdict ≡ front ++ 32 ∷ rest = ap (λ x. text table ++ x) (sym words) ∙ is ∙ sym parts in
-    let split = same_split (text table) front (words_of verdict) rest (text_no_space table) none joined in
+    let joined : text table ++ 32 ∷ words_of verdict ≡ prefix ++ 32 ∷ rest = ap (λ x. text table ++ x) (sym words) ∙ is ∙ sym parts in
+    let split = same_split (text table) prefix (words_of verdict) rest (text_no_space table) none joined in
     (split.0, words ∙ ap (λ x. 32 ∷ x) split.1)
 
 claims_apart : (s t : List (List Entry)) (v w : Verdict) → IsMachine s → IsMachine t → HasNumbers v → HasNumbers w → line_text s v ≡ line_text t w → Claim s v ≡ Claim t w
@@ -41,9 +41,9 @@ line_unique (Refusal c) (Refusal d) bytes p q =
     ap Refusal (decimal_injective c d (omega (arith, p.1)) (omega (arith, q.1)) digits)
 
 -- bytes that are no refusal's line, and that fall into no machine's text and verdict at their first space, are no verdict line
-pub no_line : (front rest bytes : List ℕ) → HasNoSpace front → front ++ 32 ∷ rest ≡ bytes → ((column : ℕ) → 0 < column → column ≤ LINE + 1 → refusal_text column ≢ bytes)
-    → ((table : List (List Entry)) (verdict : Verdict) → IsMachine table → text table ≡ front → HasNumbers verdict → verdict_text verdict ≡ 32 ∷ rest → ⊥) → (line : Line) → IsLineOf line bytes → ⊥
-no_line front rest bytes none parts no_refusal no_claim (Claim table verdict) is =
-    let split = line_split table verdict front rest bytes none parts is.2 in
+pub no_line : (prefix rest bytes : List ℕ) → HasNoSpace prefix → prefix ++ 32 ∷ rest ≡ bytes → ((column : ℕ) → 0 < column → column ≤ LINE + 1 → refusal_text column ≢ bytes)
+    → ((table : List (List Entry)) (verdict : Verdict) → IsMachine table → text table ≡ prefix → HasNumbers verdict → verdict_text verdict ≡ 32 ∷ rest → ⊥) → (line : Line) → IsLineOf line bytes → ⊥
+no_line prefix rest bytes none parts no_refusal no_claim (Claim table verdict) is =
+    let split = line_split table verdict prefix rest bytes none parts is.2 in
     no_claim table verdict is.0 split.0 is.1 split.1
-no_line front rest bytes none parts no_refusal no_claim (Refusal column) is = no_refusal column is.0 is.1 is.2
+no_line prefix rest bytes none parts no_refusal no_claim (Refusal column) is = no_refusal column is.0 is.1 is.2

@@ -9,7 +9,7 @@ use Rattle.bb_machine.specs.declared.entry.Entry.{Entry}
 use Rattle.bb_machine.specs.declared.entry.Entry.TheVariants.{Undefined, Go}
 use Rattle.bb_machine.specs.Entry.{dir_letter, next_letter, entry_text}
 use Rattle.bb_machine.specs.Machine.{IsMachine, group_text, text}
-use Rattle.bb_machine.proofs.Texts.{tail_text}
+use Rattle.bb_machine.proofs.Facts.{tail_text}
 use Rattle.bb_cert.proofs.Spaces.{HasNoSpace}
 
 three : (a b c : ℕ) → 32 < a → 32 < b → 32 < c → HasNoSpace (a ∷ b ∷ c ∷ [])

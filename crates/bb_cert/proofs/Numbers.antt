@@ -52,9 +52,9 @@ number_parsed {E} bytes (Err e) parses no_plus no_zero =
     λ n fits is. let read : ◌≡◌ {A = Result ℕ E} (Err e) (Ok n) = parse-decimal {E = E} 64 n bytes (Err e) fits fits (sym is) parses in cc
 
 -- two numbers with a space between them are split at that space
-pub pair_split : (a b : ℕ) (front rest bytes : List ℕ) → a < 2 ^ 64 → HasNoSpace front → front ++ 32 ∷ rest ≡ bytes → pair_text a b ≡ bytes → (decimal a ≡ front) × (decimal b ≡ rest)
-pair_split a b front rest bytes fits none parts is =
-    same_split (decimal a) front (decimal b) rest (decimal_no_space a fits) none (is ∙ sym parts)
+pub pair_split : (a b : ℕ) (prefix rest bytes : List ℕ) → a < 2 ^ 64 → HasNoSpace prefix → prefix ++ 32 ∷ rest ≡ bytes → pair_text a b ≡ bytes → (decimal a ≡ prefix) × (decimal b ≡ rest)
+pair_split a b prefix rest bytes fits none parts is =
+    same_split (decimal a) prefix (decimal b) rest (decimal_no_space a fits) none (is ∙ sym parts)
 
 pub pair_apart : (a b c d : ℕ) → a < 2 ^ 64 → b < 2 ^ 64 → c < 2 ^ 64 → d < 2 ^ 64 → pair_text a b ≡ pair_text c d → (a ≡ c) × (b ≡ d)
 pair_apart a b c d p q r s is =

@@ -6,10 +6,10 @@ use Rattle.std.proofs.lemmas.List.Elements.{All-head, All-tail}
 abbrev pub HasNoSpace : List ℕ → Type 0
 HasNoSpace bytes = All (λ byte. byte ≢ 32) bytes
 
-pub no_space_within : (front rest bytes : List ℕ) → HasNoSpace bytes → front ++ 32 ∷ rest ≡ bytes → ⊥
+pub no_space_within : (prefix rest bytes : List ℕ) → HasNoSpace bytes → prefix ++ 32 ∷ rest ≡ bytes → ⊥
 no_space_within [] rest bytes none is = All-head (λ byte. byte ≢ 32) 32 rest (subst HasNoSpace (sym is) none) refl
-no_space_within (b ∷ front) rest bytes none is =
-    no_space_within front rest (front ++ 32 ∷ rest) (All-tail (λ byte. byte ≢ 32) b (front ++ 32 ∷ rest) (subst HasNoSpace (sym is) none)) refl
+no_space_within (b ∷ prefix) rest bytes none is =
+    no_space_within prefix rest (prefix ++ 32 ∷ rest) (All-tail (λ byte. byte ≢ 32) b (prefix ++ 32 ∷ rest) (subst HasNoSpace (sym is) none)) refl
 
 -- what stands before a first space, and after it
 pub same_split : (a b x y : List ℕ) → HasNoSpace a → HasNoSpace b → a ++ 32 ∷ x ≡ b ++ 32 ∷ y → (a ≡ b) × (x ≡ y)
@@ -20,5 +20,5 @@ same_split (c ∷ a) [] x y p _ is =
     let first : c ≡ 32 = cc in absurd (All-head (λ byte. byte ≢ 32) c a p first)
 same_split (c ∷ a) (d ∷ b) x y p q is =
     let rest = same_split a b x y (All-tail (λ byte. byte ≢ 32) c a p) (All-tail (λ byte. byte ≢ 32) d b q) cc in
-    let fronts : a ≡ b = rest.0 in
+    let prefixes : a ≡ b = rest.0 in
     (cc, rest.1)

@@ -1,8 +1,92 @@
--- A law of verdict lines.
-use Rattle.std.specs.Prelude.{◌≡◌, ℕ, List}
+-- Laws of verdict lines, and of runs that repeat.
+use Rattle.std.specs.Prelude.{◌≡◌, ℕ, ◌+◌, ◌<◌, ◌≤◌, ◌↔◌, List, pos, ◌<ℤ◌}
+use Rattle.bb_machine.specs.Machine.{Table}
+use Rattle.bb_sim.specs.Run.{Never}
 use Rattle.bb_cert.specs.declared.reader.Line.{Line}
+use Rattle.bb_cert.specs.declared.verdict.Side.{Side}
+use Rattle.bb_cert.specs.declared.verdict.Side.TheVariants.{L, R}
 use Rattle.bb_cert.specs.Line.{IsLineOf}
+use Rattle.bb_cert.specs.Repeat.{Same}
+use Rattle.bb_cert.specs.Record.{out, head_at, IsRecord}
+use Rattle.bb_cert.specs.Agree.{Agree, AgreeingRecords, GoesAlike}
 
 -- different claims and columns have different lines
 abbrev pub LinesDiffer : Type 0
 LinesDiffer = (a b : Line) (bytes : List ℕ) → IsLineOf a bytes → IsLineOf b bytes → a ≡ b
+
+-- from a configuration that comes again on, each one comes again
+abbrev pub RepeatsGoOn : Type 0
+RepeatsGoOn = (table : Table) (a b : ℕ) → a < b → Same table a b → (u : ℕ) → Same table (a + u) (b + u)
+
+-- a machine with a configuration that comes again never halts
+abbrev pub RepeatsNeverHalt : Type 0
+RepeatsNeverHalt = (table : Table) (a b : ℕ) → a < b → Same table a b → Never table
+
+-- from records that agree on, the run goes alike
+abbrev pub AgreeingRecordsGoOn : Type 0
+AgreeingRecordsGoOn = (table : Table) (side : Side) (a b : ℕ) → AgreeingRecords table side a b
+    → (u : ℕ) → GoesAlike table side a b u
+
+-- a machine with records that agree never halts
+abbrev pub AgreeingRecordsNeverHalt : Type 0
+AgreeingRecordsNeverHalt = (table : Table) (side : Side) (a b : ℕ) → AgreeingRecords table side a b
+    → Never table
+
+-- a record is made at one step
+abbrev pub RecordHasOneStep : Type 0
+RecordHasOneStep = (table : Table) (side : Side) (j n m : ℕ)
+    → IsRecord table side j n → IsRecord table side j m → n ≡ m
+
+-- at one step at most one record of a side is made
+abbrev pub RecordHasOneNumber : Type 0
+RecordHasOneNumber = (table : Table) (side : Side) (i j n : ℕ)
+    → IsRecord table side i n → IsRecord table side j n → i ≡ j
+
+-- no step makes a record of both sides
+abbrev pub RecordHasOneSide : Type 0
+RecordHasOneSide = (table : Table) (i j n : ℕ) → IsRecord table L i n → IsRecord table R j n → ⊥
+
+-- records of a side come in the order of their numbers
+abbrev pub RecordsInOrder : Type 0
+RecordsInOrder = (table : Table) (side : Side) (i j n m : ℕ)
+    → IsRecord table side i n → IsRecord table side j m → (i < j) ↔ (n < m)
+
+-- where there is a record, there are all of lower numbers, at steps no later
+abbrev pub LowerRecordsExist : Type 0
+LowerRecordsExist = (table : Table) (side : Side) (i j n : ℕ) → 0 < i → i ≤ j
+    → IsRecord table side j n → (m : ℕ) × (m ≤ n) × IsRecord table side i m
+
+-- before a record the head is less far out
+abbrev pub ShortOfRecord : Type 0
+ShortOfRecord = (table : Table) (side : Side) (j n : ℕ)
+    → IsRecord table side j n → (m : ℕ) → m < n → out side (head_at table m) <ℤ pos j
+
+-- a record is made no sooner than its number of steps
+abbrev pub RecordTakesSteps : Type 0
+RecordTakesSteps = (table : Table) (side : Side) (j n : ℕ) → IsRecord table side j n → j ≤ n
+
+-- where a configuration comes again p steps later, each later one does too
+abbrev pub RepeatsKeepDistance : Type 0
+RepeatsKeepDistance = (table : Table) (a p k : ℕ) → 0 < p → Same table a (a + p)
+    → Same table (a + k) (a + k + p)
+
+-- where two records of a side agree, the side has every record
+abbrev pub HasRecord : Type 0
+HasRecord = (table : Table) (side : Side) (a b j : ℕ) → AgreeingRecords table side a b → 0 < j
+    → (n : ℕ) × IsRecord table side j n
+
+-- where records i and i + r of a side agree, later ones at this distance exist and agree
+abbrev pub RecordPair : Type 0
+RecordPair = (table : Table) (side : Side) (i r a b j : ℕ) → 0 < r → IsRecord table side i a
+    → IsRecord table side (i + r) b → Agree table side a b → i ≤ j
+    → (n : ℕ) × (m : ℕ) × IsRecord table side j n × IsRecord table side (j + r) m × Agree table side n m
+
+-- from the step on at which a configuration comes again, no record is made
+abbrev pub RepeatsMakeNoRecord : Type 0
+RepeatsMakeNoRecord = (table : Table) (side : Side) (a b j n : ℕ) → a < b → Same table a b
+    → IsRecord table side j n → n < b
+
+-- a run with records that agree has no configuration twice
+abbrev pub AgreeingRecordsNeverRepeat : Type 0
+AgreeingRecordsNeverRepeat = (table : Table) (side : Side) (a b c d : ℕ) → AgreeingRecords table side a b
+    → c < d → Same table c d → ⊥

@@ -1,3 +1,6 @@
 pub mod Verdict
 pub mod Line
+pub mod Repeat
+pub mod Record
+pub mod Agree
 pub mod Laws

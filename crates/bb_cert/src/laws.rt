@@ -1,7 +1,61 @@
-//! A law of verdict lines, as a contract: a call of it does nothing.
-ghost use Rattle.bb_cert.specs.Laws.{LinesDiffer};
+//! Laws of verdict lines and of runs that repeat, as contracts: a call of each does nothing.
+ghost use Rattle.bb_cert.specs.Laws.{
+  AgreeingRecordsGoOn,
+  AgreeingRecordsNeverHalt,
+  AgreeingRecordsNeverRepeat,
+  HasRecord,
+  LinesDiffer,
+  LowerRecordsExist,
+  RecordHasOneNumber,
+  RecordHasOneSide,
+  RecordHasOneStep,
+  RecordPair,
+  RecordTakesSteps,
+  RecordsInOrder,
+  RepeatsGoOn,
+  RepeatsKeepDistance,
+  RepeatsMakeNoRecord,
+  RepeatsNeverHalt,
+  ShortOfRecord,
+};
 
 /// A verdict line says one thing only: it is the line of one machine and one verdict, or of one column.
 pub fn lines_differ()
     ensures { LinesDiffer }
+{}
+
+/// A configuration that comes again goes on coming again, so the machine never halts.
+pub fn repeats_go_on()
+    ensures go_on { RepeatsGoOn }
+    ensures never { RepeatsNeverHalt }
+    ensures distance { RepeatsKeepDistance }
+{}
+
+/// From two records that agree on, the run goes alike, so the machine never halts.
+pub fn agreeing_records_go_on()
+    ensures alike { AgreeingRecordsGoOn }
+    ensures never { AgreeingRecordsNeverHalt }
+{}
+
+/// A record's number and its step determine one another, and records come in the order of their numbers.
+pub fn records_in_order()
+    ensures one_step { RecordHasOneStep }
+    ensures one_number { RecordHasOneNumber }
+    ensures one_side { RecordHasOneSide }
+    ensures in_order { RecordsInOrder }
+    ensures lower { LowerRecordsExist }
+    ensures short { ShortOfRecord }
+    ensures takes_steps { RecordTakesSteps }
+{}
+
+/// Where two records agree, there are all later ones, and those at the same distance agree.
+pub fn later_records_agree()
+    ensures every { HasRecord }
+    ensures pair { RecordPair }
+{}
+
+/// A run whose configurations come again makes no record from then on, so it has no two records that agree.
+pub fn repeats_make_no_record()
+    ensures no_record { RepeatsMakeNoRecord }
+    ensures never_both { AgreeingRecordsNeverRepeat }
 {}

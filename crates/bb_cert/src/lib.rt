@@ -8,6 +8,6 @@ pub mod reader;
 mod tests;
 pub mod verdict;
 
-pub use line::{LONGEST, line_into, lines_are_short};
+pub use line::{LINE_BUFFER, LONGEST, line_into, lines_are_short, refusal_into};
 pub use reader::{Line, read_line};
 pub use verdict::{Side, Verdict, Why};

@@ -1,10 +1,10 @@
-ghost use Rattle.std.specs.Prelude.{◌≡◌, ℕ, ◌+◌, ◌≤◌, List, ◌++◌, length};
+ghost use Rattle.std.specs.Prelude.{◌≡◌, ℕ, ◌+◌, ◌≤◌, List, [], ◌++◌, length};
 ghost use Rattle.arrayvec.specs.ArrayVec.{array_vec_len};
 ghost use Rattle.bb_machine.specs.declared.entry.Entry.{Entry};
 ghost use Rattle.bb_machine.specs.Machine.{text};
 ghost use Rattle.bb_cert.specs.declared.verdict.Verdict.{Verdict};
 ghost use Rattle.bb_cert.specs.Verdict.{HasNumbers};
-ghost use Rattle.bb_cert.specs.Line.{line_text, pair_text, side_text, verdict_text};
+ghost use Rattle.bb_cert.specs.Line.{line_text, pair_text, refusal_text, side_text, verdict_text};
 
 use crate::verdict::{Side, Verdict, Why};
 use arrayvec::ArrayVec;
@@ -15,9 +15,12 @@ use itoa::Buffer;
 /// of 20 digits with a space between them.
 pub const LONGEST: usize = LINE + 55;
 
+/// The bytes of a buffer that a line is written into.
+pub const LINE_BUFFER: usize = 1023;
+
 /// Appends the line of a machine and a verdict, without a newline.
-pub fn line_into(machine: &Machine, verdict: &Verdict, out: &mut ArrayVec<u8, 1023>)
-    requires { array_vec_len out.old + length (line_text machine.now verdict.now) ≤ 1023 }
+pub fn line_into(machine: &Machine, verdict: &Verdict, out: &mut ArrayVec<u8, LINE_BUFFER>)
+    requires { array_vec_len out.old + length (line_text machine.now verdict.now) ≤ LINE_BUFFER }
     ensures { out.new.items ≡ out.old.items ++ line_text machine.now verdict.now }
 {
     machine.text_into(out);
@@ -30,8 +33,18 @@ pub fn lines_are_short()
         → length (line_text table verdict) ≤ LONGEST }
 {}
 
-fn verdict_into(verdict: Verdict, out: &mut ArrayVec<u8, 1023>)
-    requires { array_vec_len out.old + length (verdict_text verdict) ≤ 1023 }
+/// Puts the line that refuses a line at a column into a text, which is empty, without a newline.
+pub fn refusal_into(column: u32, text: &mut ArrayVec<u8, LINE_BUFFER>)
+    requires { text.old.items ≡ [] }
+    ensures { text.new.items ≡ refusal_text column }
+{
+    let mut digits = Buffer::new();
+    append(b"refused ", text);
+    append(digits.format(column).as_bytes(), text);
+}
+
+fn verdict_into(verdict: Verdict, out: &mut ArrayVec<u8, LINE_BUFFER>)
+    requires { array_vec_len out.old + length (verdict_text verdict) ≤ LINE_BUFFER }
     ensures { out.new.items ≡ out.old.items ++ verdict_text verdict }
 {
     match verdict {
@@ -57,8 +70,8 @@ fn side_words(side: Side) -> &'static [u8]
     }
 }
 
-fn pair_into(word: &[u8], first: u64, second: u64, out: &mut ArrayVec<u8, 1023>)
-    requires { array_vec_len out.old + length (word.now ++ pair_text first second) ≤ 1023 }
+fn pair_into(word: &[u8], first: u64, second: u64, out: &mut ArrayVec<u8, LINE_BUFFER>)
+    requires { array_vec_len out.old + length (word.now ++ pair_text first second) ≤ LINE_BUFFER }
     ensures { out.new.items ≡ out.old.items ++ (word.now ++ pair_text first second) }
 {
     let mut digits = Buffer::new();
@@ -68,8 +81,8 @@ fn pair_into(word: &[u8], first: u64, second: u64, out: &mut ArrayVec<u8, 1023>)
     append(digits.format(second).as_bytes(), out);
 }
 
-fn append(bytes: &[u8], out: &mut ArrayVec<u8, 1023>)
-    requires { array_vec_len out.old + length bytes.now ≤ 1023 }
+fn append(bytes: &[u8], out: &mut ArrayVec<u8, LINE_BUFFER>)
+    requires { array_vec_len out.old + length bytes.now ≤ LINE_BUFFER }
     ensures { out.new.items ≡ out.old.items ++ bytes.now }
 {
     let _room = out.try_extend_from_slice(bytes);

@@ -113,7 +113,7 @@ fn read_number(digits: &[u8]) -> Option<u64>
 /// What stands before the first space, and what stands after it.
 fn split_at_space(bytes: &[u8]) -> Option<(&[u8], &[u8])>
     ensures { MatchOption result
-        ((front rest : List ℕ) → front ++ 32 ∷ rest ≢ bytes.now)
+        ((prefix rest : List ℕ) → prefix ++ 32 ∷ rest ≢ bytes.now)
         (λ parts. All (λ byte. byte ≢ 32) parts.0.now × (parts.0.now ++ 32 ∷ parts.1.now ≡ bytes.now)) }
 {
     let space = bytes.iter().position(|byte| *byte == b' ')?;

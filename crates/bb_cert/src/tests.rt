@@ -1,7 +1,7 @@
 //! Worked lines, and a comparison with a second reader that splits a line at every space.
 ghost use Rattle.std.specs.Prelude.{◌+◌, ◌≤◌, length};
 
-use crate::{LONGEST, Line, Side, Verdict, Why, line_into, read_line};
+use crate::{LINE_BUFFER, LONGEST, Line, Side, Verdict, Why, line_into, read_line};
 use arrayvec::ArrayVec;
 use itoa::Buffer;
 use std::process::Abort;
@@ -149,8 +149,8 @@ const LINES: [&[u8]; 40] = [
 ];
 
 /// What is printed of that which the bytes say as a verdict line.
-fn printed(rt: &impl Abort, bytes: &[u8]) -> Option<ArrayVec<u8, 1023>> {
-    assert!(rt; bytes.len() <= 1023);
+fn printed(rt: &impl Abort, bytes: &[u8]) -> Option<ArrayVec<u8, LINE_BUFFER>> {
+    assert!(rt; bytes.len() <= LINE_BUFFER);
     let mut out = ArrayVec::new();
     match read_line(bytes)? {
         Line::Claim(machine, verdict) => line_into(&machine, &verdict, &mut out),
@@ -237,14 +237,14 @@ fn number(digits: &[u8]) -> Option<u64> {
     }
 }
 
-/// The line with so many bytes at a place replaced by others.
-fn edited(line: &[u8], place: usize, cut: usize, put: &[u8]) -> Result<ArrayVec<u8, 128>, Fail>
-    requires { place + cut ≤ length line.now }
+/// The line with so many bytes at a index replaced by others.
+fn edited(line: &[u8], index: usize, cut: usize, put: &[u8]) -> Result<ArrayVec<u8, 128>, Fail>
+    requires { index + cut ≤ length line.now }
 {
     let mut bytes = ArrayVec::new();
-    bytes.try_extend_from_slice(&line[..place])?;
+    bytes.try_extend_from_slice(&line[..index])?;
     bytes.try_extend_from_slice(put)?;
-    bytes.try_extend_from_slice(&line[place + cut..])?;
+    bytes.try_extend_from_slice(&line[index + cut..])?;
     Ok(bytes)
 }
 
@@ -259,17 +259,17 @@ fn is_read_as_it_should(rt: &impl Abort, bytes: &[u8]) {
     }
 }
 
-/// The line with so many bytes at a place replaced by one byte, for each of the 256.
+/// The line with so many bytes at a index replaced by one byte, for each of the 256.
 fn are_read_with_each_byte(
     rt: &impl Abort,
     line: &[u8],
-    place: usize,
+    index: usize,
     cut: usize,
 ) -> Result<(), Fail>
-    requires { place + cut ≤ length line.now }
+    requires { index + cut ≤ length line.now }
 {
     for byte in 0..=255 {
-        is_read_as_it_should(rt, &edited(line, place, cut, &[byte])?);
+        is_read_as_it_should(rt, &edited(line, index, cut, &[byte])?);
     }
     Ok(())
 }
@@ -321,8 +321,8 @@ fn lines_are_read(rt: HostRuntime) {
 #[test]
 fn each_line_with_a_byte_changed(rt: HostRuntime) -> Result<(), Fail> {
     for line in LINES {
-        for place in 0..line.len() {
-            are_read_with_each_byte(&rt, line, place, 1)?;
+        for index in 0..line.len() {
+            are_read_with_each_byte(&rt, line, index, 1)?;
         }
     }
     Ok(())
@@ -331,8 +331,8 @@ fn each_line_with_a_byte_changed(rt: HostRuntime) -> Result<(), Fail> {
 #[test]
 fn each_line_with_a_byte_more(rt: HostRuntime) -> Result<(), Fail> {
     for line in LINES {
-        for place in 0..line.len() {
-            are_read_with_each_byte(&rt, line, place, 0)?;
+        for index in 0..line.len() {
+            are_read_with_each_byte(&rt, line, index, 0)?;
         }
         are_read_with_each_byte(&rt, line, line.len(), 0)?;
     }
@@ -342,8 +342,8 @@ fn each_line_with_a_byte_more(rt: HostRuntime) -> Result<(), Fail> {
 #[test]
 fn each_line_with_a_byte_less(rt: HostRuntime) -> Result<(), Fail> {
     for line in LINES {
-        for place in 0..line.len() {
-            is_read_as_it_should(&rt, &edited(line, place, 1, &[])?);
+        for index in 0..line.len() {
+            is_read_as_it_should(&rt, &edited(line, index, 1, &[])?);
         }
     }
     Ok(())

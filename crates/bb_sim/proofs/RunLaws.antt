@@ -8,8 +8,8 @@ use Rattle.bb_machine.specs.Limits.{Bounds}
 use Rattle.bb_machine.specs.Machine.{Table}
 use Rattle.bb_tape.specs.Content.{score}
 use Rattle.bb_sim.specs.declared.meter.Meter.{Meter}
-use Rattle.bb_sim.specs.declared.simulate.Outcome.{Outcome}
-use Rattle.bb_sim.specs.declared.simulate.Outcome.TheVariants.{Halt as Halted, NoSteps, NoCells}
+use Rattle.bb_sim.specs.declared.simulation.Outcome.{Outcome}
+use Rattle.bb_sim.specs.declared.simulation.Outcome.TheVariants.{Halt as Halted, NoSteps, NoCells}
 use Rattle.bb_sim.specs.Configuration.{Configuration}
 use Rattle.bb_sim.specs.Run.{conf, Exists, HaltsAt, IsScore}
 use Rattle.bb_sim.specs.Span.{counted_position, counted_position_in, counted_head, least, greatest, span, Inside, IsLastInside}

@@ -4,7 +4,7 @@ use Rattle.bb_machine.specs.declared.entry.Next.TheVariants.{Halt}
 use Rattle.bb_machine.specs.Limits.{Bounds}
 use Rattle.bb_machine.specs.Machine.{Table}
 use Rattle.bb_sim.specs.declared.meter.Meter.{Meter}
-use Rattle.bb_sim.specs.declared.simulate.Outcome.{Outcome}
+use Rattle.bb_sim.specs.declared.simulation.Outcome.{Outcome}
 use Rattle.bb_sim.specs.Configuration.{Configuration}
 use Rattle.bb_sim.specs.Run.{conf, Exists, HaltsAt, IsScore}
 use Rattle.bb_sim.specs.Span.{counted_head, least, greatest, span, Inside, IsLastInside}

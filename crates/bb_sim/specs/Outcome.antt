@@ -1,7 +1,7 @@
 -- What a simulation within limits finds.
 use Rattle.std.specs.Prelude.{ℕ, ◌<◌, ◌≤◌}
-use Rattle.bb_sim.specs.declared.simulate.Outcome.{Outcome}
-use Rattle.bb_sim.specs.declared.simulate.Outcome.TheVariants.{Halt, NoSteps, NoCells}
+use Rattle.bb_sim.specs.declared.simulation.Outcome.{Outcome}
+use Rattle.bb_sim.specs.declared.simulation.Outcome.TheVariants.{Halt, NoSteps, NoCells}
 use Rattle.bb_machine.specs.Limits.{Bounds}
 use Rattle.bb_machine.specs.Machine.{Table}
 use Rattle.bb_sim.specs.Run.{HaltsAt, IsScore}

@@ -4,10 +4,10 @@
 pub mod laws;
 pub mod meter;
 pub mod runner;
-pub mod simulate;
+pub mod simulation;
 #[cfg(test)]
 mod tests;
 
 pub use meter::Meter;
 pub use runner::{Moved, Runner};
-pub use simulate::Outcome;
+pub use simulation::{Outcome, simulate};

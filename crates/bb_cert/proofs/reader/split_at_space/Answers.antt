@@ -5,4 +5,4 @@ use Rattle.bb_cert.proofs.reader.split_at_space.Goals as goal
 pub returns-in_err-space : goal.returns-in_err-space
 returns-in_err-space c =
     let none : HasNoSpace c.args.bytes.now = search rules in
-    rw c.from_residual.ensures (λ front rest is. no_space_within front rest c.args.bytes.now none is)
+    rw c.from_residual.ensures (λ prefix rest is. no_space_within prefix rest c.args.bytes.now none is)

@@ -1,0 +1,2 @@
+-- What the proofs of other crates may cite of verdicts.
+pub use Rattle.bb_decide.proofs.Verdicts.{verdict_is_unique, work_is_unique}

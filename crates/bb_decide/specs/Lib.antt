@@ -1,0 +1,5 @@
+pub mod Bench
+pub mod Laws
+pub mod Plan
+pub mod Verdict
+pub mod Work

@@ -1,0 +1,13 @@
+//! Decides a machine within limits: the verdict that is defined for it, and what it cost.
+#![tactic(auto)]
+
+pub mod bench;
+pub mod decision;
+pub mod laws;
+pub mod plan;
+#[cfg(test)]
+mod tests;
+
+pub use bench::Bench;
+pub use decision::decide;
+pub use plan::Plan;

@@ -1,0 +1,78 @@
+-- The first bytes of a line, one more than the longest text has, decide the reply to it: laws that the engine asks for.
+use Rattle.std.proofs.Common.{◌≡◌, ℕ, ◌+◌, List, take, inl, inr, subst, arith}
+use Rattle.bb_machine.specs.declared.machine.TheConstants.{LINE}
+use Rattle.bb_machine.specs.Laws.{PrefixIsEnough}
+use Rattle.bb_machine.specs.Limits.{Bounds}
+use Rattle.bb_machine.specs.Machine.{Table, IsMachineLine, IsTextOf}
+use Rattle.bb_machine.proofs.Facts.{prefix_enough}
+use Rattle.bb_decide.specs.declared.plan.Plan.{Plan}
+use Rattle.bb_run.specs.declared.summary.Summary.{Summary}
+use Rattle.bb_run.specs.Reply.{IsReply}
+use Rattle.bb_run.specs.Seen.{Saw}
+
+module _ (line : List ℕ) (kept : ℕ) (enough : PrefixIsEnough line kept) where
+  text_of_prefix : (table : Table) → IsTextOf table (take kept line) → IsTextOf table line
+  text_of_prefix table of =
+      record { machine = of.machine; is_text = (enough.same_text table of.machine).0 of.is_text }
+
+  no_machine_of_prefix : (IsMachineLine (take kept line) → ⊥) → IsMachineLine line → ⊥
+  no_machine_of_prefix never (table, of) = never (table, record {
+    machine = of.machine;
+    is_text = (enough.same_text table of.machine).1 of.is_text;
+  })
+
+  reply_of_prefix : (bounds : Bounds) (plan : Plan) (reply : List ℕ)
+      → IsReply bounds plan (take kept line) reply → IsReply bounds plan line reply
+  reply_of_prefix bounds plan reply is = elim is [
+    | inl v ↦ inl (record {
+      table = v.table;
+      of = text_of_prefix v.table v.of;
+      verdict = v.verdict;
+      is_verdict = v.is_verdict;
+      is_reply = v.is_reply;
+    })
+    | inr r ↦ inr (record {
+      no_machine = no_machine_of_prefix r.no_machine;
+      column = r.column;
+      is_column = (enough.same_column r.column).0 r.is_column;
+      is_reply = r.is_reply;
+    })
+  ]
+
+  saw_of_prefix : (bounds : Bounds) (plan : Plan) (old new : Summary) (work : ℕ)
+      → Saw bounds plan old (take kept line) new work → Saw bounds plan old line new work
+  saw_of_prefix bounds plan old new work is = elim is [
+    | inl m ↦ inl (record {
+      table = m.table;
+      of = text_of_prefix m.table m.of;
+      is_work = m.is_work;
+      last = m.last;
+      is_last = m.is_last;
+      clean = m.clean;
+      peak = m.peak;
+    })
+    | inr r ↦ inr (record {
+      no_machine = no_machine_of_prefix r.no_machine;
+      clean = r.clean;
+      peak = r.peak;
+      no_work = r.no_work;
+    })
+  ]
+
+-- a reply stays one where limits and plan do
+pub reply_kept : (old new : Bounds) (old_plan new_plan : Plan) (line reply : List ℕ) → old ≡ new → old_plan ≡ new_plan
+    → IsReply old old_plan line reply → IsReply new new_plan line reply
+reply_kept old new old_plan new_plan line reply bounds plan is =
+    subst (λ (p : Plan). IsReply new p line reply) plan (subst (λ (l : Bounds). IsReply l old_plan line reply) bounds is)
+
+-- a reply to the kept bytes of a line is one to the line
+pub reply_of_kept : (bounds : Bounds) (plan : Plan) (line reply : List ℕ)
+    → IsReply bounds plan (take (LINE + 1) line) reply → IsReply bounds plan line reply
+reply_of_kept bounds plan line reply is =
+    reply_of_prefix line (LINE + 1) (prefix_enough line (LINE + 1) (omega arith)) bounds plan reply is
+
+-- what the kept bytes of a line do to the summary, the line does, and it is the same work
+pub saw_of_kept : (bounds : Bounds) (plan : Plan) (line : List ℕ) (old new : Summary) (work : ℕ)
+    → Saw bounds plan old (take (LINE + 1) line) new work → Saw bounds plan old line new work
+saw_of_kept bounds plan line old new work saw =
+    saw_of_prefix line (LINE + 1) (prefix_enough line (LINE + 1) (omega arith)) bounds plan old new work saw

@@ -1,0 +1,7 @@
+pub mod KeptBytes
+pub mod Replies
+pub mod Peaks
+pub mod Summaries
+pub mod Traces
+pub mod TraceEnds
+pub mod TraceSummaries

@@ -1,0 +1,48 @@
+use Rattle.std.proofs.Common.{rules, refl, inl, inr, ap, ◌∙◌, arith}
+use Rattle.bb_sim.specs.declared.meter.Meter.{Meter}
+use Rattle.bb_run.proofs.deciding.DeciderResponder.respond.Goals as goal
+
+pub returns-in-Err-clause-reply : goal.returns-in-Err-clause-reply
+returns-in-Err-clause-reply g c = inr (record {
+  no_machine = λ m. let found = c.in-Err.ensures.only m.0 m.1.machine m.1.is_text in cc;
+  column = c.in-Err.refused.column;
+  is_column = c.in-Err.ensures.column;
+  is_reply = c.refusal_into.ensures;
+})
+
+pub returns-in-Err-clause-saw : goal.returns-in-Err-clause-saw
+returns-in-Err-clause-saw g c = (
+  refl,
+  refl,
+  inr (record {
+    no_machine = λ m. let found = c.in-Err.ensures.only m.0 m.1.machine m.1.is_text in cc;
+    clean = refl;
+    peak = refl;
+    no_work = refl;
+  }),
+)
+
+pub returns-clause-reply : goal.returns-clause-reply
+returns-clause-reply g c = inl (record {
+  table = c.in-Ok.machine;
+  of = record { machine = c.in-Ok.ensures.found.0; is_text = c.in-Ok.ensures.found.1 };
+  verdict = c.in-Ok-decide.verdict;
+  is_verdict = c.in-Ok-decide.ensures.verdict;
+  is_reply = search rules;
+})
+
+pub returns-clause-saw : goal.returns-clause-saw
+returns-clause-saw g c =
+    let counts = c.in-Ok-decide.ensures.counted in (
+      refl,
+      refl,
+      inl (record {
+        table = c.in-Ok.machine;
+        of = record { machine = c.in-Ok.ensures.found.0; is_text = c.in-Ok.ensures.found.1 };
+        is_work = ?;
+        last = counts.last;
+        is_last = counts.is_last;
+        clean = refl;
+        peak = ?;
+      }),
+    )

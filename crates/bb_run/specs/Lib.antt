@@ -1,0 +1,6 @@
+pub mod Ends
+pub mod Laws
+pub mod Reply
+pub mod Seen
+pub mod Summary
+pub mod Trace

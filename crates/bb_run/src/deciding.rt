@@ -1,0 +1,144 @@
+//! Verdicts on the machines of a list, a line each.
+ghost use Rattle.std.specs.Prelude.{◌≡◌, ◌↔◌, false, true, IsTrue};
+ghost use Rattle.bb_decide.specs.Bench.{HasCells};
+ghost use Rattle.bb_decide.specs.Plan.{IsSimulation};
+ghost use Rattle.bb_lines.specs.Watched.{is_marked, watched_inner};
+ghost use Rattle.bb_run.specs.Ends.{DecideEnds};
+
+use crate::summary::Summary;
+use arrayvec::ArrayVec;
+use bb_cert::{line_into, lines_are_short, refusal_into};
+use bb_decide::{Bench, Plan, decide};
+use bb_lines::fault::Fault;
+use bb_lines::lines::run;
+use bb_lines::responder::{REPLY, Responder};
+use bb_lines::watched::Watched;
+use bb_machine::laws::texts_differ;
+use bb_machine::{LINE, Limits, Machine};
+use bb_sim::Meter;
+use bb_tape::Tape;
+use std::alloc::AllocError;
+use std::io::{Read, Write};
+
+/// What replies to the lines of a list with verdicts.
+#[derive(Drop)]
+struct Decider<'a, T> {
+    limits: Limits,
+    plan: Plan,
+    bench: &'a mut Bench<T>,
+    summary: Summary,
+    // The steps that the last line's run counted; 0 where it was refused, and before the first line.
+    last_steps: u64,
+}
+
+impl<T: Tape> Responder for Decider<'_, T> {
+    ghost use Rattle.std.specs.Prelude.{◌≡◌, ◌+◌};
+    ghost use Rattle.std.proofs.Common.{rules, subst};
+    ghost use Rattle.bb_machine.specs.Limits.{Bounds};
+    ghost use Rattle.bb_machine.specs.declared.machine.TheConstants.{LINE};
+    ghost use Rattle.bb_decide.specs.Bench.{HasCells};
+    ghost use Rattle.bb_decide.specs.Plan.{IsSimulation};
+    ghost use Rattle.bb_run.specs.Reply.{IsReply};
+    ghost use Rattle.bb_run.specs.Seen.{Saw};
+    ghost use Rattle.bb_run.proofs.KeptBytes.{reply_kept, reply_of_kept, saw_of_kept};
+
+    ghost replies_with = { λ d line reply. IsReply d.limits d.plan line reply };
+
+    ghost saw = { λ a line b. (b.limits ≡ a.limits) × (b.plan ≡ a.plan) × Saw a.limits a.plan a.summary line b.summary b.last_steps };
+
+    ghost work = { λ d. d.last_steps };
+
+    ghost keeps = { λ a b. (b.limits ≡ a.limits) × (b.plan ≡ a.plan) × (b.bench.ghost_name ≡ a.bench.ghost_name) };
+
+    ghost is_ready = { λ d. HasCells T.strip d.limits.cells d.bench.now × IsSimulation d.plan };
+
+    ghost GROWS = { T.GROWS };
+
+    ghost KEEP = { LINE + 1 };
+
+    ghost keeps_at_first = { Prim.search rules };
+
+    ghost keeps_on = { Prim.search rules };
+
+    ghost keeps_reply = { λ a b keeps line text reply. reply_kept b.limits a.limits b.plan a.plan line text keeps.0 keeps.1 reply };
+
+    ghost keeps_some = { Prim.search rules };
+
+    ghost keeps_few = { Prim.search rules };
+
+    ghost reply_by_kept = { λ a line text reply. reply_of_kept a.limits a.plan line text reply };
+
+    ghost saw_by_kept = { λ a line b saw. (saw.0, saw.1, saw_of_kept a.limits a.plan line a.summary b.summary b.last_steps saw.2) };
+
+    fn keep(&self) -> usize {
+        LINE + 1
+    }
+
+    fn respond(
+        &mut self,
+        line: &[u8],
+        text: &mut ArrayVec<u8, REPLY>,
+    ) -> Result<u64, AllocError> {
+        let machine = match Machine::read(line) {
+            Ok(machine) => machine,
+            Err(refused) => {
+                self.summary.clean = false;
+                self.last_steps = 0;
+                refusal_into(refused.column, text);
+                return Ok(0);
+            }
+        };
+        let mut meter = Meter::new();
+        let Ok(verdict) = decide(&machine, &self.limits, self.plan, self.bench, &mut meter) else {
+            return Err(AllocError);
+        };
+        lines_are_short();
+        line_into(&machine, &verdict, text);
+        self.summary.peak = self.summary.peak.greatest(meter);
+        self.last_steps = meter.steps;
+        Ok(meter.steps)
+    }
+}
+
+/// Writes the verdict line of each machine of a list, and a refusal for each line that is no machine's text.
+///
+/// A line ends at a newline; a last line without one counts if it isn't empty. After a fault the
+/// reader and the writer are not to be used again.
+pub fn run_decide<R: Read, W: Write, T: Tape>(
+    reader: &mut Watched<R>,
+    writer: &mut Watched<W>,
+    limits: &Limits,
+    plan: Plan,
+    bench: &mut Bench<T>,
+) -> Result<Summary, Fault>
+    requires reader { is_marked reader.old ≡ false }
+    requires writer { is_marked writer.old ≡ false }
+    requires tapes { HasCells T.strip limits.now.cells bench.old }
+    requires plan { IsSimulation plan }
+
+    // How the run ends, and what is written then.
+    ensures ends { DecideEnds limits.now plan
+        (R.remaining (watched_inner reader.old)) (R.remaining (watched_inner reader.new))
+        (W.contents (watched_inner writer.old)) (W.contents (watched_inner writer.new)) result }
+
+    // When each fault comes.
+    ensures memory { result ≡ Err Fault.Memory → IsTrue T.GROWS }
+    ensures read { (result ≡ Err Fault.Read) ↔ (is_marked reader.new ≡ true) }
+    ensures write { (result ≡ Err Fault.Write) ↔ (is_marked writer.new ≡ true) }
+
+    ensures tapes { HasCells T.strip limits.now.cells bench.new }
+{
+    let mut decider = Decider {
+        limits: *limits,
+        plan,
+        bench,
+        summary: Summary {
+            clean: true,
+            peak: Meter::new(),
+        },
+        last_steps: 0,
+    };
+    run(reader, writer, &mut decider)?;
+    texts_differ();
+    Ok(decider.summary)
+}

@@ -1,0 +1,262 @@
+//! The first configurations of one machine, a line each.
+ghost use Rattle.std.specs.Prelude.{◌≡◌, ◌≢◌, ◌+◌, ◌+ℤ◌, ◌++◌, ◌∷◌, ◌<◌, ◌≤◌, ◌≤ℤ◌, ◌↔◌, ℕ, [], false, is_err, length, pos, true, IsOkUnless, IsTrue, List, Option};
+ghost use Rattle.bb_tape.specs.Content.{cell};
+ghost use Rattle.bb_sim.specs.Reach.{places};
+ghost use Rattle.bb_machine.specs.declared.machine.TheConstants.{MAX_STATES};
+ghost use Rattle.bb_machine.specs.Entry.{next_letter, IsNextOf};
+ghost use Rattle.bb_sim.specs.Runner.{Stands};
+ghost use Rattle.bb_sim.specs.Span.{span, IsLastInside};
+ghost use Rattle.bb_cert.specs.Line.{refusal_text};
+ghost use Rattle.bb_lines.specs.Ends.{AppendsFront, MatchEnd};
+ghost use Rattle.bb_lines.specs.Output.{AppendsBut};
+ghost use Rattle.bb_lines.specs.Watched.{is_marked, watched_inner};
+ghost use Rattle.bb_run.specs.Ends.{MatchRun, TraceEnds};
+ghost use Rattle.bb_run.specs.Trace.{AppendsSomeLines, IsTrace, IsUncut, cells_text, front_text, lines_text, step_lines, step_text};
+
+use crate::refusal::refusal_into;
+use crate::summary::Summary;
+use arrayvec::ArrayVec;
+use bb_lines::fault::Fault;
+use bb_lines::output::{Waiting, add, add_line, write_and_flush, write_waiting};
+use bb_lines::watched::Watched;
+use bb_machine::laws::texts_differ;
+use bb_machine::{Limits, Machine};
+use bb_sim::laws::last_step_exists;
+use bb_sim::{Meter, Moved, Runner};
+use bb_tape::Tape;
+use itoa::Buffer;
+use std::io::Write;
+
+/// Writes the configurations of a machine's run from step 0 on, a line each, up to the limit of steps
+/// or the halt; where the next step would pass the limit of cells, up to the last step inside. To a line
+/// that is no machine's text it writes its refusal.
+///
+/// After a fault the writer is not to be used again.
+pub fn run_trace<W: Write, T: Tape>(
+    line: &[u8],
+    limits: &Limits,
+    tape: &mut T,
+    writer: &mut Watched<W>,
+) -> Result<Summary, Fault>
+    requires tape { (T.strip tape.old).limit ≡ limits.now.cells }
+    requires writer { is_marked writer.old ≡ false }
+
+    // How the trace ends, and what is written then.
+    ensures ends { TraceEnds limits.now.steps limits.now.cells line.now
+        (W.contents (watched_inner writer.old)) (W.contents (watched_inner writer.new)) result }
+
+    // When each fault comes.
+    ensures memory { result ≡ Err Fault.Memory → IsTrue T.GROWS }
+    ensures read { result ≢ Err Fault.Read }
+    ensures write { (result ≡ Err Fault.Write) ↔ (is_marked writer.new ≡ true) }
+
+    ensures tape { (T.strip tape.new).limit ≡ limits.now.cells }
+{
+    let mut waiting = Waiting::new();
+    let clean = add_trace(line, limits, tape, writer, &mut waiting)?;
+    write_and_flush(writer, &mut waiting)?;
+    Ok(Summary {
+        clean,
+        peak: Meter::new(),
+    })
+}
+
+/// Lets the trace of a line wait, and answers whether it is a machine's and nothing of it cut off.
+fn add_trace<W: Write, T: Tape>(
+    line: &[u8],
+    limits: &Limits,
+    tape: &mut T,
+    writer: &mut Watched<W>,
+    waiting: &mut Waiting,
+) -> Result<bool, Fault>
+    requires tape { (T.strip tape.old).limit ≡ limits.now.cells }
+    requires writer { is_marked writer.old ≡ false }
+    requires waiting { waiting.old.items ≡ [] }
+    ensures ends { let held = W.contents (watched_inner writer.old) in
+        let held_then = W.contents (watched_inner writer.new) in
+        (lines : List (List ℕ)) × IsTrace limits.now.steps limits.now.cells line.now lines × MatchRun result
+        (λ whole. AppendsBut held held_then waiting.new.items (lines_text lines)
+        × (IsTrue whole ↔ IsUncut limits.now.steps limits.now.cells line.now))
+        (AppendsSomeLines held held_then lines)
+        ⊥
+        (AppendsFront held held_then (lines_text lines)) }
+    ensures memory { result ≡ Err Fault.Memory → IsTrue T.GROWS }
+    ensures read { result ≢ Err Fault.Read }
+    ensures write { (result ≡ Err Fault.Write) ↔ (is_marked writer.new ≡ true) }
+    ensures tape { (T.strip tape.new).limit ≡ limits.now.cells }
+{
+    last_step_exists();
+    texts_differ();
+    let _accepted = limits.cells();
+    match Machine::read(line) {
+        Ok(machine) => add_run(&machine, limits, tape, writer, waiting),
+        Err(refused) => {
+            add_refusal(refused.column, writer, waiting)?;
+            Ok(false)
+        }
+    }
+}
+
+/// Lets the refusal of a line wait.
+fn add_refusal<W: Write>(
+    column: u32,
+    writer: &mut Watched<W>,
+    waiting: &mut Waiting,
+) -> Result<(), Fault>
+    requires writer { is_marked writer.old ≡ false }
+    ensures ends { (before : Option (List ℕ)) (past : List ℕ)
+        → AppendsBut before (W.contents (watched_inner writer.old)) waiting.old.items past
+        → MatchEnd result
+        (AppendsBut before (W.contents (watched_inner writer.new)) waiting.new.items
+        (past ++ (refusal_text column ++ 10 ∷ [])))
+        ⊥
+        ⊥
+        (AppendsFront before (W.contents (watched_inner writer.new)) past) }
+    ensures only_write { IsOkUnless result Fault.Write }
+    ensures mark { is_marked writer.new ≡ is_err result }
+{
+    let mut text = ArrayVec::new();
+    refusal_into(column, &mut text);
+    add_line(writer, waiting, text.as_slice())
+}
+
+/// Lets the lines of a machine's run wait, and answers whether the limit of cells cut off none.
+fn add_run<W: Write, T: Tape>(
+    machine: &Machine,
+    limits: &Limits,
+    tape: &mut T,
+    writer: &mut Watched<W>,
+    waiting: &mut Waiting,
+) -> Result<bool, Fault>
+    requires tape { (T.strip tape.old).limit ≡ limits.now.cells }
+    requires writer { is_marked writer.old ≡ false }
+    requires waiting { waiting.old.items ≡ [] }
+    ensures ends { let held = W.contents (watched_inner writer.old) in
+        let held_then = W.contents (watched_inner writer.new) in
+        (last : ℕ) → IsLastInside machine.now limits.now.steps limits.now.cells last → MatchRun result
+        (λ whole. AppendsBut held held_then waiting.new.items (lines_text (step_lines machine.now (last + 1)))
+        × (IsTrue whole ↔ (span machine.now limits.now.steps ≤ limits.now.cells)))
+        (AppendsSomeLines held held_then (step_lines machine.now (last + 1)))
+        ⊥
+        (AppendsFront held held_then (lines_text (step_lines machine.now (last + 1)))) }
+    ensures memory { result ≡ Err Fault.Memory → IsTrue T.GROWS }
+    ensures read { result ≢ Err Fault.Read }
+    ensures write { (result ≡ Err Fault.Write) ↔ (is_marked writer.new ≡ true) }
+    ensures tape { (T.strip tape.new).limit ≡ limits.now.cells }
+{
+    let _accepted = limits.steps();
+    let mut meter = Meter::new();
+    let mut runner = Runner::start(machine, tape);
+    loop {
+        add_step(machine, &runner, tape, writer, waiting)?;
+        match runner.advance(machine, tape, limits, &mut meter) {
+            Ok(Moved::Stepped) => {}
+            Ok(Moved::Halted) => return Ok(true),
+            Ok(Moved::NoSteps) => return Ok(true),
+            Ok(Moved::NoCells) => return Ok(false),
+            Err(_) => {
+                write_waiting(writer, waiting)?;
+                return Err(Fault::Memory);
+            }
+        }
+    }
+}
+
+/// Lets the line of the configuration at which a runner stands wait.
+fn add_step<W: Write, T: Tape>(
+    machine: &Machine,
+    runner: &Runner,
+    tape: &T,
+    writer: &mut Watched<W>,
+    waiting: &mut Waiting,
+) -> Result<(), Fault>
+    requires stands { Stands machine.now runner.now (T.strip tape.now) }
+    requires writer { is_marked writer.old ≡ false }
+    ensures ends { let line = step_text machine.now runner.now.steps ++ 10 ∷ [] in
+        (before : Option (List ℕ)) (past : List ℕ)
+        → AppendsBut before (W.contents (watched_inner writer.old)) waiting.old.items past
+        → MatchEnd result
+        (AppendsBut before (W.contents (watched_inner writer.new)) waiting.new.items (past ++ line))
+        ⊥
+        ⊥
+        (AppendsFront before (W.contents (watched_inner writer.new)) (past ++ line)) }
+    ensures only_write { IsOkUnless result Fault.Write }
+    ensures mark { is_marked writer.new ≡ is_err result }
+{
+    let _states = machine.states();
+    add(writer, waiting, front_of(runner).as_slice())?;
+    add_cells(runner, tape, writer, waiting)?;
+    add(writer, waiting, b"\n")
+}
+
+/// The number of steps, the state and the place of the head, each with a space behind it.
+fn front_of(runner: &Runner) -> ArrayVec<u8, 64>
+    requires { IsNextOf MAX_STATES runner.now.state }
+    ensures text { result.items ≡ front_text runner.now.steps runner.now.state runner.now.position }
+    ensures short { length result.items ≤ 64 }
+{
+    let mut digits = Buffer::new();
+    let mut front = ArrayVec::new();
+    let _steps = front.try_extend_from_slice(digits.format(runner.steps()).as_bytes());
+    let _state = front.try_extend_from_slice(&[b' ', letter_of(runner), b' ']);
+    let _place = front.try_extend_from_slice(digits.format(runner.position()).as_bytes());
+    front.push(b' ');
+    front
+}
+
+/// The letter of the state at which a runner stands.
+fn letter_of(runner: &Runner) -> u8
+    requires { IsNextOf MAX_STATES runner.now.state }
+    ensures { result ≡ next_letter runner.now.state }
+{
+    match runner.state() {
+        Some(state) => b'A' + state,
+        None => b'Z',
+    }
+}
+
+/// Lets the digits of the cells of a runner's window wait.
+fn add_cells<W: Write, T: Tape>(
+    runner: &Runner,
+    tape: &T,
+    writer: &mut Watched<W>,
+    waiting: &mut Waiting,
+) -> Result<(), Fault>
+    requires order { runner.now.low ≤ℤ runner.now.high }
+    requires small { places runner.now.low runner.now.high ≤ 67108864 }
+    requires zero { runner.now.low ≤ℤ pos 0 }
+    requires writer { is_marked writer.old ≡ false }
+    ensures ends { let cells = cells_text (T.strip tape.now).content runner.now.low (places runner.now.low runner.now.high) in
+        (before : Option (List ℕ)) (past : List ℕ)
+        → AppendsBut before (W.contents (watched_inner writer.old)) waiting.old.items past
+        → MatchEnd result
+        (AppendsBut before (W.contents (watched_inner writer.new)) waiting.new.items (past ++ cells))
+        ⊥
+        ⊥
+        (AppendsFront before (W.contents (watched_inner writer.new)) (past ++ cells)) }
+    ensures only_write { IsOkUnless result Fault.Write }
+    ensures mark { is_marked writer.new ≡ is_err result }
+{
+    for i in 0..window_cells(runner) {
+        add(writer, waiting, &[digit(runner, tape, i)])?;
+    }
+    Ok(())
+}
+
+/// How many cells a runner's window has.
+fn window_cells(runner: &Runner) -> u64
+    requires order { runner.now.low ≤ℤ runner.now.high }
+    requires small { places runner.now.low runner.now.high ≤ 67108864 }
+    ensures { result ≡ places runner.now.low runner.now.high }
+{
+    (runner.high() - runner.low()) as u64 + 1
+}
+
+/// The digit of a cell of a runner's window, counted from the lowest.
+fn digit<T: Tape>(runner: &Runner, tape: &T, i: u64) -> u8
+    requires zero { runner.now.low ≤ℤ pos 0 }
+    requires few { i < 67108864 }
+    ensures { result ≡ 48 + cell (T.strip tape.now).content (runner.now.low +ℤ pos i) }
+{
+    b'0' + tape.read(runner.low() + i as i64)
+}
