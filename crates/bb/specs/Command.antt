@@ -9,13 +9,13 @@ use Rattle.clap.specs.ValueTests.{is_unsigned_in}
 use Rattle.clap.specs.declared.error.kind.ErrorKind.{ErrorKind}
 use Rattle.clap.specs.declared.error.kind.ErrorKind.TheVariants.{DisplayHelp, OutOfMemory}
 use Rattle.bb_machine.specs.Limits.{Bounds, IsAccepted, IsFirstFault}
-use Rattle.bb.specs.declared.bench.Plan.{Plan}
+use Rattle.bb_decide.specs.declared.plan.Plan.{Plan}
 use Rattle.bb.specs.declared.command.Asked.{Asked}
 use Rattle.bb.specs.declared.command.Stop.{Stop}
 use Rattle.bb.specs.declared.command.Stop.TheVariants.{Help, Words, Limits, NotBuilt, Memory}
 use Rattle.bb.specs.declared.command.Work.{Work}
 use Rattle.bb.specs.declared.command.Work.TheVariants.{Decide, Trace}
-use Rattle.bb.specs.Bench.{IsSimulation}
+use Rattle.bb_decide.specs.Plan.{IsSimulation}
 use Rattle.bb.specs.CommandLine.{command_line}
 
 -- a trace, or verdicts by no decider, since none is built
@@ -30,7 +30,7 @@ pub record Gives (words : List Text) (command : Text) (rows : List Row) : Type 0
   pub no_fault : fault_of command_line words ≡ []
   pub values : subcommand_of command_line words ≡ Some (command, rows)
 
--- the number that a text says: digits, a `+` may stand in front. 0 for any other text, which a command line has in no such place
+-- the number that a text says: digits, a `+` may stand in front. 0 for any other text, which no command line has there
 abbrev pub number_in : Text → ℕ
 number_in text = if is_unsigned_in 0 18446744073709551615 text then digits_value 10 (without_leading_plus text) else 0
 
@@ -71,7 +71,7 @@ trace_bounds rows = record {
 }
 
 -- verdicts for a list, by this plan, under these limits, from this file
-pub record IsDecide (rows : List Row) (asked : Asked) : Type 0 where
+pub record AsksToDecide (rows : List Row) (asked : Asked) : Type 0 where
   pub work : asked.work ≡ Decide (decide_plan rows)
   pub limits : asked.limits ≡ decide_bounds rows
   pub file : option_map string_bytes asked.file ≡ first_of (codes "file") rows
@@ -82,7 +82,7 @@ IsTraceOf text (Trace machine) = string_bytes machine ≡ text
 IsTraceOf text (Decide plan) = ⊥
 
 -- a trace of the machine with the text that is given, under these limits; it reads no file
-pub record IsTrace (rows : List Row) (asked : Asked) : Type 0 where
+pub record AsksToTrace (rows : List Row) (asked : Asked) : Type 0 where
   pub work : IsTraceOf (unwrap_or (first_of (codes "machine") rows) []) asked.work
   pub limits : asked.limits ≡ trace_bounds rows
   pub file : asked.file ≡ None
@@ -90,7 +90,7 @@ pub record IsTrace (rows : List Row) (asked : Asked) : Type 0 where
 -- this is what the words ask for
 abbrev pub IsAskedBy : List Text → Asked → Type 0
 IsAskedBy words asked = (rows : List Row)
-    × ((Gives words (codes "decide") rows × IsDecide rows asked) ⊎ (Gives words (codes "trace") rows × IsTrace rows asked))
+    × ((Gives words (codes "decide") rows × AsksToDecide rows asked) ⊎ (Gives words (codes "trace") rows × AsksToTrace rows asked))
 
 -- ---- why there is no work
 

@@ -27,9 +27,9 @@ cells_rule = by_default (codes "65536") (number_rule (codes "cells"))
 abbrev pub switch_rule : Text → Rule
 switch_rule name = record (new_rule name) { long = Some name; action = Some SetTrue }
 
--- an argument that is known by its place
-abbrev pub place_rule : Text → Rule
-place_rule name = record (new_rule name) { value_names = 1 }
+-- an argument that is known by its position
+abbrev pub positional_rule : Text → Rule
+positional_rule name = record (new_rule name) { value_names = 1 }
 
 -- what has to be given
 abbrev pub must : Rule → Rule
@@ -45,14 +45,14 @@ decide_shape = record (new_shape (codes "decide")) {
       ∷ switch_rule (codes "no-cyclers")
       ∷ switch_rule (codes "no-translated")
       ∷ switch_rule (codes "no-backward")
-      ∷ place_rule (codes "file")
+      ∷ positional_rule (codes "file")
       ∷ [];
 }
 
 -- bb trace --upto N [--cells N] MACHINE
 abbrev pub trace_shape : Shape
 trace_shape = record (new_shape (codes "trace")) {
-  rules = must (number_rule (codes "upto")) ∷ cells_rule ∷ must (place_rule (codes "machine")) ∷ [];
+  rules = must (number_rule (codes "upto")) ∷ cells_rule ∷ must (positional_rule (codes "machine")) ∷ [];
 }
 
 -- bb, with one of the two commands

@@ -1,10 +1,3 @@
-pub mod Bench
 pub mod Command
 pub mod CommandLine
 pub mod Ends
-pub mod Reply
-pub mod Seen
-pub mod Summary
-pub mod Verdict
-pub mod Kept
-pub mod Trace

@@ -4,12 +4,13 @@ ghost use Rattle.clap.specs.declared.builder.command.Command.TheViews.{out-Comma
 ghost use Rattle.clap.specs.Words.{app_of, found_of, kind_of, rows_of, rule_of, shape_of};
 ghost use Rattle.clap.specs.Simple.{new_shape};
 ghost use Rattle.clap.specs.declared.builder.texts.Texts.TheVariants.{One};
-ghost use Rattle.bb.specs.Bench.{IsSimulation};
-ghost use Rattle.bb.specs.Command.{CanServe, IsAskedBy, IsDecide, IsFirstStop, IsKindStop, IsStopOf, IsTrace, IsTraceStop, decide_bounds, decide_plan, is_given, number_of, stop_status, trace_bounds};
-ghost use Rattle.bb.specs.CommandLine.{by_default, cells_rule, command_line, decide_shape, number_rule, place_rule, switch_rule, trace_shape};
+ghost use Rattle.bb_decide.specs.Plan.{IsSimulation};
+ghost use Rattle.bb.specs.Command.{CanServe, IsAskedBy, AsksToDecide, IsFirstStop, IsKindStop, IsStopOf, AsksToTrace, IsTraceStop, decide_bounds, decide_plan, is_given, number_of, stop_status, trace_bounds};
+ghost use Rattle.bb.specs.CommandLine.{by_default, cells_rule, command_line, decide_shape, number_rule, positional_rule, switch_rule, trace_shape};
 
-use crate::bench::Plan;
+
 use bb_machine::{LimitFault, Limits};
+use bb_decide::Plan;
 use clap::error::ErrorKind;
 use clap::{Arg, ArgAction, ArgMatches, Command, Error, value_parser};
 use std::alloc::{AllocError, Global};
@@ -108,7 +109,7 @@ fn decide_command<'a>(alloc: Global) -> Result<Command<'a>, AllocError>
     ensures shape { IfOk result (λ command. shape_of command ≡ decide_shape) }
     ensures local { IfOk result (λ command. (fields_of command).has_globals ≡ false) }
 {
-    let file = place(
+    let file = positional(
         alloc,
         "file",
         "FILE",
@@ -145,7 +146,7 @@ fn trace_command<'a>(alloc: Global) -> Result<Command<'a>, AllocError>
     ensures local { IfOk result (λ command. (fields_of command).has_globals ≡ false) }
 {
     let upto = number(alloc, "upto", "The last step that is printed").required(true);
-    let machine = place(alloc, "machine", "MACHINE", "The machine's text").required(true);
+    let machine = positional(alloc, "machine", "MACHINE", "The machine's text").required(true);
     command(
         alloc,
         "trace",
@@ -202,8 +203,8 @@ fn switch<'a>(alloc: Global, name: &'a str, help: &'a str) -> Arg<'a>
         .action(ArgAction::SetTrue)
 }
 
-fn place<'a>(alloc: Global, name: &'a str, shown: &'a str, help: &'a str) -> Arg<'a>
-    ensures rule { rule_of result ≡ place_rule name.now }
+fn positional<'a>(alloc: Global, name: &'a str, shown: &'a str, help: &'a str) -> Arg<'a>
+    ensures rule { rule_of result ≡ positional_rule name.now }
     ensures local { result.global ≡ false }
     ensures help { result.help ≡ Some help.entry }
     ensures shown { result.val_names ≡ One shown.entry }
@@ -222,7 +223,7 @@ fn stop_of(alloc: Global, error: &Error) -> Result<Stop, AllocError>
 }
 
 fn decide_of(alloc: Global, matches: &ArgMatches<'_>) -> Result<Asked, Stop>
-    ensures asked { IfOk result (IsDecide (rows_of (found_of matches.now))) }
+    ensures asked { IfOk result (AsksToDecide (rows_of (found_of matches.now))) }
     ensures served { IfOk result (λ asked. CanServe asked.work) }
     ensures stop { IfErr result (λ stop. (stop ≡ Stop.Memory)
         ⊎ IsFirstStop (decide_bounds (rows_of (found_of matches.now))) (decide_plan (rows_of (found_of matches.now))) stop) }
@@ -277,7 +278,7 @@ fn accepted_trace(upto: u64, cells: u64) -> Result<Limits, Stop>
 }
 
 fn trace_of(alloc: Global, matches: &ArgMatches<'_>) -> Result<Asked, Stop>
-    ensures asked { IfOk result (IsTrace (rows_of (found_of matches.now))) }
+    ensures asked { IfOk result (AsksToTrace (rows_of (found_of matches.now))) }
     ensures stop { IfErr result (λ stop. (stop ≡ Stop.Memory)
         ⊎ IsTraceStop (trace_bounds (rows_of (found_of matches.now))) stop) }
 {

@@ -5,30 +5,24 @@ ghost use Rattle.std.specs.Prelude.{IfErr, IfOk, map};
 ghost use Rattle.std.specs.String.{string_bytes};
 ghost use Rattle.bb.specs.Command.{CanServe, IsAskedBy, IsStopOf};
 
-mod bench;
 mod command;
-mod decide;
-mod refusal;
-mod run_decide;
-mod run_trace;
 mod serve;
-mod summary;
 #[cfg(test)]
 mod tests;
 
 use bb_lines::fault::Fault;
 use bb_lines::watched::Watched;
+use bb_run::Summary;
 use command::{Asked, Stop, ask};
 use serve::{serve, status};
-use std::alloc::{AllocError, Global};
+use std::alloc::Global;
 use std::process::ExitCode;
 use std::{env, fs, io};
-use summary::Summary;
 
 fn main(rt: HostRuntime) -> ExitCode {
     let asked = match arguments(&rt) {
         Ok(arguments) => asked(rt.alloc(), arguments.as_slice()),
-        Err(error) => Err(Stop::from(error)),
+        Err(stop) => Err(stop),
     };
     let end = match asked {
         Ok(asked) => {
@@ -46,11 +40,15 @@ fn main(rt: HostRuntime) -> ExitCode {
     ExitCode::from(end)
 }
 
-/// The process's arguments.
-fn arguments(rt: &HostRuntime) -> Result<Vec<String>, AllocError> {
+/// The process's arguments, which have to be UTF-8.
+fn arguments(rt: &HostRuntime) -> Result<Vec<String>, Stop> {
     match env::args(rt) {
-        Ok(arguments) => arguments.collect(rt.alloc()),
-        Err(_) => Err(AllocError),
+        Ok(arguments) => Ok(arguments.collect(rt.alloc())?),
+        Err(error) if error.kind() == io::ErrorKind::InvalidData => {
+            let text = String::from_str(rt.alloc(), "error: an argument is not UTF-8\n")?;
+            Err(Stop::Words(text))
+        }
+        Err(_) => Err(Stop::Memory),
     }
 }
 

@@ -4,13 +4,11 @@ ghost use Rattle.bb_lines.specs.Watched.{is_marked, watched_inner};
 ghost use Rattle.bb.specs.Command.{CanServe};
 ghost use Rattle.bb.specs.Ends.{ServeEnds, end_status};
 
-use crate::bench::Bench;
 use crate::command::{Asked, Work};
-use crate::run_decide::run_decide;
-use crate::run_trace::run_trace;
-use crate::summary::Summary;
+use bb_decide::Bench;
 use bb_lines::fault::Fault;
 use bb_lines::watched::Watched;
+use bb_run::{Summary, run_decide, run_trace};
 use bb_tape::MapTape;
 use std::alloc::Global;
 use std::io::{Read, Write};
@@ -26,8 +24,8 @@ pub fn serve<R: Read, W: Write>(
     requires writer { is_marked writer.old ≡ false }
     requires work { CanServe asked.now.work }
 
-    // How the work ends, and what is read and written then.
-    ensures ends { ServeEnds asked.now.work asked.now.limits.steps asked.now.limits.cells
+    // How the work ends, and what is read and written then; or the tapes could not be made.
+    ensures ends { ServeEnds asked.now.work asked.now.limits
         (R.remaining (watched_inner reader.old)) (R.remaining (watched_inner reader.new))
         (W.contents (watched_inner writer.old)) (W.contents (watched_inner writer.new)) result }
     ensures read { (result ≡ Err Fault.Read) ↔ (is_marked reader.new ≡ true) }

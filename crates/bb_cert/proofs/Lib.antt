@@ -13,4 +13,6 @@ pub mod Records
 pub mod Agreements
 pub mod RecordPairs
 pub mod NoRecords
+pub mod Claims
+pub mod Standing
 pub mod Facts

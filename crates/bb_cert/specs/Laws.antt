@@ -5,6 +5,8 @@ use Rattle.bb_sim.specs.Run.{Never}
 use Rattle.bb_cert.specs.declared.reader.Line.{Line}
 use Rattle.bb_cert.specs.declared.verdict.Side.{Side}
 use Rattle.bb_cert.specs.declared.verdict.Side.TheVariants.{L, R}
+use Rattle.bb_cert.specs.declared.verdict.Verdict.{Verdict}
+use Rattle.bb_cert.specs.Claim.{Claim, SaysNever}
 use Rattle.bb_cert.specs.Line.{IsLineOf}
 use Rattle.bb_cert.specs.Repeat.{Same}
 use Rattle.bb_cert.specs.Record.{out, head_at, IsRecord}
@@ -90,3 +92,7 @@ RepeatsMakeNoRecord = (table : Table) (side : Side) (a b j n : ℕ) → a < b �
 abbrev pub AgreeingRecordsNeverRepeat : Type 0
 AgreeingRecordsNeverRepeat = (table : Table) (side : Side) (a b c d : ℕ) → AgreeingRecords table side a b
     → c < d → Same table c d → ⊥
+
+-- where a claim says that a machine never halts, it never does
+abbrev pub ClaimsNeverHalt : Type 0
+ClaimsNeverHalt = (table : Table) (verdict : Verdict) → SaysNever verdict → Claim table verdict → Never table

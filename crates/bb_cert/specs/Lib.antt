@@ -4,3 +4,4 @@ pub mod Repeat
 pub mod Record
 pub mod Agree
 pub mod Laws
+pub mod Claim

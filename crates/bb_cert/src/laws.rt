@@ -1,23 +1,5 @@
 //! Laws of verdict lines and of runs that repeat, as contracts: a call of each does nothing.
-ghost use Rattle.bb_cert.specs.Laws.{
-  AgreeingRecordsGoOn,
-  AgreeingRecordsNeverHalt,
-  AgreeingRecordsNeverRepeat,
-  HasRecord,
-  LinesDiffer,
-  LowerRecordsExist,
-  RecordHasOneNumber,
-  RecordHasOneSide,
-  RecordHasOneStep,
-  RecordPair,
-  RecordTakesSteps,
-  RecordsInOrder,
-  RepeatsGoOn,
-  RepeatsKeepDistance,
-  RepeatsMakeNoRecord,
-  RepeatsNeverHalt,
-  ShortOfRecord,
-};
+ghost use Rattle.bb_cert.specs.Laws.{AgreeingRecordsGoOn, AgreeingRecordsNeverHalt, AgreeingRecordsNeverRepeat, ClaimsNeverHalt, HasRecord, LinesDiffer, LowerRecordsExist, RecordHasOneNumber, RecordHasOneSide, RecordHasOneStep, RecordPair, RecordTakesSteps, RecordsInOrder, RepeatsGoOn, RepeatsKeepDistance, RepeatsMakeNoRecord, RepeatsNeverHalt, ShortOfRecord};
 
 /// A verdict line says one thing only: it is the line of one machine and one verdict, or of one column.
 pub fn lines_differ()
@@ -58,4 +40,9 @@ pub fn later_records_agree()
 pub fn repeats_make_no_record()
     ensures no_record { RepeatsMakeNoRecord }
     ensures never_both { AgreeingRecordsNeverRepeat }
+{}
+
+/// A claim that a machine never halts is right.
+pub fn claims_never_halt()
+    ensures { ClaimsNeverHalt }
 {}

@@ -1,6 +1,7 @@
 //! Verdicts on machines, and the lines in which they are written.
 #![tactic(auto)]
 
+pub mod compare;
 pub mod laws;
 pub mod line;
 pub mod reader;
@@ -8,6 +9,7 @@ pub mod reader;
 mod tests;
 pub mod verdict;
 
+pub use compare::is_same;
 pub use line::{LINE_BUFFER, LONGEST, line_into, lines_are_short, refusal_into};
 pub use reader::{Line, read_line};
 pub use verdict::{Side, Verdict, Why};

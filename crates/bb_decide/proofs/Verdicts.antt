@@ -1,5 +1,5 @@
--- Why a machine has one verdict.
-use Rattle.std.proofs.Common.{◌≡◌, refl}
+-- Why a machine has one verdict, and costs as many steps each time.
+use Rattle.std.proofs.Common.{◌≡◌, ℕ, ◌+◌, ◌≤◌, IsTrue, inl, inr, refl, sym, ◌∙◌, arith}
 use Rattle.bb_machine.specs.Limits.{Bounds}
 use Rattle.bb_machine.specs.Machine.{Table}
 use Rattle.bb_sim.specs.declared.simulation.Outcome.TheVariants.{Halt as Halts, NoSteps, NoCells}
@@ -7,31 +7,76 @@ use Rattle.bb_sim.proofs.Facts.{last_step_is_unique, outcome_is_unique}
 use Rattle.bb_cert.specs.declared.verdict.Why.TheVariants.{Steps, Cells}
 use Rattle.bb_cert.specs.declared.verdict.Verdict.{Verdict}
 use Rattle.bb_cert.specs.declared.verdict.Verdict.TheVariants.{Halt, Cycler, Translated, Backward, Undecided}
+use Rattle.bb_decide.specs.declared.plan.Plan.{Plan}
+use Rattle.bb_decide.specs.Cycle.{IsFirstCycle}
 use Rattle.bb_decide.specs.Laws.{VerdictIsUnique, WorkIsUnique}
+use Rattle.bb_decide.specs.Work.{CycleSteps, IsWork, StepsIfMade, MakesCycleSearch}
+use Rattle.bb_decide.proofs.Partners.{partner_is_unique}
+
+-- there is one first cycle
+module _ (table : Table) (bounds : Bounds) (a t b u : ℕ) (one : IsFirstCycle table bounds a t) (other : IsFirstCycle table bounds b u) where
+  first_cycle_is_one : t ≡ u
+  first_cycle_is_one =
+      let below = one.first b u other.cycle in
+      let above = other.first a t one.cycle in
+      omega arith
+
+  partner_of_cycle_is_one : a ≡ b
+  partner_of_cycle_is_one =
+      partner_is_unique a b u (rw (← first_cycle_is_one) one.cycle.partner) other.cycle.partner
 
 pub verdict_is_unique : VerdictIsUnique
 verdict_is_unique table bounds plan (Halt n ones) (Halt m twos) a b =
     let same = outcome_is_unique table bounds (Halts n ones) (Halts m twos) a b in cc
 verdict_is_unique table bounds plan (Halt n ones) (Undecided Steps) a b =
-    let same = outcome_is_unique table bounds (Halts n ones) NoSteps a b in cc
+    let same = outcome_is_unique table bounds (Halts n ones) NoSteps a b.0 in cc
 verdict_is_unique table bounds plan (Halt n ones) (Undecided Cells) a b =
-    let same = outcome_is_unique table bounds (Halts n ones) NoCells a b in cc
+    let same = outcome_is_unique table bounds (Halts n ones) NoCells a b.0 in cc
+verdict_is_unique table bounds plan (Halt n ones) (Cycler first second) a b = absurd (b.0 n a.0)
+verdict_is_unique table bounds plan (Cycler first second) (Halt n ones) a b = absurd (a.0 n b.0)
+verdict_is_unique table bounds plan (Cycler first second) (Cycler third fourth) a b =
+    let firsts = partner_of_cycle_is_one table bounds first second third fourth a.2 b.2 in
+    let seconds = first_cycle_is_one table bounds first second third fourth a.2 b.2 in
+    cc
+verdict_is_unique table bounds plan (Cycler first second) (Undecided Steps) a b = absurd (b.1 a.1 first second a.2.cycle)
+verdict_is_unique table bounds plan (Cycler first second) (Undecided Cells) a b = absurd (b.1 a.1 first second a.2.cycle)
 verdict_is_unique table bounds plan (Undecided Steps) (Halt m twos) a b =
-    let same = outcome_is_unique table bounds NoSteps (Halts m twos) a b in cc
+    let same = outcome_is_unique table bounds NoSteps (Halts m twos) a.0 b in cc
 verdict_is_unique table bounds plan (Undecided Cells) (Halt m twos) a b =
-    let same = outcome_is_unique table bounds NoCells (Halts m twos) a b in cc
+    let same = outcome_is_unique table bounds NoCells (Halts m twos) a.0 b in cc
+verdict_is_unique table bounds plan (Undecided Steps) (Cycler first second) a b = absurd (a.1 b.1 first second b.2.cycle)
+verdict_is_unique table bounds plan (Undecided Cells) (Cycler first second) a b = absurd (a.1 b.1 first second b.2.cycle)
 verdict_is_unique table bounds plan (Undecided Steps) (Undecided Steps) a b = refl
 verdict_is_unique table bounds plan (Undecided Cells) (Undecided Cells) a b = refl
 verdict_is_unique table bounds plan (Undecided Steps) (Undecided Cells) a b =
-    let same = outcome_is_unique table bounds NoSteps NoCells a b in cc
+    let same = outcome_is_unique table bounds NoSteps NoCells a.0 b.0 in cc
 verdict_is_unique table bounds plan (Undecided Cells) (Undecided Steps) a b =
-    let same = outcome_is_unique table bounds NoCells NoSteps a b in cc
-verdict_is_unique table bounds plan (Cycler first second) other a b = elim a [ ]
+    let same = outcome_is_unique table bounds NoCells NoSteps a.0 b.0 in cc
 verdict_is_unique table bounds plan (Translated side first second) other a b = elim a [ ]
 verdict_is_unique table bounds plan (Backward levels nodes) other a b = elim a [ ]
-verdict_is_unique table bounds plan other (Cycler first second) a b = elim b [ ]
 verdict_is_unique table bounds plan other (Translated side first second) a b = elim b [ ]
 verdict_is_unique table bounds plan other (Backward levels nodes) a b = elim b [ ]
 
+module _ (table : Table) (bounds : Bounds) where
+  cycle_steps_are_one : (n m : ℕ) → CycleSteps table bounds n → CycleSteps table bounds m → n ≡ m
+  cycle_steps_are_one n m (inl one) (inl other) = first_cycle_is_one table bounds one.0 n other.0 m one.1 other.1
+  cycle_steps_are_one n m (inl one) (inr none) = absurd (none.0 one.0 n one.1.cycle)
+  cycle_steps_are_one n m (inr none) (inl other) = absurd (none.0 other.0 m other.1.cycle)
+  cycle_steps_are_one n m (inr one) (inr other) = last_step_is_unique table bounds n m one.1 other.1
+
+-- what is made costs as much each time, if its steps do
+steps_if_made_are_one : (Made : Type 0) (Cost : ℕ → Type 0) → ((n m : ℕ) → Cost n → Cost m → n ≡ m)
+    → (n m : ℕ) → StepsIfMade Made Cost n → StepsIfMade Made Cost m → n ≡ m
+steps_if_made_are_one Made Cost one n m (inl first) (inl second) = one n m first.1 second.1
+steps_if_made_are_one Made Cost one n m (inl first) (inr second) = absurd (second.0 first.0)
+steps_if_made_are_one Made Cost one n m (inr first) (inl second) = absurd (first.0 second.0)
+steps_if_made_are_one Made Cost one n m (inr first) (inr second) = first.1 ∙ sym second.1
+
 pub work_is_unique : WorkIsUnique
-work_is_unique table bounds plan a b first second = last_step_is_unique table bounds a b first second
+work_is_unique table bounds plan a b first second =
+    let run = last_step_is_unique table bounds first.run second.run first.is_run second.is_run in
+    let cycles = steps_if_made_are_one (MakesCycleSearch table bounds plan) (CycleSteps table bounds)
+          (cycle_steps_are_one table bounds) first.cycles second.cycles first.is_cycles second.is_cycles in
+    let one = first.sum in
+    let other = second.sum in
+    omega arith

@@ -2,6 +2,6 @@
 use Rattle.std.specs.Prelude.{◌≡◌, false}
 use Rattle.bb_decide.specs.declared.plan.Plan.{Plan}
 
--- no decider is switched on
-abbrev pub IsSimulation : Plan → Type 0
-IsSimulation plan = plan ≡ record { cyclers = false; translated = false; backward = false }
+-- only deciders that are built are switched on
+abbrev pub IsBuilt : Plan → Type 0
+IsBuilt plan = (plan.translated ≡ false) × (plan.backward ≡ false)

@@ -1,18 +1,26 @@
--- The verdict on a machine within bounds, by a plan that switches on no decider: this project's own.
+-- The verdict on a machine within bounds, by a plan that switches on at most the cyclers: this project's own.
+use Rattle.std.specs.Prelude.{◌≡◌, false, IsTrue}
 use Rattle.bb_machine.specs.Limits.{Bounds}
 use Rattle.bb_machine.specs.Machine.{Table}
 use Rattle.bb_sim.specs.declared.simulation.Outcome.TheVariants.{Halt as Halts, NoSteps, NoCells}
-use Rattle.bb_sim.specs.Outcome.{IsOutcome}
+use Rattle.bb_sim.specs.Outcome.{HaltsNowhere, IsOutcome}
 use Rattle.bb_cert.specs.declared.verdict.Why.TheVariants.{Steps, Cells}
 use Rattle.bb_cert.specs.declared.verdict.Verdict.{Verdict}
 use Rattle.bb_cert.specs.declared.verdict.Verdict.TheVariants.{Halt, Cycler, Translated, Backward, Undecided}
 use Rattle.bb_decide.specs.declared.plan.Plan.{Plan}
+use Rattle.bb_decide.specs.Cycle.{HasNoCycle, IsFirstCycle}
 
--- what the simulation finds: a halt with its steps and score, or which limit it met
+-- the cyclers are off, or there is no cycle
+abbrev pub PassesCycles : Table → Bounds → Plan → Type 0
+PassesCycles table bounds plan = IsTrue plan.cyclers → HasNoCycle table bounds
+
+-- the first that applies, deciders that are off being passed over: a halt inside the bounds; the first cycle; else
+-- which limit the simulation met
 abbrev pub IsVerdict : Table → Bounds → Plan → Verdict → Type 0
 IsVerdict table bounds plan (Halt n ones) = IsOutcome table bounds (Halts n ones)
-IsVerdict table bounds plan (Undecided Steps) = IsOutcome table bounds NoSteps
-IsVerdict table bounds plan (Undecided Cells) = IsOutcome table bounds NoCells
-IsVerdict table bounds plan (Cycler first second) = ⊥
+IsVerdict table bounds plan (Cycler first second) =
+    HaltsNowhere table bounds × IsTrue plan.cyclers × IsFirstCycle table bounds first second
+IsVerdict table bounds plan (Undecided Steps) = IsOutcome table bounds NoSteps × PassesCycles table bounds plan
+IsVerdict table bounds plan (Undecided Cells) = IsOutcome table bounds NoCells × PassesCycles table bounds plan
 IsVerdict table bounds plan (Translated side first second) = ⊥
 IsVerdict table bounds plan (Backward levels nodes) = ⊥

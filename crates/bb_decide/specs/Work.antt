@@ -1,10 +1,51 @@
 -- What deciding a machine costs: this project's own.
-use Rattle.std.specs.Prelude.{ℕ}
+use Rattle.std.specs.Prelude.{◌≡◌, ℕ, ◌+◌, ◌*◌, ◌≤◌, ◌⊎◌, IsTrue, Option, Some, None}
 use Rattle.bb_machine.specs.Limits.{Bounds}
 use Rattle.bb_machine.specs.Machine.{Table}
-use Rattle.bb_sim.specs.Span.{IsLastInside}
+use Rattle.bb_sim.specs.declared.meter.Meter.{Meter}
+use Rattle.bb_sim.specs.Outcome.{HaltsNowhere}
+use Rattle.bb_sim.specs.Span.{span, IsLastInside}
 use Rattle.bb_decide.specs.declared.plan.Plan.{Plan}
+use Rattle.bb_decide.specs.Cycle.{HasNoCycle, IsFirstCycle}
 
--- the steps that deciding a machine makes: those of the simulation, up to the last step inside
-abbrev pub IsWork : Table → Bounds → Plan → ℕ → Type 0
-IsWork table bounds plan work = IsLastInside table bounds work
+-- a search makes the steps up to what it finds first, or a whole run where there is nothing to find
+abbrev pub SearchSteps : Table → Bounds → (ℕ → Type 0) → Type 0 → ℕ → Type 0
+SearchSteps table bounds Finds FindsNone n = Finds n ⊎ (FindsNone × IsLastInside table bounds n)
+
+-- what is made only where it is reached and on costs nothing elsewhere
+abbrev pub StepsIfMade : Type 0 → (ℕ → Type 0) → ℕ → Type 0
+StepsIfMade Made Steps n = (Made × Steps n) ⊎ ((Made → ⊥) × (n ≡ 0))
+
+-- the search for cycles is reached where the machine doesn't halt inside the bounds
+abbrev pub MakesCycleSearch : Table → Bounds → Plan → Type 0
+MakesCycleSearch table bounds plan = HaltsNowhere table bounds × IsTrue plan.cyclers
+
+-- the steps of the search for cycles
+abbrev pub CycleSteps : Table → Bounds → ℕ → Type 0
+CycleSteps table bounds n =
+    SearchSteps table bounds (λ t. (a : ℕ) × IsFirstCycle table bounds a t) (HasNoCycle table bounds) n
+
+-- the steps that deciding a machine makes: those of the simulation, up to the last step inside, and those of the
+-- search for cycles
+pub record IsWork (table : Table) (bounds : Bounds) (plan : Plan) (work : ℕ) : Type 0 where
+  pub run : ℕ
+  pub is_run : IsLastInside table bounds run
+  pub cycles : ℕ
+  pub is_cycles : StepsIfMade (MakesCycleSearch table bounds plan) (CycleSteps table bounds) cycles
+  pub sum : work ≡ run + cycles
+
+-- deciding a machine has counted its steps, and the span at the last step inside as its widest window
+pub record CountsWork (table : Table) (bounds : Bounds) (plan : Plan) (meter : Meter) : Type 0 where
+  pub steps : IsWork table bounds plan meter.steps
+  pub last : ℕ
+  pub is_last : IsLastInside table bounds last
+  pub most_cells : meter.most_cells ≡ span table last
+  pub nodes : meter.nodes ≡ 0
+  pub most_levels : meter.most_levels ≡ 0
+
+-- deciding a machine has counted no more than it may
+pub record IsWithinWork (bounds : Bounds) (meter : Meter) : Type 0 where
+  pub steps : meter.steps ≤ 3 * bounds.steps
+  pub most_cells : meter.most_cells ≤ bounds.cells
+  pub nodes : meter.nodes ≤ bounds.nodes
+  pub most_levels : meter.most_levels ≤ bounds.depth

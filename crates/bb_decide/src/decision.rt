@@ -1,12 +1,17 @@
 //! The verdict on one machine.
-ghost use Rattle.std.specs.Prelude.{◌≡◌, IfOk, IsTrue, OnErr, OnOk};
+ghost use Rattle.std.specs.Prelude.{◌≡◌, ◌*◌, ◌≤◌, IfOk, IfSome, IsTrue, OnErr, OnOk};
+ghost use Rattle.bb_sim.specs.Meter.{IsWithinRun};
+ghost use Rattle.bb_sim.specs.Run.{Never};
+ghost use Rattle.bb_cert.specs.Claim.{Claim, SaysNever};
 ghost use Rattle.bb_cert.specs.Verdict.{HasNumbers};
-ghost use Rattle.bb_sim.specs.Meter.{CountsRun, IsWithinRun, zero_meter};
 ghost use Rattle.bb_decide.specs.Bench.{HasCells};
-ghost use Rattle.bb_decide.specs.Plan.{IsSimulation};
+ghost use Rattle.bb_decide.specs.Plan.{IsBuilt};
+ghost use Rattle.bb_decide.specs.Search.{CyclersCount, CyclersFind};
 ghost use Rattle.bb_decide.specs.Verdict.{IsVerdict};
+ghost use Rattle.bb_decide.specs.Work.{CountsWork, IsWithinWork};
 
 use crate::bench::Bench;
+use crate::cycle::cyclers;
 use crate::plan::Plan;
 use bb_cert::{Verdict, Why};
 use bb_machine::{Limits, Machine};
@@ -15,8 +20,8 @@ use bb_tape::{Memory, Tape};
 
 /// The verdict on a machine, and under the meter what it cost: the meter is begun at 0.
 ///
-/// No decider is built yet, so the plan may switch on none. After an error nothing is said of what
-/// the tapes hold; the next call resets them.
+/// Only cyclers are built yet, so the plan may switch on no other decider. After an error nothing is said of what the
+/// tapes hold; the next call resets them.
 pub fn decide<T: Tape>(
     machine: &Machine,
     limits: &Limits,
@@ -25,19 +30,49 @@ pub fn decide<T: Tape>(
     meter: &mut Meter,
 ) -> Result<Verdict, Memory>
     requires tapes { HasCells T.strip limits.now.cells bench.old }
-    requires plan { IsSimulation plan }
+    requires plan { IsBuilt plan }
     ensures verdict { IfOk result (IsVerdict machine.now limits.now plan) }
     ensures numbers { IfOk result HasNumbers }
-    ensures counted { OnOk result (CountsRun machine.now limits.now zero_meter meter.new) }
-    ensures within { IsWithinRun limits.now zero_meter meter.new }
+    ensures claim { IfOk result (Claim machine.now) }
+    ensures never { IfOk result (λ verdict. SaysNever verdict → Never machine.now) }
+    ensures counted { OnOk result (CountsWork machine.now limits.now plan meter.new) }
+    ensures within { IsWithinWork limits.now meter.new }
     ensures tapes { HasCells T.strip limits.now.cells bench.new }
     ensures memory { OnErr result (IsTrue T.GROWS) }
 {
     *meter = Meter::new();
     let _accepted = limits.steps();
-    Ok(match simulate(machine, &mut bench.run, limits, meter)? {
-        Outcome::Halt { steps, score } => Verdict::Halt { steps, score },
-        Outcome::NoSteps => Verdict::Undecided(Why::Steps),
-        Outcome::NoCells => Verdict::Undecided(Why::Cells),
-    })
+    let why = match simulate(machine, &mut bench.run, limits, meter)? {
+        Outcome::Halt { steps, score } => return Ok(Verdict::Halt { steps, score }),
+        Outcome::NoSteps => Why::Steps,
+        Outcome::NoCells => Why::Cells,
+    };
+    match cyclers_if_on(machine, limits, plan, bench, meter)? {
+        Some(verdict) => Ok(verdict),
+        None => Ok(Verdict::Undecided(why)),
+    }
+}
+
+/// What the cyclers find, where they are on.
+fn cyclers_if_on<T: Tape>(
+    machine: &Machine,
+    limits: &Limits,
+    plan: Plan,
+    bench: &mut Bench<T>,
+    meter: &mut Meter,
+) -> Result<Option<Verdict>, Memory>
+    requires tapes { HasCells T.strip limits.now.cells bench.old }
+    requires room { meter.old.steps ≤ 2 * limits.now.steps }
+    ensures found { IfOk result (CyclersFind machine.now limits.now plan) }
+    ensures counted { IfOk result (CyclersCount machine.now limits.now plan meter.old meter.new) }
+    ensures within { IsWithinRun limits.now meter.old meter.new }
+    ensures claim { IfOk result (λ found. IfSome found (Claim machine.now)) }
+    ensures numbers { IfOk result (λ found. IfSome found HasNumbers) }
+    ensures tapes { HasCells T.strip limits.now.cells bench.new }
+    ensures memory { OnErr result (IsTrue T.GROWS) }
+{
+    if !plan.cyclers {
+        return Ok(None);
+    }
+    cyclers(machine, limits, bench, meter)
 }

@@ -2,6 +2,7 @@
 #![tactic(auto)]
 
 pub mod bench;
+pub mod cycle;
 pub mod decision;
 pub mod laws;
 pub mod plan;
@@ -9,5 +10,6 @@ pub mod plan;
 mod tests;
 
 pub use bench::Bench;
+pub use cycle::cyclers;
 pub use decision::decide;
 pub use plan::Plan;

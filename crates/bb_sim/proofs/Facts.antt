@@ -4,3 +4,4 @@ pub use Rattle.bb_sim.proofs.Outcomes.{halt_is_last, span_grows, span-start, hal
 pub use Rattle.bb_sim.proofs.RunLaws.{earlier_exists, earlier_is_inside, halt_is_unique, last_step_is_unique, score_is_unique, outcome_is_unique, span_is_reached, count_is_within, least_bounds, greatest_bounds}
 pub use Rattle.bb_sim.proofs.Positions.{least-next, greatest-next, least_last, greatest_last, cells_between-is}
 pub use Rattle.bb_sim.proofs.Steps.{led, conf-start, conf-next, counted_head-at}
+pub use Rattle.bb_sim.proofs.Counting.{counts_start, counts_next, counts_stopped, Stopped, stopped}

@@ -5,4 +5,5 @@ pub mod Stepping
 pub mod Outcomes
 pub mod LawLemmas
 pub mod RunLaws
+pub mod Counting
 pub mod Facts

@@ -8,7 +8,7 @@ use Rattle.bb.proofs.CommandShapes.{IsLocal, with_arg}
 use Rattle.bb.proofs.command.decide_command.Goals as goal
 
 -- what the last argument leaves
-has_shape : (c : goal.After-arg-8) (command : Command) → AddsArg c.in_ok-arg-7.field-0 c.place-file.result command → IsLocal command decide_shape
+has_shape : (c : goal.After-arg-8) (command : Command) → AddsArg c.in_ok-arg-7.field-0 c.positional-file.result command → IsLocal command decide_shape
 has_shape c command adds =
     let s0 : IsLocal c.command.result (new_shape (codes "decide")) = record { is_shape = c.command.ensures.shape; no_globals = c.command.ensures.local } in
     let s1 = with_arg _ _ _ _ _ c.in_ok-arg.ensures s0 c.limit.ensures.rule c.limit.ensures.local in
@@ -18,7 +18,7 @@ has_shape c command adds =
     let s5 = with_arg _ _ _ _ _ c.in_ok-arg-5.ensures s4 c.switch.ensures.rule c.switch.ensures.local in
     let s6 = with_arg _ _ _ _ _ c.in_ok-arg-6.ensures s5 c.switch-2.ensures.rule c.switch-2.ensures.local in
     let s7 = with_arg _ _ _ _ _ c.in_ok-arg-7.ensures s6 c.switch-3.ensures.rule c.switch-3.ensures.local in
-    with_arg _ _ _ _ _ adds s7 c.place-file.ensures.rule c.place-file.ensures.local
+    with_arg _ _ _ _ _ adds s7 c.positional-file.ensures.rule c.positional-file.ensures.local
 
 pub returns-clause-shape : goal.returns-clause-shape
 returns-clause-shape c = IfOk-weaker c.arg-8.result _ _ (λ command adds. (has_shape c command adds).is_shape) c.arg-8.ensures

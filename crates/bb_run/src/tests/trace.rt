@@ -1,9 +1,6 @@
 //! Traces, with lines that were worked out by hand.
 
-use crate::command::{Work, ask};
-use crate::run_trace::run_trace;
-use crate::serve::{serve, status};
-use crate::summary::Summary;
+use crate::{Summary, run_trace};
 use bb_lines::fault::Fault;
 use bb_lines::watched::Watched;
 use bb_machine::Limits;
@@ -13,57 +10,60 @@ use linked_list_allocator::LocalHeap;
 use std::process::Abort;
 use std::test::Fail;
 
-/// A command line without the program's name, the output and the exit status.
-type Row = (&'static [&'static str], &'static [u8], u8);
+/// A line, the limits of steps and cells, the output, and whether the summary is clean.
+type Row = (&'static [u8], u64, u64, &'static [u8], bool);
 
-static TRACES: [Row; 11] = [
+static TRACES: [Row; 14] = [
     (
-        &["trace", "--upto", "10", "1RB1LB_1LA1RZ"],
+        b"1RB1LB_1LA1RZ", 10, 65_536,
         b"0 A 0 0\n1 B 1 10\n2 A 0 11\n3 B -1 011\n4 A -2 0111\n5 B -1 1111\n6 Z 0 1111\n",
-        0,
+        true,
     ),
     (
-        &["trace", "--upto", "2", "1RB1LB_1LA1RZ"],
+        b"1RB1LB_1LA1RZ", 2, 65_536,
         b"0 A 0 0\n1 B 1 10\n2 A 0 11\n",
-        0,
+        true,
     ),
     (
-        &["trace", "--upto", "3", "1RZ---"],
+        b"1RZ---", 3, 65_536,
         b"0 A 0 0\n1 Z 1 1\n",
-        0,
+        true,
     ),
     (
-        &["trace", "--upto", "5", "--cells", "2", "1RA1RA"],
+        b"1RA1RA", 5, 2,
         b"0 A 0 0\n1 A 1 10\n",
-        1,
+        false,
     ),
     (
-        &["trace", "--upto", "1", "--cells", "2", "1RA1RA"],
+        b"1RA1RA", 1, 2,
         b"0 A 0 0\n1 A 1 10\n",
-        0,
+        true,
     ),
     (
-        &["trace", "--upto", "2", "1RB1LB_1LA1RC"],
+        b"1RB1LB_1LA1RC", 2, 65_536,
         b"refused 14\n",
-        1,
+        false,
     ),
-    (&["trace", "--upto", "2", ""], b"refused 1\n", 1),
+    (b"", 2, 65_536, b"refused 1\n", false),
     (
-        &["trace", "--upto", "6", "0LB---_0RC1RC_1RA---"],
+        b"0LB---_0RC1RC_1RA---", 6, 65_536,
         b"0 A 0 0\n1 B -1 00\n2 C 0 00\n3 A 1 010\n4 B 0 010\n5 C 1 010\n6 A 2 0110\n",
-        0,
+        true,
     ),
-    (&["trace", "--upto", "0", "1RA1RA"], b"0 A 0 0\n", 0),
+    (b"1RA1RA", 0, 65_536, b"0 A 0 0\n", true),
     (
-        &["trace", "--upto", "5", "--cells", "1", "1RZ---"],
+        b"1RZ---", 5, 1,
         b"0 A 0 0\n1 Z 1 1\n",
-        0,
+        true,
     ),
     (
-        &["trace", "--upto=2", "--cells=2", "1LB---_0LA0LA"],
+        b"1LB---_0LA0LA", 2, 2,
         b"0 A 0 0\n1 B -1 01\n",
-        1,
+        false,
     ),
+    (b"------", 9, 9, b"0 A 0 0\n", true),
+    (b"1RA1RA", 1, 2, b"0 A 0 0\n1 A 1 10\n", true),
+    (b"1RZ---\n", 2, 9, b"refused 7\n", false),
 ];
 
 const NOTHING_COUNTED: Meter = Meter {
@@ -85,54 +85,32 @@ fn traced_on_a_ring(
     (end, writer.into_inner())
 }
 
-#[test]
-fn traces_on_both_tapes(rt: HostRuntime) {
-    for (words, output, end_status) in &TRACES {
-        let mut all: Vec<&str> = ["bb"].to_vec(rt.alloc()).expect(&rt, "memory");
-        all.extend_from_slice(words).expect(&rt, "memory");
-        let asked = ask(rt.alloc(), all.as_slice()).expect(&rt, "a command line");
-        let mut writer = Watched::new(Vec::new(rt.alloc()));
-        let mut reader = Watched::new(b"not read".as_slice());
-        let end = serve(rt.alloc(), &asked, &mut reader, &mut writer);
-        assert_eq!(rt; writer.into_inner().as_slice(), *output);
-        assert_eq!(rt; status(&end), *end_status);
-        assert_eq!(rt; reader.into_inner(), b"not read".as_slice());
-        let Work::Trace(text) = &asked.work else {
-            panic!(rt; "no trace");
-        };
-        let (ring_end, ring_written) = traced_on_a_ring(
-            &rt,
-            text.as_str().as_bytes(),
-            &asked.limits,
-        );
-        assert_eq!(rt; ring_written.as_slice(), *output);
-        assert_eq!(rt; ring_end, end);
-        assert_eq!(rt; end.expect(&rt, "no fault").peak, NOTHING_COUNTED);
-    }
+/// The same on an ordered map.
+fn traced_on_a_map(
+    rt: &(impl Abort + AllocGlobal),
+    line: &[u8],
+    limits: &Limits,
+) -> (Result<Summary, Fault>, Vec<u8>) {
+    let mut tape = MapTape::new(rt.alloc(), limits.cells());
+    let mut writer = Watched::new(Vec::new(rt.alloc()));
+    let end = run_trace(line, limits, &mut tape, &mut writer);
+    (end, writer.into_inner())
 }
 
-/// A line, the limits of steps and cells, the output, and whether the summary is clean.
-type Case = (&'static [u8], u64, u64, &'static [u8], bool);
-
-static CASES: [Case; 3] = [
-    (b"------", 9, 9, b"0 A 0 0\n", true),
-    (b"1RA1RA", 1, 2, b"0 A 0 0\n1 A 1 10\n", true),
-    (b"1RZ---\n", 2, 9, b"refused 7\n", false),
-];
-
 #[test]
-fn traces_any_line(rt: HostRuntime) {
-    for (line, steps, cells, output, clean) in &CASES {
+fn traces_on_both_tapes(rt: HostRuntime) {
+    for (line, steps, cells, output, clean) in &TRACES {
         let limits = Limits::new(*steps, *cells, 0, 0).expect(&rt, "limits");
+        let summary = Summary {
+            clean: *clean,
+            peak: NOTHING_COUNTED,
+        };
         let (end, written) = traced_on_a_ring(&rt, line, &limits);
         assert_eq!(rt; written.as_slice(), *output);
-        assert_eq!(rt;
-            end,
-            Ok(Summary {
-                clean: *clean,
-                peak: NOTHING_COUNTED,
-            })
-        );
+        assert_eq!(rt; end, Ok(summary));
+        let (end, written) = traced_on_a_map(&rt, line, &limits);
+        assert_eq!(rt; written.as_slice(), *output);
+        assert_eq!(rt; end, Ok(summary));
     }
 }
 

@@ -1,11 +1,9 @@
 //! Lists and traces over broken streams: what is written by then, and which fault it is.
 
-use crate::bench::Bench;
-use crate::run_decide::run_decide;
-use crate::run_trace::run_trace;
-use crate::summary::Summary;
 use crate::tests::SIMULATION;
 use crate::tests::streams::{Pieces, Sink};
+use crate::{Summary, run_decide, run_trace};
+use bb_decide::Bench;
 use bb_lines::fault::Fault;
 use bb_lines::watched::Watched;
 use bb_machine::Limits;

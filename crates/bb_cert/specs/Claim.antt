@@ -1,0 +1,26 @@
+-- What a verdict claims of a machine: this project's own. Claims know nothing of how a verdict was found.
+use Rattle.std.specs.Prelude.{ℕ, ◌<◌}
+use Rattle.bb_machine.specs.Machine.{Table}
+use Rattle.bb_sim.specs.Run.{HaltsAt, IsScore}
+use Rattle.bb_cert.specs.declared.verdict.Verdict.{Verdict}
+use Rattle.bb_cert.specs.declared.verdict.Verdict.TheVariants.{Halt, Cycler, Translated, Backward, Undecided}
+use Rattle.bb_cert.specs.Agree.{AgreeingRecords}
+use Rattle.bb_cert.specs.Repeat.{Same}
+
+-- the machine halts after so many steps with so many cells that aren't 0; or its configuration at the first step comes
+-- again at the second; or both steps are records of the side and agree. An undecided verdict claims nothing, and one by
+-- the backward tree isn't made yet
+abbrev pub Claim : Table → Verdict → Type 0
+Claim table (Halt steps score) = HaltsAt table steps × IsScore table steps score
+Claim table (Cycler first second) = (first < second) × Same table first second
+Claim table (Translated side first second) = AgreeingRecords table side first second
+Claim table (Backward levels nodes) = ⊥
+Claim table (Undecided why) = Unit {0}
+
+-- the verdict says that the machine never halts
+abbrev pub SaysNever : Verdict → Type 0
+SaysNever (Halt steps score) = ⊥
+SaysNever (Cycler first second) = Unit {0}
+SaysNever (Translated side first second) = Unit {0}
+SaysNever (Backward levels nodes) = Unit {0}
+SaysNever (Undecided why) = ⊥

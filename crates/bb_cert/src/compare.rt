@@ -1,0 +1,17 @@
+//! Two runs of one machine, compared.
+ghost use Rattle.std.specs.Prelude.{◌≡◌, ◌↔◌, IsTrue};
+ghost use Rattle.bb_sim.specs.Runner.{position_of, state_of};
+
+use bb_sim::Runner;
+use bb_tape::Tape;
+
+/// Whether two runners, each on its tape, stand at the same configuration. The tapes are compared only where state and
+/// position are the same.
+#[inline]
+pub fn is_same<T: Tape>(runner: &Runner, tape: &T, other: &Runner, other_tape: &T) -> bool
+    ensures { IsTrue result ↔ ((state_of runner.now ≡ state_of other.now)
+        × (position_of runner.now ≡ position_of other.now)
+        × ((T.strip tape.now).content ≡ (T.strip other_tape.now).content)) }
+{
+    runner.is_like(other) && tape.same(other_tape)
+}

@@ -1,0 +1,73 @@
+-- Powers of two below a number, and the one that is kept while a search goes on.
+use Rattle.std.proofs.Common.{◌≡◌, ℕ, zero, suc, ◌+◌, ◌*◌, ◌-◌, ◌^◌, ◌<◌, ◌≤◌, ◌⊎◌, inl, inr, refl, sym, ◌∙◌, ap, add-one, arith}
+use Rattle.std.proofs.Math.Nat.{pow-succ'}
+use Rattle.std.proofs.Math.Pow.{pow_mono}
+use Rattle.std.proofs.lemmas.Bool.{cases_lt}
+use Rattle.bb_decide.specs.Partner.{IsPartner}
+
+-- after n steps k is kept: nothing but the start at first, then the partner of the next step
+abbrev pub IsKept : ℕ → ℕ → Type 0
+IsKept k n = ((n ≡ 0) × (k ≡ 0)) ⊎ IsPartner k (n + 1)
+
+pub kept_at_first : IsKept 0 0
+kept_at_first = inl (refl, refl)
+
+-- the kept number is below the next step
+pub kept_below : (k n : ℕ) → IsKept k n → k < n + 1
+kept_below k n (inl first) = omega (arith, first.0, first.1)
+kept_below k n (inr partner) = partner.below
+
+double : (e : ℕ) → 2 ^ (e + 1) ≡ 2 * 2 ^ e
+double e = rw add-one (pow-succ' 2 e)
+
+-- where the next step reaches twice what is kept, it is kept itself
+pub keeps_next : (k n : ℕ) → IsKept k n → 2 * k ≤ n + 1 → IsKept (n + 1) (n + 1)
+keeps_next k n (inl first) high = inr (record {
+  exponent = 0;
+  is_power = omega (arith, first.0);
+  below = omega arith;
+  greatest = omega arith;
+})
+keeps_next k n (inr partner) high = inr (record {
+  exponent = partner.exponent + 1;
+  is_power =
+      let most = partner.greatest in
+      let same : n + 1 ≡ 2 * k = omega arith in
+      same ∙ ap (λ m. 2 * m) partner.is_power ∙ sym (double partner.exponent);
+  below = omega arith;
+  greatest = omega arith;
+})
+
+-- else what is kept stays
+pub keeps_on : (k n : ℕ) → IsKept k n → n + 1 < 2 * k → IsKept k (n + 1)
+keeps_on k n (inl first) low = absurd (omega (arith, first.1, low))
+keeps_on k n (inr partner) low =
+    let below = partner.below in
+    inr (record {
+      exponent = partner.exponent;
+      is_power = partner.is_power;
+      below = omega arith;
+      greatest = omega arith;
+    })
+
+-- a number has one partner
+pub partner_is_unique : (p q j : ℕ) → IsPartner p j → IsPartner q j → p ≡ q
+partner_is_unique p q j first second = elim (cases_lt first.exponent second.exponent) [
+  | inl lower ↦ absurd (too_low p q j first second lower)
+  | inr least ↦ elim (cases_lt second.exponent first.exponent) [
+    | inl lower ↦ absurd (too_low q p j second first lower)
+    | inr most ↦
+      let same : first.exponent ≡ second.exponent = omega arith in
+      first.is_power ∙ ap (λ e. 2 ^ e) same ∙ sym second.is_power
+  ]
+] where
+  too_low : (x y i : ℕ) (one : IsPartner x i) (other : IsPartner y i) → one.exponent < other.exponent → ⊥
+  too_low x y i one other lower =
+      let next : one.exponent + 1 ≤ other.exponent = omega (arith, lower) in
+      let grows : 2 ^ (one.exponent + 1) ≤ 2 ^ other.exponent = pow_mono next in
+      let twice = double one.exponent in
+      let is_one = one.is_power in
+      let is_other = other.is_power in
+      let most = one.greatest in
+      let below = other.below in
+      omega (arith, grows, twice, is_one, is_other, most, below)

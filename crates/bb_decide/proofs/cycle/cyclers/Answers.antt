@@ -1,0 +1,112 @@
+use Rattle.std.proofs.Common.{◌≡◌, ◌+◌, ◌<◌, ◌∙◌, true, false, ap, sym, subst, arith}
+use Rattle.bb_sim.specs.Runner.{steps_of}
+use Rattle.bb_sim.specs.Meter.{CountsTo}
+use Rattle.bb_sim.specs.Span.{Inside}
+use Rattle.bb_sim.proofs.Facts.{counts_next, counts_stopped, count_is_within, stopped}
+use Rattle.bb_cert.specs.Repeat.{Same}
+use Rattle.bb_cert.proofs.Facts.{alike_of_same, same_of_alike, repeats_never_halt}
+use Rattle.bb_decide.specs.Cycle.{IsFirstCycle}
+use Rattle.bb_decide.proofs.Cycles.{first_cycle, no_cycle_next}
+use Rattle.bb_decide.proofs.Partners.{IsKept, kept_below, keeps_next, keeps_on}
+use Rattle.bb_decide.proofs.cycle.cyclers.Goals as goal
+
+pub returns-in_default : goal.returns-in_default
+returns-in_default g c =
+    let here = c.loop-runner.invariant in
+    let stop = stopped _ _ _ _ _ _ _ _ c.in_ok-advance.field-0 c.in_default.not-Stepped
+          c.in_ok-advance.ensures.reaches c.in_ok-advance.ensures.moves in
+    let same = ap (λ r. steps_of r) stop.stays.runner in
+    let counts = counts_stopped _ _ _ _ _ _ _ _ _ stop here.meter in
+    record {
+      found = λ a t cycle.
+        let few = stop.last.greatest t cycle.inside in
+        here.none a t (omega (arith, few, same)) cycle;
+      counted = record { last = _; is_last = stop.last; counts = counts };
+      within = count_is_within _ _ _ _ _ stop.last.inside counts;
+      never = tt;
+      claim = tt;
+      numbers = tt;
+      tapes = record {
+        run = c.in_ok-advance.ensures.limit ∙ here.tapes.run;
+        right = here.tapes.right;
+        left = here.tapes.left;
+      };
+      memory = tt;
+    }
+
+pub returns-then-is_same-clause-claim : goal.returns-then-is_same-clause-claim
+returns-then-is_same-clause-claim g c =
+    let here = c.loop-runner.invariant in
+    let moves = rw c.in-Stepped.is at c.in_ok-advance.ensures.moves in
+    let below = kept_below _ _ here.partner in
+    let same = same_of_alike _ _ _ _ _ c.in_ok-advance.ensures.stands here.kept (c.is_same.ensures.0 c.if-is_same.true) in
+    (omega (arith, c.steps.ensures, c.steps-then-is_same.ensures, moves.0, below),
+      rw (c.steps.ensures, c.steps-then-is_same.ensures) same)
+
+pub returns-then-is_same-clause-never : goal.returns-then-is_same-clause-never
+returns-then-is_same-clause-never g c =
+    let claim = returns-then-is_same-clause-claim g c in
+    repeats_never_halt _ _ _ claim.0 claim.1
+
+pub returns-then-is_same-clause-found : goal.returns-then-is_same-clause-found
+returns-then-is_same-clause-found g c =
+    let here = c.loop-runner.invariant in
+    let moves = rw c.in-Stepped.is at c.in_ok-advance.ensures.moves in
+    let reaches = rw c.in-Stepped.is at c.in_ok-advance.ensures.reaches in
+    let same = same_of_alike _ _ _ _ _ c.in_ok-advance.ensures.stands here.kept (c.is_same.ensures.0 c.if-is_same.true) in
+    let next = rw moves.0 at same in
+    let inside = rw moves.0 at reaches.0 in
+    rw (c.steps.ensures, c.steps-then-is_same.ensures, moves.0)
+    (first_cycle _ _ _ _ here.partner here.none next inside)
+
+pub returns-then-is_same-clause-counted : goal.returns-then-is_same-clause-counted
+returns-then-is_same-clause-counted g c =
+    let here = c.loop-runner.invariant in
+    let moves = rw c.in-Stepped.is at c.in_ok-advance.ensures.moves in
+    rw (c.steps-then-is_same.ensures, moves.0) (counts_next _ _ _ _ _ here.meter moves.1)
+
+pub loop-runner-preserved-then-steps : goal.loop-runner-preserved-then-steps
+loop-runner-preserved-then-steps g c =
+    let here = c.loop-runner.invariant in
+    let moves = rw c.in-Stepped.is at c.in_ok-advance.ensures.moves in
+    let reaches = rw c.in-Stepped.is at c.in_ok-advance.ensures.reaches in
+    record {
+      stands = c.in_ok-advance.ensures.stands;
+      kept = rw c.in-Ok.ensures.ok c.in_ok-advance.ensures.stands;
+      tapes = record {
+        run = c.in_ok-advance.ensures.limit ∙ here.tapes.run;
+        right = c.in-Ok.ensures.limit ∙ here.tapes.right;
+        left = here.tapes.left;
+      };
+      steps = reaches.0.within_steps;
+      meter = rw moves.0 (counts_next _ _ _ _ _ here.meter moves.1);
+      partner = rw moves.0 (keeps_next _ _ here.partner (omega (arith, moves.0, c.if-steps.true, c.steps-in-loop-runner.ensures, c.steps-in-loop-runner-2.ensures)));
+      none = let moved = moves.0 in rw moved (no_cycle_next _ _ _ _ here.partner here.none (λ same.
+        let alike = alike_of_same _ _ _ _ _ c.in_ok-advance.ensures.stands here.kept (rw moved same) in
+        let yes = c.is_same.ensures.1 alike in
+        let no = c.if-is_same.false in
+        cc));
+    }
+
+pub loop-runner-preserved : goal.loop-runner-preserved
+loop-runner-preserved g c =
+    let here = c.loop-runner.invariant in
+    let moves = rw c.in-Stepped.is at c.in_ok-advance.ensures.moves in
+    let reaches = rw c.in-Stepped.is at c.in_ok-advance.ensures.reaches in
+    record {
+      stands = c.in_ok-advance.ensures.stands;
+      kept = here.kept;
+      tapes = record {
+        run = c.in_ok-advance.ensures.limit ∙ here.tapes.run;
+        right = here.tapes.right;
+        left = here.tapes.left;
+      };
+      steps = reaches.0.within_steps;
+      meter = rw moves.0 (counts_next _ _ _ _ _ here.meter moves.1);
+      partner = rw moves.0 (keeps_on _ _ here.partner (omega (arith, moves.0, c.if-steps.false, c.steps-in-loop-runner.ensures, c.steps-in-loop-runner-2.ensures)));
+      none = let moved = moves.0 in rw moved (no_cycle_next _ _ _ _ here.partner here.none (λ same.
+        let alike = alike_of_same _ _ _ _ _ c.in_ok-advance.ensures.stands here.kept (rw moved same) in
+        let yes = c.is_same.ensures.1 alike in
+        let no = c.if-is_same.false in
+        cc));
+    }

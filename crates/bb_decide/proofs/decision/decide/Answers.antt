@@ -1,0 +1,34 @@
+use Rattle.bb_cert.proofs.Facts.{claims_never_halt}
+use Rattle.bb_decide.proofs.Works.{work_of_halt, work_of_search}
+use Rattle.bb_decide.proofs.decision.decide.Goals as goal
+use Rattle.bb_decide.proofs.decision.decide.Goals.{in-NoSteps, in-NoCells}
+
+pub returns-in-Halt-clause-counted : goal.returns-in-Halt-clause-counted
+returns-in-Halt-clause-counted g c =
+    let outcome = rw c.in-Halt.is at c.in_ok-steps.ensures.outcome in
+    work_of_halt _ _ _ _ _ c.new.ensures c.in_ok-steps.ensures.counted _ outcome.0
+
+pub returns-in-Some-clause-never : goal.returns-in-Some-clause-never
+returns-in-Some-clause-never g c = λ says.
+    let claim = rw c.in-Some.is at c.in_ok-verdict.ensures.claim in
+    claims_never_halt _ _ says claim
+
+pub returns-in-Some-clause-counted : goal.returns-in-Some-clause-counted
+returns-in-Some-clause-counted g c = elim c.match-branch-2.branch [
+  | in-NoSteps w ↦
+    let outcome = rw w.in-NoSteps.is at c.in_ok-steps.ensures.outcome in
+    work_of_search _ _ _ _ _ c.new.ensures c.in_ok-steps.ensures.counted outcome.0 _ _ c.in_ok-verdict.ensures.counted
+  | in-NoCells w ↦
+    let outcome = rw w.in-NoCells.is at c.in_ok-steps.ensures.outcome in
+    work_of_search _ _ _ _ _ c.new.ensures c.in_ok-steps.ensures.counted outcome.0 _ _ c.in_ok-verdict.ensures.counted
+]
+
+pub returns-in-None-clause-counted : goal.returns-in-None-clause-counted
+returns-in-None-clause-counted g c = elim c.match-branch-2.branch [
+  | in-NoSteps w ↦
+    let outcome = rw w.in-NoSteps.is at c.in_ok-steps.ensures.outcome in
+    work_of_search _ _ _ _ _ c.new.ensures c.in_ok-steps.ensures.counted outcome.0 _ _ c.in_ok-verdict.ensures.counted
+  | in-NoCells w ↦
+    let outcome = rw w.in-NoCells.is at c.in_ok-steps.ensures.outcome in
+    work_of_search _ _ _ _ _ c.new.ensures c.in_ok-steps.ensures.counted outcome.0 _ _ c.in_ok-verdict.ensures.counted
+]

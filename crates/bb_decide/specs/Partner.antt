@@ -1,0 +1,9 @@
+-- With which step, or which record, one is compared: this project's own.
+use Rattle.std.specs.Prelude.{◌≡◌, ℕ, ◌*◌, ◌^◌, ◌<◌, ◌≤◌}
+
+-- p is the greatest power of two below j
+pub record IsPartner (p j : ℕ) : Type 0 where
+  pub exponent : ℕ
+  pub is_power : p ≡ 2 ^ exponent
+  pub below : p < j
+  pub greatest : j ≤ 2 * p

@@ -1,0 +1,270 @@
+//! Engines over bytes in memory, with answers that were worked out by hand.
+
+mod broken;
+mod streams;
+mod trace;
+
+use crate::{Summary, run_decide};
+use bb_decide::{Bench, Plan};
+use bb_lines::fault::Fault;
+use bb_lines::watched::Watched;
+use bb_machine::Limits;
+use bb_tape::{MapTape, RingTape};
+use linked_list_allocator::LocalHeap;
+use std::process::Abort;
+use std::test::Fail;
+
+/// Limits of steps, cells, levels and nodes.
+type Four = [u64; 4];
+
+/// The limits, the input, the output, and whether each line is a machine's.
+type Row = (Four, &'static [u8], &'static [u8], bool);
+
+const DEFAULTS: Four = [1_000_000, 65_536, 300, 1_000_000];
+
+const SIMULATION: Plan = Plan {
+    cyclers: false,
+    translated: false,
+    backward: false,
+};
+
+static HALTS: [Row; 12] = [
+    (DEFAULTS, b"1RB1LB_1LA1RZ\n", b"1RB1LB_1LA1RZ halt 6 4\n", true),
+    (DEFAULTS, b"1RB1LB_1LA---\n", b"1RB1LB_1LA--- halt 5 4\n", true),
+    (
+        [6, 4, 2, 1_000_000],
+        b"1RB1LB_1LA1RZ\n",
+        b"1RB1LB_1LA1RZ halt 6 4\n",
+        true,
+    ),
+    (DEFAULTS, b"------\n", b"------ halt 0 0\n", true),
+    ([0, 65_536, 300, 1_000_000], b"------\n", b"------ halt 0 0\n", true),
+    (DEFAULTS, b"1RZ---\n", b"1RZ--- halt 1 1\n", true),
+    (
+        [1_000_000, 5, 3, 1_000_000],
+        b"1RB1RZ_1LB0RC_1LC1LA\n",
+        b"1RB1RZ_1LB0RC_1LC1LA halt 21 5\n",
+        true,
+    ),
+    (
+        DEFAULTS,
+        b"1RB1RZ_0RC1RB_1LC1LA\n",
+        b"1RB1RZ_0RC1RB_1LC1LA halt 14 6\n",
+        true,
+    ),
+    (
+        DEFAULTS,
+        b"1RB1LB_1LA0LC_1RZ1LD_1RD0RA\n",
+        b"1RB1LB_1LA0LC_1RZ1LD_1RD0RA halt 107 13\n",
+        true,
+    ),
+    (DEFAULTS, b"1RB---_1LA---\n", b"1RB---_1LA--- halt 2 2\n", true),
+    (
+        [1_000_000, 1, 1, 1_000_000],
+        b"1RZ---\n",
+        b"1RZ--- halt 1 1\n",
+        true,
+    ),
+    (DEFAULTS, b"", b"", true),
+];
+
+static UNDECIDED: [Row; 12] = [
+    (
+        [5, 4, 2, 1_000_000],
+        b"1RB1LB_1LA1RZ\n",
+        b"1RB1LB_1LA1RZ undecided steps\n",
+        true,
+    ),
+    (
+        [6, 3, 2, 1_000_000],
+        b"1RB1LB_1LA1RZ\n",
+        b"1RB1LB_1LA1RZ undecided cells\n",
+        true,
+    ),
+    ([0, 65_536, 300, 1_000_000], b"1RZ---\n", b"1RZ--- undecided steps\n", true),
+    (
+        [1_000_000, 4, 2, 1_000_000],
+        b"1RB1RZ_1LB0RC_1LC1LA\n",
+        b"1RB1RZ_1LB0RC_1LC1LA undecided cells\n",
+        true,
+    ),
+    (
+        [20, 65_536, 300, 1_000_000],
+        b"1RB1RZ_1LB0RC_1LC1LA\n",
+        b"1RB1RZ_1LB0RC_1LC1LA undecided steps\n",
+        true,
+    ),
+    (
+        [1000, 65_536, 300, 1_000_000],
+        b"1RB1LC_1RC1RB_1RD0LE_1LA1LD_1RZ0LA\n",
+        b"1RB1LC_1RC1RB_1RD0LE_1LA1LD_1RZ0LA undecided steps\n",
+        true,
+    ),
+    (
+        DEFAULTS,
+        b"0RB---_0LA---\n",
+        b"0RB---_0LA--- undecided steps\n",
+        true,
+    ),
+    (
+        [3, 65_536, 300, 1_000_000],
+        b"0RB---_0LA---\n",
+        b"0RB---_0LA--- undecided steps\n",
+        true,
+    ),
+    (
+        [1, 65_536, 300, 1_000_000],
+        b"1RB---_1LA---\n",
+        b"1RB---_1LA--- undecided steps\n",
+        true,
+    ),
+    (DEFAULTS, b"0RA0RA\n", b"0RA0RA undecided cells\n", true),
+    (
+        DEFAULTS,
+        b"0RA0RA_0RA0RA_0RA0RA_0RA0RA_0RA0RA_0RA0RA_0RA0RA\n",
+        b"0RA0RA_0RA0RA_0RA0RA_0RA0RA_0RA0RA_0RA0RA_0RA0RA undecided cells\n",
+        true,
+    ),
+    (
+        [1_000_000, 599, 300, 1_000_000],
+        b"1RA1RA\n",
+        b"1RA1RA undecided cells\n",
+        true,
+    ),
+];
+
+static REFUSED: [Row; 9] = [
+    (DEFAULTS, b"1RB1LB_1LA1RC\n", b"refused 14\n", false),
+    (DEFAULTS, b"1RB1LB_1LA1R\n", b"refused 13\n", false),
+    (DEFAULTS, b"1rB1LB\n", b"refused 2\n", false),
+    (DEFAULTS, b"\n", b"refused 1\n", false),
+    (DEFAULTS, b"1RB1LB_1LA1RZ\r\n", b"refused 14\n", false),
+    (
+        DEFAULTS,
+        b"0RA0RA_0RA0RA_0RA0RA_0RA0RA_0RA0RA_0RA0RA_0RA0RA_0RA0RA\n",
+        b"refused 49\n",
+        false,
+    ),
+    (
+        DEFAULTS,
+        b"------\n\n------",
+        b"------ halt 0 0\nrefused 1\n------ halt 0 0\n",
+        false,
+    ),
+    (DEFAULTS, b"\xff\n1RB\xc3\xa9\n", b"refused 1\nrefused 4\n", false),
+    (DEFAULTS, b"0RA0RA\0\n1RZ--- \n", b"refused 7\nrefused 7\n", false),
+];
+
+/// Decides a list on maps.
+fn decided_on_maps(
+    rt: &(impl Abort + AllocGlobal),
+    limits: &Limits,
+    input: &[u8],
+) -> (Result<Summary, Fault>, Vec<u8>) {
+    let run = MapTape::new(rt.alloc(), limits.cells());
+    let right = MapTape::new(rt.alloc(), limits.cells());
+    let left = MapTape::new(rt.alloc(), limits.cells());
+    let mut bench = Bench::new(rt.alloc(), run, right, left, limits).expect(rt, "a bench");
+    let mut reader = Watched::new(input);
+    let mut writer = Watched::new(Vec::new(rt.alloc()));
+    let end = run_decide(&mut reader, &mut writer, limits, SIMULATION, &mut bench);
+    (end, writer.into_inner())
+}
+
+/// The same on rings.
+fn decided_on_rings(
+    rt: &(impl Abort + AllocGlobal),
+    limits: &Limits,
+    input: &[u8],
+) -> (Result<Summary, Fault>, Vec<u8>) {
+    let run = RingTape::new(rt.alloc(), limits.cells()).expect(rt, "memory");
+    let right = RingTape::new(rt.alloc(), limits.cells()).expect(rt, "memory");
+    let left = RingTape::new(rt.alloc(), limits.cells()).expect(rt, "memory");
+    let mut bench = Bench::new(rt.alloc(), run, right, left, limits).expect(rt, "a bench");
+    let mut reader = Watched::new(input);
+    let mut writer = Watched::new(Vec::new(rt.alloc()));
+    let end = run_decide(&mut reader, &mut writer, limits, SIMULATION, &mut bench);
+    (end, writer.into_inner())
+}
+
+fn answers(rt: &(impl Abort + AllocGlobal), rows: &[Row]) {
+    for ([steps, cells, depth, nodes], input, output, clean) in rows {
+        let limits = Limits::new(*steps, *cells, *depth, *nodes).expect(rt, "limits");
+        let (end, written) = decided_on_maps(rt, &limits, input);
+        assert_eq!(rt; written.as_slice(), *output);
+        let (ring_end, ring_written) = decided_on_rings(rt, &limits, input);
+        assert_eq!(rt; ring_written.as_slice(), *output);
+        assert_eq!(rt; ring_end, end);
+        assert_eq!(rt; end.expect(rt, "no fault").clean, *clean);
+    }
+}
+
+#[test]
+fn halts(rt: HostRuntime) {
+    answers(&rt, HALTS.as_slice());
+}
+
+#[test]
+fn leaves_undecided(rt: HostRuntime) {
+    answers(&rt, UNDECIDED.as_slice());
+}
+
+#[test]
+fn refuses_lines(rt: HostRuntime) {
+    answers(&rt, REFUSED.as_slice());
+}
+
+/// How much of a heap is left for the tapes, in turn. Where a growth is refused, the replies to the
+/// first lines are written; the same bench answers all lines once there is memory.
+#[test]
+fn each_growth_of_a_run_refused(rt: HostRuntime) -> Result<(), Fail> {
+    let input = b"1RB1LB_1LA1RZ\n1RB0RA_1LA---\n0RB---_0LA---\n".as_slice();
+    let output =
+        b"1RB1LB_1LA1RZ halt 6 4\n1RB0RA_1LA--- undecided cells\n0RB---_0LA--- undecided steps\n".as_slice();
+    let limits = Limits::new(1000, 64, 10, 100).expect(&rt, "limits");
+    let heap = LocalHeap::new(rt.alloc(), 1 << 13)?;
+    let (mut refused, mut fitted) = (0, 0);
+    for left in 0..1024usize {
+        let run = MapTape::new_in(&heap, limits.cells());
+        let right = MapTape::new_in(&heap, limits.cells());
+        let left_tape = MapTape::new_in(&heap, limits.cells());
+        let mut bench = Bench::new(rt.alloc(), run, right, left_tape, &limits).expect(
+            &rt, "a bench",
+        );
+        let rest: Vec<u8, &LocalHeap> = Vec::with_capacity(&heap, (1 << 13) - left)?;
+        let mut writer = Watched::new(Vec::new(rt.alloc()));
+        let end = run_decide(
+            &mut Watched::new(input),
+            &mut writer,
+            &limits,
+            SIMULATION,
+            &mut bench,
+        );
+        drop(rest);
+        let written = writer.into_inner();
+        if end == Err(Fault::Memory) {
+            assert!(rt;
+                written.is_empty() || written.as_slice() == &output[..23],
+                "{left} bytes left"
+            );
+            refused |= 1;
+        } else {
+            assert!(rt; written.as_slice() == output, "{left} bytes left");
+            fitted |= 1;
+        }
+        let mut writer = Watched::new(Vec::new(rt.alloc()));
+        let end = run_decide(
+            &mut Watched::new(input),
+            &mut writer,
+            &limits,
+            SIMULATION,
+            &mut bench,
+        );
+        assert!(rt;
+            end.is_ok() && writer.into_inner().as_slice() == output,
+            "again"
+        );
+    }
+    assert!(rt; refused == 1 && fitted == 1);
+    Ok(())
+}
