@@ -16,9 +16,9 @@ module _ (table : Table) (bounds : Bounds) (k n : ℕ) (kept : IsKept k n) (none
   pub kept_partner : Same table k (n + 1) → IsPartner k (n + 1)
   kept_partner same = elim kept [
     | inl first ↦
-      let start = first.0 in
-      let zeroth : k ≡ n = omega (arith, first.0, first.1) in
-      absurd (no_repeat_at_once table n (subst (λ m. Same table m (n + 1)) zeroth same))
+        let start = first.0 in
+        let zeroth : k ≡ n = omega (arith, first.0, first.1) in
+        absurd (no_repeat_at_once table n (subst (λ m. Same table m (n + 1)) zeroth same))
     | inr partner ↦ partner
   ]
 
@@ -51,6 +51,6 @@ module _ (table : Table) (bounds : Bounds) (k n : ℕ) (kept : IsKept k n) (none
     by_kept found = elim kept [
       | inl first ↦ absurd (let some = positive a found.partner in let low = found.partner.below in omega (arith, first.0, some, low))
       | inr partner ↦
-        let same = partner_is_unique a k (n + 1) found.partner partner in
-        apart (subst (λ m. Same table m (n + 1)) same found.same)
+          let same = partner_is_unique a k (n + 1) found.partner partner in
+          apart (subst (λ m. Same table m (n + 1)) same found.same)
     ]

@@ -57,8 +57,8 @@ partner_is_unique p q j first second = elim (cases_lt first.exponent second.expo
   | inr least ↦ elim (cases_lt second.exponent first.exponent) [
     | inl lower ↦ absurd (too_low q p j second first lower)
     | inr most ↦
-      let same : first.exponent ≡ second.exponent = omega arith in
-      first.is_power ∙ ap (λ e. 2 ^ e) same ∙ sym second.is_power
+        let same : first.exponent ≡ second.exponent = omega arith in
+        first.is_power ∙ ap (λ e. 2 ^ e) same ∙ sym second.is_power
   ]
 ] where
   too_low : (x y i : ℕ) (one : IsPartner x i) (other : IsPartner y i) → one.exponent < other.exponent → ⊥

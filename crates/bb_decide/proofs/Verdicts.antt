@@ -76,7 +76,7 @@ pub work_is_unique : WorkIsUnique
 work_is_unique table bounds plan a b first second =
     let run = last_step_is_unique table bounds first.run second.run first.is_run second.is_run in
     let cycles = steps_if_made_are_one (MakesCycleSearch table bounds plan) (CycleSteps table bounds)
-          (cycle_steps_are_one table bounds) first.cycles second.cycles first.is_cycles second.is_cycles in
+    (cycle_steps_are_one table bounds) first.cycles second.cycles first.is_cycles second.is_cycles in
     let one = first.sum in
     let other = second.sum in
     omega arith

@@ -27,7 +27,7 @@ module _ (table : Table) (bounds : Bounds) (plan : Plan) (begin mid : Meter) (ze
   simulated : Simulated table bounds mid
   simulated =
       let is : mid ≡ counted zero_meter run.last (span table run.last) =
-            run.counts ∙ ap (λ m. counted m run.last (span table run.last)) zero in
+      run.counts ∙ ap (λ m. counted m run.last (span table run.last)) zero in
       record {
         last = run.last;
         is_last = run.is_last;

@@ -4,5 +4,6 @@ pub mod Laws
 pub mod Partner
 pub mod Plan
 pub mod Search
+pub mod Translation
 pub mod Verdict
 pub mod Work

@@ -1,63 +1,135 @@
 //! Verdicts over both tapes, with answers that were worked out by hand.
 ghost use Rattle.std.specs.Prelude.{◌≡◌};
+ghost use Rattle.bb_decide.specs.Bench.{HasCells};
 
-use crate::{Bench, Plan, decide};
+use crate::{Bench, Plan, cyclers, decide};
 use bb_cert::{Verdict, Why};
 use bb_machine::{Limits, Machine};
 use bb_sim::Meter;
 use bb_tape::{MapTape, RingTape, Tape};
-use std::alloc::Global;
 use std::process::Abort;
 use std::test::Fail;
 
 const CELLS: u64 = 64;
 
-/// A machine, its verdict, and the steps that it costs.
-type Row = (&'static [u8], Verdict, u64);
+/// A machine, the limit of steps, its verdict where cyclers are on, and the steps that it costs.
+type Row = (&'static [u8], u64, Verdict, u64);
 
-static ROWS: [Row; 4] = [
-    (b"1RB1LB_1LA1RZ", Verdict::Halt { steps: 6, score: 4 }, 6),
-    (b"------", Verdict::Halt { steps: 0, score: 0 }, 0),
-    (b"0RB---_0LA---", Verdict::Undecided(Why::Steps), 1000),
-    (b"1RA1RA", Verdict::Undecided(Why::Cells), 63),
+const STEPS: Verdict = Verdict::Undecided(Why::Steps);
+
+static ROWS: [Row; 12] = [
+    (
+        b"1RB1LB_1LA1RZ",
+        1000,
+        Verdict::Halt { steps: 6, score: 4 },
+        6,
+    ),
+    (b"------", 0, Verdict::Halt { steps: 0, score: 0 }, 0),
+    (
+        b"0RB---_0LA---",
+        1000,
+        Verdict::Cycler {
+            first: 2,
+            second: 4,
+        },
+        1004,
+    ),
+    (
+        b"0RB---_0LA---",
+        4,
+        Verdict::Cycler {
+            first: 2,
+            second: 4,
+        },
+        8,
+    ),
+    (b"0RB---_0LA---", 3, STEPS, 6),
+    (b"0RB---_0LA---", 0, STEPS, 0),
+    (
+        b"1RB0RB_1LA1LA",
+        1000,
+        Verdict::Cycler {
+            first: 4,
+            second: 8,
+        },
+        1008,
+    ),
+    (
+        b"1RB0RB_1LA1LA",
+        8,
+        Verdict::Cycler {
+            first: 4,
+            second: 8,
+        },
+        16,
+    ),
+    (b"1RB0RB_1LA1LA", 7, STEPS, 14),
+    (b"1RB0RB_1LA1LA", 2, STEPS, 4),
+    (b"1RB0RB_1LA1LA", 1, STEPS, 2),
+    (b"0RA0RA", 1000, Verdict::Undecided(Why::Cells), 126),
 ];
 
 /// Decides each machine on three tapes, and holds verdict and steps against what was worked out.
-fn are_decided<T: Tape>(
-    rt: &impl Abort,
-    alloc: Global,
-    run: T,
-    right: T,
-    left: T,
-) -> Result<(), Fail>
-    requires run { (T.strip run).limit ≡ CELLS }
-    requires right { (T.strip right).limit ≡ CELLS }
-    requires left { (T.strip left).limit ≡ CELLS }
+fn are_decided<T: Tape>(rt: &impl Abort, bench: &mut Bench<T>) -> Result<(), Fail>
+    requires { HasCells T.strip CELLS bench.old }
 {
-    let limits = Limits::new(1000, CELLS, 0, 0)?;
     let plan = Plan {
-        cyclers: false,
+        cyclers: true,
         translated: false,
         backward: false,
     };
-    let mut bench = Bench::new(alloc, run, right, left, &limits)?;
-    for (text, verdict, steps) in &ROWS {
+    for (text, most_steps, verdict, steps) in &ROWS {
+        let limits = Limits::new(*most_steps, CELLS, 0, 0)?;
         let machine = Machine::read(text)?;
         let mut meter = Meter::new();
-        assert_eq!(rt;
-            decide(&machine, &limits, plan, &mut bench, &mut meter)?,
-            *verdict
-        );
-        assert_eq!(rt; meter.steps, *steps);
+        let decided = decide(&machine, &limits, plan, bench, &mut meter)?;
+        assert_eq!(rt; decided, *verdict, "{most_steps} steps");
+        assert_eq!(rt; meter.steps, *steps, "{most_steps} steps");
     }
     Ok(())
 }
 
+/// Searches one machine for a cycle, and holds what is found and counted against what was worked out.
+fn is_searched<T: Tape>(rt: &impl Abort, bench: &mut Bench<T>) -> Result<(), Fail>
+    requires { HasCells T.strip CELLS bench.old }
+    ensures { HasCells T.strip CELLS bench.new }
+{
+    let limits = Limits::new(100, CELLS, 0, 0)?;
+    let machine = Machine::read(b"1RB0RB_1LA1LA")?;
+    let mut meter = Meter::new();
+    let found = cyclers(&machine, &limits, bench, &mut meter)?;
+    assert_eq!(rt;
+        found,
+        Some(Verdict::Cycler {
+            first: 4,
+            second: 8
+        })
+    );
+    assert_eq!(rt; meter.steps, 8);
+    assert_eq!(rt; meter.most_cells, 2);
+    Ok(())
+}
+
 #[test]
-fn machines_are_decided(rt: HostRuntime) -> Result<(), Fail> {
+fn machines_are_decided_on_maps(rt: HostRuntime) -> Result<(), Fail> {
     let alloc = rt.alloc();
-    let map = || MapTape::new(alloc, CELLS);
-    are_decided(&rt, alloc, map(), map(), map())?;
-    let ring = || RingTape::new(alloc, CELLS);
-    are_decided(&rt, alloc, ring()?, ring()?, ring()?)
+    let limits = Limits::new(1000, CELLS, 0, 0)?;
+    let run = MapTape::new(alloc, CELLS);
+    let right = MapTape::new(alloc, CELLS);
+    let left = MapTape::new(alloc, CELLS);
+    let mut bench = Bench::new(alloc, run, right, left, &limits)?;
+    is_searched(&rt, &mut bench)?;
+    are_decided(&rt, &mut bench)
+}
+
+#[test]
+fn machines_are_decided_on_rings(rt: HostRuntime) -> Result<(), Fail> {
+    let alloc = rt.alloc();
+    let limits = Limits::new(1000, CELLS, 0, 0)?;
+    let run = RingTape::new(alloc, CELLS)?;
+    let right = RingTape::new(alloc, CELLS)?;
+    let left = RingTape::new(alloc, CELLS)?;
+    let mut bench = Bench::new(alloc, run, right, left, &limits)?;
+    is_searched(&rt, &mut bench)?;
+    are_decided(&rt, &mut bench)
 }

@@ -1,4 +1,7 @@
-pub mod AnswerLemmas
-pub mod LinesLemmas
-pub mod StandsLemmas
-pub mod Streams
+mod Ends
+pub mod Facts
+mod Pieces
+mod Prefixes
+mod Progress
+mod Replies
+mod Sends

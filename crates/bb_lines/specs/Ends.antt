@@ -2,17 +2,17 @@
 -- writer holds are known, they are told of as they were before and as they are now. `Reply` is which texts are a reply to
 -- a line. This project's own.
 use Rattle.std.specs.Prelude.{◌≡◌, ℕ, ◌<◌, ◌≤◌, List, ◌++◌, length, take, Option, Result, Ok, Err}
-use Rattle.std.specs.Io.KnownBytes.{Appends}
+use Rattle.std.specs.Io.KnownBytes.{Appends, Consumes, IsAtEnd}
 use Rattle.bb_lines.specs.declared.fault.Fault.{Fault}
 use Rattle.bb_lines.specs.declared.fault.Fault.TheVariants.{Memory, Read, Write}
-use Rattle.bb_lines.specs.Lines.{AreReplies}
+use Rattle.bb_lines.specs.Lines.{AreReplies, complete, lines}
 
--- known bytes grow by a beginning of these
-pub record AppendsFront (old new : Option (List ℕ)) (bytes : List ℕ) : Type 0 where
-  pub front : List ℕ
+-- known bytes grow by a prefix of these
+pub record AppendsPrefix (old new : Option (List ℕ)) (bytes : List ℕ) : Type 0 where
+  pub prefix : List ℕ
   pub rest : List ℕ
-  pub whole : front ++ rest ≡ bytes
-  pub appends : Appends old new front
+  pub whole : prefix ++ rest ≡ bytes
+  pub appends : Appends old new prefix
 
 -- known bytes grow by a reply to each of the lines
 pub record AppendsReplies (Reply : List ℕ → List ℕ → Type 0) (old new : Option (List ℕ)) (lines : List (List ℕ)) : Type 0 where
@@ -26,17 +26,30 @@ pub record AppendsSome (Reply : List ℕ → List ℕ → Type 0) (old new : Opt
   pub not_all : count < length lines
   pub replies : AppendsReplies Reply old new (take count lines)
 
--- known bytes grow by a beginning of the replies to the first few of the lines, or to all of them
-pub record AppendsFrontOfReplies (Reply : List ℕ → List ℕ → Type 0) (old new : Option (List ℕ)) (lines : List (List ℕ)) : Type 0 where
+-- known bytes grow by a prefix of the replies to the first few of the lines, or to all of them
+pub record AppendsPrefixOfReplies (Reply : List ℕ → List ℕ → Type 0) (old new : Option (List ℕ))
+    (lines : List (List ℕ)) : Type 0 where
   pub count : ℕ
   pub within : count ≤ length lines
   pub bytes : List ℕ
   pub are_replies : AreReplies Reply (take count lines) bytes
-  pub front : AppendsFront old new bytes
+  pub prefix : AppendsPrefix old new bytes
 
--- a fact for each end of a run: without fault, and by each fault
-abbrev pub MatchEnd : Result (Unit {0}) Fault → Type 0 → Type 0 → Type 0 → Type 0 → Type 0
-MatchEnd (Ok _) fine memory read write = fine
+-- a fact for each end of a run: without fault, of what it gives, and by each fault
+abbrev pub MatchEnd : {S : Type 0} → Result S Fault → (S → Type 0) → Type 0 → Type 0 → Type 0 → Type 0
+MatchEnd (Ok summary) fine memory read write = fine summary
 MatchEnd (Err Memory) fine memory read write = memory
 MatchEnd (Err Read) fine memory read write = read
 MatchEnd (Err Write) fine memory read write = write
+
+-- how a run over the lines of a reader ends, by the bytes left in the reader and those that the writer holds, before and
+-- then: without fault the reader is at its end, the replies to all lines are written, and what the run gives sums the
+-- lines up; after an allocation failure the replies to the first few lines, not all; after a failed read those to the
+-- lines that a newline ended; after a failed write a prefix
+abbrev pub ListEnds : {S : Type 0} → (List ℕ → List ℕ → Type 0) → (List (List ℕ) → S → Type 0) → Option (List ℕ)
+    → Option (List ℕ) → Option (List ℕ) → Option (List ℕ) → Result S Fault → Type 0
+ListEnds Reply Sums left left_then held held_then end = (taken : List ℕ) × Consumes left left_then taken × MatchEnd end
+    (λ summary. IsAtEnd left_then × AppendsReplies Reply held held_then (lines taken) × Sums (lines taken) summary)
+    (AppendsSome Reply held held_then (lines taken))
+    (AppendsReplies Reply held held_then (complete taken))
+    (AppendsPrefixOfReplies Reply held held_then (lines taken))

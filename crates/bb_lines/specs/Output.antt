@@ -1,9 +1,9 @@
--- Bytes of which the last ones wait to be written.
+-- Bytes that are sent to a writer: they are written, or wait to be written. This project's own.
 use Rattle.std.specs.Prelude.{◌≡◌, ℕ, List, ◌++◌, Option}
 use Rattle.std.specs.Io.KnownBytes.{Appends}
 
--- known bytes grow by these, but for the last of them, which wait
-pub record AppendsBut (old new : Option (List ℕ)) (waiting bytes : List ℕ) : Type 0 where
+-- these bytes were sent: what was written by now, and then what waits now, are what waited before, and then these bytes
+pub record Sends (held held_then : Option (List ℕ)) (waiting waiting_then bytes : List ℕ) : Type 0 where
   pub written : List ℕ
-  pub whole : written ++ waiting ≡ bytes
-  pub appends : Appends old new written
+  pub whole : written ++ waiting_then ≡ waiting ++ bytes
+  pub appends : Appends held held_then written

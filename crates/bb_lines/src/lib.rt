@@ -1,10 +1,10 @@
 //! Answers the lines of an input in turn: what is written is a reply to each line.
 #![tactic(auto)]
 
-pub mod answer;
 pub mod fault;
 pub mod lines;
 pub mod output;
+pub mod responder;
 #[cfg(test)]
 mod tests;
 pub mod watched;

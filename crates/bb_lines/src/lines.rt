@@ -1,18 +1,17 @@
-//! Reads lines, answers each, and writes the replies.
-ghost use Rattle.std.specs.Prelude.{◌≡◌, ◌≢◌, ◌↔◌, ℕ, ◌+◌, ◌<◌, ◌≤◌, ◌^◌, ◌-◌, ◌||◌, min, List, [], ◌∷◌, ◌++◌, true, false, length, take, IsTrue, Option, OnOk, OnErr, IsOkUnless, is_err};
+//! Reads lines, replies to each, and writes the replies.
+ghost use Rattle.std.specs.Prelude.{◌≡◌, ◌≢◌, ◌↔◌, ℕ, ◌+◌, ◌<◌, ◌≤◌, ◌^◌, ◌-◌, ◌||◌, min, List, [], ◌∷◌, ◌++◌, true, false, length, take, IsTrue, OnOk, OnErr, is_err};
 ghost use Rattle.std.specs.List.{FoldsTo};
 ghost use Rattle.std.specs.Io.{ReadsAtMost};
-ghost use Rattle.std.specs.Io.KnownBytes.{Consumes, IsAtEnd, Appends, ReadConsumes};
+ghost use Rattle.std.specs.Io.KnownBytes.{Consumes, IsAtEnd, ReadConsumes};
 ghost use Rattle.bb_lines.specs.Watched.{watched_inner, is_marked, reads_of};
-ghost use Rattle.bb_lines.specs.Lines.{complete, lines};
-ghost use Rattle.bb_lines.specs.Ends.{MatchEnd, AppendsFront, AppendsFrontOfReplies, AppendsReplies, AppendsSome};
-ghost use Rattle.bb_lines.specs.Output.{AppendsBut};
-ghost use Rattle.bb_lines.specs.Progress.{AreAnswered, StandsAfter};
+ghost use Rattle.bb_lines.specs.Lines.{complete, lines, unfinished, unless_empty};
+ghost use Rattle.bb_lines.specs.Ends.{MatchEnd, AppendsPrefixOfReplies, AppendsReplies, AppendsSome, ListEnds};
+ghost use Rattle.bb_lines.specs.Progress.{prefixes, HasNoNewline, AreAnswered, WritesSome, WritesPrefix, KeepsReferences};
 ghost use Rattle.arrayvec.specs.ArrayVec.{array_vec_len};
 
-use crate::answer::{Answer, LONG_WORK, MOST_KEPT, REPLY};
 use crate::fault::Fault;
 use crate::output::{Waiting, add_line, write_and_flush, write_waiting};
+use crate::responder::{LONG_WORK, MOST_KEPT, REPLY, Responder};
 use crate::watched::{Failed, Watched};
 use arrayvec::ArrayVec;
 use memchr::memchr;
@@ -21,282 +20,249 @@ use std::io::{Read, Write};
 /// The most bytes of one read.
 const CHUNK: usize = 16384;
 
-/// What is kept between two reads: the first bytes of the line at work, and the replies that wait.
-#[derive(Drop)]
-struct Buffers {
-    kept: ArrayVec<u8, MOST_KEPT>,
-    text: ArrayVec<u8, REPLY>,
-    waiting: Waiting,
-}
-
-impl Buffers {
-    fn new() -> Self
-        ensures kept { result.kept.items ≡ [] }
-        ensures waiting { result.waiting.items ≡ [] }
-    {
-        Buffers {
-            kept: ArrayVec::new(),
-            text: ArrayVec::new(),
-            waiting: ArrayVec::new(),
-        }
-    }
-}
-
-/// Answers each line of the reader and writes the replies, in order, each as a line. The reader is read to its end. A
-/// reply is written before the next read, when there is no room for it, or at once where it was long work. The writer is
-/// flushed once, at the end of a run without fault. After a fault the reader and the writer are not to be used again.
-pub fn run<R: Read, W: Write, A: Answer>(
+/// Replies to each line of the reader and writes the replies, in order, each as a line. The reader is read to its end.
+/// Replies are buffered: they are written before the next read, when there is no room for one more, or at once after
+/// long work. The writer is flushed once, at the end of a run without fault. After a fault the reader and the writer are
+/// not to be used again.
+pub fn run<R: Read, W: Write, A: Responder>(
     reader: &mut Watched<R>,
     writer: &mut Watched<W>,
-    answerer: &mut A,
+    responder: &mut A,
 ) -> Result<(), Fault>
     requires reader { is_marked reader.old ≡ false }
     requires writer { is_marked writer.old ≡ false }
-    requires ready { A.is_ready answerer.old }
+    requires ready { A.is_ready responder.old }
 
     // How the run ends, and what is written then, for the bytes that it took from the reader.
-    ensures ends { let left = R.remaining (watched_inner reader.old) in
-        let left_then = R.remaining (watched_inner reader.new) in
-        let held = W.contents (watched_inner writer.old) in
-        let held_then = W.contents (watched_inner writer.new) in
-        let Reply = A.replies_with answerer.old in
-        (taken : List ℕ) × Consumes left left_then taken × MatchEnd result
-        (IsAtEnd left_then × AppendsReplies Reply held held_then (lines taken)
-        × FoldsTo A.saw answerer.old (lines taken) answerer.new)
-        (AppendsSome Reply held held_then (lines taken))
-        (AppendsReplies Reply held held_then (complete taken))
-        (AppendsFrontOfReplies Reply held held_then (lines taken)) }
+    ensures ends { ListEnds (A.replies_with responder.old)
+        (λ lines _. FoldsTo A.saw responder.old lines responder.new)
+        (R.remaining (watched_inner reader.old)) (R.remaining (watched_inner reader.new))
+        (W.contents (watched_inner writer.old)) (W.contents (watched_inner writer.new)) result }
 
     // When each fault comes.
     ensures memory { result ≡ Err Fault.Memory → IsTrue A.GROWS }
     ensures read { (result ≡ Err Fault.Read) ↔ (is_marked reader.new ≡ true) }
     ensures write { (result ≡ Err Fault.Write) ↔ (is_marked writer.new ≡ true) }
 
-    // The answerer goes on as it was, whatever the end.
-    ensures keeps { A.keeps answerer.old answerer.new }
-    ensures ready { A.is_ready answerer.new }
+    // The responder goes on as it was, whatever the end.
+    ensures keeps { A.keeps responder.old responder.new }
+    ensures ready { A.is_ready responder.new }
 {
-    let mut buffers = Buffers::new();
-    answer_reads(reader, writer, answerer, &mut buffers)?;
-    finish(writer, answerer, &mut buffers)
+    let mut engine = Engine::new(reader, writer, responder);
+    engine.answer_all()
 }
 
-// Reads to the end, answers all lines that a newline ends, and keeps what stands after the last of them.
-fn answer_reads<R: Read, W: Write, A: Answer>(
-    reader: &mut Watched<R>,
-    writer: &mut Watched<W>,
-    answerer: &mut A,
-    buffers: &mut Buffers,
-) -> Result<(), Fault>
-    requires reader { is_marked reader.old ≡ false }
-    requires writer { is_marked writer.old ≡ false }
-    requires ready { A.is_ready answerer.old }
-    requires kept { buffers.old.kept.items ≡ [] }
-    requires waiting { buffers.old.waiting.items ≡ [] }
-    ensures ends { let left = R.remaining (watched_inner reader.old) in
-        let left_then = R.remaining (watched_inner reader.new) in
-        let held = W.contents (watched_inner writer.old) in
-        let held_then = W.contents (watched_inner writer.new) in
-        let Reply = A.replies_with answerer.old in
-        (taken : List ℕ) × Consumes left left_then taken × MatchEnd result
-        (IsAtEnd left_then × StandsAfter Reply A.saw A.KEEP held held_then
-        buffers.new.waiting.items buffers.new.kept.items answerer.old answerer.new taken)
-        (AppendsSome Reply held held_then (lines taken))
-        (AppendsReplies Reply held held_then (complete taken))
-        (AppendsFrontOfReplies Reply held held_then (lines taken)) }
-    ensures kept { OnOk result (length buffers.new.kept.items ≤ A.KEEP) }
-    ensures written { OnOk result (buffers.new.waiting.items ≡ []) }
-    ensures memory { result ≡ Err Fault.Memory → IsTrue A.GROWS }
-    ensures read { (result ≡ Err Fault.Read) ↔ (is_marked reader.new ≡ true) }
-    ensures write { (result ≡ Err Fault.Write) ↔ (is_marked writer.new ≡ true) }
-    ensures keeps { A.keeps answerer.old answerer.new }
-    ensures ready { A.is_ready answerer.new }
-{
-    let mut chunk = [0; CHUNK];
-    loop {
-        write_waiting(writer, &mut buffers.waiting)?;
-        let n = match read_chunk(reader, &mut chunk, &buffers.waiting) {
-            Ok(n) => n,
-            Err(Failed) => return Err(Fault::Read),
+// A run over the lines of a reader.
+#[derive(Drop)]
+struct Engine<'a, R, W, A> {
+    reader: &'a mut Watched<R>,
+    writer: &'a mut Watched<W>,
+    responder: &'a mut A,
+    // The first bytes of the line at work.
+    kept: ArrayVec<u8, MOST_KEPT>,
+    // The last reply.
+    text: ArrayVec<u8, REPLY>,
+    // The replies that aren't written yet.
+    waiting: Waiting,
+}
+
+impl<'a, R: Read, W: Write, A: Responder> Engine<'a, R, W, A> {
+    // A run that has read and written nothing yet.
+    fn new(
+        reader: &'a mut Watched<R>,
+        writer: &'a mut Watched<W>,
+        responder: &'a mut A,
+    ) -> Engine<'a, R, W, A>
+        ensures reader_reference { result.reader.ghost_name ≡ reader.entry.ghost_name }
+        ensures writer_reference { result.writer.ghost_name ≡ writer.entry.ghost_name }
+        ensures responder_reference { result.responder.ghost_name ≡ responder.entry.ghost_name }
+        ensures reader { result.reader.now ≡ reader.old }
+        ensures writer { result.writer.now ≡ writer.old }
+        ensures responder { result.responder.now ≡ responder.old }
+        ensures kept { result.kept.items ≡ [] }
+        ensures waiting { result.waiting.items ≡ [] }
+    {
+        Engine {
+            reader,
+            writer,
+            responder,
+            kept: ArrayVec::new(),
+            text: ArrayVec::new(),
+            waiting: ArrayVec::new(),
+        }
+    }
+
+    // Answers all lines, writes all replies and flushes the writer.
+    fn answer_all(&mut self) -> Result<(), Fault>
+        requires reader { is_marked self.old.reader.now ≡ false }
+        requires writer { is_marked self.old.writer.now ≡ false }
+        requires ready { A.is_ready self.old.responder.now }
+        requires kept { self.old.kept.items ≡ [] }
+        requires waiting { self.old.waiting.items ≡ [] }
+        ensures ends { ListEnds (A.replies_with self.old.responder.now)
+            (λ lines _. FoldsTo A.saw self.old.responder.now lines self.new.responder.now)
+            (R.remaining (watched_inner self.old.reader.now)) (R.remaining (watched_inner self.new.reader.now))
+            (W.contents (watched_inner self.old.writer.now)) (W.contents (watched_inner self.new.writer.now)) result }
+        ensures memory { result ≡ Err Fault.Memory → IsTrue A.GROWS }
+        ensures read { (result ≡ Err Fault.Read) ↔ (is_marked self.new.reader.now ≡ true) }
+        ensures write { (result ≡ Err Fault.Write) ↔ (is_marked self.new.writer.now ≡ true) }
+        ensures keeps { A.keeps self.old.responder.now self.new.responder.now }
+        ensures ready { A.is_ready self.new.responder.now }
+        ensures references { KeepsReferences self.old self.new }
+    {
+        self.answer_reads()?;
+        if !self.kept.is_empty() {
+            self.answer_kept()?;
+        }
+        write_and_flush(self.writer, &mut self.waiting)
+    }
+
+    // Reads to the end, answers all lines that a newline ends, and keeps what stands after the last of them.
+    fn answer_reads(&mut self) -> Result<(), Fault>
+        requires reader { is_marked self.old.reader.now ≡ false }
+        requires writer { is_marked self.old.writer.now ≡ false }
+        requires ready { A.is_ready self.old.responder.now }
+        requires kept { self.old.kept.items ≡ [] }
+        requires waiting { self.old.waiting.items ≡ [] }
+        ensures ends { let left = R.remaining (watched_inner self.old.reader.now) in
+            let left_then = R.remaining (watched_inner self.new.reader.now) in
+            let held = W.contents (watched_inner self.old.writer.now) in
+            let held_then = W.contents (watched_inner self.new.writer.now) in
+            let Reply = A.replies_with self.old.responder.now in
+            (taken : List ℕ) × Consumes left left_then taken × MatchEnd result
+            (λ _. IsAtEnd left_then × AppendsReplies Reply held held_then (prefixes A.KEEP (complete taken))
+            × FoldsTo A.saw self.old.responder.now (prefixes A.KEEP (complete taken)) self.new.responder.now
+            × (self.new.kept.items ≡ take A.KEEP (unfinished taken)))
+            (AppendsSome Reply held held_then (prefixes A.KEEP (lines taken)))
+            (AppendsReplies Reply held held_then (prefixes A.KEEP (complete taken)))
+            (AppendsPrefixOfReplies Reply held held_then (prefixes A.KEEP (lines taken))) }
+        ensures kept { OnOk result (length self.new.kept.items ≤ A.KEEP) }
+        ensures written { OnOk result (self.new.waiting.items ≡ []) }
+        ensures memory { result ≡ Err Fault.Memory → IsTrue A.GROWS }
+        ensures read { (result ≡ Err Fault.Read) ↔ (is_marked self.new.reader.now ≡ true) }
+        ensures write { (result ≡ Err Fault.Write) ↔ (is_marked self.new.writer.now ≡ true) }
+        ensures keeps { A.keeps self.old.responder.now self.new.responder.now }
+        ensures ready { A.is_ready self.new.responder.now }
+        ensures references { KeepsReferences self.old self.new }
+    {
+        let mut chunk = [0; CHUNK];
+        loop {
+            write_waiting(self.writer, &mut self.waiting)?;
+            let n = match self.read_chunk(&mut chunk) {
+                Ok(n) => n,
+                Err(Failed) => return Err(Fault::Read),
+            };
+            if n == 0 {
+                return Ok(());
+            }
+            self.answer_lines(&chunk[..n])?;
+        }
+    }
+
+    // Reads the next bytes. No reply waits meanwhile.
+    fn read_chunk(&mut self, chunk: &mut [u8]) -> Result<usize, Failed>
+        requires written { self.old.waiting.items ≡ [] }
+        ensures bound { ReadsAtMost result chunk.new }
+        ensures bytes { ReadConsumes (R.remaining (watched_inner self.old.reader.now))
+            (R.remaining (watched_inner self.new.reader.now)) result chunk.new }
+        ensures mark { is_marked self.new.reader.now ≡ (is_marked self.old.reader.now || is_err result) }
+        ensures reads { reads_of self.new.reader.now ≡ min (reads_of self.old.reader.now + 1) (2 ^ 64 - 1) }
+        ensures turns { OnOk result (reads_of self.old.reader.now < 2 ^ 64 - 1) }
+        ensures writer { self.new.writer ≡ self.old.writer }
+        ensures waiting { self.new.waiting ≡ self.old.waiting }
+        ensures responder { self.new.responder ≡ self.old.responder }
+        ensures kept { self.new.kept ≡ self.old.kept }
+        ensures references { KeepsReferences self.old self.new }
+    {
+        self.reader.read(chunk)
+    }
+
+    // Answers the lines that end in this piece of the input, and keeps what stands after the last of them.
+    fn answer_lines(&mut self, piece: &[u8]) -> Result<(), Fault>
+        requires writer { is_marked self.old.writer.now ≡ false }
+        requires ready { A.is_ready self.old.responder.now }
+        requires kept { length self.old.kept.items ≤ A.KEEP }
+        requires one_line { HasNoNewline self.old.kept.items }
+        requires prompt { LONG_WORK < A.work self.old.responder.now → self.old.waiting.items ≡ [] }
+        ensures ends { let held = W.contents (watched_inner self.old.writer.now) in
+            let held_then = W.contents (watched_inner self.new.writer.now) in
+            let Reply = A.replies_with self.old.responder.now in
+            let ended = prefixes A.KEEP (complete (self.old.kept.items ++ piece.now)) in
+            MatchEnd result
+            (λ _. AreAnswered Reply A.saw held held_then self.old.waiting.items self.new.waiting.items
+            self.old.responder.now self.new.responder.now ended)
+            (WritesSome Reply held held_then self.old.waiting.items ended)
+            ⊥
+            (WritesPrefix Reply held held_then self.old.waiting.items ended) }
+        ensures kept { OnOk result (self.new.kept.items ≡ take A.KEEP (unfinished (self.old.kept.items ++ piece.now))) }
+        ensures one_line { OnOk result (HasNoNewline self.new.kept.items) }
+        ensures prompt { OnOk result (LONG_WORK < A.work self.new.responder.now → self.new.waiting.items ≡ []) }
+        ensures memory { result ≡ Err Fault.Memory → IsTrue A.GROWS }
+        ensures write { (result ≡ Err Fault.Write) ↔ (is_marked self.new.writer.now ≡ true) }
+        ensures no_read { result ≢ Err Fault.Read }
+        ensures keeps { A.keeps self.old.responder.now self.new.responder.now }
+        ensures ready { A.is_ready self.new.responder.now }
+        ensures reader { self.new.reader.now ≡ self.old.reader.now }
+        ensures references { KeepsReferences self.old self.new }
+    {
+        let most = self.responder.keep();
+        let mut rest = piece;
+        while let Some(at) = memchr(b'\n', rest) {
+            keep(&mut self.kept, &rest[..at], most);
+            self.answer_kept()?;
+            rest = &rest[at + 1..];
+        }
+        keep(&mut self.kept, rest, most);
+        Ok(())
+    }
+
+    // Answers the line whose first bytes are kept. No reply to long work waits meanwhile.
+    fn answer_kept(&mut self) -> Result<(), Fault>
+        requires writer { is_marked self.old.writer.now ≡ false }
+        requires ready { A.is_ready self.old.responder.now }
+        requires kept { length self.old.kept.items ≤ A.KEEP }
+        requires prompt { LONG_WORK < A.work self.old.responder.now → self.old.waiting.items ≡ [] }
+        ensures ends { let held = W.contents (watched_inner self.old.writer.now) in
+            let held_then = W.contents (watched_inner self.new.writer.now) in
+            let Reply = A.replies_with self.old.responder.now in
+            let line = self.old.kept.items in
+            MatchEnd result
+            (λ _. AreAnswered Reply A.saw held held_then self.old.waiting.items self.new.waiting.items
+            self.old.responder.now self.new.responder.now (line ∷ []))
+            (WritesSome Reply held held_then self.old.waiting.items (line ∷ []))
+            ⊥
+            (WritesPrefix Reply held held_then self.old.waiting.items (line ∷ [])) }
+        ensures kept { OnOk result (self.new.kept.items ≡ []) }
+        ensures prompt { OnOk result (LONG_WORK < A.work self.new.responder.now → self.new.waiting.items ≡ []) }
+        ensures memory { result ≡ Err Fault.Memory → IsTrue A.GROWS }
+        ensures write { (result ≡ Err Fault.Write) ↔ (is_marked self.new.writer.now ≡ true) }
+        ensures no_read { result ≢ Err Fault.Read }
+        ensures keeps { A.keeps self.old.responder.now self.new.responder.now }
+        ensures ready { A.is_ready self.new.responder.now }
+        ensures reader { self.new.reader.now ≡ self.old.reader.now }
+        ensures references { KeepsReferences self.old self.new }
+    {
+        self.text.clear();
+        let work = match self.responder.respond(self.kept.as_slice(), &mut self.text) {
+            Ok(work) => work,
+            Err(_) => {
+                write_waiting(self.writer, &mut self.waiting)?;
+                return Err(Fault::Memory);
+            }
         };
-        if n == 0 {
-            return Ok(());
+        self.kept.clear();
+        add_line(self.writer, &mut self.waiting, self.text.as_slice())?;
+        if work > LONG_WORK {
+            return write_waiting(self.writer, &mut self.waiting);
         }
-        answer_lines(writer, answerer, &chunk[..n], buffers)?;
+        Ok(())
     }
-}
-
-// Reads the next bytes. No reply waits meanwhile.
-fn read_chunk<R: Read>(
-    reader: &mut Watched<R>,
-    chunk: &mut [u8],
-    _waiting: &Waiting,
-) -> Result<usize, Failed>
-    requires written { _waiting.now.items ≡ [] }
-    ensures bound { ReadsAtMost result chunk.new }
-    ensures bytes { ReadConsumes (R.remaining (watched_inner reader.old)) (R.remaining (watched_inner reader.new)) result chunk.new }
-    ensures mark { is_marked reader.new ≡ (is_marked reader.old || is_err result) }
-    ensures reads { reads_of reader.new ≡ min (reads_of reader.old + 1) (2 ^ 64 - 1) }
-    ensures turns { OnOk result (reads_of reader.old < 2 ^ 64 - 1) }
-{
-    reader.read(chunk)
-}
-
-// Answers what stands after the last newline, and writes and flushes all that waits.
-fn finish<W: Write, A: Answer>(
-    writer: &mut Watched<W>,
-    answerer: &mut A,
-    buffers: &mut Buffers,
-) -> Result<(), Fault>
-    requires writer { is_marked writer.old ≡ false }
-    requires ready { A.is_ready answerer.old }
-    requires kept { length buffers.old.kept.items ≤ A.KEEP }
-    requires written { buffers.old.waiting.items ≡ [] }
-    ensures ends { (old : Option (List ℕ)) (first : A) (past : List ℕ)
-        → A.keeps first answerer.old
-        → StandsAfter (A.replies_with first) A.saw A.KEEP old (W.contents (watched_inner writer.old))
-        buffers.old.waiting.items buffers.old.kept.items first answerer.old past
-        → MatchEnd result
-        (AppendsReplies (A.replies_with first) old (W.contents (watched_inner writer.new)) (lines past)
-        × FoldsTo A.saw first (lines past) answerer.new)
-        (AppendsSome (A.replies_with first) old (W.contents (watched_inner writer.new)) (lines past))
-        ⊥
-        (AppendsFrontOfReplies (A.replies_with first) old (W.contents (watched_inner writer.new)) (lines past)) }
-    ensures memory { result ≡ Err Fault.Memory → IsTrue A.GROWS }
-    ensures write { (result ≡ Err Fault.Write) ↔ (is_marked writer.new ≡ true) }
-    ensures no_read { result ≢ Err Fault.Read }
-    ensures keeps { A.keeps answerer.old answerer.new }
-    ensures ready { A.is_ready answerer.new }
-{
-    answer_last(writer, answerer, buffers)?;
-    write_and_flush(writer, &mut buffers.waiting)
-}
-
-// Answers what stands after the last newline, if it isn't empty: then its first bytes are kept, and there is one at least.
-fn answer_last<W: Write, A: Answer>(
-    writer: &mut Watched<W>,
-    answerer: &mut A,
-    buffers: &mut Buffers,
-) -> Result<(), Fault>
-    requires writer { is_marked writer.old ≡ false }
-    requires ready { A.is_ready answerer.old }
-    requires kept { length buffers.old.kept.items ≤ A.KEEP }
-    requires written { buffers.old.waiting.items ≡ [] }
-    ensures ends { (old : Option (List ℕ)) (first : A) (past : List ℕ)
-        → A.keeps first answerer.old
-        → StandsAfter (A.replies_with first) A.saw A.KEEP old (W.contents (watched_inner writer.old))
-        buffers.old.waiting.items buffers.old.kept.items first answerer.old past
-        → MatchEnd result
-        (AreAnswered (A.replies_with first) A.saw old (W.contents (watched_inner writer.new))
-        buffers.new.waiting.items first answerer.new (lines past))
-        (AppendsSome (A.replies_with first) old (W.contents (watched_inner writer.new)) (lines past))
-        ⊥
-        (AppendsFrontOfReplies (A.replies_with first) old (W.contents (watched_inner writer.new)) (lines past)) }
-    ensures memory { result ≡ Err Fault.Memory → IsTrue A.GROWS }
-    ensures write { (result ≡ Err Fault.Write) ↔ (is_marked writer.new ≡ true) }
-    ensures no_read { result ≢ Err Fault.Read }
-    ensures keeps { A.keeps answerer.old answerer.new }
-    ensures ready { A.is_ready answerer.new }
-{
-    if buffers.kept.is_empty() {
-        return Ok(());
-    }
-    answer_kept(writer, answerer, buffers)
-}
-
-// Answers the lines that end in this piece of the input, and keeps what stands after the last of them.
-fn answer_lines<W: Write, A: Answer>(
-    writer: &mut Watched<W>,
-    answerer: &mut A,
-    piece: &[u8],
-    buffers: &mut Buffers,
-) -> Result<(), Fault>
-    requires writer { is_marked writer.old ≡ false }
-    requires ready { A.is_ready answerer.old }
-    requires kept { length buffers.old.kept.items ≤ A.KEEP }
-    requires prompt { LONG_WORK < A.work answerer.old → buffers.old.waiting.items ≡ [] }
-    ensures ends { (old : Option (List ℕ)) (first : A) (past : List ℕ)
-        → A.keeps first answerer.old
-        → StandsAfter (A.replies_with first) A.saw A.KEEP old (W.contents (watched_inner writer.old))
-        buffers.old.waiting.items buffers.old.kept.items first answerer.old past
-        → MatchEnd result
-        (StandsAfter (A.replies_with first) A.saw A.KEEP old (W.contents (watched_inner writer.new))
-        buffers.new.waiting.items buffers.new.kept.items first answerer.new
-        (past ++ piece.now))
-        (AppendsSome (A.replies_with first) old (W.contents (watched_inner writer.new))
-        (lines (past ++ piece.now)))
-        ⊥
-        (AppendsFrontOfReplies (A.replies_with first) old (W.contents (watched_inner writer.new))
-        (lines (past ++ piece.now))) }
-    ensures kept { OnOk result (length buffers.new.kept.items ≤ A.KEEP) }
-    ensures prompt { OnOk result (LONG_WORK < A.work answerer.new → buffers.new.waiting.items ≡ []) }
-    ensures memory { result ≡ Err Fault.Memory → IsTrue A.GROWS }
-    ensures write { (result ≡ Err Fault.Write) ↔ (is_marked writer.new ≡ true) }
-    ensures no_read { result ≢ Err Fault.Read }
-    ensures keeps { A.keeps answerer.old answerer.new }
-    ensures ready { A.is_ready answerer.new }
-{
-    let most = answerer.keep();
-    let mut rest = piece;
-    while let Some(at) = memchr(b'\n', rest) {
-        keep(&mut buffers.kept, &rest[..at], most);
-        answer_kept(writer, answerer, buffers)?;
-        rest = &rest[at + 1..];
-    }
-    keep(&mut buffers.kept, rest, most);
-    Ok(())
-}
-
-// Answers the line whose first bytes are kept. It goes on from lines that are answered, whichever they are.
-fn answer_kept<W: Write, A: Answer>(
-    writer: &mut Watched<W>,
-    answerer: &mut A,
-    buffers: &mut Buffers,
-) -> Result<(), Fault>
-    requires writer { is_marked writer.old ≡ false }
-    requires ready { A.is_ready answerer.old }
-    requires kept { length buffers.old.kept.items ≤ A.KEEP }
-    requires prompt { LONG_WORK < A.work answerer.old → buffers.old.waiting.items ≡ [] }
-    ensures ends { (old : Option (List ℕ)) (first : A) (before : List (List ℕ)) (line : List ℕ)
-        → A.keeps first answerer.old
-        → AreAnswered (A.replies_with first) A.saw old (W.contents (watched_inner writer.old))
-        buffers.old.waiting.items first answerer.old before
-        → buffers.old.kept.items ≡ take A.KEEP line
-        → MatchEnd result
-        (AreAnswered (A.replies_with first) A.saw old (W.contents (watched_inner writer.new))
-        buffers.new.waiting.items first answerer.new (before ++ line ∷ []))
-        (AppendsReplies (A.replies_with first) old (W.contents (watched_inner writer.new)) before)
-        ⊥
-        (AppendsFrontOfReplies (A.replies_with first) old (W.contents (watched_inner writer.new))
-        (before ++ line ∷ [])) }
-    ensures kept { OnOk result (buffers.new.kept.items ≡ []) }
-    ensures prompt { OnOk result (LONG_WORK < A.work answerer.new → buffers.new.waiting.items ≡ []) }
-    ensures memory { result ≡ Err Fault.Memory → IsTrue A.GROWS }
-    ensures write { (result ≡ Err Fault.Write) ↔ (is_marked writer.new ≡ true) }
-    ensures no_read { result ≢ Err Fault.Read }
-    ensures keeps { A.keeps answerer.old answerer.new }
-    ensures ready { A.is_ready answerer.new }
-{
-    buffers.text.clear();
-    let work = match answerer.answer(buffers.kept.as_slice(), &buffers.waiting, &mut buffers.text) {
-        Ok(work) => work,
-        Err(_) => {
-            write_waiting(writer, &mut buffers.waiting)?;
-            return Err(Fault::Memory);
-        }
-    };
-    buffers.kept.clear();
-    add_line(writer, &mut buffers.waiting, buffers.text.as_slice())?;
-    if work > LONG_WORK {
-        return write_waiting(writer, &mut buffers.waiting);
-    }
-    Ok(())
 }
 
 // Keeps the first `most` bytes of what is kept and a piece that comes after it.
 fn keep(kept: &mut ArrayVec<u8, MOST_KEPT>, piece: &[u8], most: usize)
     requires kept { array_vec_len kept.old ≤ most }
-    requires most { most ≤ 1024 }
+    requires most { most ≤ MOST_KEPT }
     ensures { kept.new.items ≡ take most (kept.old.items ++ piece.now) }
 {
     let n = piece.len().min(most - kept.len());

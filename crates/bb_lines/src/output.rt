@@ -1,11 +1,12 @@
 //! Bytes that wait to be written together.
-ghost use Rattle.std.specs.Prelude.{◌≡◌, ℕ, ◌≤◌, List, [], ◌∷◌, ◌++◌, false, length, Option, OnOk, OnErr, IsOkUnless, is_err};
+ghost use Rattle.std.specs.Prelude.{◌≡◌, ◌≤◌, List, [], ◌∷◌, ◌++◌, false, length, OnOk, OnErr, IsOkUnless, is_err};
 ghost use Rattle.std.specs.Io.KnownBytes.{Appends};
 ghost use Rattle.bb_lines.specs.Watched.{watched_inner, is_marked};
-ghost use Rattle.bb_lines.specs.Ends.{MatchEnd, AppendsFront};
-ghost use Rattle.bb_lines.specs.Output.{AppendsBut};
+ghost use Rattle.bb_lines.specs.Ends.{AppendsPrefix};
+ghost use Rattle.bb_lines.specs.Output.{Sends};
 
 use crate::fault::Fault;
+use crate::responder::REPLY;
 use crate::watched::{Failed, Watched};
 use arrayvec::ArrayVec;
 use std::io::Write;
@@ -16,8 +17,8 @@ pub const WAITING: usize = 16384;
 /// Bytes that wait to be written.
 pub type Waiting = ArrayVec<u8, WAITING>;
 
-/// Lets bytes wait. What waits is written before, if there is no room for them. After an error, which
-/// is `Fault::Write`, they are lost.
+/// Lets bytes wait. What waits is written before, if there is no room for them. After an error, which is
+/// `Fault::Write`, they are lost.
 pub fn add<W: Write>(
     writer: &mut Watched<W>,
     waiting: &mut Waiting,
@@ -25,13 +26,10 @@ pub fn add<W: Write>(
 ) -> Result<(), Fault>
     requires writer { is_marked writer.old ≡ false }
     requires few { length bytes.now ≤ WAITING }
-    ensures ends { (before : Option (List ℕ)) (past : List ℕ)
-        → AppendsBut before (W.contents (watched_inner writer.old)) waiting.old.items past
-        → MatchEnd result
-        (AppendsBut before (W.contents (watched_inner writer.new)) waiting.new.items (past ++ bytes.now))
-        ⊥
-        ⊥
-        (AppendsFront before (W.contents (watched_inner writer.new)) past) }
+    ensures sent { OnOk result (Sends (W.contents (watched_inner writer.old)) (W.contents (watched_inner writer.new))
+        waiting.old.items waiting.new.items bytes.now) }
+    ensures err { OnErr result (AppendsPrefix (W.contents (watched_inner writer.old))
+        (W.contents (watched_inner writer.new)) waiting.old.items) }
     ensures only_write { IsOkUnless result Fault.Write }
     ensures mark { is_marked writer.new ≡ is_err result }
 {
@@ -42,23 +40,19 @@ pub fn add<W: Write>(
     Ok(())
 }
 
-/// Lets a text of at most 1,023 bytes wait, with a newline. What waits is written before, if there is no
-/// room for both. After an error the text is lost.
+/// Lets a text of at most `REPLY` bytes wait, with a newline. What waits is written before, if there is no room for
+/// both. After an error the text is lost.
 pub fn add_line<W: Write>(
     writer: &mut Watched<W>,
     waiting: &mut Waiting,
     text: &[u8],
 ) -> Result<(), Fault>
     requires writer { is_marked writer.old ≡ false }
-    requires text { length text.now ≤ 1023 }
-    ensures ends { (before : Option (List ℕ)) (bytes : List ℕ)
-        → AppendsBut before (W.contents (watched_inner writer.old)) waiting.old.items bytes
-        → MatchEnd result
-        (AppendsBut before (W.contents (watched_inner writer.new)) waiting.new.items
-        (bytes ++ (text.now ++ 10 ∷ [])))
-        ⊥
-        ⊥
-        (AppendsFront before (W.contents (watched_inner writer.new)) bytes) }
+    requires short { length text.now ≤ REPLY }
+    ensures sent { OnOk result (Sends (W.contents (watched_inner writer.old)) (W.contents (watched_inner writer.new))
+        waiting.old.items waiting.new.items (text.now ++ 10 ∷ [])) }
+    ensures err { OnErr result (AppendsPrefix (W.contents (watched_inner writer.old))
+        (W.contents (watched_inner writer.new)) waiting.old.items) }
     ensures only_write { IsOkUnless result Fault.Write }
     ensures mark { is_marked writer.new ≡ is_err result }
 {
@@ -76,7 +70,7 @@ pub fn write_waiting<W: Write>(writer: &mut Watched<W>, waiting: &mut Waiting) -
     ensures ok { OnOk result (Appends (W.contents (watched_inner writer.old))
         (W.contents (watched_inner writer.new)) waiting.old.items) }
     ensures empty { OnOk result (waiting.new.items ≡ []) }
-    ensures err { OnErr result (AppendsFront (W.contents (watched_inner writer.old))
+    ensures err { OnErr result (AppendsPrefix (W.contents (watched_inner writer.old))
         (W.contents (watched_inner writer.new)) waiting.old.items) }
     ensures only_write { IsOkUnless result Fault.Write }
     ensures mark { is_marked writer.new ≡ is_err result }
@@ -100,7 +94,8 @@ pub fn write_and_flush<W: Write>(
     requires { is_marked writer.old ≡ false }
     ensures ok { OnOk result (Appends (W.contents (watched_inner writer.old))
         (W.contents (watched_inner writer.new)) waiting.old.items) }
-    ensures err { OnErr result (AppendsFront (W.contents (watched_inner writer.old))
+    ensures empty { OnOk result (waiting.new.items ≡ []) }
+    ensures err { OnErr result (AppendsPrefix (W.contents (watched_inner writer.old))
         (W.contents (watched_inner writer.new)) waiting.old.items) }
     ensures only_write { IsOkUnless result Fault.Write }
     ensures mark { is_marked writer.new ≡ is_err result }

@@ -3,10 +3,9 @@ ghost use Rattle.std.specs.Prelude.{◌≡◌, ℕ, ◌+◌, ◌^◌, ◌-◌, L
 ghost use Rattle.std.proofs.Common.{rules};
 ghost use Rattle.std.proofs.lemmas.Grind.{common_steps};
 
-use crate::answer::{Answer, LONG_WORK, REPLY};
 use crate::fault::Fault;
 use crate::lines::run;
-use crate::output::Waiting;
+use crate::responder::{LONG_WORK, REPLY, Responder};
 use crate::watched::Watched;
 use arrayvec::ArrayVec;
 use std::alloc::AllocError;
@@ -28,7 +27,7 @@ struct Shout<'a> {
     seen: &'a mut u64,
 }
 
-impl Answer for Shout<'_> {
+impl Responder for Shout<'_> {
     ghost replies_with = { λ _ line text. text ≡ take 5 line ++ 33 ∷ [] };
 
     ghost saw = { λ a _ b. b.seen.now ≡ min (a.seen.now + 1) (2 ^ 64 - 1) };
@@ -61,10 +60,9 @@ impl Answer for Shout<'_> {
         5
     }
 
-    fn answer(
+    fn respond(
         &mut self,
         line: &[u8],
-        _waiting: &Waiting,
         text: &mut ArrayVec<u8, REPLY>,
     ) -> std::result::Result<u64, AllocError> {
         if self.before_refusal == 0 {
@@ -297,7 +295,7 @@ impl Read for Long {
 }
 
 #[test]
-fn keeps_the_front_of_a_long_line(rt: HostRuntime) {
+fn keeps_the_prefix_of_a_long_line(rt: HostRuntime) {
     for left in [4, 5, 6, 16384, 1_000_000] {
         let ended = shout_all(Long { left }, sink_of(64, 64), 9, 0);
         let wanted = if left == 4 {

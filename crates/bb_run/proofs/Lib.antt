@@ -1,4 +1,3 @@
-pub mod KeptBytes
 pub mod Replies
 pub mod Peaks
 pub mod Summaries

@@ -16,7 +16,7 @@ module _ (bounds : Bounds) (plan : Plan) (line a b : List ℕ) where
   verdict_replies first second =
       let table = text_unique first.table second.table first.of.machine second.of.machine (first.of.is_text ∙ sym second.of.is_text) in
       let verdict = verdict_is_unique second.table bounds plan first.verdict second.verdict
-            (subst (λ t. IsVerdict t bounds plan first.verdict) table first.is_verdict) second.is_verdict in
+      (subst (λ t. IsVerdict t bounds plan first.verdict) table first.is_verdict) second.is_verdict in
       first.is_reply ∙ ap (λ t. line_text t first.verdict) table ∙ ap (λ v. line_text second.table v) verdict
       ∙ sym second.is_reply
 

@@ -45,30 +45,36 @@ module _ (one : TextsDiffer) (bounds : Bounds) (plan : Plan) where
     sums_machine saw = record {
       all_clean = λ e. let r = rest.all_clean e in (sym saw.clean ∙ r.0, ((saw.table, saw.of), r.1));
       stays_clean = λ e all. rest.stays_clean (saw.clean ∙ e) all.1;
-      peak_steps = Rises-over _ line lines _ work _ _
-          (record { table = saw.table; of = saw.of; is_work = saw.is_work })
+      peak_steps = Rises-over _ line lines _ saw.cost.steps _ _
+          (record { table = saw.table; of = saw.of; is_work = saw.counts.steps })
           (λ n other. same_work n other)
-          (ap (λ (m : Meter). m.steps) saw.peak ∙ omega arith)
+          (ap (λ (m : Meter). m.steps) saw.peak)
           rest.peak_steps;
-      peak_cells = Rises-over _ line lines _ (span saw.table saw.last) _ _
-          (record { table = saw.table; of = saw.of; last = saw.last; is_last = saw.is_last; is_span = refl })
+      peak_cells = Rises-over _ line lines _ saw.cost.most_cells _ _
+          (record {
+            table = saw.table;
+            of = saw.of;
+            last = saw.counts.last;
+            is_last = saw.counts.is_last;
+            is_span = saw.counts.most_cells;
+          })
           (λ n other. same_span n other)
-          (ap (λ (m : Meter). m.most_cells) saw.peak ∙ omega arith)
+          (ap (λ (m : Meter). m.most_cells) saw.peak)
           rest.peak_cells;
-      nodes = rest.nodes ∙ ap (λ (m : Meter). m.nodes) saw.peak ∙ omega arith;
-      levels = rest.levels ∙ ap (λ (m : Meter). m.most_levels) saw.peak ∙ omega arith;
+      nodes = rest.nodes ∙ ap (λ (m : Meter). m.nodes) saw.peak ∙ (let none = saw.counts.nodes in omega arith);
+      levels = rest.levels ∙ ap (λ (m : Meter). m.most_levels) saw.peak ∙ (let none = saw.counts.most_levels in omega arith);
     } where
-      same_work : (n : ℕ) → IsWorkOf bounds plan line n → n ≡ work
+      same_work : (n : ℕ) → IsWorkOf bounds plan line n → n ≡ saw.cost.steps
       same_work n other =
           let e = same_table one line other.table saw.table other.of saw.of in
-          work_is_unique saw.table bounds plan n work (subst (λ t. IsWork t bounds plan n) e other.is_work) saw.is_work
+          work_is_unique saw.table bounds plan n saw.cost.steps (subst (λ t. IsWork t bounds plan n) e other.is_work) saw.counts.steps
 
-      same_span : (n : ℕ) → IsSpanOf bounds line n → n ≡ span saw.table saw.last
+      same_span : (n : ℕ) → IsSpanOf bounds line n → n ≡ saw.cost.most_cells
       same_span n other =
           let e = same_table one line other.table saw.table other.of saw.of in
-          let last = last_step_is_unique saw.table bounds other.last saw.last
-                (subst (λ t. IsLastInside t bounds other.last) e other.is_last) saw.is_last in
-          other.is_span ∙ ap (λ t. span t other.last) e ∙ ap (λ k. span saw.table k) last
+          let last = last_step_is_unique saw.table bounds other.last saw.counts.last
+          (subst (λ t. IsLastInside t bounds other.last) e other.is_last) saw.counts.is_last in
+          other.is_span ∙ ap (λ t. span t other.last) e ∙ ap (λ k. span saw.table k) last ∙ sym saw.counts.most_cells
 
     sums_refusal : SawRefusal old line mid work → Sums bounds plan (line ∷ lines) old new
     sums_refusal saw = record {

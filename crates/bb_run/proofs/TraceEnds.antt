@@ -4,14 +4,15 @@ use Rattle.std.specs.Io.KnownBytes.{Appends}
 use Rattle.std.proofs.lemmas.Grind.{flat_map-append}
 use Rattle.std.proofs.lemmas.List.{append-nil, take-append-drop}
 use Rattle.std.proofs.lemmas.List.FromFn.{map-range_with_len_more, take-map-range_with_len, length-map-range_with_len}
-use Rattle.bb_sim.specs.Configuration.{Table}
+use Rattle.bb_machine.specs.Limits.{Bounds}
+use Rattle.bb_machine.specs.Machine.{Table}
 use Rattle.bb_sim.specs.Run.{HaltsAt}
 use Rattle.bb_sim.specs.Span.{span, Inside, IsLastInside}
-use Rattle.bb_lines.specs.Ends.{AppendsFront}
-use Rattle.bb_lines.specs.Output.{AppendsBut}
-use Rattle.bb_sim.proofs.Outcomes.{halts_last, steps_last, cells_last, next_inside, fits_at_halt, wide_at_end}
+use Rattle.bb_lines.specs.Ends.{AppendsPrefix}
+use Rattle.bb_lines.specs.Output.{Sends}
+use Rattle.bb_sim.proofs.Facts.{halts_last, steps_last, cells_last, next_inside, fits_at_halt, wide_at_end}
 use Rattle.bb_run.specs.Trace.{step_text, step_lines, lines_text, AppendsSomeLines}
-use Rattle.bb_run.proofs.Traces.{AppendsFront-more}
+use Rattle.bb_lines.proofs.Facts.{AppendsPrefix-more}
 
 -- the lines of one step more
 pub lines-next : (table : Table) (n : ℕ) → lines_text (step_lines table n) ++ (step_text table n ++ 10 ∷ []) ≡ lines_text (step_lines table (n + 1))
@@ -29,8 +30,8 @@ lines_split table n m h =
     let first : take n all ≡ step_lines table n = take-map-range_with_len (step_text table) 0 m n h in
     ap (λ l. lines_text l ++ lines_text (drop n all)) (sym first) ∙ sym (flat_map-append f (take n all) (drop n all)) ∙ ap lines_text (take-append-drop n all)
 
-pub AppendsFront-lines : (old new : Option (List ℕ)) (table : Table) (n m : ℕ) → n ≤ m → AppendsFront old new (lines_text (step_lines table n)) → AppendsFront old new (lines_text (step_lines table m))
-AppendsFront-lines old new table n m h f = subst (λ bytes. AppendsFront old new bytes) (lines_split table n m h) (AppendsFront-more old new _ _ f)
+pub AppendsPrefix-lines : (old new : Option (List ℕ)) (table : Table) (n m : ℕ) → n ≤ m → AppendsPrefix old new (lines_text (step_lines table n)) → AppendsPrefix old new (lines_text (step_lines table m))
+AppendsPrefix-lines old new table n m h f = subst (λ bytes. AppendsPrefix old new bytes) (lines_split table n m h) (AppendsPrefix-more old new _ _ f)
 
 -- the lines of fewer steps are some of them
 pub AppendsSomeLines-of : (old new : Option (List ℕ)) (table : Table) (n m : ℕ) → n < m → Appends old new (lines_text (step_lines table n)) → AppendsSomeLines old new (step_lines table m)
@@ -41,45 +42,45 @@ AppendsSomeLines-of old new table n m h appends = record {
       subst (λ l. Appends old new (lines_text l)) (sym first) appends;
 }
 
-module _ (table : Table) (steps cells n last : ℕ) (inside : Inside table steps cells n) (is_last : IsLastInside table steps cells last) where
+module _ (table : Table) (bounds : Bounds) (n last : ℕ) (inside : Inside table bounds n) (is_last : IsLastInside table bounds last) where
   pub not_past : n ≤ last
   not_past = is_last.greatest n inside
 
   -- where step n is the last one inside, its lines are all
-  all_lines : (old new : Option (List ℕ)) (waiting : List ℕ) → IsLastInside table steps cells n → AppendsBut old new waiting (lines_text (step_lines table (n + 1))) → AppendsBut old new waiting (lines_text (step_lines table (last + 1)))
+  all_lines : (old new : Option (List ℕ)) (waiting : List ℕ) → IsLastInside table bounds n → Sends old new [] waiting (lines_text (step_lines table (n + 1))) → Sends old new [] waiting (lines_text (step_lines table (last + 1)))
   all_lines old new waiting end added =
       let below = end.greatest last is_last.inside in
       let same : n ≡ last = omega (arith, below, not_past) in
-      subst (λ k. AppendsBut old new waiting (lines_text (step_lines table (k + 1)))) same added
+      subst (λ k. Sends old new [] waiting (lines_text (step_lines table (k + 1)))) same added
 
   -- what a run that ended at step n has added
   abbrev pub Ended : Option (List ℕ) → Option (List ℕ) → List ℕ → Bool → Type 0
-  Ended old new waiting whole = AppendsBut old new waiting (lines_text (step_lines table (last + 1))) × (IsTrue whole ↔ (span table steps ≤ cells))
+  Ended old new waiting whole = Sends old new [] waiting (lines_text (step_lines table (last + 1))) × (IsTrue whole ↔ (span table bounds.steps ≤ bounds.cells))
 
-  pub ended_by_halt : (old new : Option (List ℕ)) (waiting : List ℕ) → HaltsAt table n → AppendsBut old new waiting (lines_text (step_lines table (n + 1))) → Ended old new waiting true
-  ended_by_halt old new waiting halts added = (all_lines old new waiting (halts_last table steps cells n inside halts) added, (λ _. fits_at_halt table steps cells n inside halts, λ _. refl))
+  pub ended_by_halt : (old new : Option (List ℕ)) (waiting : List ℕ) → HaltsAt table n → Sends old new [] waiting (lines_text (step_lines table (n + 1))) → Ended old new waiting true
+  ended_by_halt old new waiting halts added = (all_lines old new waiting (halts_last table bounds n inside halts) added, (λ _. fits_at_halt table bounds n inside halts, λ _. refl))
 
-  pub ended_by_steps : (old new : Option (List ℕ)) (waiting : List ℕ) → n ≡ steps → AppendsBut old new waiting (lines_text (step_lines table (n + 1))) → Ended old new waiting true
-  ended_by_steps old new waiting e added = (all_lines old new waiting (steps_last table steps cells n inside e) added, (λ _. rw (← e) inside.within_cells, λ _. refl))
+  pub ended_by_steps : (old new : Option (List ℕ)) (waiting : List ℕ) → n ≡ bounds.steps → Sends old new [] waiting (lines_text (step_lines table (n + 1))) → Ended old new waiting true
+  ended_by_steps old new waiting e added = (all_lines old new waiting (steps_last table bounds n inside e) added, (λ _. rw (← e) inside.within_cells, λ _. refl))
 
-  pub ended_by_cells : (old new : Option (List ℕ)) (waiting : List ℕ) → n ≢ steps → cells < span table (n + 1) → AppendsBut old new waiting (lines_text (step_lines table (n + 1))) → Ended old new waiting false
+  pub ended_by_cells : (old new : Option (List ℕ)) (waiting : List ℕ) → n ≢ bounds.steps → bounds.cells < span table (n + 1) → Sends old new [] waiting (lines_text (step_lines table (n + 1))) → Ended old new waiting false
   ended_by_cells old new waiting apart wide added =
-      let over = wide_at_end table steps cells n inside wide apart in
-      (all_lines old new waiting (cells_last table steps cells n inside wide) added, (λ wrong. cc, λ fits. absurd (omega (arith, over, fits))))
+      let over = wide_at_end table bounds n inside wide apart in
+      (all_lines old new waiting (cells_last table bounds n inside wide) added, (λ wrong. cc, λ fits. absurd (omega (arith, over, fits))))
 
   -- a step that was wanted and not made leaves lines to come
-  pub ended_early : (old new : Option (List ℕ)) → (HaltsAt table n → ⊥) → n ≢ steps → span table (n + 1) ≤ cells → Appends old new (lines_text (step_lines table (n + 1))) → AppendsSomeLines old new (step_lines table (last + 1))
+  pub ended_early : (old new : Option (List ℕ)) → (HaltsAt table n → ⊥) → n ≢ bounds.steps → span table (n + 1) ≤ bounds.cells → Appends old new (lines_text (step_lines table (n + 1))) → AppendsSomeLines old new (step_lines table (last + 1))
   ended_early old new goes apart fits appends =
-      let more = is_last.greatest (n + 1) (next_inside table steps cells n inside goes apart fits) in
+      let more = is_last.greatest (n + 1) (next_inside table bounds n inside goes apart fits) in
       AppendsSomeLines-of old new table (n + 1) (last + 1) (omega (arith, more)) appends
 
   -- a beginning of the lines up to step n is one of the trace
-  pub ended_by_write : (old new : Option (List ℕ)) → AppendsFront old new (lines_text (step_lines table (n + 1))) → AppendsFront old new (lines_text (step_lines table (last + 1)))
-  ended_by_write old new f = AppendsFront-lines old new table (n + 1) (last + 1) (omega (arith, not_past)) f
+  pub ended_by_write : (old new : Option (List ℕ)) → AppendsPrefix old new (lines_text (step_lines table (n + 1))) → AppendsPrefix old new (lines_text (step_lines table (last + 1)))
+  ended_by_write old new f = AppendsPrefix-lines old new table (n + 1) (last + 1) (omega (arith, not_past)) f
 
 -- the line of step n, after the lines before it
-pub AppendsBut-next : (old new : Option (List ℕ)) (waiting : List ℕ) (table : Table) (n : ℕ) → AppendsBut old new waiting (lines_text (step_lines table n) ++ (step_text table n ++ 10 ∷ [])) → AppendsBut old new waiting (lines_text (step_lines table (n + 1)))
-AppendsBut-next old new waiting table n added = subst (λ bytes. AppendsBut old new waiting bytes) (lines-next table n) added
+pub Sends-next : (old new : Option (List ℕ)) (waiting : List ℕ) (table : Table) (n : ℕ) → Sends old new [] waiting (lines_text (step_lines table n) ++ (step_text table n ++ 10 ∷ [])) → Sends old new [] waiting (lines_text (step_lines table (n + 1)))
+Sends-next old new waiting table n added = subst (λ bytes. Sends old new [] waiting bytes) (lines-next table n) added
 
-pub AppendsFront-next : (old new : Option (List ℕ)) (table : Table) (n : ℕ) → AppendsFront old new (lines_text (step_lines table n) ++ (step_text table n ++ 10 ∷ [])) → AppendsFront old new (lines_text (step_lines table (n + 1)))
-AppendsFront-next old new table n front = subst (λ bytes. AppendsFront old new bytes) (lines-next table n) front
+pub AppendsPrefix-next : (old new : Option (List ℕ)) (table : Table) (n : ℕ) → AppendsPrefix old new (lines_text (step_lines table n) ++ (step_text table n ++ 10 ∷ [])) → AppendsPrefix old new (lines_text (step_lines table (n + 1)))
+AppendsPrefix-next old new table n front = subst (λ bytes. AppendsPrefix old new bytes) (lines-next table n) front

@@ -1,69 +1,80 @@
--- The lines of a trace, one after another, as they are added to what waits.
-use Rattle.std.proofs.Common.{◌≡◌, ℕ, ◌+◌, ◌≤◌, List, [], ◌∷◌, ◌++◌, append_assoc, take, drop, sym, ◌∙◌, subst, ap, refl, arith, Option, Result, Ok, Err, ℤ, pos, ◌+ℤ◌}
+-- The lines of a trace, one after another, as they are sent.
+use Rattle.std.proofs.Common.{◌≡◌, ℕ, ◌+◌, ◌≤◌, List, [], ◌∷◌, ◌++◌, append_assoc, take, drop, sym, ◌∙◌, subst, ap, refl, arith, Option, ℤ, pos, ◌+ℤ◌}
 use Rattle.std.proofs.lemmas.List.{take-append-drop}
 use Rattle.std.proofs.lemmas.List.FromFn.{map-range_with_len_more, take-map-range_with_len}
+use Rattle.bb_machine.specs.Machine.{Table}
 use Rattle.bb_tape.specs.Content.{Content, cell}
 use Rattle.bb_tape.specs.Strip.{Strip}
 use Rattle.bb_sim.specs.declared.runner.Runner.{Runner}
-use Rattle.bb_sim.specs.Configuration.{Table}
-use Rattle.bb_sim.specs.Reach.{places}
-use Rattle.bb_sim.specs.Runner.{Stands}
-use Rattle.bb_lines.specs.declared.fault.Fault.{Fault}
-use Rattle.bb_lines.specs.declared.fault.Fault.TheVariants.{Memory, Read, Write}
-use Rattle.bb_lines.specs.Ends.{AppendsFront, MatchEnd}
-use Rattle.bb_lines.specs.Output.{AppendsBut}
-use Rattle.bb_lines.proofs.Streams.{Appends-none}
-use Rattle.bb_run.specs.Trace.{cells_text, front_text, text_at, step_text}
+use Rattle.bb_sim.specs.CellsBetween.{cells_between}
+use Rattle.bb_sim.specs.Runner.{Stands, high_of, low_of, position_of, state_of, steps_of}
+use Rattle.bb_lines.specs.Ends.{AppendsPrefix}
+use Rattle.bb_lines.specs.Output.{Sends}
+use Rattle.bb_lines.proofs.Facts.{AppendsPrefix-further, AppendsPrefix-more, AppendsPrefix-after, Sends-trans}
+use Rattle.bb_run.specs.Trace.{cells_text, head_text, text_at, step_text}
 
 -- one cell more
-pub cells-next : (tape : Content) (low : ℤ) (i : ℕ) → cells_text tape low (i + 1) ≡ cells_text tape low i ++ (48 + cell tape (low +ℤ pos i)) ∷ []
+pub cells-next : (tape : Content) (low : ℤ) (i : ℕ)
+    → cells_text tape low (i + 1) ≡ cells_text tape low i ++ (48 + cell tape (low +ℤ pos i)) ∷ []
 cells-next tape low i = map-range_with_len_more (λ j. 48 + cell tape (low +ℤ pos j)) 0 i i (omega arith)
 
--- a cell's digit is added
-pub AppendsBut-cell : (old new : Option (List ℕ)) (waiting past : List ℕ) (tape : Content) (low : ℤ) (i digit : ℕ) → digit ≡ 48 + cell tape (low +ℤ pos i) → AppendsBut old new waiting ((past ++ cells_text tape low i) ++ digit ∷ []) → AppendsBut old new waiting (past ++ cells_text tape low (i + 1))
-AppendsBut-cell old new waiting past tape low i digit is added =
-    let e : (past ++ cells_text tape low i) ++ digit ∷ [] ≡ past ++ cells_text tape low (i + 1) =
-    append_assoc past (cells_text tape low i) (digit ∷ []) ∙ ap (λ n. past ++ (cells_text tape low i ++ n ∷ [])) is ∙ ap (λ l. past ++ l) (sym (cells-next tape low i)) in
-    subst (λ bytes. AppendsBut old new waiting bytes) e added
+-- a cell's digit is sent
+pub Sends-cell : (old mid new : Option (List ℕ)) (waiting between after : List ℕ) (tape : Content) (low : ℤ) (i digit : ℕ)
+    → digit ≡ 48 + cell tape (low +ℤ pos i) → Sends old mid waiting between (cells_text tape low i)
+    → Sends mid new between after (digit ∷ []) → Sends old new waiting after (cells_text tape low (i + 1))
+Sends-cell old mid new waiting between after tape low i digit is before sent =
+    let joined = Sends-trans old mid new waiting between after _ _ before sent in
+    let e : cells_text tape low i ++ digit ∷ [] ≡ cells_text tape low (i + 1) =
+    ap (λ n. cells_text tape low i ++ n ∷ []) is ∙ sym (cells-next tape low i) in
+    subst (λ bytes. Sends old new waiting after bytes) e joined
 
--- a beginning is one of more bytes
-pub AppendsFront-more : (old new : Option (List ℕ)) (bytes more : List ℕ) → AppendsFront old new bytes → AppendsFront old new (bytes ++ more)
-AppendsFront-more old new bytes more f = record {
-  front = f.front;
-  rest = f.rest ++ more;
-  whole = sym (append_assoc f.front f.rest more) ∙ ap (λ b. b ++ more) f.whole;
-  appends = f.appends;
-}
-
--- a beginning up to one of the cells
-pub AppendsFront-cells : (old new : Option (List ℕ)) (past : List ℕ) (tape : Content) (low : ℤ) (i n : ℕ) → i ≤ n → AppendsFront old new (past ++ cells_text tape low i) → AppendsFront old new (past ++ cells_text tape low n)
-AppendsFront-cells old new past tape low i n h f =
+-- a prefix up to one of the cells
+pub AppendsPrefix-cells : (old new : Option (List ℕ)) (past : List ℕ) (tape : Content) (low : ℤ) (i n : ℕ) → i ≤ n
+    → AppendsPrefix old new (past ++ cells_text tape low i) → AppendsPrefix old new (past ++ cells_text tape low n)
+AppendsPrefix-cells old new past tape low i n h f =
     let cells : List ℕ = cells_text tape low n in
     let t : take i cells ≡ cells_text tape low i = take-map-range_with_len (λ j. 48 + cell tape (low +ℤ pos j)) 0 n i h in
-    let w : cells_text tape low i ++ drop i cells ≡ cells = ap (λ b. b ++ drop i cells) (sym t) ∙ take-append-drop i cells in
-    let e : (past ++ cells_text tape low i) ++ drop i cells ≡ past ++ cells = append_assoc past (cells_text tape low i) (drop i cells) ∙ ap (λ b. past ++ b) w in
-    subst (λ bytes. AppendsFront old new bytes) e (AppendsFront-more old new _ (drop i cells) f)
+    let w : cells_text tape low i ++ drop i cells ≡ cells =
+    ap (λ b. b ++ drop i cells) (sym t) ∙ take-append-drop i cells in
+    let e : (past ++ cells_text tape low i) ++ drop i cells ≡ past ++ cells =
+    append_assoc past (cells_text tape low i) (drop i cells) ∙ ap (λ b. past ++ b) w in
+    subst (λ bytes. AppendsPrefix old new bytes) e (AppendsPrefix-more old new _ (drop i cells) f)
+
+-- a line, as its head and its cells
+pub record IsJoined (line head cells : List ℕ) : Type 0 where
+  pub is : line ≡ head ++ cells
 
 -- the line of the step at which a runner stands, by the runner and its tape
-pub step_text-is : (table : Table) (runner : Runner) (strip : Strip) → Stands table runner strip → step_text table runner.steps ≡ front_text runner.steps runner.state runner.position ++ cells_text strip.content runner.low (places runner.low runner.high)
-step_text-is table runner strip stands = ap (text_at table runner.steps) stands.at ∙ rw (stands.low, stands.high) refl
+pub step_text-is : (table : Table) (runner : Runner) (strip : Strip) (head : List ℕ) → Stands table runner strip
+    → head ≡ head_text (steps_of runner) (state_of runner) (position_of runner)
+    → IsJoined (step_text table (steps_of runner)) head
+    (cells_text strip.content (low_of runner) (cells_between (low_of runner) (high_of runner)))
+step_text-is table runner strip head stands is_head = record {
+  is = ap (text_at table (steps_of runner)) stands.at ∙ rw (stands.low, stands.high, is_head) refl;
+}
 
--- how adding a part of a line ends says how adding the line does
-pub MatchEnd-line : (r : Result (Unit {0}) Fault) (old new : Option (List ℕ)) (waiting a b whole : List ℕ) → a ++ b ≡ whole → MatchEnd r (AppendsBut old new waiting (a ++ b)) ⊥ ⊥ (AppendsFront old new a) → MatchEnd r (AppendsBut old new waiting whole) ⊥ ⊥ (AppendsFront old new whole)
-MatchEnd-line (Ok u) old new waiting a b whole e ends = subst (λ bytes. AppendsBut old new waiting bytes) e ends
-MatchEnd-line (Err Memory) old new waiting a b whole e ends = ends
-MatchEnd-line (Err Read) old new waiting a b whole e ends = ends
-MatchEnd-line (Err Write) old new waiting a b whole e ends = subst (λ bytes. AppendsFront old new bytes) e (AppendsFront-more old new a b ends)
+module _ (old first second : Option (List ℕ)) (waiting one head cells line : List ℕ) (parts : IsJoined line head cells) (sent_head : Sends old first waiting one head) where
+  -- after the head a prefix of the cells
+  pub AppendsPrefix-line : AppendsPrefix first second (one ++ cells) → AppendsPrefix old second (waiting ++ (line ++ 10 ∷ []))
+  AppendsPrefix-line begun =
+      let more = AppendsPrefix-more old second _ (10 ∷ []) (AppendsPrefix-further old first second waiting one head cells sent_head begun) in
+      let e : (waiting ++ (head ++ cells)) ++ 10 ∷ [] ≡ waiting ++ (line ++ 10 ∷ []) =
+      append_assoc waiting (head ++ cells) (10 ∷ []) ∙ ap (λ b. waiting ++ (b ++ 10 ∷ [])) (sym parts.is) in
+      subst (λ bytes. AppendsPrefix old second bytes) e more
 
--- a line in its parts, with a newline
-pub line_parts : (past front cells line : List ℕ) → line ≡ front ++ cells → ((past ++ front) ++ cells) ++ 10 ∷ [] ≡ past ++ (line ++ 10 ∷ [])
-line_parts past front cells line e =
-    ap (λ b. b ++ 10 ∷ []) (append_assoc past front cells ∙ ap (λ b. past ++ b) (sym e)) ∙ append_assoc past line (10 ∷ [])
+  module _ (two : List ℕ) (sent_cells : Sends first second one two cells) where
+    both : Sends old second waiting two line
+    both = subst (λ bytes. Sends old second waiting two bytes) (sym parts.is)
+        (Sends-trans old first second waiting one two head cells sent_head sent_cells)
 
--- a beginning up to the end of the front, or of the cells, is one of the line
-pub AppendsFront-line : (old new : Option (List ℕ)) (past front cells line : List ℕ) → line ≡ front ++ cells → AppendsFront old new ((past ++ front) ++ cells) → AppendsFront old new (past ++ (line ++ 10 ∷ []))
-AppendsFront-line old new past front cells line e f = subst (λ bytes. AppendsFront old new bytes) (line_parts past front cells line e) (AppendsFront-more old new _ (10 ∷ []) f)
+    -- after both the newline
+    pub Sends-line : (third : Option (List ℕ)) (three : List ℕ) → Sends second third two three (10 ∷ [])
+        → Sends old third waiting three (line ++ 10 ∷ [])
+    Sends-line third three sent = Sends-trans old second third waiting two three line (10 ∷ []) both sent
 
--- where nothing waits, nothing is added yet
-pub AppendsBut-start : (old : Option (List ℕ)) (waiting : List ℕ) → waiting ≡ [] → AppendsBut old old waiting []
-AppendsBut-start old waiting none = record { written = []; whole = none; appends = Appends-none old }
+    -- or nothing of it
+    pub AppendsPrefix-end : (third : Option (List ℕ)) → AppendsPrefix second third two
+        → AppendsPrefix old third (waiting ++ (line ++ 10 ∷ []))
+    AppendsPrefix-end third begun =
+        let more = AppendsPrefix-more old third _ (10 ∷ []) (AppendsPrefix-after old second third waiting two line both begun) in
+        subst (λ bytes. AppendsPrefix old third bytes) (append_assoc waiting line (10 ∷ [])) more

@@ -1,4 +1,5 @@
 pub mod Ends
+pub mod KeptBytes
 pub mod Laws
 pub mod Reply
 pub mod Seen

@@ -2,21 +2,21 @@
 use Rattle.std.specs.Prelude.{◌≡◌, ℕ, ◌⊎◌, false, List}
 use Rattle.bb_machine.specs.Limits.{Bounds}
 use Rattle.bb_machine.specs.Machine.{Table, IsMachineLine, IsTextOf}
-use Rattle.bb_sim.specs.Span.{span, IsLastInside}
-use Rattle.bb_sim.specs.Meter.{zero_meter, counted, greatest_of}
+use Rattle.bb_sim.specs.declared.meter.Meter.{Meter}
+use Rattle.bb_sim.specs.Meter.{greatest_of}
 use Rattle.bb_decide.specs.declared.plan.Plan.{Plan}
-use Rattle.bb_decide.specs.Work.{IsWork}
+use Rattle.bb_decide.specs.Work.{CountsWork}
 use Rattle.bb_run.specs.declared.summary.Summary.{Summary}
 
 -- a machine was read: the peak takes in what deciding it counts
 pub record SawMachine (bounds : Bounds) (plan : Plan) (old : Summary) (line : List ℕ) (new : Summary) (work : ℕ) : Type 0 where
   pub table : Table
   pub of : IsTextOf table line
-  pub is_work : IsWork table bounds plan work
-  pub last : ℕ
-  pub is_last : IsLastInside table bounds last
+  pub cost : Meter
+  pub counts : CountsWork table bounds plan cost
   pub clean : new.clean ≡ old.clean
-  pub peak : new.peak ≡ greatest_of old.peak (counted zero_meter work (span table last))
+  pub peak : new.peak ≡ greatest_of old.peak cost
+  pub is_work : work ≡ cost.steps
 
 -- a line was refused: that is no work
 pub record SawRefusal (old : Summary) (line : List ℕ) (new : Summary) (work : ℕ) : Type 0 where

@@ -1,7 +1,7 @@
 //! Verdicts on the machines of a list, a line each.
 ghost use Rattle.std.specs.Prelude.{◌≡◌, ◌↔◌, false, true, IsTrue};
 ghost use Rattle.bb_decide.specs.Bench.{HasCells};
-ghost use Rattle.bb_decide.specs.Plan.{IsSimulation};
+ghost use Rattle.bb_decide.specs.Plan.{IsBuilt};
 ghost use Rattle.bb_lines.specs.Watched.{is_marked, watched_inner};
 ghost use Rattle.bb_run.specs.Ends.{DecideEnds};
 
@@ -37,10 +37,10 @@ impl<T: Tape> Responder for Decider<'_, T> {
     ghost use Rattle.bb_machine.specs.Limits.{Bounds};
     ghost use Rattle.bb_machine.specs.declared.machine.TheConstants.{LINE};
     ghost use Rattle.bb_decide.specs.Bench.{HasCells};
-    ghost use Rattle.bb_decide.specs.Plan.{IsSimulation};
+    ghost use Rattle.bb_decide.specs.Plan.{IsBuilt};
     ghost use Rattle.bb_run.specs.Reply.{IsReply};
     ghost use Rattle.bb_run.specs.Seen.{Saw};
-    ghost use Rattle.bb_run.proofs.KeptBytes.{reply_kept, reply_of_kept, saw_of_kept};
+    ghost use Rattle.bb_run.specs.KeptBytes.{reply_kept, reply_of_kept, saw_of_kept};
 
     ghost replies_with = { λ d line reply. IsReply d.limits d.plan line reply };
 
@@ -50,7 +50,7 @@ impl<T: Tape> Responder for Decider<'_, T> {
 
     ghost keeps = { λ a b. (b.limits ≡ a.limits) × (b.plan ≡ a.plan) × (b.bench.ghost_name ≡ a.bench.ghost_name) };
 
-    ghost is_ready = { λ d. HasCells T.strip d.limits.cells d.bench.now × IsSimulation d.plan };
+    ghost is_ready = { λ d. HasCells T.strip d.limits.cells d.bench.now × IsBuilt d.plan };
 
     ghost GROWS = { T.GROWS };
 
@@ -74,11 +74,7 @@ impl<T: Tape> Responder for Decider<'_, T> {
         LINE + 1
     }
 
-    fn respond(
-        &mut self,
-        line: &[u8],
-        text: &mut ArrayVec<u8, REPLY>,
-    ) -> Result<u64, AllocError> {
+    fn respond(&mut self, line: &[u8], text: &mut ArrayVec<u8, REPLY>) -> Result<u64, AllocError> {
         let machine = match Machine::read(line) {
             Ok(machine) => machine,
             Err(refused) => {
@@ -114,7 +110,7 @@ pub fn run_decide<R: Read, W: Write, T: Tape>(
     requires reader { is_marked reader.old ≡ false }
     requires writer { is_marked writer.old ≡ false }
     requires tapes { HasCells T.strip limits.now.cells bench.old }
-    requires plan { IsSimulation plan }
+    requires plan { IsBuilt plan }
 
     // How the run ends, and what is written then.
     ensures ends { DecideEnds limits.now plan

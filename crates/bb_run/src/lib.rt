@@ -1,8 +1,8 @@
 //! Engines over readers and writers: verdicts on the machines of a list, and the trace of one machine.
 #![tactic(auto)]
 
-pub mod laws;
 mod deciding;
+pub mod laws;
 mod summary;
 #[cfg(test)]
 mod tests;

@@ -29,8 +29,18 @@ const SIMULATION: Plan = Plan {
 };
 
 static HALTS: [Row; 12] = [
-    (DEFAULTS, b"1RB1LB_1LA1RZ\n", b"1RB1LB_1LA1RZ halt 6 4\n", true),
-    (DEFAULTS, b"1RB1LB_1LA---\n", b"1RB1LB_1LA--- halt 5 4\n", true),
+    (
+        DEFAULTS,
+        b"1RB1LB_1LA1RZ\n",
+        b"1RB1LB_1LA1RZ halt 6 4\n",
+        true,
+    ),
+    (
+        DEFAULTS,
+        b"1RB1LB_1LA---\n",
+        b"1RB1LB_1LA--- halt 5 4\n",
+        true,
+    ),
     (
         [6, 4, 2, 1_000_000],
         b"1RB1LB_1LA1RZ\n",
@@ -38,7 +48,12 @@ static HALTS: [Row; 12] = [
         true,
     ),
     (DEFAULTS, b"------\n", b"------ halt 0 0\n", true),
-    ([0, 65_536, 300, 1_000_000], b"------\n", b"------ halt 0 0\n", true),
+    (
+        [0, 65_536, 300, 1_000_000],
+        b"------\n",
+        b"------ halt 0 0\n",
+        true,
+    ),
     (DEFAULTS, b"1RZ---\n", b"1RZ--- halt 1 1\n", true),
     (
         [1_000_000, 5, 3, 1_000_000],
@@ -58,7 +73,12 @@ static HALTS: [Row; 12] = [
         b"1RB1LB_1LA0LC_1RZ1LD_1RD0RA halt 107 13\n",
         true,
     ),
-    (DEFAULTS, b"1RB---_1LA---\n", b"1RB---_1LA--- halt 2 2\n", true),
+    (
+        DEFAULTS,
+        b"1RB---_1LA---\n",
+        b"1RB---_1LA--- halt 2 2\n",
+        true,
+    ),
     (
         [1_000_000, 1, 1, 1_000_000],
         b"1RZ---\n",
@@ -81,7 +101,12 @@ static UNDECIDED: [Row; 12] = [
         b"1RB1LB_1LA1RZ undecided cells\n",
         true,
     ),
-    ([0, 65_536, 300, 1_000_000], b"1RZ---\n", b"1RZ--- undecided steps\n", true),
+    (
+        [0, 65_536, 300, 1_000_000],
+        b"1RZ---\n",
+        b"1RZ--- undecided steps\n",
+        true,
+    ),
     (
         [1_000_000, 4, 2, 1_000_000],
         b"1RB1RZ_1LB0RC_1LC1LA\n",
@@ -151,8 +176,18 @@ static REFUSED: [Row; 9] = [
         b"------ halt 0 0\nrefused 1\n------ halt 0 0\n",
         false,
     ),
-    (DEFAULTS, b"\xff\n1RB\xc3\xa9\n", b"refused 1\nrefused 4\n", false),
-    (DEFAULTS, b"0RA0RA\0\n1RZ--- \n", b"refused 7\nrefused 7\n", false),
+    (
+        DEFAULTS,
+        b"\xff\n1RB\xc3\xa9\n",
+        b"refused 1\nrefused 4\n",
+        false,
+    ),
+    (
+        DEFAULTS,
+        b"0RA0RA\0\n1RZ--- \n",
+        b"refused 7\nrefused 7\n",
+        false,
+    ),
 ];
 
 /// Decides a list on maps.

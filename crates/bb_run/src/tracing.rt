@@ -1,26 +1,27 @@
 //! The first configurations of one machine, a line each.
-ghost use Rattle.std.specs.Prelude.{◌≡◌, ◌≢◌, ◌+◌, ◌+ℤ◌, ◌++◌, ◌∷◌, ◌<◌, ◌≤◌, ◌≤ℤ◌, ◌↔◌, ℕ, [], false, is_err, length, pos, true, IsOkUnless, IsTrue, List, Option};
+ghost use Rattle.std.specs.Prelude.{◌≡◌, ◌≢◌, ◌+◌, ◌+ℤ◌, ◌++◌, ◌∷◌, ◌<◌, ◌≤◌, ◌≤ℤ◌, ◌↔◌, ℕ, [], false, is_err, length, pos, true, IsOkUnless, IsTrue, List, OnErr, OnOk};
 ghost use Rattle.bb_tape.specs.Content.{cell};
-ghost use Rattle.bb_sim.specs.Reach.{places};
+ghost use Rattle.bb_tape.specs.declared.tape.TheConstants.{MOST_CELLS};
+ghost use Rattle.bb_sim.specs.CellsBetween.{cells_between};
 ghost use Rattle.bb_machine.specs.declared.machine.TheConstants.{MAX_STATES};
 ghost use Rattle.bb_machine.specs.Entry.{next_letter, IsNextOf};
-ghost use Rattle.bb_sim.specs.Runner.{Stands};
+ghost use Rattle.bb_sim.specs.Runner.{high_of, low_of, position_of, state_of, steps_of, Stands};
 ghost use Rattle.bb_sim.specs.Span.{span, IsLastInside};
 ghost use Rattle.bb_cert.specs.Line.{refusal_text};
-ghost use Rattle.bb_lines.specs.Ends.{AppendsFront, MatchEnd};
-ghost use Rattle.bb_lines.specs.Output.{AppendsBut};
+ghost use Rattle.bb_lines.specs.Ends.{AppendsPrefix, MatchEnd};
+ghost use Rattle.bb_lines.specs.Output.{Sends};
 ghost use Rattle.bb_lines.specs.Watched.{is_marked, watched_inner};
-ghost use Rattle.bb_run.specs.Ends.{MatchRun, TraceEnds};
-ghost use Rattle.bb_run.specs.Trace.{AppendsSomeLines, IsTrace, IsUncut, cells_text, front_text, lines_text, step_lines, step_text};
+ghost use Rattle.bb_run.specs.Ends.{TraceEnds};
+ghost use Rattle.bb_run.specs.Trace.{AppendsSomeLines, IsTrace, IsUncut, cells_text, head_text, lines_text, step_lines, step_text};
 
-use crate::refusal::refusal_into;
 use crate::summary::Summary;
 use arrayvec::ArrayVec;
+use bb_cert::refusal_into;
 use bb_lines::fault::Fault;
 use bb_lines::output::{Waiting, add, add_line, write_and_flush, write_waiting};
 use bb_lines::watched::Watched;
 use bb_machine::laws::texts_differ;
-use bb_machine::{Limits, Machine};
+use bb_machine::{Limits, Machine, Next};
 use bb_sim::laws::last_step_exists;
 use bb_sim::{Meter, Moved, Runner};
 use bb_tape::Tape;
@@ -42,7 +43,7 @@ pub fn run_trace<W: Write, T: Tape>(
     requires writer { is_marked writer.old ≡ false }
 
     // How the trace ends, and what is written then.
-    ensures ends { TraceEnds limits.now.steps limits.now.cells line.now
+    ensures ends { TraceEnds limits.now line.now
         (W.contents (watched_inner writer.old)) (W.contents (watched_inner writer.new)) result }
 
     // When each fault comes.
@@ -74,12 +75,12 @@ fn add_trace<W: Write, T: Tape>(
     requires waiting { waiting.old.items ≡ [] }
     ensures ends { let held = W.contents (watched_inner writer.old) in
         let held_then = W.contents (watched_inner writer.new) in
-        (lines : List (List ℕ)) × IsTrace limits.now.steps limits.now.cells line.now lines × MatchRun result
-        (λ whole. AppendsBut held held_then waiting.new.items (lines_text lines)
-        × (IsTrue whole ↔ IsUncut limits.now.steps limits.now.cells line.now))
+        (lines : List (List ℕ)) × IsTrace limits.now line.now lines × MatchEnd result
+        (λ whole. Sends held held_then [] waiting.new.items (lines_text lines)
+        × (IsTrue whole ↔ IsUncut limits.now line.now))
         (AppendsSomeLines held held_then lines)
         ⊥
-        (AppendsFront held held_then (lines_text lines)) }
+        (AppendsPrefix held held_then (lines_text lines)) }
     ensures memory { result ≡ Err Fault.Memory → IsTrue T.GROWS }
     ensures read { result ≢ Err Fault.Read }
     ensures write { (result ≡ Err Fault.Write) ↔ (is_marked writer.new ≡ true) }
@@ -104,14 +105,10 @@ fn add_refusal<W: Write>(
     waiting: &mut Waiting,
 ) -> Result<(), Fault>
     requires writer { is_marked writer.old ≡ false }
-    ensures ends { (before : Option (List ℕ)) (past : List ℕ)
-        → AppendsBut before (W.contents (watched_inner writer.old)) waiting.old.items past
-        → MatchEnd result
-        (AppendsBut before (W.contents (watched_inner writer.new)) waiting.new.items
-        (past ++ (refusal_text column ++ 10 ∷ [])))
-        ⊥
-        ⊥
-        (AppendsFront before (W.contents (watched_inner writer.new)) past) }
+    ensures sent { OnOk result (Sends (W.contents (watched_inner writer.old)) (W.contents (watched_inner writer.new))
+        waiting.old.items waiting.new.items (refusal_text column ++ 10 ∷ [])) }
+    ensures err { OnErr result (AppendsPrefix (W.contents (watched_inner writer.old))
+        (W.contents (watched_inner writer.new)) waiting.old.items) }
     ensures only_write { IsOkUnless result Fault.Write }
     ensures mark { is_marked writer.new ≡ is_err result }
 {
@@ -133,12 +130,12 @@ fn add_run<W: Write, T: Tape>(
     requires waiting { waiting.old.items ≡ [] }
     ensures ends { let held = W.contents (watched_inner writer.old) in
         let held_then = W.contents (watched_inner writer.new) in
-        (last : ℕ) → IsLastInside machine.now limits.now.steps limits.now.cells last → MatchRun result
-        (λ whole. AppendsBut held held_then waiting.new.items (lines_text (step_lines machine.now (last + 1)))
+        (last : ℕ) → IsLastInside machine.now limits.now last → MatchEnd result
+        (λ whole. Sends held held_then [] waiting.new.items (lines_text (step_lines machine.now (last + 1)))
         × (IsTrue whole ↔ (span machine.now limits.now.steps ≤ limits.now.cells)))
         (AppendsSomeLines held held_then (step_lines machine.now (last + 1)))
         ⊥
-        (AppendsFront held held_then (lines_text (step_lines machine.now (last + 1)))) }
+        (AppendsPrefix held held_then (lines_text (step_lines machine.now (last + 1)))) }
     ensures memory { result ≡ Err Fault.Memory → IsTrue T.GROWS }
     ensures read { result ≢ Err Fault.Read }
     ensures write { (result ≡ Err Fault.Write) ↔ (is_marked writer.new ≡ true) }
@@ -172,14 +169,11 @@ fn add_step<W: Write, T: Tape>(
 ) -> Result<(), Fault>
     requires stands { Stands machine.now runner.now (T.strip tape.now) }
     requires writer { is_marked writer.old ≡ false }
-    ensures ends { let line = step_text machine.now runner.now.steps ++ 10 ∷ [] in
-        (before : Option (List ℕ)) (past : List ℕ)
-        → AppendsBut before (W.contents (watched_inner writer.old)) waiting.old.items past
-        → MatchEnd result
-        (AppendsBut before (W.contents (watched_inner writer.new)) waiting.new.items (past ++ line))
-        ⊥
-        ⊥
-        (AppendsFront before (W.contents (watched_inner writer.new)) (past ++ line)) }
+    ensures sent { OnOk result (Sends (W.contents (watched_inner writer.old)) (W.contents (watched_inner writer.new))
+        waiting.old.items waiting.new.items (step_text machine.now (steps_of runner.now) ++ 10 ∷ [])) }
+    ensures err { OnErr result (AppendsPrefix (W.contents (watched_inner writer.old))
+        (W.contents (watched_inner writer.new))
+        (waiting.old.items ++ (step_text machine.now (steps_of runner.now) ++ 10 ∷ []))) }
     ensures only_write { IsOkUnless result Fault.Write }
     ensures mark { is_marked writer.new ≡ is_err result }
 {
@@ -189,29 +183,29 @@ fn add_step<W: Write, T: Tape>(
     add(writer, waiting, b"\n")
 }
 
-/// The number of steps, the state and the place of the head, each with a space behind it.
+/// The number of steps, the state and the position of the head, each with a space behind it.
 fn front_of(runner: &Runner) -> ArrayVec<u8, 64>
-    requires { IsNextOf MAX_STATES runner.now.state }
-    ensures text { result.items ≡ front_text runner.now.steps runner.now.state runner.now.position }
+    requires { IsNextOf MAX_STATES (state_of runner.now) }
+    ensures text { result.items ≡ head_text (steps_of runner.now) (state_of runner.now) (position_of runner.now) }
     ensures short { length result.items ≤ 64 }
 {
     let mut digits = Buffer::new();
     let mut front = ArrayVec::new();
     let _steps = front.try_extend_from_slice(digits.format(runner.steps()).as_bytes());
     let _state = front.try_extend_from_slice(&[b' ', letter_of(runner), b' ']);
-    let _place = front.try_extend_from_slice(digits.format(runner.position()).as_bytes());
+    let _position = front.try_extend_from_slice(digits.format(runner.position()).as_bytes());
     front.push(b' ');
     front
 }
 
 /// The letter of the state at which a runner stands.
 fn letter_of(runner: &Runner) -> u8
-    requires { IsNextOf MAX_STATES runner.now.state }
-    ensures { result ≡ next_letter runner.now.state }
+    requires { IsNextOf MAX_STATES (state_of runner.now) }
+    ensures { result ≡ next_letter (state_of runner.now) }
 {
     match runner.state() {
-        Some(state) => b'A' + state,
-        None => b'Z',
+        Some(state) => Next::State(state).letter(),
+        None => Next::Halt.letter(),
     }
 }
 
@@ -222,41 +216,31 @@ fn add_cells<W: Write, T: Tape>(
     writer: &mut Watched<W>,
     waiting: &mut Waiting,
 ) -> Result<(), Fault>
-    requires order { runner.now.low ≤ℤ runner.now.high }
-    requires small { places runner.now.low runner.now.high ≤ 67108864 }
-    requires zero { runner.now.low ≤ℤ pos 0 }
+    requires order { (low_of runner.now) ≤ℤ (high_of runner.now) }
+    requires small { cells_between (low_of runner.now) (high_of runner.now) ≤ MOST_CELLS }
+    requires zero { (low_of runner.now) ≤ℤ pos 0 }
     requires writer { is_marked writer.old ≡ false }
-    ensures ends { let cells = cells_text (T.strip tape.now).content runner.now.low (places runner.now.low runner.now.high) in
-        (before : Option (List ℕ)) (past : List ℕ)
-        → AppendsBut before (W.contents (watched_inner writer.old)) waiting.old.items past
-        → MatchEnd result
-        (AppendsBut before (W.contents (watched_inner writer.new)) waiting.new.items (past ++ cells))
-        ⊥
-        ⊥
-        (AppendsFront before (W.contents (watched_inner writer.new)) (past ++ cells)) }
+    ensures sent { OnOk result (Sends (W.contents (watched_inner writer.old)) (W.contents (watched_inner writer.new))
+        waiting.old.items waiting.new.items (cells_text (T.strip tape.now).content (low_of runner.now)
+        (cells_between (low_of runner.now) (high_of runner.now)))) }
+    ensures err { OnErr result (AppendsPrefix (W.contents (watched_inner writer.old))
+        (W.contents (watched_inner writer.new))
+        (waiting.old.items ++ cells_text (T.strip tape.now).content (low_of runner.now)
+        (cells_between (low_of runner.now) (high_of runner.now)))) }
     ensures only_write { IsOkUnless result Fault.Write }
     ensures mark { is_marked writer.new ≡ is_err result }
 {
-    for i in 0..window_cells(runner) {
+    for i in 0..runner.cells() {
         add(writer, waiting, &[digit(runner, tape, i)])?;
     }
     Ok(())
 }
 
-/// How many cells a runner's window has.
-fn window_cells(runner: &Runner) -> u64
-    requires order { runner.now.low ≤ℤ runner.now.high }
-    requires small { places runner.now.low runner.now.high ≤ 67108864 }
-    ensures { result ≡ places runner.now.low runner.now.high }
-{
-    (runner.high() - runner.low()) as u64 + 1
-}
-
 /// The digit of a cell of a runner's window, counted from the lowest.
 fn digit<T: Tape>(runner: &Runner, tape: &T, i: u64) -> u8
-    requires zero { runner.now.low ≤ℤ pos 0 }
-    requires few { i < 67108864 }
-    ensures { result ≡ 48 + cell (T.strip tape.now).content (runner.now.low +ℤ pos i) }
+    requires zero { (low_of runner.now) ≤ℤ pos 0 }
+    requires few { i < MOST_CELLS }
+    ensures { result ≡ 48 + cell (T.strip tape.now).content ((low_of runner.now) +ℤ pos i) }
 {
     b'0' + tape.read(runner.low() + i as i64)
 }

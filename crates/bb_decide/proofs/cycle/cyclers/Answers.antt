@@ -14,13 +14,13 @@ pub returns-in_default : goal.returns-in_default
 returns-in_default g c =
     let here = c.loop-runner.invariant in
     let stop = stopped _ _ _ _ _ _ _ _ c.in_ok-advance.field-0 c.in_default.not-Stepped
-          c.in_ok-advance.ensures.reaches c.in_ok-advance.ensures.moves in
+    c.in_ok-advance.ensures.reaches c.in_ok-advance.ensures.moves in
     let same = ap (λ r. steps_of r) stop.stays.runner in
     let counts = counts_stopped _ _ _ _ _ _ _ _ _ stop here.meter in
     record {
       found = λ a t cycle.
-        let few = stop.last.greatest t cycle.inside in
-        here.none a t (omega (arith, few, same)) cycle;
+          let few = stop.last.greatest t cycle.inside in
+          here.none a t (omega (arith, few, same)) cycle;
       counted = record { last = _; is_last = stop.last; counts = counts };
       within = count_is_within _ _ _ _ _ stop.last.inside counts;
       never = tt;
@@ -39,9 +39,10 @@ returns-then-is_same-clause-claim g c =
     let here = c.loop-runner.invariant in
     let moves = rw c.in-Stepped.is at c.in_ok-advance.ensures.moves in
     let below = kept_below _ _ here.partner in
-    let same = same_of_alike _ _ _ _ _ c.in_ok-advance.ensures.stands here.kept (c.is_same.ensures.0 c.if-is_same.true) in
-    (omega (arith, c.steps.ensures, c.steps-then-is_same.ensures, moves.0, below),
-      rw (c.steps.ensures, c.steps-then-is_same.ensures) same)
+    let same = same_of_alike _ _ _ _ _ c.in_ok-advance.ensures.stands here.kept (c.is_same.ensures.0 c.if-is_same.true) in (
+      omega (arith, c.steps.ensures, c.steps-then-is_same.ensures, moves.0, below),
+      rw (c.steps.ensures, c.steps-then-is_same.ensures) same,
+    )
 
 pub returns-then-is_same-clause-never : goal.returns-then-is_same-clause-never
 returns-then-is_same-clause-never g c =
@@ -82,10 +83,10 @@ loop-runner-preserved-then-steps g c =
       meter = rw moves.0 (counts_next _ _ _ _ _ here.meter moves.1);
       partner = rw moves.0 (keeps_next _ _ here.partner (omega (arith, moves.0, c.if-steps.true, c.steps-in-loop-runner.ensures, c.steps-in-loop-runner-2.ensures)));
       none = let moved = moves.0 in rw moved (no_cycle_next _ _ _ _ here.partner here.none (λ same.
-        let alike = alike_of_same _ _ _ _ _ c.in_ok-advance.ensures.stands here.kept (rw moved same) in
-        let yes = c.is_same.ensures.1 alike in
-        let no = c.if-is_same.false in
-        cc));
+          let alike = alike_of_same _ _ _ _ _ c.in_ok-advance.ensures.stands here.kept (rw moved same) in
+          let yes = c.is_same.ensures.1 alike in
+          let no = c.if-is_same.false in
+          cc));
     }
 
 pub loop-runner-preserved : goal.loop-runner-preserved
@@ -105,8 +106,8 @@ loop-runner-preserved g c =
       meter = rw moves.0 (counts_next _ _ _ _ _ here.meter moves.1);
       partner = rw moves.0 (keeps_on _ _ here.partner (omega (arith, moves.0, c.if-steps.false, c.steps-in-loop-runner.ensures, c.steps-in-loop-runner-2.ensures)));
       none = let moved = moves.0 in rw moved (no_cycle_next _ _ _ _ here.partner here.none (λ same.
-        let alike = alike_of_same _ _ _ _ _ c.in_ok-advance.ensures.stands here.kept (rw moved same) in
-        let yes = c.is_same.ensures.1 alike in
-        let no = c.if-is_same.false in
-        cc));
+          let alike = alike_of_same _ _ _ _ _ c.in_ok-advance.ensures.stands here.kept (rw moved same) in
+          let yes = c.is_same.ensures.1 alike in
+          let no = c.if-is_same.false in
+          cc));
     }

@@ -16,19 +16,19 @@ returns-in-Some-clause-never g c = λ says.
 pub returns-in-Some-clause-counted : goal.returns-in-Some-clause-counted
 returns-in-Some-clause-counted g c = elim c.match-branch-2.branch [
   | in-NoSteps w ↦
-    let outcome = rw w.in-NoSteps.is at c.in_ok-steps.ensures.outcome in
-    work_of_search _ _ _ _ _ c.new.ensures c.in_ok-steps.ensures.counted outcome.0 _ _ c.in_ok-verdict.ensures.counted
+      let outcome = rw w.in-NoSteps.is at c.in_ok-steps.ensures.outcome in
+      work_of_search _ _ _ _ _ c.new.ensures c.in_ok-steps.ensures.counted outcome.0 _ _ c.in_ok-verdict.ensures.counted
   | in-NoCells w ↦
-    let outcome = rw w.in-NoCells.is at c.in_ok-steps.ensures.outcome in
-    work_of_search _ _ _ _ _ c.new.ensures c.in_ok-steps.ensures.counted outcome.0 _ _ c.in_ok-verdict.ensures.counted
+      let outcome = rw w.in-NoCells.is at c.in_ok-steps.ensures.outcome in
+      work_of_search _ _ _ _ _ c.new.ensures c.in_ok-steps.ensures.counted outcome.0 _ _ c.in_ok-verdict.ensures.counted
 ]
 
 pub returns-in-None-clause-counted : goal.returns-in-None-clause-counted
 returns-in-None-clause-counted g c = elim c.match-branch-2.branch [
   | in-NoSteps w ↦
-    let outcome = rw w.in-NoSteps.is at c.in_ok-steps.ensures.outcome in
-    work_of_search _ _ _ _ _ c.new.ensures c.in_ok-steps.ensures.counted outcome.0 _ _ c.in_ok-verdict.ensures.counted
+      let outcome = rw w.in-NoSteps.is at c.in_ok-steps.ensures.outcome in
+      work_of_search _ _ _ _ _ c.new.ensures c.in_ok-steps.ensures.counted outcome.0 _ _ c.in_ok-verdict.ensures.counted
   | in-NoCells w ↦
-    let outcome = rw w.in-NoCells.is at c.in_ok-steps.ensures.outcome in
-    work_of_search _ _ _ _ _ c.new.ensures c.in_ok-steps.ensures.counted outcome.0 _ _ c.in_ok-verdict.ensures.counted
+      let outcome = rw w.in-NoCells.is at c.in_ok-steps.ensures.outcome in
+      work_of_search _ _ _ _ _ c.new.ensures c.in_ok-steps.ensures.counted outcome.0 _ _ c.in_ok-verdict.ensures.counted
 ]

@@ -1,5 +1,6 @@
+use Rattle.bb_decide.specs.declared.tests.TheConstants.{CELLS}
 use Rattle.bb_decide.specs.Bench.{HasCells}
 use Rattle.bb_decide.proofs.tests.are_decided.Given as goal
 
 abbrev pub invariant-loop-text : goal.invariant-loop-text
-invariant-loop-text g l = HasCells g.T.Tape.strip l.limits.cells l.bench
+invariant-loop-text g l = HasCells g.T.Tape.strip CELLS l.bench

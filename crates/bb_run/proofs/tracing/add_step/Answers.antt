@@ -1,30 +1,35 @@
-use Rattle.std.proofs.Common.{◌∙◌, ◌++◌, List, ℕ, ap, sym}
-use Rattle.std.proofs.lemmas.Result.{err_from_is_err_and}
-use Rattle.bb_sim.specs.Reach.{places}
-use Rattle.bb_run.specs.Trace.{cells_text}
-use Rattle.bb_run.proofs.Traces.{step_text-is, line_parts, AppendsFront-more, AppendsFront-line, MatchEnd-line}
+use Rattle.std.proofs.Common.{◌∙◌}
+use Rattle.std.specs.Prelude.{Result, Ok, Err, OnOk}
+use Rattle.std.proofs.lemmas.Result.{err_from_is_err_and, on_err_weaker}
+use Rattle.bb_lines.proofs.Facts.{AppendsPrefix-more}
+use Rattle.bb_run.proofs.Traces.{step_text-is, AppendsPrefix-line, AppendsPrefix-end, Sends-line}
 use Rattle.bb_run.proofs.tracing.add_step.Goals as goal
 
-pub returns-in_err-add-clause-ends : goal.returns-in_err-add-clause-ends
-returns-in_err-add-clause-ends g c = λ before past h.
+pub returns-in_err-add-clause-err : goal.returns-in_err-add-clause-err
+returns-in_err-add-clause-err g c =
     let p = err_from_is_err_and c.from_residual.result c.from_residual.ensures.1 in
-    let front = rw c.in_err-add.ensures.only_write at (c.in_err-add.ensures.ends before past h) in
-    rw (p.1, p.2, c.in_err-add.ensures.only_write) (AppendsFront-more _ _ past _ front)
+    rw p.1 (AppendsPrefix-more _ _ _ _ c.in_err-add.ensures.err)
 
-pub returns-in_err-add_cells-clause-ends : goal.returns-in_err-add_cells-clause-ends
-returns-in_err-add_cells-clause-ends g c = λ before past h.
+pub returns-in_err-add_cells-clause-err : goal.returns-in_err-add_cells-clause-err
+returns-in_err-add_cells-clause-err g c =
     let p = err_from_is_err_and c.from_residual-in_err-add_cells.result c.from_residual-in_err-add_cells.ensures.1 in
-    let front : List ℕ = c.as_slice.result.now in
-    let cells : List ℕ = cells_text (g.T.Tape.strip c.args.tape.now).content c.args.runner.now.low (places c.args.runner.now.low c.args.runner.now.high) in
-    let is_front = c.as_slice.ensures.value ∙ c.front_of.ensures.text in
-    let line = step_text-is _ _ _ c.requires.stands ∙ ap (λ b. b ++ cells) (sym is_front) in
-    let begun = rw c.in_err-add_cells.ensures.only_write at (c.in_err-add_cells.ensures.ends before _ (c.in_ok-add.ensures.ends before past h)) in
-    rw (p.1, p.2, c.in_err-add_cells.ensures.only_write) (AppendsFront-line _ _ past front cells _ line begun)
+    let parts = step_text-is _ _ _ _ c.requires.stands (c.as_slice.ensures.value ∙ c.front_of.ensures.text) in
+    rw p.1 (AppendsPrefix-line _ _ _ _ _ _ _ _ parts c.in_ok-add.ensures.sent c.in_err-add_cells.ensures.err)
 
-pub returns-clause-ends : goal.returns-clause-ends
-returns-clause-ends g c = λ before past h.
-    let front : List ℕ = c.as_slice.result.now in
-    let cells : List ℕ = cells_text (g.T.Tape.strip c.args.tape.now).content c.args.runner.now.low (places c.args.runner.now.low c.args.runner.now.high) in
-    let is_front = c.as_slice.ensures.value ∙ c.front_of.ensures.text in
-    let line = step_text-is _ _ _ c.requires.stands ∙ ap (λ b. b ++ cells) (sym is_front) in
-    MatchEnd-line _ _ _ _ ((past ++ front) ++ cells) _ _ (line_parts past front cells _ line) (c.add-2.ensures.ends before _ (c.in_ok-add_cells.ensures.ends before _ (c.in_ok-add.ensures.ends before past h)))
+on_ok_weaker : {T E P Q : Type 0} (r : Result T E) → (P → Q) → OnOk r P → OnOk r Q
+on_ok_weaker (Ok a) f p = f p
+on_ok_weaker (Err e) f p = p
+
+pub returns-clause-sent : goal.returns-clause-sent
+returns-clause-sent g c =
+    let parts = step_text-is _ _ _ _ c.requires.stands (c.as_slice.ensures.value ∙ c.front_of.ensures.text) in
+    on_ok_weaker c.add-2.result
+    (Sends-line _ _ _ _ _ _ _ _ parts c.in_ok-add.ensures.sent _ c.in_ok-add_cells.ensures.sent _ _)
+    c.add-2.ensures.sent
+
+pub returns-clause-err : goal.returns-clause-err
+returns-clause-err g c =
+    let parts = step_text-is _ _ _ _ c.requires.stands (c.as_slice.ensures.value ∙ c.front_of.ensures.text) in
+    on_err_weaker c.add-2.result
+    (AppendsPrefix-end _ _ _ _ _ _ _ _ parts c.in_ok-add.ensures.sent _ c.in_ok-add_cells.ensures.sent _)
+    c.add-2.ensures.err

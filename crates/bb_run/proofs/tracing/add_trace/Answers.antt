@@ -1,6 +1,6 @@
 use Rattle.std.proofs.Common.{◌<◌, arith}
 use Rattle.std.proofs.lemmas.Result.{err_from_is_err_and}
-use Rattle.bb_run.proofs.Traces.{AppendsBut-start}
+use Rattle.bb_machine.specs.Machine.{IsTextOf}
 use Rattle.bb_run.proofs.TraceSummaries.{added_run, added_refusal, failed_refusal}
 use Rattle.bb_run.proofs.tracing.add_trace.Goals as goal
 
@@ -8,18 +8,20 @@ pub returns-in-Ok-clause-ends : goal.returns-in-Ok-clause-ends
 returns-in-Ok-clause-ends g c =
     let least = c.cells-accepted.ensures.accepted.some_cell in
     let some : 0 < c.args.limits.now.cells = omega (arith, least) in
-    let last = c.last_step_exists.ensures c.in-Ok.machine c.args.limits.now.steps c.args.limits.now.cells some in
-    added_run _ _ _ _ _ _ c.texts_differ.ensures c.in-Ok.machine c.in-Ok.ensures.found.0 c.in-Ok.ensures.found.1 last.0 last.1 _ (c.add_run.ensures.ends last.0 last.1)
+    let last = c.last_step_exists.ensures c.in-Ok.machine c.args.limits.now some in
+    let of : IsTextOf c.in-Ok.machine c.args.line.now = record { machine = c.in-Ok.ensures.found.0; is_text = c.in-Ok.ensures.found.1 } in
+    added_run _ _ _ _ _ c.texts_differ.ensures c.in-Ok.machine of last.0 last.1 _ (c.add_run.ensures.ends last.0 last.1)
 
 pub returns-in_err-add_refusal-in-Err-clause-ends : goal.returns-in_err-add_refusal-in-Err-clause-ends
 returns-in_err-add_refusal-in-Err-clause-ends g c =
     let p = err_from_is_err_and c.from_residual.result c.from_residual.ensures.1 in
-    let start = AppendsBut-start _ _ c.requires.waiting in
-    let front = rw c.in_err-add_refusal-in-Err.ensures.only_write at (c.in_err-add_refusal-in-Err.ensures.ends _ _ start) in
+    let begun = rw c.requires.waiting at c.in_err-add_refusal-in-Err.ensures.err in
     rw (p.1, p.2, c.in_err-add_refusal-in-Err.ensures.only_write)
-    (failed_refusal _ _ _ _ _ c.add_refusal.new.waiting.items c.in-Err.refused.column (λ m. let found = c.in-Err.ensures.only m.table m.machine m.is_text in cc) c.in-Err.ensures.column front)
+    (failed_refusal _ _ _ _ c.add_refusal.new.waiting.items c.in-Err.refused.column
+    (λ m. let found = c.in-Err.ensures.only m.0 m.1.machine m.1.is_text in cc) c.in-Err.ensures.column begun)
 
 pub returns-in_ok-add_refusal-in-Err-clause-ends : goal.returns-in_ok-add_refusal-in-Err-clause-ends
 returns-in_ok-add_refusal-in-Err-clause-ends g c =
-    let start = AppendsBut-start _ _ c.requires.waiting in
-    added_refusal _ _ _ _ _ _ c.in-Err.refused.column (λ m. let found = c.in-Err.ensures.only m.table m.machine m.is_text in cc) c.in-Err.ensures.column (c.in_ok-add_refusal-in-Err.ensures.ends _ _ start)
+    let sent = rw c.requires.waiting at c.in_ok-add_refusal-in-Err.ensures.sent in
+    added_refusal _ _ _ _ _ c.in-Err.refused.column
+    (λ m. let found = c.in-Err.ensures.only m.0 m.1.machine m.1.is_text in cc) c.in-Err.ensures.column sent

@@ -1,5 +1,4 @@
-use Rattle.std.proofs.Common.{rules, refl, inl, inr, ap, ◌∙◌, arith}
-use Rattle.bb_sim.specs.declared.meter.Meter.{Meter}
+use Rattle.std.proofs.Common.{rules, refl, inl, inr}
 use Rattle.bb_run.proofs.deciding.DeciderResponder.respond.Goals as goal
 
 pub returns-in-Err-clause-reply : goal.returns-in-Err-clause-reply
@@ -32,17 +31,16 @@ returns-clause-reply g c = inl (record {
 })
 
 pub returns-clause-saw : goal.returns-clause-saw
-returns-clause-saw g c =
-    let counts = c.in-Ok-decide.ensures.counted in (
-      refl,
-      refl,
-      inl (record {
-        table = c.in-Ok.machine;
-        of = record { machine = c.in-Ok.ensures.found.0; is_text = c.in-Ok.ensures.found.1 };
-        is_work = ?;
-        last = counts.last;
-        is_last = counts.is_last;
-        clean = refl;
-        peak = ?;
-      }),
-    )
+returns-clause-saw g c = (
+  refl,
+  refl,
+  inl (record {
+    table = c.in-Ok.machine;
+    of = record { machine = c.in-Ok.ensures.found.0; is_text = c.in-Ok.ensures.found.1 };
+    cost = _;
+    counts = c.in-Ok-decide.ensures.counted;
+    clean = refl;
+    peak = c.greatest-self.ensures;
+    is_work = refl;
+  }),
+)

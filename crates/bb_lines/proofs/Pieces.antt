@@ -5,6 +5,7 @@ use Rattle.std.specs.List.{slice_split, onto_first}
 use Rattle.std.proofs.lemmas.List.{append-nil}
 use Rattle.std.proofs.Math.Seq.{take-append_seam, get_or-append_seam}
 use Rattle.bb_lines.specs.Lines.{pieces, complete, unfinished, lines, unless_empty}
+use Rattle.bb_lines.specs.Progress.{HasNoNewline, none, other}
 
 -- the last of the parts with a byte added to it
 add_to_last : ℕ → List (List ℕ) → List (List ℕ)
@@ -83,21 +84,16 @@ pieces_are bytes =
     rw (are.is_complete, are.is_unfinished) (some.2 ∙ end.2)
 
 -- one more newline
-LinesAre-newline : (bytes : List ℕ) (byte : ℕ) → (byte == 10) ≡ true → LinesAre (bytes ++ byte ∷ []) (complete bytes ++ unfinished bytes ∷ []) []
+pub LinesAre-newline : (bytes : List ℕ) (byte : ℕ) → (byte == 10) ≡ true → LinesAre (bytes ++ byte ∷ []) (complete bytes ++ unfinished bytes ∷ []) []
 unfolding pieces
 LinesAre-newline bytes byte is = LinesAre-from_pieces (bytes ++ byte ∷ []) (complete bytes ++ unfinished bytes ∷ []) []
     (split_separator (λ b. b == 10) bytes byte is ∙ ap (λ parts. parts ++ [] ∷ []) (pieces_are bytes))
 
 -- one more byte that is no newline
-LinesAre-other : (bytes : List ℕ) (byte : ℕ) → (byte == 10) ≡ false → LinesAre (bytes ++ byte ∷ []) (complete bytes) (unfinished bytes ++ byte ∷ [])
+pub LinesAre-other : (bytes : List ℕ) (byte : ℕ) → (byte == 10) ≡ false → LinesAre (bytes ++ byte ∷ []) (complete bytes) (unfinished bytes ++ byte ∷ [])
 unfolding pieces
 LinesAre-other bytes byte is = LinesAre-from_pieces (bytes ++ byte ∷ []) (complete bytes) (unfinished bytes ++ byte ∷ [])
     (split_other (λ b. b == 10) bytes byte is ∙ ap (add_to_last byte) (pieces_are bytes) ∙ add_to_last-append byte (complete bytes) (unfinished bytes))
-
--- a list without a newline
-pub data HasNoNewline : List ℕ → Type 0 where
-  none : HasNoNewline []
-  other : {byte : ℕ} {bytes : List ℕ} → (byte == 10) ≡ false → HasNoNewline bytes → HasNoNewline (byte ∷ bytes)
 
 -- more bytes, none of them a newline
 pub LinesAre-more : (bytes : List ℕ) {more : List ℕ} → HasNoNewline more → LinesAre (bytes ++ more) (complete bytes) (unfinished bytes ++ more)
@@ -123,51 +119,19 @@ LinesAre-line bytes more others =
       is_unfinished = ap unfinished same ∙ newline.is_unfinished;
     }
 
--- one more byte takes no complete line away
-complete-byte : (bytes : List ℕ) (byte : ℕ) (b : Bool) → (byte == 10) ≡ b → (later : List (List ℕ)) × (complete (bytes ++ byte ∷ []) ≡ complete bytes ++ later)
-complete-byte bytes byte true is = (unfinished bytes ∷ [], (LinesAre-newline bytes byte is).is_complete)
-complete-byte bytes byte false is = ([], (LinesAre-other bytes byte is).is_complete ∙ sym (append-nil (complete bytes)))
-
--- lines that are complete stay so, whatever comes
-pub complete-more : (more bytes : List ℕ) → (later : List (List ℕ)) × (complete (bytes ++ more) ≡ complete bytes ++ later)
-complete-more [] bytes = ([], ap complete (append-nil bytes) ∙ sym (append-nil (complete bytes)))
-complete-more (byte ∷ more) bytes =
-    let one = complete-byte bytes byte (byte == 10) refl in
-    let rest = complete-more more (bytes ++ byte ∷ []) in
-    let same : bytes ++ (byte ∷ more) ≡ (bytes ++ byte ∷ []) ++ more = sym (append_assoc bytes (byte ∷ []) more) in
-    (one.0 ++ rest.0, ap complete same ∙ rest.1 ∙ ap (λ l. l ++ rest.0) one.1 ∙ append_assoc (complete bytes) one.0 rest.0)
-
--- the lines of a longer input begin with the complete ones
-pub lines-more : (more bytes : List ℕ) → (later : List (List ℕ)) × (lines (bytes ++ more) ≡ complete bytes ++ later)
+-- the lines are the complete ones and what stands after the last newline, unless that is empty
+pub lines-parts : (bytes : List ℕ) → lines bytes ≡ complete bytes ++ unless_empty (unfinished bytes)
 unfolding lines
-lines-more more bytes =
-    let h = complete-more more bytes in
-    (h.0 ++ unless_empty (unfinished (bytes ++ more)), ap (λ l. l ++ unless_empty (unfinished (bytes ++ more))) h.1 ∙ append_assoc (complete bytes) h.0 (unless_empty (unfinished (bytes ++ more))))
-
--- the lines begin with the complete ones
-pub lines-begin : (bytes : List ℕ) → lines bytes ≡ complete bytes ++ unless_empty (unfinished bytes)
-unfolding lines
-lines-begin bytes = refl
+lines-parts bytes = refl
 
 -- before any byte there is no line
 pub LinesAre-none : LinesAre [] [] []
 unfolding pieces
 LinesAre-none = LinesAre-from_pieces [] [] [] refl
 
--- the last line, where what stands after the last newline isn't empty
-pub lines-last : (bytes : List ℕ) → 0 < length (unfinished bytes) → lines bytes ≡ complete bytes ++ unfinished bytes ∷ []
-unfolding lines
-lines-last bytes = unless_empty-some (unfinished bytes)
-  where
-    unless_empty-some : (last : List ℕ) → 0 < length last → complete bytes ++ unless_empty last ≡ complete bytes ++ last ∷ []
-    unless_empty-some [] h = absurd (omega arith)
-    unless_empty-some (byte ∷ last) h = refl
-
--- and where it is
-pub lines-ended : (bytes : List ℕ) → length (unfinished bytes) ≡ 0 → lines bytes ≡ complete bytes
-unfolding lines
-lines-ended bytes = unless_empty-none (unfinished bytes)
-  where
-    unless_empty-none : (last : List ℕ) → length last ≡ 0 → complete bytes ++ unless_empty last ≡ complete bytes
-    unless_empty-none [] h = append-nil (complete bytes)
-    unless_empty-none (byte ∷ last) h = absurd (omega arith)
+-- bytes without a newline are one unfinished line
+pub LinesAre-one : (bytes : List ℕ) → HasNoNewline bytes → LinesAre bytes [] bytes
+LinesAre-one bytes others = let all = LinesAre-more [] others in record {
+  is_complete = all.is_complete ∙ LinesAre-none.is_complete;
+  is_unfinished = all.is_unfinished ∙ ap (λ b. b ++ bytes) LinesAre-none.is_unfinished;
+}

@@ -1,4 +1,5 @@
--- The first bytes of a line, one more than the longest text has, decide the reply to it: laws that the engine asks for.
+-- Why the first bytes of a line, one more than the longest text has, decide the reply to it: laws that the engine asks
+-- for. They are proofs; they stand here, since a trait's law may cite nothing of `proofs/`.
 use Rattle.std.proofs.Common.{◌≡◌, ℕ, ◌+◌, List, take, inl, inr, subst, arith}
 use Rattle.bb_machine.specs.declared.machine.TheConstants.{LINE}
 use Rattle.bb_machine.specs.Laws.{PrefixIsEnough}
@@ -16,10 +17,13 @@ module _ (line : List ℕ) (kept : ℕ) (enough : PrefixIsEnough line kept) wher
       record { machine = of.machine; is_text = (enough.same_text table of.machine).0 of.is_text }
 
   no_machine_of_prefix : (IsMachineLine (take kept line) → ⊥) → IsMachineLine line → ⊥
-  no_machine_of_prefix never (table, of) = never (table, record {
-    machine = of.machine;
-    is_text = (enough.same_text table of.machine).1 of.is_text;
-  })
+  no_machine_of_prefix never (table, of) = never (
+    table,
+    record {
+      machine = of.machine;
+      is_text = (enough.same_text table of.machine).1 of.is_text;
+    },
+  )
 
   reply_of_prefix : (bounds : Bounds) (plan : Plan) (reply : List ℕ)
       → IsReply bounds plan (take kept line) reply → IsReply bounds plan line reply
@@ -45,11 +49,11 @@ module _ (line : List ℕ) (kept : ℕ) (enough : PrefixIsEnough line kept) wher
     | inl m ↦ inl (record {
       table = m.table;
       of = text_of_prefix m.table m.of;
-      is_work = m.is_work;
-      last = m.last;
-      is_last = m.is_last;
+      cost = m.cost;
+      counts = m.counts;
       clean = m.clean;
       peak = m.peak;
+      is_work = m.is_work;
     })
     | inr r ↦ inr (record {
       no_machine = no_machine_of_prefix r.no_machine;

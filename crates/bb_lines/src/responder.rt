@@ -1,37 +1,37 @@
-//! What answers a line.
+//! What replies to a line.
 ghost use Rattle.std.specs.Prelude.{◌≡◌, ℕ, ◌<◌, ◌≤◌, Bool, List, [], length, take, IsTrue, IfOk, OnOk, OnErr};
+ghost use Rattle.bb_lines.specs.declared.responder.TheConstants.{MOST_KEPT};
 
-use crate::output::Waiting;
 use arrayvec::ArrayVec;
 use std::alloc::AllocError;
 
 /// The most bytes of a reply, without its newline.
 pub const REPLY: usize = 1023;
 
-/// The most bytes of a line that are kept for any answerer.
+/// The most bytes of a line that are kept for any responder.
 pub const MOST_KEPT: usize = 1024;
 
-/// An answer of more work than this is long: no line is begun while its reply waits.
+/// More work than this is long: its reply is written before the next line is begun.
 pub const LONG_WORK: u64 = 100_000;
 
-/// What answers the lines of an input, each with one line.
-pub trait Answer {
+/// What replies to the lines of an input, to each with one line.
+pub trait Responder {
     // Which texts are a reply to a line, without a newline.
     ghost replies_with: { Self → List ℕ → List ℕ → Type 0 };
 
-    // What one line does to the answerer's own state, as the summary that it keeps.
+    // What one line does to the responder's own state, as the summary that it keeps.
     ghost saw: { Self → List ℕ → Self → Type 0 };
 
-    // How much work the last answer was.
+    // How much work the last reply was.
     ghost work: { Self → ℕ };
 
-    // What no answer changes, as the limits, or which value a reference of the answerer points to.
+    // What no reply changes, as the limits, or which value a reference of the responder points to.
     ghost keeps: { Self → Self → Type 0 };
 
-    // What the answerer needs before each line, and has again after it.
+    // What the responder needs before each line, and has again after it.
     ghost is_ready: { Self → Type 0 };
 
-    // Whether an answer may take memory.
+    // Whether a reply may allocate.
     ghost GROWS: { Bool };
 
     // How many bytes of a line are kept; a reply depends on those alone.
@@ -41,19 +41,12 @@ pub trait Answer {
     fn keep(&self) -> usize
         ensures { result ≡ KEEP };
 
-    /// Puts the reply to `line` into `text`, which is empty, and tells how much work it was. `waiting` holds the replies to
-    /// lines before this one that aren't written yet. `Err` is a refused growth: nothing is said of `text` then.
-    fn answer(
-        &mut self,
-        line: &[u8],
-        waiting: &Waiting,
-        text: &mut ArrayVec<u8, REPLY>,
-    ) -> Result<u64, AllocError>
+    /// Puts the reply to `line` into `text`, which is empty, and tells how much work it was. `Err` is an allocation
+    /// failure: nothing is said of `text` then.
+    fn respond(&mut self, line: &[u8], text: &mut ArrayVec<u8, REPLY>) -> Result<u64, AllocError>
         requires ready { is_ready self.old }
         requires kept { length line.now ≤ KEEP }
         requires empty { text.old.items ≡ [] }
-        // No reply waits where the last answer was long work.
-        requires prompt { LONG_WORK < work self.old → waiting.now.items ≡ [] }
         ensures reply { OnOk result (replies_with self.old line.now text.new.items) }
         ensures saw { OnOk result (saw self.old line.now self.new) }
         ensures work { IfOk result (λ told. told ≡ work self.new) }
@@ -71,7 +64,7 @@ pub trait Answer {
     // A line is kept up to here: at least one byte, and no more than there is room for.
     ghost keeps_some: { 0 < KEEP };
 
-    ghost keeps_few: { KEEP ≤ 1024 };
+    ghost keeps_few: { KEEP ≤ MOST_KEPT };
 
     // The kept bytes of a line decide all.
     ghost reply_by_kept: { (a : Self) (line text : List ℕ) → replies_with a (take KEEP line) text → replies_with a line text };

@@ -1,0 +1,3 @@
+-- What other crates' proofs cite of this one: what one call after another sends, and what is written by then.
+pub use Rattle.bb_lines.proofs.Sends.{AppendsPrefix-more, AppendsPrefix-sent, AppendsPrefix-after, AppendsPrefix-further, Appends-after, Appends-further, Appends-sent, Sends-none, Sends-trans, Sends-written}
+pub use Rattle.bb_lines.proofs.Replies.{AreReplies-append, AreReplies-weaker, FoldsTo-append}
