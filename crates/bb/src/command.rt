@@ -8,9 +8,8 @@ ghost use Rattle.bb_decide.specs.Plan.{IsSimulation};
 ghost use Rattle.bb.specs.Command.{CanServe, IsAskedBy, AsksToDecide, IsFirstStop, IsKindStop, IsStopOf, AsksToTrace, IsTraceStop, decide_bounds, decide_plan, is_given, number_of, stop_status, trace_bounds};
 ghost use Rattle.bb.specs.CommandLine.{by_default, cells_rule, command_line, decide_shape, number_rule, positional_rule, switch_rule, trace_shape};
 
-
-use bb_machine::{LimitFault, Limits};
 use bb_decide::Plan;
+use bb_machine::{LimitFault, Limits};
 use clap::error::ErrorKind;
 use clap::{Arg, ArgAction, ArgMatches, Command, Error, value_parser};
 use std::alloc::{AllocError, Global};

@@ -1,15 +1,14 @@
 -- How a run ends, from what was kept of its lines.
-use Rattle.std.proofs.Common.{◌≡◌, ℕ, ◌<◌, ◌≤◌, List, [], ◌∷◌, ◌++◌, length, take, append_assoc, sym, ◌∙◌, subst, ap, refl, arith, length-append, Option, Result, Ok, Err}
-use Rattle.std.specs.Prelude.{OnOk, OnErr, IsOkUnless}
+use Rattle.std.proofs.Common.{◌≡◌, ℕ, ◌<◌, List, [], ◌∷◌, ◌++◌, length, take, ◌∙◌, ap, refl, arith, Option, Result, Ok, Err}
 use Rattle.std.specs.List.{FoldsTo}
-use Rattle.std.proofs.lemmas.List.{append-nil, take-append-le}
-use Rattle.std.specs.Io.KnownBytes.{Appends, Consumes, IsAtEnd}
+use Rattle.std.proofs.lemmas.List.{append-nil}
+use Rattle.std.specs.Io.KnownBytes.{Consumes, IsAtEnd}
 use Rattle.bb_lines.specs.declared.fault.Fault.{Fault}
 use Rattle.bb_lines.specs.declared.fault.Fault.TheVariants.{Memory, Read, Write}
 use Rattle.bb_lines.specs.Lines.{complete, lines, unfinished, unless_empty}
-use Rattle.bb_lines.specs.Ends.{MatchEnd, ListEnds, AppendsPrefix, AppendsReplies, AppendsSome, AppendsPrefixOfReplies}
-use Rattle.bb_lines.specs.Progress.{prefixes, AreAnswered, WritesSome, WritesPrefix}
-use Rattle.bb_lines.proofs.Replies.{AreReplies-prefixes, AppendsReplies-prefixes, AppendsSome-prefixes, AppendsPrefixOfReplies-prefixes, FoldsTo-prefixes}
+use Rattle.bb_lines.specs.Ends.{MatchEnd, ListEnds, AppendsReplies, AppendsSome, AppendsPrefixOfReplies}
+use Rattle.bb_lines.specs.Progress.{prefixes, AreAnswered}
+use Rattle.bb_lines.proofs.Replies.{AppendsReplies-prefixes, AppendsSome-prefixes, AppendsPrefixOfReplies-prefixes, FoldsTo-prefixes}
 use Rattle.bb_lines.proofs.Prefixes.{prefixes-lines}
 
 pub unless_empty-some : (line : List ℕ) → 0 < length line → unless_empty line ≡ line ∷ []

@@ -1,10 +1,9 @@
 -- What the engine's calls come to, one after another.
-use Rattle.std.proofs.Common.{◌≡◌, ℕ, ◌+◌, ◌<◌, ◌≤◌, List, [], ◌∷◌, ◌++◌, length, take, append_assoc, sym, ◌∙◌, subst, ap, refl, arith, length-append, Option, Result, Ok, Err}
+use Rattle.std.proofs.Common.{◌≡◌, ℕ, ◌+◌, ◌≤◌, List, [], ◌∷◌, ◌++◌, length, take, append_assoc, sym, ◌∙◌, subst, refl, arith, length-append, Option, Result, Ok, Err}
 use Rattle.std.specs.Prelude.{OnOk, OnErr, IsOkUnless}
 use Rattle.std.specs.List.{FoldsTo}
 use Rattle.std.proofs.lemmas.List.{append-nil, take-append-le}
 use Rattle.std.proofs.Math.Seq.{take-append-add, take-length}
-use Rattle.std.proofs.KnownBytes.{Appends-trans}
 use Rattle.std.specs.Io.KnownBytes.{Appends}
 use Rattle.bb_lines.specs.declared.fault.Fault.{Fault}
 use Rattle.bb_lines.specs.declared.fault.Fault.TheVariants.{Memory, Read, Write}

@@ -1,12 +1,9 @@
 -- What one reply after another comes to, where bytes are written.
-use Rattle.std.proofs.Common.{◌≡◌, ℕ, ◌+◌, ◌≤◌, List, [], ◌∷◌, ◌++◌, length, map, take, append_assoc, sym, ◌∙◌, subst, ap, refl, arith, length-append, Option}
+use Rattle.std.proofs.Common.{ℕ, List, [], ◌∷◌, ◌++◌, take, append_assoc, sym, ◌∙◌, subst, ap, Option}
 use Rattle.std.specs.List.{FoldsTo}
 use Rattle.std.proofs.lemmas.List.{length-map, take-map}
-use Rattle.std.proofs.Math.Seq.{take-append-add}
-use Rattle.std.proofs.KnownBytes.{Appends-trans}
-use Rattle.std.specs.Io.KnownBytes.{Appends}
 use Rattle.bb_lines.specs.Lines.{AreReplies}
-use Rattle.bb_lines.specs.Ends.{AppendsPrefix, AppendsReplies, AppendsSome, AppendsPrefixOfReplies}
+use Rattle.bb_lines.specs.Ends.{AppendsReplies, AppendsSome, AppendsPrefixOfReplies}
 use Rattle.bb_lines.specs.Progress.{prefixes}
 
 pub FoldsTo-append : {A : Type 0} (saw : A → List ℕ → A → Type 0) (first now next : A) (xs ys : List (List ℕ)) → FoldsTo saw first xs now → FoldsTo saw now ys next → FoldsTo saw first (xs ++ ys) next

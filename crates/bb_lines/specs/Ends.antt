@@ -1,6 +1,6 @@
--- How a run over lines ends, and what is written by then. The words go on from std's `Appends`: where the bytes that a
--- writer holds are known, they are told of as they were before and as they are now. `Reply` is which texts are a reply to
--- a line. This project's own.
+-- How a run over lines ends, and what is written by then. The words go on from std's `Appends`: where the
+-- bytes that a writer holds are known, they are told of as they were before and as they are now. `Reply` is
+-- which texts are a reply to a line. This project's own.
 use Rattle.std.specs.Prelude.{◌≡◌, ℕ, ◌<◌, ◌≤◌, List, ◌++◌, length, take, Option, Result, Ok, Err}
 use Rattle.std.specs.Io.KnownBytes.{Appends, Consumes, IsAtEnd}
 use Rattle.bb_lines.specs.declared.fault.Fault.{Fault}
@@ -15,13 +15,15 @@ pub record AppendsPrefix (old new : Option (List ℕ)) (bytes : List ℕ) : Type
   pub appends : Appends old new prefix
 
 -- known bytes grow by a reply to each of the lines
-pub record AppendsReplies (Reply : List ℕ → List ℕ → Type 0) (old new : Option (List ℕ)) (lines : List (List ℕ)) : Type 0 where
+pub record AppendsReplies (Reply : List ℕ → List ℕ → Type 0) (old new : Option (List ℕ))
+    (lines : List (List ℕ)) : Type 0 where
   pub bytes : List ℕ
   pub are_replies : AreReplies Reply lines bytes
   pub appends : Appends old new bytes
 
 -- known bytes grow by the replies to the first few of the lines, not to all of them
-pub record AppendsSome (Reply : List ℕ → List ℕ → Type 0) (old new : Option (List ℕ)) (lines : List (List ℕ)) : Type 0 where
+pub record AppendsSome (Reply : List ℕ → List ℕ → Type 0) (old new : Option (List ℕ))
+    (lines : List (List ℕ)) : Type 0 where
   pub count : ℕ
   pub not_all : count < length lines
   pub replies : AppendsReplies Reply old new (take count lines)
@@ -42,14 +44,16 @@ MatchEnd (Err Memory) fine memory read write = memory
 MatchEnd (Err Read) fine memory read write = read
 MatchEnd (Err Write) fine memory read write = write
 
--- how a run over the lines of a reader ends, by the bytes left in the reader and those that the writer holds, before and
--- then: without fault the reader is at its end, the replies to all lines are written, and what the run gives sums the
--- lines up; after an allocation failure the replies to the first few lines, not all; after a failed read those to the
--- lines that a newline ended; after a failed write a prefix
-abbrev pub ListEnds : {S : Type 0} → (List ℕ → List ℕ → Type 0) → (List (List ℕ) → S → Type 0) → Option (List ℕ)
-    → Option (List ℕ) → Option (List ℕ) → Option (List ℕ) → Result S Fault → Type 0
-ListEnds Reply Sums left left_then held held_then end = (taken : List ℕ) × Consumes left left_then taken × MatchEnd end
-    (λ summary. IsAtEnd left_then × AppendsReplies Reply held held_then (lines taken) × Sums (lines taken) summary)
+-- how a run over the lines of a reader ends, by the bytes left in the reader and those that the writer holds,
+-- before and then: without fault the reader is at its end, the replies to all lines are written, and what the
+-- run gives sums the lines up; after an allocation failure the replies to the first few lines, not all; after
+-- a failed read those to the lines that a newline ended; after a failed write a prefix
+abbrev pub ListEnds : {S : Type 0} → (List ℕ → List ℕ → Type 0) → (List (List ℕ) → S → Type 0)
+    → Option (List ℕ) → Option (List ℕ) → Option (List ℕ) → Option (List ℕ) → Result S Fault → Type 0
+ListEnds Reply Sums left left_then held held_then end =
+    (taken : List ℕ) × Consumes left left_then taken × MatchEnd end
+    (λ summary. IsAtEnd left_then × AppendsReplies Reply held held_then (lines taken)
+    × Sums (lines taken) summary)
     (AppendsSome Reply held held_then (lines taken))
     (AppendsReplies Reply held held_then (complete taken))
     (AppendsPrefixOfReplies Reply held held_then (lines taken))

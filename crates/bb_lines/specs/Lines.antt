@@ -1,5 +1,5 @@
--- The lines of an input, and what is written for them. A line ends at a newline, the byte 10, and a last line without
--- one counts if it isn't empty. This project's own.
+-- The lines of an input, and what is written for them. A line ends at a newline, the byte 10, and a last line
+-- without one counts if it isn't empty. This project's own.
 use Rattle.std.specs.Prelude.{◌≡◌, ℕ, ◌-◌, ◌==◌, List, [], ◌∷◌, ◌++◌, length, take, slice_index_or}
 use Rattle.std.specs.List.{slice_split}
 
@@ -27,4 +27,5 @@ lines bytes = complete bytes ++ unless_empty (unfinished bytes)
 -- these bytes are a reply to each of the lines, in order, and a newline after each reply
 abbrev pub AreReplies : (List ℕ → List ℕ → Type 0) → List (List ℕ) → List ℕ → Type 0
 AreReplies Reply [] bytes = bytes ≡ []
-AreReplies Reply (line ∷ lines) bytes = (reply : List ℕ) × (rest : List ℕ) × Reply line reply × AreReplies Reply lines rest × (bytes ≡ (reply ++ 10 ∷ []) ++ rest)
+AreReplies Reply (line ∷ lines) bytes = (reply : List ℕ) × (rest : List ℕ)
+    × Reply line reply × AreReplies Reply lines rest × (bytes ≡ (reply ++ 10 ∷ []) ++ rest)

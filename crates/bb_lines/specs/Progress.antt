@@ -14,19 +14,22 @@ prefixes keep lines = map (take keep) lines
 -- bytes without a newline
 pub data HasNoNewline : List ℕ → Type 0 where
   none : HasNoNewline []
-  other : {byte : ℕ} {bytes : List ℕ} → (byte == 10) ≡ false → HasNoNewline bytes → HasNoNewline (byte ∷ bytes)
+  other : {byte : ℕ} {bytes : List ℕ} → (byte == 10) ≡ false → HasNoNewline bytes
+      → HasNoNewline (byte ∷ bytes)
 
--- these lines were answered: replies to them were sent, and the responder went over them from `first` to `now`
+-- these lines were answered: replies to them were sent, and the responder went over them from `first` to
+-- `now`
 pub record AreAnswered {A : Type 0} (Reply : List ℕ → List ℕ → Type 0) (saw : A → List ℕ → A → Type 0)
-    (held held_then : Option (List ℕ)) (waiting waiting_then : List ℕ) (first now : A) (lines : List (List ℕ)) : Type 0 where
+    (held held_then : Option (List ℕ)) (waiting waiting_then : List ℕ) (first now : A)
+    (lines : List (List ℕ)) : Type 0 where
   pub bytes : List ℕ
   pub are_replies : AreReplies Reply lines bytes
   pub sends : Sends held held_then waiting waiting_then bytes
   pub seen : FoldsTo saw first lines now
 
 -- what waited was written, and then the replies to the first few of the lines, not to all of them
-pub record WritesSome (Reply : List ℕ → List ℕ → Type 0) (held held_then : Option (List ℕ)) (waiting : List ℕ)
-    (lines : List (List ℕ)) : Type 0 where
+pub record WritesSome (Reply : List ℕ → List ℕ → Type 0) (held held_then : Option (List ℕ))
+    (waiting : List ℕ) (lines : List (List ℕ)) : Type 0 where
   pub count : ℕ
   pub not_all : count < length lines
   pub bytes : List ℕ
@@ -34,8 +37,8 @@ pub record WritesSome (Reply : List ℕ → List ℕ → Type 0) (held held_then
   pub appends : Appends held held_then (waiting ++ bytes)
 
 -- a prefix was written of what waited and then the replies to the first few of the lines, or to all of them
-pub record WritesPrefix (Reply : List ℕ → List ℕ → Type 0) (held held_then : Option (List ℕ)) (waiting : List ℕ)
-    (lines : List (List ℕ)) : Type 0 where
+pub record WritesPrefix (Reply : List ℕ → List ℕ → Type 0) (held held_then : Option (List ℕ))
+    (waiting : List ℕ) (lines : List (List ℕ)) : Type 0 where
   pub count : ℕ
   pub within : count ≤ length lines
   pub bytes : List ℕ
@@ -44,5 +47,6 @@ pub record WritesPrefix (Reply : List ℕ → List ℕ → Type 0) (held held_th
 
 -- the engine's references still point to the same values
 abbrev pub KeepsReferences : {R W A : Type 0} → Engine R W A → Engine R W A → Type 0
-KeepsReferences old new = (new.reader.ghost_name ≡ old.reader.ghost_name) × (new.writer.ghost_name ≡ old.writer.ghost_name)
+KeepsReferences old new = (new.reader.ghost_name ≡ old.reader.ghost_name)
+    × (new.writer.ghost_name ≡ old.writer.ghost_name)
     × (new.responder.ghost_name ≡ old.responder.ghost_name)

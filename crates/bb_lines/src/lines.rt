@@ -20,10 +20,11 @@ use std::io::{Read, Write};
 /// The most bytes of one read.
 const CHUNK: usize = 16384;
 
-/// Replies to each line of the reader and writes the replies, in order, each as a line. The reader is read to its end.
-/// Replies are buffered: they are written before the next read, when there is no room for one more, or at once after
-/// long work. The writer is flushed once, at the end of a run without fault. After a fault the reader and the writer are
-/// not to be used again.
+/// Replies to each line of the reader and writes the replies, in order, each as a line. The reader is read to
+/// its end. Replies are buffered: they are written before the next read, when there is no room for one more,
+/// or at once after long work. The writer is flushed once, at the end of a run without fault.
+///
+/// After a fault the reader and the writer are not to be used again.
 pub fn run<R: Read, W: Write, A: Responder>(
     reader: &mut Watched<R>,
     writer: &mut Watched<W>,
@@ -101,8 +102,10 @@ impl<'a, R: Read, W: Write, A: Responder> Engine<'a, R, W, A> {
         requires waiting { self.old.waiting.items ≡ [] }
         ensures ends { ListEnds (A.replies_with self.old.responder.now)
             (λ lines _. FoldsTo A.saw self.old.responder.now lines self.new.responder.now)
-            (R.remaining (watched_inner self.old.reader.now)) (R.remaining (watched_inner self.new.reader.now))
-            (W.contents (watched_inner self.old.writer.now)) (W.contents (watched_inner self.new.writer.now)) result }
+            (R.remaining (watched_inner self.old.reader.now))
+            (R.remaining (watched_inner self.new.reader.now))
+            (W.contents (watched_inner self.old.writer.now))
+            (W.contents (watched_inner self.new.writer.now)) result }
         ensures memory { result ≡ Err Fault.Memory → IsTrue A.GROWS }
         ensures read { (result ≡ Err Fault.Read) ↔ (is_marked self.new.reader.now ≡ true) }
         ensures write { (result ≡ Err Fault.Write) ↔ (is_marked self.new.writer.now ≡ true) }
@@ -194,9 +197,11 @@ impl<'a, R: Read, W: Write, A: Responder> Engine<'a, R, W, A> {
             (WritesSome Reply held held_then self.old.waiting.items ended)
             ⊥
             (WritesPrefix Reply held held_then self.old.waiting.items ended) }
-        ensures kept { OnOk result (self.new.kept.items ≡ take A.KEEP (unfinished (self.old.kept.items ++ piece.now))) }
+        ensures kept { let left = unfinished (self.old.kept.items ++ piece.now) in
+            OnOk result (self.new.kept.items ≡ take A.KEEP left) }
         ensures one_line { OnOk result (HasNoNewline self.new.kept.items) }
-        ensures prompt { OnOk result (LONG_WORK < A.work self.new.responder.now → self.new.waiting.items ≡ []) }
+        ensures prompt { LONG_WORK < A.work self.new.responder.now
+            → OnOk result (self.new.waiting.items ≡ []) }
         ensures memory { result ≡ Err Fault.Memory → IsTrue A.GROWS }
         ensures write { (result ≡ Err Fault.Write) ↔ (is_marked self.new.writer.now ≡ true) }
         ensures no_read { result ≢ Err Fault.Read }
@@ -233,7 +238,8 @@ impl<'a, R: Read, W: Write, A: Responder> Engine<'a, R, W, A> {
             ⊥
             (WritesPrefix Reply held held_then self.old.waiting.items (line ∷ [])) }
         ensures kept { OnOk result (self.new.kept.items ≡ []) }
-        ensures prompt { OnOk result (LONG_WORK < A.work self.new.responder.now → self.new.waiting.items ≡ []) }
+        ensures prompt { LONG_WORK < A.work self.new.responder.now
+            → OnOk result (self.new.waiting.items ≡ []) }
         ensures memory { result ≡ Err Fault.Memory → IsTrue A.GROWS }
         ensures write { (result ≡ Err Fault.Write) ↔ (is_marked self.new.writer.now ≡ true) }
         ensures no_read { result ≢ Err Fault.Read }

@@ -26,8 +26,8 @@ pub fn add<W: Write>(
 ) -> Result<(), Fault>
     requires writer { is_marked writer.old ≡ false }
     requires few { length bytes.now ≤ WAITING }
-    ensures sent { OnOk result (Sends (W.contents (watched_inner writer.old)) (W.contents (watched_inner writer.new))
-        waiting.old.items waiting.new.items bytes.now) }
+    ensures sent { OnOk result (Sends (W.contents (watched_inner writer.old))
+        (W.contents (watched_inner writer.new)) waiting.old.items waiting.new.items bytes.now) }
     ensures err { OnErr result (AppendsPrefix (W.contents (watched_inner writer.old))
         (W.contents (watched_inner writer.new)) waiting.old.items) }
     ensures only_write { IsOkUnless result Fault.Write }
@@ -40,8 +40,8 @@ pub fn add<W: Write>(
     Ok(())
 }
 
-/// Lets a text of at most `REPLY` bytes wait, with a newline. What waits is written before, if there is no room for
-/// both. After an error the text is lost.
+/// Lets a text of at most `REPLY` bytes wait, with a newline. What waits is written before, if there is no
+/// room for both. After an error the text is lost.
 pub fn add_line<W: Write>(
     writer: &mut Watched<W>,
     waiting: &mut Waiting,
@@ -49,8 +49,8 @@ pub fn add_line<W: Write>(
 ) -> Result<(), Fault>
     requires writer { is_marked writer.old ≡ false }
     requires short { length text.now ≤ REPLY }
-    ensures sent { OnOk result (Sends (W.contents (watched_inner writer.old)) (W.contents (watched_inner writer.new))
-        waiting.old.items waiting.new.items (text.now ++ 10 ∷ [])) }
+    ensures sent { OnOk result (Sends (W.contents (watched_inner writer.old))
+        (W.contents (watched_inner writer.new)) waiting.old.items waiting.new.items (text.now ++ 10 ∷ [])) }
     ensures err { OnErr result (AppendsPrefix (W.contents (watched_inner writer.old))
         (W.contents (watched_inner writer.new)) waiting.old.items) }
     ensures only_write { IsOkUnless result Fault.Write }

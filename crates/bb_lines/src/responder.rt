@@ -41,8 +41,9 @@ pub trait Responder {
     fn keep(&self) -> usize
         ensures { result ≡ KEEP };
 
-    /// Puts the reply to `line` into `text`, which is empty, and tells how much work it was. `Err` is an allocation
-    /// failure: nothing is said of `text` then.
+    /// Puts the reply to `line` into `text`, which is empty, and tells how much work it was.
+    ///
+    /// `Err` is an allocation failure: nothing is said of `text` then.
     fn respond(&mut self, line: &[u8], text: &mut ArrayVec<u8, REPLY>) -> Result<u64, AllocError>
         requires ready { is_ready self.old }
         requires kept { length line.now ≤ KEEP }
@@ -59,7 +60,8 @@ pub trait Responder {
 
     ghost keeps_on: { (a b c : Self) → keeps a b → keeps b c → keeps a c };
 
-    ghost keeps_reply: { (a b : Self) → keeps a b → (line text : List ℕ) → replies_with b line text → replies_with a line text };
+    ghost keeps_reply: { (a b : Self) → keeps a b → (line text : List ℕ)
+        → replies_with b line text → replies_with a line text };
 
     // A line is kept up to here: at least one byte, and no more than there is room for.
     ghost keeps_some: { 0 < KEEP };
@@ -67,7 +69,8 @@ pub trait Responder {
     ghost keeps_few: { KEEP ≤ MOST_KEPT };
 
     // The kept bytes of a line decide all.
-    ghost reply_by_kept: { (a : Self) (line text : List ℕ) → replies_with a (take KEEP line) text → replies_with a line text };
+    ghost reply_by_kept: { (a : Self) (line text : List ℕ)
+        → replies_with a (take KEEP line) text → replies_with a line text };
 
     ghost saw_by_kept: { (a : Self) (line : List ℕ) (b : Self) → saw a (take KEEP line) b → saw a line b };
 }

@@ -57,11 +57,12 @@ impl<X> Watched<X> {
 }
 
 impl<R: Read> Watched<R> {
-    /// Reads by one call of the inner reader. After `u64::MAX` reads it fails without a call, so that each run ends.
-    /// After `Failed` no byte was taken.
+    /// Reads by one call of the inner reader. After `u64::MAX` reads it fails without a call, so that each
+    /// run ends. After `Failed` no byte was taken.
     pub fn read(&mut self, buf: &mut [u8]) -> Result<usize, Failed>
         ensures bound { ReadsAtMost result buf.new }
-        ensures bytes { ReadConsumes (R.remaining (watched_inner self.old)) (R.remaining (watched_inner self.new)) result buf.new }
+        ensures bytes { ReadConsumes (R.remaining (watched_inner self.old))
+            (R.remaining (watched_inner self.new)) result buf.new }
         ensures mark { is_marked self.new ≡ (is_marked self.old || is_err result) }
         ensures reads { reads_of self.new ≡ min (reads_of self.old + 1) (2 ^ 64 - 1) }
         ensures turns { OnOk result (reads_of self.old < 2 ^ 64 - 1) }
@@ -83,7 +84,8 @@ impl<W: Write> Watched<W> {
     /// After `Failed` no byte was written.
     pub fn write(&mut self, buf: &[u8]) -> Result<usize, Failed>
         ensures bound { WritesAtMost result buf.now }
-        ensures bytes { WriteAppends (W.contents (watched_inner self.old)) (W.contents (watched_inner self.new)) result buf.now }
+        ensures bytes { WriteAppends (W.contents (watched_inner self.old))
+            (W.contents (watched_inner self.new)) result buf.now }
         ensures some { 0 < length buf.now → IfOk result (λ n. 0 < n) }
         ensures mark { is_marked self.new ≡ (is_marked self.old || is_err result) }
         ensures reads { reads_of self.new ≡ reads_of self.old }

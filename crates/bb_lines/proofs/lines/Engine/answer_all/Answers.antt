@@ -1,9 +1,7 @@
-use Rattle.std.proofs.Common.{◌≡◌, ◌<◌, ℕ, List, [], ◌∷◌, ◌++◌, length, ◌∙◌, ap, sym, subst, refl, arith}
+use Rattle.std.proofs.Common.{◌≡◌, ◌<◌, [], length, ◌∙◌, sym, refl, arith}
 use Rattle.std.proofs.lemmas.Grind.{common_steps}
 use Rattle.std.proofs.lemmas.List.{append-nil}
 use Rattle.std.proofs.lemmas.Result.{err_from_is_err_and}
-use Rattle.bb_lines.specs.Lines.{complete, lines}
-use Rattle.bb_lines.specs.Progress.{prefixes}
 use Rattle.bb_lines.proofs.Ends.{fault_of_prefixes, end_of_prefixes, answered_of_written, prefixes-some, prefixes-no_more}
 use Rattle.bb_lines.proofs.Progress.{answered_more, fault_after_none, ends_at_last}
 use Rattle.bb_lines.proofs.lines.Engine.answer_all.Goals as goal

@@ -1,4 +1,4 @@
-use Rattle.std.proofs.Common.{rules, ◌≡◌, ℕ, ◌+◌, List, [], ◌∷◌, ◌++◌, length, take, drop, ◌∙◌, ap, sym, subst, refl, append_assoc, arith}
+use Rattle.std.proofs.Common.{rules, ◌≡◌, ◌+◌, [], ◌∷◌, ◌++◌, length, take, drop, ◌∙◌, ap, sym, subst, refl, append_assoc, arith}
 use Rattle.std.proofs.lemmas.Result.{err_from_is_err_and}
 use Rattle.std.proofs.Math.Seq.{take-length}
 use Rattle.bb_lines.specs.Lines.{complete, unfinished}

@@ -1,4 +1,4 @@
-use Rattle.std.proofs.Common.{◌≡◌, ◌<◌, ◌≤◌, List, ℕ, [], ◌++◌, false, length, take}
+use Rattle.std.proofs.Common.{◌≡◌, ◌<◌, List, ℕ, [], ◌++◌, false, length, take}
 use Rattle.bb_lines.specs.declared.responder.TheConstants.{LONG_WORK}
 use Rattle.bb_lines.specs.Lines.{complete, unfinished}
 use Rattle.bb_lines.specs.Watched.{is_marked, watched_inner}

@@ -1,7 +1,7 @@
-use Rattle.std.proofs.Common.{rules, ◌≡◌, ◌<◌, List, [], ◌∷◌, ◌++◌, length, take, ◌∙◌, ap, refl, arith}
+use Rattle.std.proofs.Common.{rules, [], ◌++◌, take, ◌∙◌, ap, refl}
 use Rattle.std.proofs.lemmas.Result.{err_from_is_err_and}
 use Rattle.std.proofs.KnownBytes.{Consumes-nil, Consumes-trans}
-use Rattle.bb_lines.specs.Lines.{complete, unfinished, lines, unless_empty}
+use Rattle.bb_lines.specs.Lines.{complete, unfinished, unless_empty}
 use Rattle.bb_lines.specs.Progress.{none, prefixes, AreAnswered}
 use Rattle.bb_lines.specs.Watched.{watched_inner}
 use Rattle.bb_lines.proofs.Pieces.{LinesAre-none}
