@@ -15,12 +15,12 @@ use Rattle.bb.specs.declared.command.Stop.{Stop}
 use Rattle.bb.specs.declared.command.Stop.TheVariants.{Help, Words, Limits, NotBuilt, Memory}
 use Rattle.bb.specs.declared.command.Work.{Work}
 use Rattle.bb.specs.declared.command.Work.TheVariants.{Decide, Trace}
-use Rattle.bb_decide.specs.Plan.{IsSimulation}
+use Rattle.bb_decide.specs.Plan.{IsBuilt}
 use Rattle.bb.specs.CommandLine.{command_line}
 
--- a trace, or verdicts by no decider, since none is built
+-- a trace, or verdicts by deciders that are built
 abbrev pub CanServe : Work → Type 0
-CanServe (Decide plan) = IsSimulation plan
+CanServe (Decide plan) = IsBuilt plan
 CanServe (Trace text) = Unit {0}
 
 -- ---- what the words say
@@ -97,8 +97,7 @@ IsAskedBy words asked = (rows : List Row)
 -- the text that refuses a plan, by the first decider that is on; none where it switches on none
 abbrev pub not_built : Plan → Option (List ℕ)
 not_built plan =
-    if plan.cyclers then Some (codes "bb: cyclers not built")
-    else if plan.translated then Some (codes "bb: translated not built")
+    if plan.translated then Some (codes "bb: translated not built")
     else if plan.backward then Some (codes "bb: backward not built")
     else None
 

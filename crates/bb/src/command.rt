@@ -4,7 +4,7 @@ ghost use Rattle.clap.specs.declared.builder.command.Command.TheViews.{out-Comma
 ghost use Rattle.clap.specs.Words.{app_of, found_of, kind_of, rows_of, rule_of, shape_of};
 ghost use Rattle.clap.specs.Simple.{new_shape};
 ghost use Rattle.clap.specs.declared.builder.texts.Texts.TheVariants.{One};
-ghost use Rattle.bb_decide.specs.Plan.{IsSimulation};
+ghost use Rattle.bb_decide.specs.Plan.{IsBuilt};
 ghost use Rattle.bb.specs.Command.{CanServe, IsAskedBy, AsksToDecide, IsFirstStop, IsKindStop, IsStopOf, AsksToTrace, IsTraceStop, decide_bounds, decide_plan, is_given, number_of, stop_status, trace_bounds};
 ghost use Rattle.bb.specs.CommandLine.{by_default, cells_rule, command_line, decide_shape, number_rule, positional_rule, switch_rule, trace_shape};
 
@@ -252,13 +252,10 @@ fn decide_of(alloc: Global, matches: &ArgMatches<'_>) -> Result<Asked, Stop>
 
 /// The limits of deciding a list, if they are accepted and the plan has only deciders that are built.
 fn accepted(steps: u64, cells: u64, depth: u64, nodes: u64, plan: Plan) -> Result<Limits, Stop>
-    ensures ok { IfOk result (λ limits. (limits ≡ record { steps = steps; cells = cells; depth = depth; nodes = nodes }) × IsSimulation plan) }
+    ensures ok { IfOk result (λ limits. (limits ≡ record { steps = steps; cells = cells; depth = depth; nodes = nodes }) × IsBuilt plan) }
     ensures first_stop { IfErr result (IsFirstStop (record { steps = steps; cells = cells; depth = depth; nodes = nodes }) plan) }
 {
     let limits = Limits::new(steps, cells, depth, nodes).map_err(Stop::Limits)?;
-    if plan.cyclers {
-        return Err(Stop::NotBuilt("bb: cyclers not built"));
-    }
     if plan.translated {
         return Err(Stop::NotBuilt("bb: translated not built"));
     }

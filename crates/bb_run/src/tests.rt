@@ -1,5 +1,7 @@
 //! Engines over bytes in memory, with answers that were worked out by hand.
 
+ghost use Rattle.bb_decide.specs.Plan.{IsBuilt};
+
 mod broken;
 mod streams;
 mod trace;
@@ -24,6 +26,12 @@ const DEFAULTS: Four = [1_000_000, 65_536, 300, 1_000_000];
 
 const SIMULATION: Plan = Plan {
     cyclers: false,
+    translated: false,
+    backward: false,
+};
+
+const CYCLERS: Plan = Plan {
+    cyclers: true,
     translated: false,
     backward: false,
 };
@@ -190,19 +198,74 @@ static REFUSED: [Row; 9] = [
     ),
 ];
 
+static REPEATS: [Row; 9] = [
+    (
+        DEFAULTS,
+        b"0RB---_0LA---\n",
+        b"0RB---_0LA--- cycler 2 4\n",
+        true,
+    ),
+    (
+        DEFAULTS,
+        b"1RB0RB_1LA1LA\n",
+        b"1RB0RB_1LA1LA cycler 4 8\n",
+        true,
+    ),
+    (
+        [8, 64, 10, 0],
+        b"1RB0RB_1LA1LA\n",
+        b"1RB0RB_1LA1LA cycler 4 8\n",
+        true,
+    ),
+    (
+        [7, 64, 10, 0],
+        b"1RB0RB_1LA1LA\n",
+        b"1RB0RB_1LA1LA undecided steps\n",
+        true,
+    ),
+    (
+        [2, 64, 10, 0],
+        b"1RB0RB_1LA1LA\n",
+        b"1RB0RB_1LA1LA undecided steps\n",
+        true,
+    ),
+    (
+        [1, 64, 10, 0],
+        b"1RB0RB_1LA1LA\n",
+        b"1RB0RB_1LA1LA undecided steps\n",
+        true,
+    ),
+    (
+        [0, 64, 10, 0],
+        b"1RB0RB_1LA1LA\n",
+        b"1RB0RB_1LA1LA undecided steps\n",
+        true,
+    ),
+    ([9, 4, 2, 0], b"0RA0RA\n", b"0RA0RA undecided cells\n", true),
+    (
+        DEFAULTS,
+        b"1RB1LB_1LA1RC\n0RB---_0LA---\n",
+        b"refused 14\n0RB---_0LA--- cycler 2 4\n",
+        false,
+    ),
+];
+
 /// Decides a list on maps.
 fn decided_on_maps(
     rt: &(impl Abort + AllocGlobal),
     limits: &Limits,
+    plan: Plan,
     input: &[u8],
-) -> (Result<Summary, Fault>, Vec<u8>) {
+) -> (Result<Summary, Fault>, Vec<u8>)
+    requires { IsBuilt plan }
+{
     let run = MapTape::new(rt.alloc(), limits.cells());
     let right = MapTape::new(rt.alloc(), limits.cells());
     let left = MapTape::new(rt.alloc(), limits.cells());
     let mut bench = Bench::new(rt.alloc(), run, right, left, limits).expect(rt, "a bench");
     let mut reader = Watched::new(input);
     let mut writer = Watched::new(Vec::new(rt.alloc()));
-    let end = run_decide(&mut reader, &mut writer, limits, SIMULATION, &mut bench);
+    let end = run_decide(&mut reader, &mut writer, limits, plan, &mut bench);
     (end, writer.into_inner())
 }
 
@@ -210,24 +273,29 @@ fn decided_on_maps(
 fn decided_on_rings(
     rt: &(impl Abort + AllocGlobal),
     limits: &Limits,
+    plan: Plan,
     input: &[u8],
-) -> (Result<Summary, Fault>, Vec<u8>) {
+) -> (Result<Summary, Fault>, Vec<u8>)
+    requires { IsBuilt plan }
+{
     let run = RingTape::new(rt.alloc(), limits.cells()).expect(rt, "memory");
     let right = RingTape::new(rt.alloc(), limits.cells()).expect(rt, "memory");
     let left = RingTape::new(rt.alloc(), limits.cells()).expect(rt, "memory");
     let mut bench = Bench::new(rt.alloc(), run, right, left, limits).expect(rt, "a bench");
     let mut reader = Watched::new(input);
     let mut writer = Watched::new(Vec::new(rt.alloc()));
-    let end = run_decide(&mut reader, &mut writer, limits, SIMULATION, &mut bench);
+    let end = run_decide(&mut reader, &mut writer, limits, plan, &mut bench);
     (end, writer.into_inner())
 }
 
-fn answers(rt: &(impl Abort + AllocGlobal), rows: &[Row]) {
+fn answers(rt: &(impl Abort + AllocGlobal), plan: Plan, rows: &[Row])
+    requires { IsBuilt plan }
+{
     for ([steps, cells, depth, nodes], input, output, clean) in rows {
         let limits = Limits::new(*steps, *cells, *depth, *nodes).expect(rt, "limits");
-        let (end, written) = decided_on_maps(rt, &limits, input);
+        let (end, written) = decided_on_maps(rt, &limits, plan, input);
         assert_eq!(rt; written.as_slice(), *output);
-        let (ring_end, ring_written) = decided_on_rings(rt, &limits, input);
+        let (ring_end, ring_written) = decided_on_rings(rt, &limits, plan, input);
         assert_eq!(rt; ring_written.as_slice(), *output);
         assert_eq!(rt; ring_end, end);
         assert_eq!(rt; end.expect(rt, "no fault").clean, *clean);
@@ -236,17 +304,31 @@ fn answers(rt: &(impl Abort + AllocGlobal), rows: &[Row]) {
 
 #[test]
 fn halts(rt: HostRuntime) {
-    answers(&rt, HALTS.as_slice());
+    answers(&rt, SIMULATION, HALTS.as_slice());
+    answers(&rt, CYCLERS, HALTS.as_slice());
 }
 
 #[test]
 fn leaves_undecided(rt: HostRuntime) {
-    answers(&rt, UNDECIDED.as_slice());
+    answers(&rt, SIMULATION, UNDECIDED.as_slice());
+}
+
+#[test]
+fn finds_repeats(rt: HostRuntime) {
+    answers(&rt, CYCLERS, REPEATS.as_slice());
+    let limits = Limits::new(1_000_000, 65_536, 300, 0).expect(&rt, "limits");
+    for (input, steps) in [
+        (b"0RB---_0LA---".as_slice(), 1_000_004),
+        (b"1RB0RB_1LA1LA".as_slice(), 1_000_008),
+    ] {
+        let (end, _) = decided_on_rings(&rt, &limits, CYCLERS, input);
+        assert_eq!(rt; end.expect(&rt, "no fault").peak.steps, steps);
+    }
 }
 
 #[test]
 fn refuses_lines(rt: HostRuntime) {
-    answers(&rt, REFUSED.as_slice());
+    answers(&rt, SIMULATION, REFUSED.as_slice());
 }
 
 /// How much of a heap is left for the tapes, in turn. Where a growth is refused, the replies to the
@@ -255,7 +337,7 @@ fn refuses_lines(rt: HostRuntime) {
 fn each_growth_of_a_run_refused(rt: HostRuntime) -> Result<(), Fail> {
     let input = b"1RB1LB_1LA1RZ\n1RB0RA_1LA---\n0RB---_0LA---\n".as_slice();
     let output =
-        b"1RB1LB_1LA1RZ halt 6 4\n1RB0RA_1LA--- undecided cells\n0RB---_0LA--- undecided steps\n".as_slice();
+        b"1RB1LB_1LA1RZ halt 6 4\n1RB0RA_1LA--- undecided cells\n0RB---_0LA--- cycler 2 4\n".as_slice();
     let limits = Limits::new(1000, 64, 10, 100).expect(&rt, "limits");
     let heap = LocalHeap::new(rt.alloc(), 1 << 13)?;
     let (mut refused, mut fitted) = (0, 0);
@@ -272,14 +354,14 @@ fn each_growth_of_a_run_refused(rt: HostRuntime) -> Result<(), Fail> {
             &mut Watched::new(input),
             &mut writer,
             &limits,
-            SIMULATION,
+            CYCLERS,
             &mut bench,
         );
         drop(rest);
         let written = writer.into_inner();
         if end == Err(Fault::Memory) {
             assert!(rt;
-                written.is_empty() || written.as_slice() == &output[..23],
+                output.starts_with(written.as_slice()) && written.len() < output.len(),
                 "{left} bytes left"
             );
             refused |= 1;
@@ -292,7 +374,7 @@ fn each_growth_of_a_run_refused(rt: HostRuntime) -> Result<(), Fail> {
             &mut Watched::new(input),
             &mut writer,
             &limits,
-            SIMULATION,
+            CYCLERS,
             &mut bench,
         );
         assert!(rt;

@@ -24,7 +24,7 @@ pub cell-blank : (p : ℤ) → cell blank p ≡ 0
 unfolding cell blank
 cell-blank p = ap symbol_of (get-empty int_cmp p)
 
--- a write, at any place
+-- a write, at any position
 pub cell-with_cell : (c : Content) (p : ℤ) (v : ℕ) (q : ℤ) → cell (with_cell c p v) q ≡ cond (int_eq q p) v (cell c q)
 unfolding cell with_cell
 cell-with_cell c p zero q = ap symbol_of (get-remove int_cmp_total c p q) ∙ symbol-cond-none _ _
@@ -53,29 +53,29 @@ by_test : (b : Bool) (P Q : Type 0) → Decides b P → (P → Q) → (¬ P → 
 by_test true P Q d here there = here (d.0 refl)
 by_test false P Q d here there = there (λ p. let e = d.1 p in cc)
 
--- a place is p or another
-pub by_place : (q p : ℤ) (P : Type 0) → (q ≡ p → P) → (q ≢ p → P) → P
-by_place q p P here there = by_test (int_eq q p) (q ≡ p) P (signed_Decides q p) here there
+-- a position is p or another
+pub by_position : (q p : ℤ) (P : Type 0) → (q ≡ p → P) → (q ≢ p → P) → P
+by_position q p P here there = by_test (int_eq q p) (q ≡ p) P (signed_Decides q p) here there
 
--- of two writes at one place the last counts
+-- of two writes at one position the last counts
 pub with_cell-with_cell : (c : Content) (p : ℤ) (v w : ℕ) → with_cell (with_cell c p v) p w ≡ with_cell c p w
 with_cell-with_cell c p v w = same_content _ _ (λ q.
-    by_place q p _
+    by_position q p _
     (λ e. rw e (cell-with_cell-same _ p w ∙ sym (cell-with_cell-same c p w)))
     (λ ne. cell-with_cell-other _ p w q ne ∙ cell-with_cell-other c p v q ne ∙ sym (cell-with_cell-other c p w q ne)))
 
--- writes at two places may come in any order
+-- writes at two positions may come in any order
 pub with_cell-apart : (c : Content) (p : ℤ) (v : ℕ) (q : ℤ) (w : ℕ) → q ≢ p → with_cell (with_cell c p v) q w ≡ with_cell (with_cell c q w) p v
 with_cell-apart c p v q w apart = same_content _ _ (λ x.
-    by_place x q _
+    by_position x q _
     (λ e. rw e (cell-with_cell-same _ q w ∙ sym (cell-with_cell-other _ p v q apart ∙ cell-with_cell-same c q w)))
-    (λ ne. cell-with_cell-other _ q w x ne ∙ by_place x p _
+    (λ ne. cell-with_cell-other _ q w x ne ∙ by_position x p _
     (λ e. rw e (cell-with_cell-same c p v ∙ sym (cell-with_cell-same _ p v)))
     (λ other. cell-with_cell-other c p v x other ∙ sym (cell-with_cell-other _ p v x other ∙ cell-with_cell-other c q w x ne))))
 
 -- to write what is there changes nothing
 pub with_cell-cell : (c : Content) (p : ℤ) → with_cell c p (cell c p) ≡ c
-with_cell-cell c p = same_content _ _ (λ q. by_place q p _ (λ e. rw e (cell-with_cell-same c p _)) (λ ne. cell-with_cell-other c p _ q ne))
+with_cell-cell c p = same_content _ _ (λ q. by_position q p _ (λ e. rw e (cell-with_cell-same c p _)) (λ ne. cell-with_cell-other c p _ q ne))
 
 -- to put back what was there changes nothing
 pub put_back : (c : Content) (p : ℤ) (v : ℕ) → with_cell (with_cell c p v) p (cell c p) ≡ c

@@ -15,7 +15,7 @@ use Rattle.bb_tape.specs.Content.{symbol_of, blank, cell, with_cell, score}
 use Rattle.bb_tape.specs.Entries.{content_of}
 use Rattle.bb_tape.proofs.Content.{cell-with_cell, same_content}
 
--- what the map has at a place
+-- what the map has at a position
 abbrev pub entry_at : List (ℤ × ℕ) → ℤ → Option ℕ
 entry_at es p = lookup (is_at (int_cmp p)) es
 
@@ -39,18 +39,18 @@ chosen : (b : Bool) (o w : Option ℕ) → symbol_of (cond b o w) ≡ cond b (sy
 chosen true o w = refl
 chosen false o w = refl
 
--- what is read at a place
+-- what is read at a position
 pub cell_read : (es : List (ℤ × ℕ)) (p p' : ℤ) (o : Option ℕ) → p' ≡ p → o ≡ entry_at es p' → symbol_of o ≡ cell (content_of es) p
 cell_read es p p' o same e = ap symbol_of (e ∙ ap (entry_at es) same) ∙ sym (cell-content_of es p)
 
--- entries that differ at one place make tapes that differ there
+-- entries that differ at one position make tapes that differ there
 pub content_of-updated : (es fs : List (ℤ × ℕ)) (p p' : ℤ) (o : Option ℕ) → p' ≡ p → ((q : ℤ) → entry_at fs q ≡ cond (is_at (int_cmp p') q) o (entry_at es q)) → content_of fs ≡ with_cell (content_of es) p (symbol_of o)
 content_of-updated es fs p p' o same is = same_content _ _ (λ q.
     cell-content_of fs q ∙ ap symbol_of (is q) ∙ ap (λ x. symbol_of (cond (is_at (int_cmp x) q) o (entry_at es q))) same ∙ chosen _ _ _
     ∙ ap (λ b. cond b (symbol_of o) (symbol_of (entry_at es q))) (int_eq_equiv.symm p q)
     ∙ sym (cell-with_cell (content_of es) p (symbol_of o) q ∙ ap (cond (int_eq q p) (symbol_of o)) (cell-content_of es q)))
 
--- the same cells, the same entry at each place
+-- the same cells, the same entry at each position
 pub entry_at-same : (es fs : List (ℤ × ℕ)) → content_of es ≡ content_of fs → (p : ℤ) → entry_at es p ≡ entry_at fs p
 entry_at-same es fs e p = sym (get-content_of es p) ∙ ap (λ c. get c p) e ∙ get-content_of fs p
 

@@ -1,15 +1,16 @@
--- Content and Strips are for users of any tape; the others serve this crate's own proofs.
-pub mod Content
-pub mod Strips
+-- Facts is for users of any tape; the others serve this crate's own proofs.
+pub mod Facts
+mod Content
+mod Strips
 mod Widening
 mod Sound
 mod Kept
 mod Outcome
 mod Slices
-mod Places
+mod RingIndex
 mod Laying
 mod Rings
 mod RingSteps
 mod Pieces
 mod Wholes
-pub mod Facts
+mod Reaching

@@ -10,9 +10,9 @@ use Rattle.std.proofs.lemmas.List.FromFn.{get_or-map-range_with_len, length-map-
 use Rattle.bb_tape.specs.declared.window.Window.{Window}
 use Rattle.bb_tape.specs.Content.{Content, cell}
 use Rattle.bb_tape.specs.Strip.{AgreesFrom}
-use Rattle.bb_tape.specs.Place.{place}
+use Rattle.bb_tape.specs.RingIndex.{ring_index}
 use Rattle.bb_tape.specs.Ring.{ring_content, symbols}
-use Rattle.bb_tape.proofs.Places.{place_in, place_below}
+use Rattle.bb_tape.proofs.RingIndex.{index_in, index_below}
 use Rattle.bb_tape.proofs.Rings.{cell-ring-inside}
 
 -- ---- the symbols of a stretch
@@ -34,17 +34,17 @@ agree_symbols c d from other_from len agrees = same_number_lists _ _ (length-sym
 
 -- ---- a stretch of a ring
 
--- from the place of its first cell a stretch goes up to the ring's end, and on from its beginning
-module _ (w : Window) (from : ℤ) (at : ℕ) (is : at ≡ place w.limit from) where
+-- from the index of its first cell a stretch goes up to the ring's end, and on from its beginning
+module _ (w : Window) (from : ℤ) (at : ℕ) (is : at ≡ ring_index w.limit from) where
   stretch_at : (k : ℕ) → w.low ≤ℤ from → from ≤ℤ w.high → w.low ≤ℤ (from +ℤ pos k) → (from +ℤ pos k) ≤ℤ w.high
-      → ((at + k < w.limit) × (place w.limit (from +ℤ pos k) ≡ at + k)) ⊎ ((w.limit ≤ at + k) × (place w.limit (from +ℤ pos k) + w.limit ≡ at + k))
+      → ((at + k < w.limit) × (ring_index w.limit (from +ℤ pos k) ≡ at + k)) ⊎ ((w.limit ≤ at + k) × (ring_index w.limit (from +ℤ pos k) + w.limit ≡ at + k))
   stretch_at k a b c d =
-      elim (place_in w.low w.high w.limit w.valid from a b) [
-        | inl f ↦ elim (place_in w.low w.high w.limit w.valid (from +ℤ pos k) c d) [
+      elim (index_in w.low w.high w.limit w.valid from a b) [
+        | inl f ↦ elim (index_in w.low w.high w.limit w.valid (from +ℤ pos k) c d) [
           | inl g ↦ inl (omega (arith, ints, is, f.1, g.1), omega (arith, ints, is, f.1, g.1))
           | inr g ↦ absurd (omega (arith, ints, f.0, g.0))
         ]
-        | inr f ↦ elim (place_in w.low w.high w.limit w.valid (from +ℤ pos k) c d) [
+        | inr f ↦ elim (index_in w.low w.high w.limit w.valid (from +ℤ pos k) c d) [
           | inl g ↦ inr (omega (arith, ints, is, f.1, g.0), omega (arith, ints, is, f.1, g.1))
           | inr g ↦ inl (omega (arith, ints, is, f.1, g.0), omega (arith, ints, is, f.1, g.1))
         ]
@@ -55,7 +55,7 @@ module _ (w : Window) (from : ℤ) (at : ℕ) (is : at ≡ place w.limit from) w
     first_in : 0 < len → (w.low ≤ℤ from) × (from ≤ℤ w.high)
     first_in some = let f = within 0 some in (omega (arith, ints, f.0), omega (arith, ints, f.1))
 
-    at_each : (k : ℕ) → k < len → ((at + k < w.limit) × (place w.limit (from +ℤ pos k) ≡ at + k)) ⊎ ((w.limit ≤ at + k) × (place w.limit (from +ℤ pos k) + w.limit ≡ at + k))
+    at_each : (k : ℕ) → k < len → ((at + k < w.limit) × (ring_index w.limit (from +ℤ pos k) ≡ at + k)) ⊎ ((w.limit ≤ at + k) × (ring_index w.limit (from +ℤ pos k) + w.limit ≡ at + k))
     at_each k h = let f = first_in (omega (arith, h)) in let g = within k h in stretch_at k f.0 f.1 g.0 g.1
 
     module _ (cells : List ℕ) (whole : length cells ≡ w.limit) (some : 0 < len) (room : at < w.limit) (first : ℕ) (cut : first ≡ min len (w.limit - at)) where
@@ -65,29 +65,29 @@ module _ (w : Window) (from : ℤ) (at : ℕ) (is : at ≡ place w.limit from) w
             | inl c ↦ omega (arith, c.0)
             | inr c ↦
                 let g = within (len - 1) (omega arith) in
-                omega (arith, c.1, place_below w.low w.high w.limit w.valid (from +ℤ pos (len - 1)) g.0 g.1)
+                omega (arith, c.1, index_below w.low w.high w.limit w.valid (from +ℤ pos (len - 1)) g.0 g.1)
           ]
 
       long_first : length (take first (drop at cells)) ≡ first
       long_first = length-take-le first (drop at cells) (omega (arith, length-drop at cells))
 
-      long_rest : length (take (len - first) cells) ≡ len - first
+      pub long_rest : length (take (len - first) cells) ≡ len - first
       long_rest = length-take-le (len - first) cells (omega (arith, rest_fits))
 
-      in_first : (k : ℕ) → k < len → k < first → get_or (take first (drop at cells) ++ take (len - first) cells) k 0 ≡ get_or cells (place w.limit (from +ℤ pos k)) 0
+      in_first : (k : ℕ) → k < len → k < first → get_or (take first (drop at cells) ++ take (len - first) cells) k 0 ≡ get_or cells (ring_index w.limit (from +ℤ pos k)) 0
       in_first k h lt =
           get_or-append (take first (drop at cells)) (take (len - first) cells) 0 k (omega (arith, long_first))
           ∙ get_or-take first (drop at cells) k 0 lt ∙ get_or-drop at cells k 0
           ∙ elim (at_each k h) [ inl c ↦ ap (λ j. get_or cells j 0) (sym c.1) | inr c ↦ absurd (omega (arith, c.0)) ]
 
-      in_rest : (k : ℕ) → k < len → first ≤ k → get_or (take first (drop at cells) ++ take (len - first) cells) k 0 ≡ get_or cells (place w.limit (from +ℤ pos k)) 0
+      in_rest : (k : ℕ) → k < len → first ≤ k → get_or (take first (drop at cells) ++ take (len - first) cells) k 0 ≡ get_or cells (ring_index w.limit (from +ℤ pos k)) 0
       in_rest k h ge =
           get_or-append_right (take first (drop at cells)) (take (len - first) cells) k 0 (omega (arith, long_first))
           ∙ ap (λ n. get_or (take (len - first) cells) (k - n) 0) long_first
           ∙ get_or-take (len - first) cells (k - first) 0 (omega arith)
           ∙ elim (at_each k h) [
             | inl c ↦ absurd (omega (arith, c.0))
-            | inr c ↦ (let e : k - first ≡ place w.limit (from +ℤ pos k) = omega (arith, c.0, c.1) in ap (λ j. get_or cells j 0) e)
+            | inr c ↦ (let e : k - first ≡ ring_index w.limit (from +ℤ pos k) = omega (arith, c.0, c.1) in ap (λ j. get_or cells j 0) e)
           ]
 
       -- the cells up to the ring's end, and those from its beginning on

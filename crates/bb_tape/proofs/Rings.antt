@@ -1,4 +1,4 @@
--- The cells of a ring: those of the window at their places, and 0 elsewhere.
+-- The cells of a ring: those of the window at their indices, and 0 elsewhere.
 use Rattle.std.proofs.Common.{◌≡◌, ℕ, ◌+◌, ◌<◌, ◌≤◌, ℤ, pos, negsuc, ◌+ℤ◌, ◌-ℤ◌, ◌≤ℤ◌, ◌<ℤ◌, List, map, get_or, refl, sym, ap, ◌∙◌, arith}
 use Rattle.std.proofs.lemmas.Int.{ints, by_lt_z}
 use Rattle.std.proofs.lemmas.List.FromFn.{get_or-map-range_with_len, length-map-range_with_len}
@@ -7,18 +7,18 @@ use Rattle.std.specs.Prelude.{unsigned_abs}
 use Rattle.std.specs.List.{range_with_len}
 use Rattle.bb_tape.specs.declared.window.Window.{Window}
 use Rattle.bb_tape.specs.Content.{cell}
-use Rattle.bb_tape.specs.Place.{place}
+use Rattle.bb_tape.specs.RingIndex.{ring_index}
 use Rattle.bb_tape.specs.Ring.{ring_content}
 use Rattle.bb_tape.proofs.Laying.{cell-laid, cell-laid-below}
 
--- how many places from a window's low end on
+-- how many positions from a window's low end on
 abbrev pub length_of : Window → ℕ
 length_of w = unsigned_abs (w.high -ℤ w.low) + 1
 
 abbrev pub symbols_of : List ℕ → Window → List ℕ
-symbols_of cells w = map (λ k. get_or cells (place w.limit (w.low +ℤ pos k)) 0) (range_with_len 0 (length_of w))
+symbols_of cells w = map (λ k. get_or cells (ring_index w.limit (w.low +ℤ pos k)) 0) (range_with_len 0 (length_of w))
 
--- a place is in the window, below it or above it
+-- a position is in the window, below it or above it
 pub by_window : (w : Window) (p : ℤ) {P : Type 0} → (w.low ≤ℤ p → p ≤ℤ w.high → P) → (p <ℤ w.low → P) → (w.high <ℤ p → P) → P
 by_window w p inside below above = by_lt_z p w.low below (λ low. by_lt_z w.high p above (λ high. inside low high))
 
@@ -41,16 +41,16 @@ ends_past w p above =
     let b : pos (unsigned_abs (w.high -ℤ w.low)) ≡ w.high -ℤ w.low = abs_is (w.high -ℤ w.low) (omega (arith, ints)) in
     omega (arith, ints, a, b)
 
--- a cell of the window stands at its place
-pub cell-ring-inside : (cells : List ℕ) (w : Window) (p : ℤ) → w.low ≤ℤ p → p ≤ℤ w.high → cell (ring_content cells w) p ≡ get_or cells (place w.limit p) 0
+-- a cell of the window stands at its index
+pub cell-ring-inside : (cells : List ℕ) (w : Window) (p : ℤ) → w.low ≤ℤ p → p ≤ℤ w.high → cell (ring_content cells w) p ≡ get_or cells (ring_index w.limit p) 0
 unfolding ring_content
 cell-ring-inside cells w p low high =
     let k = unsigned_abs (p -ℤ w.low) in
     let at : p ≡ w.low +ℤ pos k = offset w.low p low in
     let within : k < length_of w = ends_within w p low high in
     cell-laid w.low (symbols_of cells w) k p at
-    ∙ get_or-map-range_with_len (λ j. get_or cells (place w.limit (w.low +ℤ pos j)) 0) 0 (length_of w) k k 0 within (omega arith)
-    ∙ ap (λ q. get_or cells (place w.limit q) 0) (sym at)
+    ∙ get_or-map-range_with_len (λ j. get_or cells (ring_index w.limit (w.low +ℤ pos j)) 0) 0 (length_of w) k k 0 within (omega arith)
+    ∙ ap (λ q. get_or cells (ring_index w.limit q) 0) (sym at)
 
 pub cell-ring-below : (cells : List ℕ) (w : Window) (p : ℤ) → p <ℤ w.low → cell (ring_content cells w) p ≡ 0
 unfolding ring_content
@@ -63,4 +63,4 @@ cell-ring-above cells w p above =
     let k = unsigned_abs (p -ℤ w.low) in
     let past : length_of w ≤ k = ends_past w p above in
     cell-laid w.low (symbols_of cells w) k p (offset w.low p low)
-    ∙ get_or_past (symbols_of cells w) k 0 (omega (arith, length-map-range_with_len (λ j. get_or cells (place w.limit (w.low +ℤ pos j)) 0) 0 (length_of w), past))
+    ∙ get_or_past (symbols_of cells w) k 0 (omega (arith, length-map-range_with_len (λ j. get_or cells (ring_index w.limit (w.low +ℤ pos j)) 0) 0 (length_of w), past))

@@ -3,10 +3,11 @@ use Rattle.std.proofs.Common.{arith, ◌≡◌, ◌≢◌, ◌≤◌, ◌<◌, �
 use Rattle.std.proofs.lemmas.Int.{ints, clamps}
 use Rattle.std.specs.Int.{int_min, int_max}
 use Rattle.bb_tape.specs.declared.window.Window.{Window}
+use Rattle.bb_tape.specs.declared.tape.TheConstants.{MOST_SYMBOL}
 use Rattle.bb_tape.specs.Content.{Content, HasSymbols, blank, cell, with_cell}
 use Rattle.bb_tape.specs.Strip.{Strip, IsSound, IsInside, IsStretch}
 use Rattle.bb_tape.specs.Windowed.{strip_of}
-use Rattle.bb_tape.proofs.Content.{cell-blank, cell-with_cell-same, cell-with_cell-other, by_place}
+use Rattle.bb_tape.proofs.Content.{cell-blank, cell-with_cell-same, cell-with_cell-other, by_position}
 
 -- a window's own facts, that all cells outside it are 0, and that each cell has a symbol
 pub sound_from : (c : Content) (w : Window) → ((p : ℤ) → cell c p ≢ 0 → IsInside (strip_of c w) p) → HasSymbols c → IsSound (strip_of c w)
@@ -19,17 +20,17 @@ sound_blank w = sound_from blank w (λ p ne. absurd (ne (cell-blank p))) (λ p. 
 pub sound_wider : (c : Content) (w : Window) (p p' : ℤ) (v : Window) → IsSound (strip_of c w) → p' ≡ p → v.low ≡ int_min w.low p' → v.high ≡ int_max w.high p' → IsSound (strip_of c v)
 sound_wider c w p p' v s same low high = sound_from c v (λ q ne. let old : IsInside (strip_of c w) q = s.nothing_outside q ne in (omega (arith, ints, clamps), omega (arith, ints, clamps))) s.symbols
 
-symbols_written : (c : Content) (p : ℤ) (v : ℕ) → HasSymbols c → v ≤ 10 → HasSymbols (with_cell c p v)
+symbols_written : (c : Content) (p : ℤ) (v : ℕ) → HasSymbols c → v ≤ MOST_SYMBOL → HasSymbols (with_cell c p v)
 symbols_written c p v s small q =
-    by_place q p _
-    (λ here. subst (λ x. cell (with_cell c p v) x ≤ 10) (sym here) (omega (arith, cell-with_cell-same c p v)))
+    by_position q p _
+    (λ here. subst (λ x. cell (with_cell c p v) x ≤ MOST_SYMBOL) (sym here) (omega (arith, cell-with_cell-same c p v)))
     (λ there. omega (arith, cell-with_cell-other c p v q there, s q))
 
 -- after a write in the window
-pub sound_written : (c : Content) (w : Window) (p : ℤ) (v : ℕ) → IsSound (strip_of c w) → w.low ≤ℤ p → p ≤ℤ w.high → v ≤ 10 → IsSound (strip_of (with_cell c p v) w)
+pub sound_written : (c : Content) (w : Window) (p : ℤ) (v : ℕ) → IsSound (strip_of c w) → w.low ≤ℤ p → p ≤ℤ w.high → v ≤ MOST_SYMBOL → IsSound (strip_of (with_cell c p v) w)
 sound_written c w p v s low high small = sound_from (with_cell c p v) w
     (λ q ne.
-    by_place q p _
+    by_position q p _
     (λ here. let low' : w.low ≤ℤ q = subst (λ x. w.low ≤ℤ x) (sym here) low in let high' : q ≤ℤ w.high = subst (λ x. x ≤ℤ w.high) (sym here) high in (low', high'))
     (λ there. s.nothing_outside q (λ e. ne (cell-with_cell-other c p v q there ∙ e))))
     (symbols_written c p v s.symbols small)

@@ -14,7 +14,7 @@ cell-written-other s p v q apart = cell-with_cell-other s.content p v q apart
 pub written-cell : (s : Strip) (p : ℤ) → written s p (cell s.content p) ≡ s
 written-cell s p = ap (λ c. record s { content = c }) (with_cell-cell s.content p)
 
--- of two writes at one place the last counts
+-- of two writes at one position the last counts
 pub written-written : (s : Strip) (p : ℤ) (v w : ℕ) → written (written s p v) p w ≡ written s p w
 written-written s p v w = ap (λ c. record s { content = c }) (with_cell-with_cell s.content p v w)
 

@@ -11,7 +11,7 @@ use Rattle.std.proofs.lemmas.List.Sums.{sum_by-append}
 use Rattle.std.specs.Prelude.{unsigned_abs}
 use Rattle.bb_tape.specs.declared.window.Window.{Window}
 use Rattle.bb_tape.specs.Content.{Content, cell, score}
-use Rattle.bb_tape.specs.Place.{place}
+use Rattle.bb_tape.specs.RingIndex.{ring_index}
 use Rattle.bb_tape.specs.Ring.{ring_content, symbols}
 use Rattle.bb_tape.proofs.Content.{same_content}
 use Rattle.bb_tape.proofs.Rings.{cell-ring-inside, cell-ring-below, cell-ring-above, by_window, symbols_of, length_of, abs_is}
@@ -35,10 +35,10 @@ all_zero [] z = refl
 all_zero (x ∷ xs) z = let first = z 0 in let rest = all_zero xs (λ k. z (suc k)) in count_next x xs ∙ omega (arith, first, rest)
 
 window_symbols : (cells : List ℕ) (w : Window) → symbols_of cells w ≡ symbols (ring_content cells w) w.low (length_of w)
-window_symbols cells w = same_number_lists _ _ (length-map-range_with_len (λ k. get_or cells (place w.limit (w.low +ℤ pos k)) 0) 0 (length_of w) ∙ sym (length-symbols (ring_content cells w) w.low (length_of w))) (λ k h.
-    let within : k < length_of w = omega (arith, h, length-map-range_with_len (λ k. get_or cells (place w.limit (w.low +ℤ pos k)) 0) 0 (length_of w)) in
+window_symbols cells w = same_number_lists _ _ (length-map-range_with_len (λ k. get_or cells (ring_index w.limit (w.low +ℤ pos k)) 0) 0 (length_of w) ∙ sym (length-symbols (ring_content cells w) w.low (length_of w))) (λ k h.
+    let within : k < length_of w = omega (arith, h, length-map-range_with_len (λ k. get_or cells (ring_index w.limit (w.low +ℤ pos k)) 0) 0 (length_of w)) in
     let width : pos (unsigned_abs (w.high -ℤ w.low)) ≡ w.high -ℤ w.low = abs_is (w.high -ℤ w.low) (omega (arith, ints)) in
-    get_or-map-range_with_len (λ j. get_or cells (place w.limit (w.low +ℤ pos j)) 0) 0 (length_of w) k k 0 within (omega arith)
+    get_or-map-range_with_len (λ j. get_or cells (ring_index w.limit (w.low +ℤ pos j)) 0) 0 (length_of w) k k 0 within (omega arith)
     ∙ sym (get_or-symbols (ring_content cells w) w.low (length_of w) k within ∙ cell-ring-inside cells w (w.low +ℤ pos k) (omega (arith, ints)) (omega (arith, ints, width, within))))
 
 -- a window's symbols, in two pieces, tell the score

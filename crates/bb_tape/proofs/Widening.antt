@@ -1,11 +1,12 @@
--- What a window that is widened to a place is.
-use Rattle.std.proofs.Common.{arith, ◌≡◌, ℕ, ℤ, pos, negsuc, ◌+ℤ◌, ◌-ℤ◌, ◌≤ℤ◌, ◌<ℤ◌, true, false, w64, to_z, of_z, ◌∙◌, sym, int_lt}
+-- What a window that is widened to a position is.
+use Rattle.std.proofs.Common.{arith, ◌≡◌, ℕ, ◌+◌, ℤ, pos, negsuc, ◌+ℤ◌, ◌-ℤ◌, ◌≤ℤ◌, ◌<ℤ◌, true, false, w64, to_z, of_z, ◌∙◌, sym, int_lt}
 use Rattle.std.proofs.lemmas.Int.{ints, clamps, to_z-of_z, to_z_pos}
 use Rattle.std.specs.Int.{int_min, int_max}
 use mir.Val.{SFits}
+use Rattle.bb_tape.specs.declared.tape.TheConstants.{MOST_CELLS}
 use Rattle.bb_tape.specs.Window.{IsWindow}
 
-pub narrow_fits : (z : ℤ) → (pos 0 -ℤ pos 67108866) ≤ℤ z → z ≤ℤ pos 67108866 → SFits w64 z
+pub narrow_fits : (z : ℤ) → (pos 0 -ℤ pos (MOST_CELLS + 2)) ≤ℤ z → z ≤ℤ pos (MOST_CELLS + 2) → SFits w64 z
 narrow_fits (pos n) a b = record { sfits = omega (arith, ints) }
 narrow_fits (negsuc n) a b = record { sfits = omega (arith, ints) }
 
@@ -21,7 +22,7 @@ min_is f g e = simp to_z-of_z at e
 pub max_is : {high p hi : ℤ} → SFits w64 high → SFits w64 p → hi ≡ int_max (to_z w64 (of_z w64 high)) (to_z w64 (of_z w64 p)) → hi ≡ int_max high p
 max_is f g e = simp to_z-of_z at e
 
--- a window, a place in it or next to it, and what the ends become
+-- a window, a position in it or next to it, and what the ends become
 module _ (low high p lo hi : ℤ) (limit : ℕ) (w : IsWindow low high limit) (from : low ≤ℤ (p +ℤ pos 1)) (to : p ≤ℤ (high +ℤ pos 1)) (el : lo ≡ int_min low p) (eh : hi ≡ int_max high p) where
   pub lo_fits : SFits w64 lo
   lo_fits = narrow_fits lo (omega (arith, ints, clamps)) (omega (arith, ints, clamps))

@@ -3,5 +3,5 @@ pub mod Strip
 pub mod Window
 pub mod Windowed
 pub mod Entries
-pub mod Place
+pub mod RingIndex
 pub mod Ring

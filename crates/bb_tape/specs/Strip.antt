@@ -4,14 +4,15 @@ use Rattle.std.specs.Int.{int_min, int_max}
 use Rattle.bb_tape.specs.declared.tape.TheConstants.{MOST_CELLS}
 use Rattle.bb_tape.specs.Content.{Content, HasSymbols, blank, cell, with_cell}
 
--- The cells, the window of places from low to high that were visited, both counted, and the most places that a window may have.
+-- The cells, the window of positions from low to high that were visited, both counted, and the most
+-- positions that a window may have.
 pub record Strip : Type 0 where
   pub content : Content
   pub low : ℤ
   pub high : ℤ
   pub limit : ℕ
 
--- a tape on which nothing was done: all cells are 0, and the window is the place 0 alone
+-- a tape on which nothing was done: all cells are 0, and the window is the position 0 alone
 abbrev pub fresh : ℕ → Strip
 fresh limit = record { content = blank; low = pos 0; high = pos 0; limit = limit }
 
@@ -23,7 +24,7 @@ visited s p = record s { low = int_min s.low p; high = int_max s.high p }
 abbrev pub written : Strip → ℤ → ℕ → Strip
 written s p v = record s { content = with_cell s.content p v }
 
--- the number of places in the window
+-- the number of positions in the window
 abbrev pub width : Strip → ℤ
 width s = (s.high -ℤ s.low) +ℤ pos 1
 
@@ -35,7 +36,7 @@ IsInside s p = (s.low ≤ℤ p) × (p ≤ℤ s.high)
 abbrev pub IsBeside : Strip → ℤ → Type 0
 IsBeside s p = (s.low ≤ℤ (p +ℤ pos 1)) × (p ≤ℤ (s.high +ℤ pos 1))
 
--- the stretch of len places that begins at from is in the window; an empty one always is
+-- the stretch of len positions that begins at from is in the window; an empty one always is
 abbrev pub IsStretch : Strip → ℤ → ℕ → Type 0
 IsStretch s from len = (k : ℕ) → k < len → IsInside s (from +ℤ pos k)
 
@@ -43,7 +44,8 @@ IsStretch s from len = (k : ℕ) → k < len → IsInside s (from +ℤ pos k)
 abbrev pub AgreesFrom : Content → ℤ → Content → ℤ → ℕ → Type 0
 AgreesFrom a from b other_from len = (k : ℕ) → k < len → cell a (from +ℤ pos k) ≡ cell b (other_from +ℤ pos k)
 
--- What holds of every tape: the window has the place 0 and at most limit places, all cells outside it are 0, and each cell has a symbol.
+-- What holds of every tape: the window has the position 0 and at most limit positions, all cells outside it
+-- are 0, and each cell has a symbol.
 pub record IsSound (s : Strip) : Type 0 where
   pub from_zero : s.low ≤ℤ pos 0
   pub to_zero : pos 0 ≤ℤ s.high

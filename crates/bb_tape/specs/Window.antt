@@ -1,8 +1,8 @@
--- The window of a tape's visited places: this project's own.
+-- The window of a tape's visited positions: this project's own.
 use Rattle.std.specs.Prelude.{ℕ, ◌≤◌, ℤ, pos, ◌-ℤ◌, ◌≤ℤ◌, ◌<ℤ◌}
 use Rattle.bb_tape.specs.declared.tape.TheConstants.{MOST_CELLS}
 
--- From low to high, both counted, with 0 among them, and with no more places than the limit.
+-- From low to high, both counted, with 0 among them, and with no more positions than the limit.
 pub record IsWindow (low high : ℤ) (limit : ℕ) : Type 0 where
   pub from_zero : low ≤ℤ pos 0
   pub to_zero : pos 0 ≤ℤ high

@@ -4,4 +4,5 @@ use Rattle.bb_tape.specs.Content.{Content}
 use Rattle.bb_tape.specs.Strip.{Strip}
 
 abbrev pub strip_of : Content → Window → Strip
-strip_of content window = record { content = content; low = window.low; high = window.high; limit = window.limit }
+strip_of content window =
+    record { content = content; low = window.low; high = window.high; limit = window.limit }

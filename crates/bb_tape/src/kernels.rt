@@ -32,7 +32,7 @@ fn equal_by_lanes(a: &[u8], b: &[u8], whole: usize) -> bool
     true
 }
 
-/// Whether the 32 bytes from a place on are equal.
+/// Whether the 32 bytes from an index on are equal.
 #[inline(always)]
 fn equal_lanes(a: &[u8], b: &[u8], at: usize) -> bool
     requires a { at + LANES ≤ length a.now }
@@ -77,7 +77,7 @@ fn count_by_lanes(a: &[u8], whole: usize) -> usize
     count
 }
 
-/// How many of the 32 bytes from a place on aren't 0.
+/// How many of the 32 bytes from an index on aren't 0.
 #[inline(always)]
 fn count_lanes(a: &[u8], at: usize) -> usize
     requires { at + LANES ≤ length a.now }

@@ -3,6 +3,7 @@
 
 mod kernels;
 pub mod map;
+pub mod reach;
 pub mod ring;
 pub mod tape;
 #[cfg(test)]
@@ -11,4 +12,4 @@ mod window;
 
 pub use map::MapTape;
 pub use ring::RingTape;
-pub use tape::{MOST_CELLS, Memory, Tape, TapeFault};
+pub use tape::{MOST_CELLS, MOST_SYMBOL, Memory, Tape, TapeFault};

@@ -14,7 +14,7 @@ use std::collections::BTreeMap;
 /// A tape that keeps the cells that aren't 0, and takes memory as they come.
 #[derive(Drop)]
 pub struct MapTape<A: Allocator = Global> {
-    /// The number k at a place stands for the symbol k + 1.
+    /// The number k at a position stands for the symbol k + 1.
     cells: BTreeMap<i64, u8, A>,
     window: Window,
     ghost sound: { IsSound (strip_of (content_of cells.entries) window) },
@@ -44,7 +44,7 @@ impl<A: Allocator + Clone + Drop> MapTape<A> {
         }
     }
 
-    /// The symbol `k` places above `from`, both in the window.
+    /// The symbol `k` positions above `from`, both in the window.
     fn symbol_after(&self, from: i64, k: u64) -> u8
         requires begins { self.now.window.low ≤ℤ from }
         requires ends { (from +ℤ pos k) ≤ℤ self.now.window.high }
@@ -54,7 +54,7 @@ impl<A: Allocator + Clone + Drop> MapTape<A> {
     }
 }
 
-/// Puts the entries of another map in place of a map's own.
+/// Puts the entries of another map where a map's own were.
 fn copy_entries<A: Allocator + Clone>(
     to: &mut BTreeMap<i64, u8, A>,
     from: &BTreeMap<i64, u8, A>,
@@ -79,15 +79,27 @@ impl<A: Allocator + Clone + Drop> Tape for MapTape<A> {
         self.window = Window::new(self.window.limit);
     }
 
-    #[inline]
     fn visit(&mut self, p: i64) -> Result<(), TapeFault> {
-        match self.window.widened(p) {
-            Some(window) => {
-                self.window = window;
-                Ok(())
-            }
-            None => Err(TapeFault::Cells),
+        if self.window.has(p) {
+            return Ok(());
         }
+        if self.window.is_full() {
+            return Err(TapeFault::Cells);
+        }
+        if p < self.window.low {
+            self.widen_low(p);
+        } else {
+            self.widen_high(p);
+        }
+        Ok(())
+    }
+
+    fn widen_low(&mut self, p: i64) {
+        self.window.widen_low(p);
+    }
+
+    fn widen_high(&mut self, p: i64) {
+        self.window.widen_high(p);
     }
 
     #[inline]
@@ -96,6 +108,10 @@ impl<A: Allocator + Clone + Drop> Tape for MapTape<A> {
             Some(k) => *k + 1,
             None => 0,
         }
+    }
+
+    fn read_inside(&self, p: i64) -> u8 {
+        self.read(p)
     }
 
     fn write(&mut self, p: i64, v: u8) -> Result<(), TapeFault> {

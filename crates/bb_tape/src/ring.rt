@@ -4,7 +4,7 @@ ghost use Rattle.std.specs.Prelude.{◌≡◌, ◌↔◌, ◌≤◌, ◌<◌, �
 ghost use Rattle.bb_tape.specs.Content.{cell, score};
 ghost use Rattle.bb_tape.specs.Strip.{fresh, IsSound, IsStretch};
 ghost use Rattle.bb_tape.specs.Windowed.{strip_of};
-ghost use Rattle.bb_tape.specs.Ring.{ring_content, symbols};
+ghost use Rattle.bb_tape.specs.Ring.{IsClear, ring_content, symbols};
 
 use crate::kernels::{count_nonzero, equal};
 use crate::tape::{MOST_CELLS, Memory, Tape, TapeFault};
@@ -12,13 +12,14 @@ use crate::window::Window;
 use std::alloc::Global;
 
 /// A tape of a fixed number of cells, made once: it takes no memory after that.
-/// Cell p stands at place p modulo the number of cells, so the cells below 0 are the last of the ring.
-/// What a place outside the window has is of no account: a cell is cleared when the window lets it in.
+/// Cell p has index p modulo the number of cells, so the cells below 0 are the last of the ring.
+/// What isn't a cell of the window is 0, so that the window may widen with nothing to clear.
 #[derive(Drop)]
 pub struct RingTape {
     cells: Vec<u8>,
     window: Window,
     ghost whole: { length cells.items ≡ window.limit },
+    ghost clear: { IsClear cells.items window },
     ghost sound: { IsSound (strip_of (ring_content cells.items window) window) },
 }
 
@@ -40,23 +41,27 @@ impl RingTape {
 
     /// The cells from `from` on, those below 0 and then the others. `from` and the cells are in the window.
     fn pieces(&self, from: i64, len: u64) -> (&[u8], &[u8])
-        requires { IsStretch (strip_of (ring_content self.now.cells.items self.now.window) self.now.window) from len }
-        ensures { result.0.now ++ result.1.now ≡ symbols (ring_content self.now.cells.items self.now.window) from len }
+        requires { IsStretch
+            (strip_of (ring_content self.now.cells.items self.now.window) self.now.window) from len }
+        ensures { result.0.now ++ result.1.now
+            ≡ symbols (ring_content self.now.cells.items self.now.window) from len }
     {
         let len = len as usize;
         let cells = self.cells.as_slice();
         if len == 0 {
             return (&cells[..0], &cells[..0]);
         }
-        let at = self.window.place(from);
+        let at = self.window.index(from);
         let first = len.min(cells.len() - at);
         (&cells[at..at + first], &cells[..len - first])
     }
 
     /// Whether the cells from `from` on are all 0.
     fn is_blank(&self, from: i64, len: u64) -> bool
-        requires { IsStretch (strip_of (ring_content self.now.cells.items self.now.window) self.now.window) from len }
-        ensures { IsTrue result ↔ ((k : ℕ) → k < len → cell (ring_content self.now.cells.items self.now.window) (from +ℤ pos k) ≡ 0) }
+        requires { IsStretch
+            (strip_of (ring_content self.now.cells.items self.now.window) self.now.window) from len }
+        ensures { IsTrue result ↔ ((k : ℕ) → k < len
+            → cell (ring_content self.now.cells.items self.now.window) (from +ℤ pos k) ≡ 0) }
     {
         let (first, second) = self.pieces(from, len);
         count_nonzero(first) == 0 && count_nonzero(second) == 0
@@ -66,7 +71,8 @@ impl RingTape {
     fn is_blank_outside(&self, part: Window) -> bool
         requires low { self.now.window.low ≤ℤ part.low }
         requires high { part.high ≤ℤ self.now.window.high }
-        ensures { IsTrue result ↔ ((p : ℤ) → ((p <ℤ part.low) ⊎ (part.high <ℤ p)) → cell (ring_content self.now.cells.items self.now.window) p ≡ 0) }
+        ensures { IsTrue result ↔ ((p : ℤ) → ((p <ℤ part.low) ⊎ (part.high <ℤ p))
+            → cell (ring_content self.now.cells.items self.now.window) p ≡ 0) }
     {
         self.is_blank(self.window.low, self.window.below(&part))
             && self.is_blank(part.high + 1, self.window.above(&part))
@@ -104,6 +110,19 @@ fn equal_to_joined(b: &[u8], c: &[u8], d: &[u8]) -> bool
     equal(first, c) && equal(last, d)
 }
 
+/// Makes the bytes before `front` and those from `back` on 0.
+fn clear_ends(cells: &mut [u8], front: usize, back: usize)
+    requires front { front ≤ length cells.old }
+    requires back { back ≤ length cells.old }
+    ensures front { (k : ℕ) → k < front → slice_index cells.new k ≡ 0 }
+    ensures back { (k : ℕ) → back ≤ k → slice_index cells.new k ≡ 0 }
+    ensures between { (k : ℕ) → front ≤ k → k < back → slice_index cells.new k ≡ slice_index cells.old k }
+    ensures length { length cells.new ≡ length cells.old }
+{
+    cells[..front].fill(0);
+    cells[back..].fill(0);
+}
+
 /// Copies the bytes before `front` and those from `back` on.
 fn copy_ends(to: &mut [u8], from: &[u8], front: usize, back: usize)
     requires same { length to.old ≡ length from.now }
@@ -111,6 +130,7 @@ fn copy_ends(to: &mut [u8], from: &[u8], front: usize, back: usize)
     requires back { back ≤ length from.now }
     ensures front { (k : ℕ) → k < front → slice_index to.new k ≡ slice_index from.now k }
     ensures back { (k : ℕ) → back ≤ k → slice_index to.new k ≡ slice_index from.now k }
+    ensures between { (k : ℕ) → front ≤ k → k < back → slice_index to.new k ≡ slice_index to.old k }
     ensures length { length to.new ≡ length to.old }
 {
     to[..front].copy_from_slice(&from[..front]);
@@ -127,43 +147,61 @@ impl Tape for RingTape {
     ghost sound = { λ t. t.sound };
 
     fn reset(&mut self) {
-        self.cells[0] = 0;
-        self.window = Window::new(self.window.limit);
+        let window = self.window;
+        clear_ends(self.cells.as_mut_slice(), window.upper(), window.lower_at());
+        self.window = Window::new(window.limit);
     }
 
-    #[inline]
     fn visit(&mut self, p: i64) -> Result<(), TapeFault> {
         if self.window.has(p) {
             return Ok(());
         }
-        match self.window.widened(p) {
-            Some(window) => {
-                self.cells[window.place(p)] = 0;
-                self.window = window;
-                Ok(())
-            }
-            None => Err(TapeFault::Cells),
+        if self.window.is_full() {
+            return Err(TapeFault::Cells);
         }
+        if p < self.window.low {
+            self.widen_low(p);
+        } else {
+            self.widen_high(p);
+        }
+        Ok(())
+    }
+
+    #[inline]
+    fn widen_low(&mut self, p: i64) {
+        self.window.widen_low(p);
+    }
+
+    #[inline]
+    fn widen_high(&mut self, p: i64) {
+        self.window.widen_high(p);
     }
 
     #[inline]
     fn read(&self, p: i64) -> u8 {
         if self.window.has(p) {
-            self.cells[self.window.place(p)]
+            self.read_inside(p)
         } else {
             0
         }
     }
 
     #[inline]
+    fn read_inside(&self, p: i64) -> u8 {
+        let at = self.window.index(p);
+        self.cells[at]
+    }
+
+    #[inline]
     fn write(&mut self, p: i64, v: u8) -> Result<(), TapeFault> {
-        let at = self.window.place(p);
+        let at = self.window.index(p);
         self.cells[at] = v;
         Ok(())
     }
 
     fn copy_from(&mut self, other: &Self) -> Result<(), TapeFault> {
         let window = other.window;
+        self.reset();
         copy_ends(
             self.cells.as_mut_slice(),
             other.cells.as_slice(),

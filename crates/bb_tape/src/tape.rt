@@ -1,11 +1,14 @@
 //! A tape as its users see it, and why a call on one may be refused.
 
-ghost use Rattle.std.specs.Prelude.{◌≡◌, ◌↔◌, ◌≤◌, Bool, IfErr, IsTrue, OnErr, OnOk, pos, ◌<ℤ◌};
+ghost use Rattle.std.specs.Prelude.{◌≡◌, ◌↔◌, ◌≤◌, Bool, IfErr, IsTrue, OnErr, OnOk, pos, ◌+ℤ◌, ◌-ℤ◌, ◌<ℤ◌};
 ghost use Rattle.bb_tape.specs.Content.{cell, score};
 ghost use Rattle.bb_tape.specs.Strip.{Strip, fresh, visited, written, width, IsInside, IsBeside, IsStretch, AgreesFrom, IsSound};
 
 /// The greatest limit that a tape may have.
 pub const MOST_CELLS: u64 = 67_108_864;
+
+/// The greatest symbol that a cell may have.
+pub const MOST_SYMBOL: u8 = 10;
 
 /// A growth was refused.
 #[derive(thiserror::Error, Debug, Drop)]
@@ -15,7 +18,7 @@ pub struct Memory;
 /// Why a call on a tape was refused.
 #[derive(thiserror::Error, Debug, Drop)]
 pub enum TapeFault {
-    /// The window would have more places than the tape's limit.
+    /// The window would have more positions than the tape's limit.
     #[error("the tape has no more cells")]
     Cells,
     /// A growth was refused.
@@ -24,7 +27,7 @@ pub enum TapeFault {
 }
 
 /// A tape that is endless both ways, of which a window of a limited number of cells may be visited.
-/// Positions are signed, and a new tape's window is the cell 0 alone. A cell is a symbol from 0 to 10.
+/// Positions are signed, and a new tape's window is the cell 0 alone. A cell has a symbol from 0 to `MOST_SYMBOL`.
 ///
 /// There is no way to make a tape here, nor to clone one: who is generic over it has only the tapes that it was lent.
 pub trait Tape: Drop {
@@ -46,17 +49,35 @@ pub trait Tape: Drop {
         requires { IsBeside (strip self.old) p }
         ensures ok { OnOk result (strip self.new ≡ visited (strip self.old) p) }
         ensures err { OnErr result (strip self.new ≡ strip self.old) }
-        ensures cells { (result ≡ Err TapeFault.Cells) ↔ (pos (strip self.old).limit <ℤ width (visited (strip self.old) p)) }
+        ensures cells { (result ≡ Err TapeFault.Cells)
+            ↔ (pos (strip self.old).limit <ℤ width (visited (strip self.old) p)) }
         ensures memory { IfErr result (λ fault. fault ≡ TapeFault.Cells) };
+
+    /// Widens the window by the cell below it, where there is room for one more.
+    fn widen_low(&mut self, p: i64)
+        requires next { p ≡ (strip self.old).low -ℤ pos 1 }
+        requires room { width (strip self.old) <ℤ pos (strip self.old).limit }
+        ensures { strip self.new ≡ visited (strip self.old) p };
+
+    /// Widens the window by the cell above it, where there is room for one more.
+    fn widen_high(&mut self, p: i64)
+        requires next { p ≡ (strip self.old).high +ℤ pos 1 }
+        requires room { width (strip self.old) <ℤ pos (strip self.old).limit }
+        ensures { strip self.new ≡ visited (strip self.old) p };
 
     /// The symbol of any cell, 0 outside the window.
     fn read(&self, p: i64) -> u8
         ensures { result ≡ cell (strip self.now).content p };
 
+    /// The symbol of a cell of the window.
+    fn read_inside(&self, p: i64) -> u8
+        requires { IsInside (strip self.now) p }
+        ensures { result ≡ cell (strip self.now).content p };
+
     /// Puts a symbol into a cell of the window. It is never refused for want of cells.
     fn write(&mut self, p: i64, v: u8) -> Result<(), TapeFault>
         requires inside { IsInside (strip self.old) p }
-        requires symbol { v ≤ 10 }
+        requires symbol { v ≤ MOST_SYMBOL }
         ensures ok { OnOk result (strip self.new ≡ written (strip self.old) p v) }
         ensures err { OnErr result (strip self.new ≡ strip self.old) }
         ensures only_memory { OnErr result ((result ≡ Err TapeFault.Memory) × IsTrue GROWS) };
@@ -73,7 +94,8 @@ pub trait Tape: Drop {
     fn agrees(&self, from: i64, other: &Self, other_from: i64, len: u64) -> bool
         requires here { IsStretch (strip self.now) from len }
         requires there { IsStretch (strip other.now) other_from len }
-        ensures { IsTrue result ↔ AgreesFrom (strip self.now).content from (strip other.now).content other_from len };
+        ensures { IsTrue result
+            ↔ AgreesFrom (strip self.now).content from (strip other.now).content other_from len };
 
     /// Whether all cells are the same, whatever the windows.
     fn same(&self, other: &Self) -> bool
@@ -83,11 +105,11 @@ pub trait Tape: Drop {
     fn score(&self) -> u64
         ensures { result ≡ score (strip self.now).content };
 
-    /// The lowest place of the window.
+    /// The lowest position of the window.
     fn low(&self) -> i64
         ensures { result ≡ (strip self.now).low };
 
-    /// The highest place of the window.
+    /// The highest position of the window.
     fn high(&self) -> i64
         ensures { result ≡ (strip self.now).high };
 

@@ -6,6 +6,7 @@ ghost use Rattle.bb_tape.specs.Strip.{fresh, IsBeside, IsInside};
 mod ring;
 
 use super::*;
+use crate::reach::reach;
 use linked_list_allocator::LocalHeap;
 use std::process::Abort;
 use std::test::Fail;
@@ -13,7 +14,7 @@ use std::test::Fail;
 /// The symbol that a cell has after a write, which is undone.
 fn written_and_undone<T: Tape>(tape: &mut T, p: i64, v: u8) -> Result<u8, TapeFault>
     requires inside { IsInside (T.strip tape.old) p }
-    requires symbol { v ≤ 10 }
+    requires symbol { v ≤ MOST_SYMBOL }
     ensures value { IfOk result (λ x. x ≡ v) }
     ensures undone { OnOk result (T.strip tape.new ≡ T.strip tape.old) }
 {
@@ -70,6 +71,20 @@ fn copies_in_three_cells<T: Tape>(rt: &impl Abort, tape: &mut T, other: &mut T) 
     Ok(())
 }
 
+/// Widens a blank tape with limit 3 to positions that aren't next to its window.
+fn reaches_in_three_cells<T: Tape>(rt: &impl Abort, tape: &mut T) -> Result<(), Fail>
+    requires { T.strip tape.old ≡ fresh 3 }
+{
+    assert!(rt; reach(tape, 3).is_err() && reach(tape, i64::MIN).is_err());
+    assert_eq!(rt; (tape.low(), tape.high()), (0, 0));
+    reach(tape, -2)?;
+    tape.write(-2, 5)?;
+    reach(tape, -1)?;
+    assert_eq!(rt; (tape.low(), tape.high(), tape.read_inside(-2)), (-2, 0, 5));
+    assert!(rt; matches!(reach(tape, 1), Err(TapeFault::Cells)));
+    Ok(())
+}
+
 #[test]
 fn rows_over_a_map(rt: HostRuntime) -> Result<(), Fail> {
     let alloc = rt.alloc();
@@ -79,6 +94,7 @@ fn rows_over_a_map(rt: HostRuntime) -> Result<(), Fail> {
         &mut MapTape::new(alloc, 3),
     )?;
     writes_in_three_cells(&rt, &mut MapTape::new(alloc, 3))?;
+    reaches_in_three_cells(&rt, &mut MapTape::new(alloc, 3))?;
     copies_in_three_cells(
         &rt,
         &mut MapTape::new(alloc, 3),
@@ -97,6 +113,7 @@ fn rows_over_a_ring(rt: HostRuntime) -> Result<(), Fail> {
         &mut RingTape::new(alloc, 3)?,
     )?;
     writes_in_three_cells(&rt, &mut RingTape::new(alloc, 3)?)?;
+    reaches_in_three_cells(&rt, &mut RingTape::new(alloc, 3)?)?;
     copies_in_three_cells(
         &rt,
         &mut RingTape::new(alloc, 3)?,

@@ -3,7 +3,7 @@
 ghost use Rattle.std.specs.Prelude.{◌<◌, IsTrue, pos, ◌-ℤ◌, ◌≤ℤ◌};
 ghost use Rattle.bb_tape.specs.Strip.{IsStretch};
 
-use crate::{MapTape, RingTape, Tape};
+use crate::{MOST_SYMBOL, MapTape, RingTape, Tape};
 use std::process::Abort;
 use std::test::Fail;
 
@@ -30,7 +30,7 @@ fn visit<T: Tape>(tape: &mut T, p: i32) -> Option<u64> {
 
 fn write<T: Tape>(tape: &mut T, p: i32, v: u8) -> Option<u64> {
     let p = i64::from(p);
-    if tape.low() <= p && p <= tape.high() && v <= 10 {
+    if tape.low() <= p && p <= tape.high() && v <= MOST_SYMBOL {
         return Some(u64::from(tape.write(p, v).is_ok()));
     }
     None

@@ -1,7 +1,0 @@
--- Where a cell stands in a ring: this project's own.
-use Rattle.std.specs.Prelude.{ℕ, ℤ, pos, unsigned_abs}
-use Rattle.std.specs.Int.{int_rem_euclid}
-
--- p modulo the number of the ring's cells
-unfoldable pub place : ℕ → ℤ → ℕ
-place size p = unsigned_abs (int_rem_euclid p (pos size))

@@ -1,0 +1,115 @@
+#!/usr/bin/env python3
+"""Measures the built program beside `peer.rs`, a plain Rust program that does the same work.
+
+    scripts/speed/measure.py [crates/bb/out/bb] [--runs N] [--seed N]
+
+It builds the peer by `rustc -O`, makes its lists from a seed, checks that both write the same bytes
+and end with the same status, runs both in turn, and prints the least time of each and their ratio.
+A whole run counts, from the list to the verdicts. Nothing here proves anything.
+"""
+
+import argparse
+import os
+import random
+import subprocess
+import sys
+import tempfile
+import time
+
+HERE = os.path.dirname(os.path.abspath(__file__))
+PROGRAM = os.path.join(HERE, "..", "..", "crates", "bb", "out", "bb")
+CHAMPION = "1RB1LC_1RC1RB_1RD0LE_1LA1LD_1RZ0LA\n"
+SWITCHES = ["--no-cyclers", "--no-translated", "--no-backward"]
+LIST = 100_000
+HALTING_LIST = 1_000_000
+REFUSED_BYTES = 50_000_000
+
+
+def four_state_machine(draw):
+    """A random machine of four states, with one entry that halts, which isn't the first."""
+    entries = [draw.choice("01") + draw.choice("LR") + draw.choice("ABCD") for _ in range(8)]
+    entries[draw.randrange(1, 8)] = "1RZ"
+    return "_".join(entries[at] + entries[at + 1] for at in range(0, 8, 2)) + "\n"
+
+
+def refused_lines(draw):
+    """Lines that are no machines, of 1 to 60 bytes: of any letters, or machines cut short or spoilt."""
+    lines, size = [], 0
+    while size < REFUSED_BYTES:
+        line = four_state_machine(draw)[:-1]
+        kind = draw.randrange(3)
+        if kind == 0:
+            line = line[: draw.randrange(1, 27)]
+            line = line if len(line) % 7 != 6 else line[:-1] + "x"
+        elif kind == 1:
+            at = draw.randrange(27)
+            line = line[:at] + "x" + line[at + 1 :]
+        else:
+            line = "x" * draw.randrange(1, 61)
+        lines.append(line)
+        size += len(line) + 1
+    return "\n".join(lines) + "\n"
+
+
+def cases(draw):
+    """The name, the options and the list of each measurement."""
+    four = "".join(four_state_machine(draw) for _ in range(LIST))
+    halting = "------\n" * HALTING_LIST
+    limits = ["--steps", "1000", "--cells", "200", "--depth", "60"]
+    return [
+        ("the five-state champion", ["--steps", "50000000"], CHAMPION),
+        (f"{LIST} machines of four states", limits, four),
+        ("the same, without a step", ["--steps", "0", *limits[2:]], four),
+        (f"{HALTING_LIST} machines that halt at once, 64 cells", ["--cells", "64", "--depth", "10"], halting),
+        (f"{HALTING_LIST} machines that halt at once, 67108864 cells", ["--cells", "67108864"], halting),
+        (f"{REFUSED_BYTES} bytes of refused lines", [], refused_lines(draw)),
+    ]
+
+
+def timed(command, file):
+    """The seconds that a command takes with the file as its input."""
+    with open(file, "rb") as given:
+        begin = time.perf_counter()
+        subprocess.run(command, stdin=given, stdout=subprocess.DEVNULL, check=False)
+        return time.perf_counter() - begin
+
+
+def ending(command, file):
+    with open(file, "rb") as given:
+        ran = subprocess.run(command, stdin=given, stdout=subprocess.PIPE, check=False)
+    return ran.returncode, ran.stdout
+
+
+def measure(name, commands, file, runs):
+    """Prints the least times of both, after it has compared what they write. Tells whether they agree."""
+    if ending(commands[0], file) != ending(commands[1], file):
+        print(f"{name}: the two don't write the same")
+        return False
+    best = [float("inf"), float("inf")]
+    for _ in range(runs):
+        for which, command in enumerate(commands):
+            best[which] = min(best[which], timed(command, file))
+    print(f"{name}: {best[0]:.3f} s, the peer {best[1]:.3f} s, ratio {best[0] / best[1]:.2f}", flush=True)
+    return True
+
+
+def main():
+    words = argparse.ArgumentParser(description="Measures the program beside a plain Rust program.")
+    words.add_argument("program", nargs="?", default=PROGRAM)
+    words.add_argument("--runs", type=int, default=5)
+    words.add_argument("--seed", type=int, default=1962)
+    asked = words.parse_args()
+    agreed = True
+    with tempfile.TemporaryDirectory() as room:
+        peer, file = os.path.join(room, "peer"), os.path.join(room, "list")
+        subprocess.run(["rustc", "-O", "-o", peer, os.path.join(HERE, "peer.rs")], check=True)
+        for name, options, text in cases(random.Random(asked.seed)):
+            with open(file, "w", encoding="ascii") as written:
+                written.write(text)
+            options = ["decide", *SWITCHES, *options]
+            agreed &= measure(name, [[asked.program, *options], [peer, *options]], file, asked.runs)
+    return 0 if agreed else 1
+
+
+if __name__ == "__main__":
+    sys.exit(main())
