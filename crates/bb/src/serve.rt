@@ -1,19 +1,21 @@
 //! Does what was asked for, and says how it ended.
-ghost use Rattle.std.specs.Prelude.{◌≡◌, ◌↔◌, false, true};
+ghost use Rattle.std.specs.Prelude.{◌≡◌, ◌↔◌, false, true, IfOk};
+ghost use Rattle.bb_decide.specs.Bench.{HasCells};
 ghost use Rattle.bb_lines.specs.Watched.{is_marked, watched_inner};
 ghost use Rattle.bb.specs.Command.{CanServe};
-ghost use Rattle.bb.specs.Ends.{ServeEnds, end_status};
+ghost use Rattle.bb.specs.Ends.{IsNotBegun, ServeEnds, end_status};
 
 use crate::command::{Asked, Work};
 use bb_decide::Bench;
 use bb_lines::fault::Fault;
 use bb_lines::watched::Watched;
+use bb_machine::Limits;
 use bb_run::{Summary, run_decide, run_trace};
-use bb_tape::MapTape;
+use bb_tape::{Memory, RingTape, Tape};
 use std::alloc::Global;
 use std::io::{Read, Write};
 
-/// Does the work on tapes of its own. For a trace nothing is read.
+/// Does the work on rings of its own, which take no memory once they are made. For a trace nothing is read.
 pub fn serve<R: Read, W: Write>(
     alloc: Global,
     asked: &Asked,
@@ -28,26 +30,37 @@ pub fn serve<R: Read, W: Write>(
     ensures ends { ServeEnds asked.now.work asked.now.limits
         (R.remaining (watched_inner reader.old)) (R.remaining (watched_inner reader.new))
         (W.contents (watched_inner writer.old)) (W.contents (watched_inner writer.new)) result }
+
+    // Want of memory comes only where the tapes could not be made.
+    ensures memory { result ≡ Err Fault.Memory → IsNotBegun
+        (R.remaining (watched_inner reader.old)) (R.remaining (watched_inner reader.new))
+        (W.contents (watched_inner writer.old)) (W.contents (watched_inner writer.new)) result }
+
     ensures read { (result ≡ Err Fault.Read) ↔ (is_marked reader.new ≡ true) }
     ensures write { (result ≡ Err Fault.Write) ↔ (is_marked writer.new ≡ true) }
 {
     let limits = asked.limits;
-    let cells = limits.cells();
     match &asked.work {
-        Work::Decide(plan) => {
-            let run = MapTape::new(alloc, cells);
-            let right = MapTape::new(alloc, cells);
-            let left = MapTape::new(alloc, cells);
-            match Bench::new(alloc, run, right, left, &limits) {
-                Ok(mut bench) => run_decide(reader, writer, &limits, *plan, &mut bench),
-                Err(_) => Err(Fault::Memory),
-            }
-        }
-        Work::Trace(text) => {
-            let mut tape = MapTape::new(alloc, cells);
-            run_trace(text.as_str().as_bytes(), &limits, &mut tape, writer)
-        }
+        Work::Decide(plan) => match bench_of(alloc, &limits) {
+            Ok(mut bench) => run_decide(reader, writer, &limits, *plan, &mut bench),
+            Err(_) => Err(Fault::Memory),
+        },
+        Work::Trace(text) => match RingTape::new(alloc, limits.cells()) {
+            Ok(mut tape) => run_trace(text.as_str().as_bytes(), &limits, &mut tape, writer),
+            Err(_) => Err(Fault::Memory),
+        },
     }
+}
+
+/// A bench of three rings for machines under these limits.
+fn bench_of(alloc: Global, limits: &Limits) -> Result<Bench<RingTape>, Memory>
+    ensures { IfOk result (HasCells ⟦<RingTape as Tape>⟧.strip limits.now.cells) }
+{
+    let cells = limits.cells();
+    let run = RingTape::new(alloc, cells)?;
+    let right = RingTape::new(alloc, cells)?;
+    let left = RingTape::new(alloc, cells)?;
+    Bench::new(alloc, run, right, left, limits)
 }
 
 /// The program's exit status: 0 where the summary is clean, 1 where it isn't, 3 for a fault.
