@@ -10,7 +10,7 @@ use bb_run::Summary;
 use std::process::Abort;
 use std::test::Fail;
 
-const SWITCHES: [&str; 5] = [
+const SIMULATION: [&str; 5] = [
     "bb",
     "decide",
     "--no-cyclers",
@@ -22,7 +22,7 @@ const SWITCHES: [&str; 5] = [
 fn asked(rt: &(impl Abort + AllocGlobal), options: &[&'static str]) -> Asked
     ensures { CanServe result.work }
 {
-    let mut words: Vec<&str> = SWITCHES.to_vec(rt.alloc()).expect(rt, "memory");
+    let mut words: Vec<&str> = SIMULATION.to_vec(rt.alloc()).expect(rt, "memory");
     words.extend_from_slice(options).expect(rt, "memory");
     ask(rt.alloc(), words.as_slice()).expect(rt, "a command line")
 }
@@ -69,6 +69,40 @@ fn sums_up(rt: HostRuntime) {
     assert!(rt; !summary.clean);
     assert_eq!(rt; summary.peak.steps, 65_535);
     assert_eq!(rt; summary.peak.most_cells, 65_536);
+}
+
+#[test]
+fn runs_the_champion_of_five_states(rt: HostRuntime) {
+    let (_, written) = decided(
+        &rt,
+        &["--steps=50000000"],
+        b"1RB1LC_1RC1RB_1RD0LE_1LA1LD_1RZ0LA\n",
+    );
+    assert_eq!(rt;
+        written.as_slice(),
+        b"1RB1LC_1RC1RB_1RD0LE_1LA1LD_1RZ0LA halt 47176870 4098\n".as_slice()
+    );
+}
+
+#[test]
+fn takes_the_greatest_limits(rt: HostRuntime) {
+    let (_, written) = decided(&rt, &["--cells=67108864"], b"1RZ---\n");
+    assert_eq!(rt; written.as_slice(), b"1RZ--- halt 1 1\n".as_slice());
+}
+
+#[test]
+fn traces(rt: HostRuntime) {
+    let words = ["bb", "trace", "--upto", "3", "1RZ---"];
+    let asked = ask(rt.alloc(), words.as_slice()).expect(&rt, "a command line");
+    let mut writer = Watched::new(Vec::new(rt.alloc()));
+    let mut reader = Watched::new(b"not read".as_slice());
+    let end = serve(rt.alloc(), &asked, &mut reader, &mut writer);
+    assert_eq!(rt;
+        writer.into_inner().as_slice(),
+        b"0 A 0 0\n1 Z 1 1\n".as_slice()
+    );
+    assert_eq!(rt; status(&end), 0);
+    assert_eq!(rt; reader.into_inner(), b"not read".as_slice());
 }
 
 #[test]
@@ -137,25 +171,33 @@ fn refuses_deciders_that_are_not_built(rt: HostRuntime) {
     }
 }
 
-static NO_COMMAND_LINES: [&[&str]; 10] = [
-    &["decide", "--steps=x"],
-    &["decide", "--steps=18446744073709551616"],
-    &["decide", "a", "b"],
-    &["check"],
-    &["trace"],
-    &["trace", "1RA1RA"],
-    &["trace", "--upto", "1"],
-    &["trace", "--upto", "1", "--depth", "0", "1RA1RA"],
-    &["trace", "--upto", "1", "1RA1RA", "1RA1RA"],
-    &[],
+/// Words that are no command line, and what the text that refuses them names.
+static NO_COMMAND_LINES: [(&[&str], &str); 11] = [
+    (&["decide", "--steps=x"], "--steps"),
+    (&["decide", "--cells=18446744073709551616"], "--cells"),
+    (&["decide", "--cels=4"], "--cels"),
+    (&["decide", "a", "more"], "more"),
+    (&["check"], "check"),
+    (&["trace"], "--upto"),
+    (&["trace", "1RA1RA"], "--upto"),
+    (&["trace", "--upto", "1"], "MACHINE"),
+    (
+        &["trace", "--upto", "1", "--depth", "0", "1RA1RA"],
+        "--depth",
+    ),
+    (&["trace", "--upto", "1", "1RA1RA", "1RB1RB"], "1RB1RB"),
+    (&[], "Usage"),
 ];
 
 #[test]
 fn refuses_words(rt: HostRuntime) {
-    for words in &NO_COMMAND_LINES {
+    for (words, named) in &NO_COMMAND_LINES {
         let stop = stop(&rt, words);
-        assert!(rt; matches!(&stop, Stop::Words(_)));
         assert_eq!(rt; stop.status(), 2);
+        match &stop {
+            Stop::Words(text) => assert!(rt; text.as_str().contains(*named), "{named}: {text}"),
+            other => panic!(rt; "{other:?}"),
+        }
     }
     let help = stop(&rt, ["--help"].as_slice());
     assert!(rt; matches!(&help, Stop::Help(text) if text.as_str().contains("decide")));

@@ -291,8 +291,8 @@ fn decided_on_rings(
 fn answers(rt: &(impl Abort + AllocGlobal), plan: Plan, rows: &[Row])
     requires { IsBuilt plan }
 {
-    for ([steps, cells, depth, nodes], input, output, clean) in rows {
-        let limits = Limits::new(*steps, *cells, *depth, *nodes).expect(rt, "limits");
+    for (four, input, output, clean) in rows {
+        let limits = Limits::new(four[0], four[1], four[2], four[3]).expect(rt, "limits");
         let (end, written) = decided_on_maps(rt, &limits, plan, input);
         assert_eq!(rt; written.as_slice(), *output);
         let (ring_end, ring_written) = decided_on_rings(rt, &limits, plan, input);

@@ -1,0 +1,88 @@
+#!/usr/bin/env python3
+"""Runs the built program over command lines, with files, statuses and standard error.
+
+    scripts/command_lines.py crates/bb/out/bb
+
+It holds what no contract and no test of the gate says: that FILE is read, that a file which can't be
+opened is a failed read, and what reaches standard error. The last line is `N passed, M failed`; the
+status is 1 where any failed. Needs Linux.
+"""
+
+import os
+import subprocess
+import sys
+import tempfile
+
+SWITCHES = ["--no-translated", "--no-backward"]
+MACHINES = b"1RB1LB_1LA1RZ\n0RB---_0LA---\n1RA1RA\n"
+VERDICTS = b"1RB1LB_1LA1RZ halt 6 4\n0RB---_0LA--- cycler 2 4\n1RA1RA undecided cells\n"
+
+
+def cases(folder):
+    """Name, words, standard input, status, standard output, a part of standard error."""
+    listed = os.path.join(folder, "machines.txt")
+    with open(listed, "wb") as file:
+        file.write(MACHINES)
+    missing = os.path.join(folder, "missing.txt")
+    return [
+        ("a file is read", ["decide", *SWITCHES, listed], b"------\n", 0, VERDICTS, b""),
+        ("standard input is read", ["decide", *SWITCHES], MACHINES, 0, VERDICTS, b""),
+        ("an empty input", ["decide", *SWITCHES], b"", 0, b"", b""),
+        ("a refused line", ["decide", *SWITCHES], b"1rB1LB\n", 1, b"refused 2\n", b""),
+        ("a missing file", ["decide", *SWITCHES, missing], b"------\n", 3, b"", b"bb: read failed\n"),
+        ("a folder", ["decide", *SWITCHES, folder], b"", 3, b"", b"bb: read failed\n"),
+        ("a decider that isn't built", ["decide"], MACHINES, 2, b"", b"bb: translated not built\n"),
+        (
+            "refused limits",
+            ["decide", "--cells", "4", "--depth", "3", missing],
+            b"",
+            2,
+            b"",
+            b"bb: depth does not fit in cells\n",
+        ),
+        ("an unknown option", ["decide", "--cels", "4"], b"", 2, b"", b"--cels"),
+        ("a number that is none", ["decide", "--steps", "x"], b"", 2, b"", b"--steps"),
+        ("an argument that isn't UTF-8", ["decide", b"\xff"], b"", 2, b"", b"not UTF-8"),
+        ("no command", [], b"", 2, b"", b"Usage"),
+        ("a trace", ["trace", "--upto", "1", "1RZ---"], b"", 0, b"0 A 0 0\n1 Z 1 1\n", b""),
+        ("a cut trace", ["trace", "--upto", "5", "--cells", "2", "1RA1RA"], b"", 1, b"0 A 0 0\n1 A 1 10\n", b""),
+        ("a refused trace", ["trace", "--upto", "2", "1RB1LB_1LA1RC"], b"", 1, b"refused 14\n", b""),
+    ]
+
+
+def helps(program):
+    """Help goes to standard output, with status 0."""
+    for words in (["--help"], ["decide", "--help"], ["trace", "--help"]):
+        ended = subprocess.run([program, *words], capture_output=True)
+        yield " ".join(words), ended.returncode == 0 and b"Usage" in ended.stdout and not ended.stderr
+
+
+def full_output(program):
+    """A write that fails is told on standard error."""
+    with open("/dev/full", "wb") as full:
+        ended = subprocess.run(
+            [program, "decide", *SWITCHES], input=MACHINES, stdout=full, stderr=subprocess.PIPE
+        )
+    return ended.returncode == 3 and ended.stderr == b"bb: write failed\n"
+
+
+def main():
+    program = os.path.abspath(sys.argv[1])
+    results = []
+    with tempfile.TemporaryDirectory() as folder:
+        for name, words, given, status, output, error in cases(folder):
+            ended = subprocess.run([program, *words], input=given, capture_output=True)
+            told = ended.stderr == error if status in (0, 1, 3) else error in ended.stderr
+            results.append((name, ended.returncode == status and ended.stdout == output and told))
+    results.extend(helps(program))
+    results.append(("a full device", full_output(program)))
+    for name, passed in results:
+        if not passed:
+            print("failed:", name)
+    failed = sum(not passed for _, passed in results)
+    print(f"{len(results) - failed} passed, {failed} failed")
+    return 1 if failed else 0
+
+
+if __name__ == "__main__":
+    sys.exit(main())
