@@ -93,6 +93,28 @@ def measure(name, commands, file, runs):
     return True
 
 
+def searches(draw):
+    """The name, the options without the limits of the search, and the list of each measurement of a search."""
+    four = "".join(four_state_machine(draw) for _ in range(LIST))
+    limits = ["--steps", "1000", "--cells", "200", "--depth", "60", "--no-translated", "--no-backward"]
+    long = ["--steps", "40000000", "--no-translated", "--no-backward"]
+    return [
+        ("cyclers over the champion's first 40,000,000 steps", long, CHAMPION),
+        (f"cyclers over {LIST} machines of four states", limits, four),
+    ]
+
+
+def measure_search(program, name, options, file, runs):
+    """Prints what the search costs beside the simulation of the same lines: what it adds, as a ratio."""
+    commands = [[program, "decide", *options, "--no-cyclers"], [program, "decide", *options]]
+    best = [float("inf"), float("inf")]
+    for _ in range(runs):
+        for which, command in enumerate(commands):
+            best[which] = min(best[which], timed(command, file))
+    added = best[1] - best[0]
+    print(f"{name}: simulation {best[0]:.3f} s, the search adds {added:.3f} s, ratio {added / best[0]:.2f}", flush=True)
+
+
 def main():
     words = argparse.ArgumentParser(description="Measures the program beside a plain Rust program.")
     words.add_argument("program", nargs="?", default=PROGRAM)
@@ -108,6 +130,10 @@ def main():
                 written.write(text)
             options = ["decide", *SWITCHES, *options]
             agreed &= measure(name, [[asked.program, *options], [peer, *options]], file, asked.runs)
+        for name, options, text in searches(random.Random(asked.seed)):
+            with open(file, "w", encoding="ascii") as written:
+                written.write(text)
+            measure_search(asked.program, name, options, file, asked.runs)
     return 0 if agreed else 1
 
 
