@@ -13,4 +13,8 @@ pub mod Records
 pub mod Agreements
 pub mod RecordPairs
 pub mod NoRecords
+pub mod OneOf
+pub mod Rules
+pub mod Levels
+pub mod TreeEnds
 pub mod Facts

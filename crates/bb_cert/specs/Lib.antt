@@ -3,4 +3,5 @@ pub mod Line
 pub mod Repeat
 pub mod Record
 pub mod Agree
+pub mod Tree
 pub mod Laws

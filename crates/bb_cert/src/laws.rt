@@ -1,9 +1,12 @@
-//! Laws of verdict lines and of runs that repeat, as contracts: a call of each does nothing.
+//! Laws of verdict lines, of runs that repeat and of what could come before a halt, as contracts: a call of each does nothing.
 ghost use Rattle.bb_cert.specs.Laws.{
   AgreeingRecordsGoOn,
   AgreeingRecordsNeverHalt,
   AgreeingRecordsNeverRepeat,
+  ClearTreesNeverHalt,
+  EmptyLevelsStay,
   HasRecord,
+  LevelsComeBeforeHalts,
   LinesDiffer,
   LowerRecordsExist,
   RecordHasOneNumber,
@@ -17,6 +20,7 @@ ghost use Rattle.bb_cert.specs.Laws.{
   RepeatsMakeNoRecord,
   RepeatsNeverHalt,
   ShortOfRecord,
+  TreeHasOneEnd,
 };
 
 /// A verdict line says one thing only: it is the line of one machine and one verdict, or of one column.
@@ -58,4 +62,13 @@ pub fn later_records_agree()
 pub fn repeats_make_no_record()
     ensures no_record { RepeatsMakeNoRecord }
     ensures never_both { AgreeingRecordsNeverRepeat }
+{}
+
+/// What could come before a halt: level `i` of the tree tells of every configuration whether it is `i` steps
+/// before a halting entry, so a machine whose tree ends and has no match for the start never halts.
+pub fn levels_come_before_halts()
+    ensures before { LevelsComeBeforeHalts }
+    ensures stay { EmptyLevelsStay }
+    ensures never { ClearTreesNeverHalt }
+    ensures one_end { TreeHasOneEnd }
 {}
