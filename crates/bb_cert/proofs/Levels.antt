@@ -17,10 +17,11 @@ use Rattle.bb_tape.proofs.Facts.{cell-with_cell-same, cell-with_cell-other, by_p
 use Rattle.bb_sim.specs.Configuration.{Configuration, beside, followed, entry_at, next}
 use Rattle.bb_sim.specs.Run.{after}
 use Rattle.bb_sim.proofs.Facts.{led}
-use Rattle.bb_cert.specs.Tree.{Node, Matches, OneOf, MatchesOne, Rule, goes_to, rules_to, with_known, halting_node, left_cell, may_be, seen_from, before_by_entry, before_by, before, level, IsAtHaltingEntry, HaltsNextAfter}
+use Rattle.bb_cert.specs.declared.rules.Rule.{Rule}
+use Rattle.bb_cert.specs.Tree.{Node, Matches, OneOf, MatchesOne, goes_to, rules_to, with_known, halting_node, left_cell, may_be, seen_from, before_by_entry, before_by, before, level, IsAtHaltingEntry, HaltsNextAfter}
 use Rattle.bb_cert.specs.Laws.{LevelsComeBeforeHalts}
 use Rattle.bb_cert.proofs.OneOf.{one_more, one-flat_map, one-in_flat_map, one-map, one-in_map}
-use Rattle.bb_cert.proofs.Rules.{rule, one-in_table, one-table}
+use Rattle.bb_cert.proofs.RuleEntries.{rule, one-in_table, one-table}
 
 left_behind : (dir : Dir) (head x : ℤ) → beside dir head +ℤ (x +ℤ left_cell dir) ≡ head +ℤ x
 left_behind L head x = omega (arith, ints)

@@ -14,7 +14,10 @@ pub mod Agreements
 pub mod RecordPairs
 pub mod NoRecords
 pub mod OneOf
-pub mod Rules
+pub mod RuleEntries
 pub mod Levels
 pub mod TreeEnds
+pub mod Comb
+pub mod Shown
+pub mod Entering
 pub mod Facts

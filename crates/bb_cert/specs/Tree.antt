@@ -12,6 +12,7 @@ use Rattle.bb_machine.specs.Machine.{Table, entry_of}
 use Rattle.bb_tape.specs.Content.{cell}
 use Rattle.bb_sim.specs.Configuration.{Configuration, start, beside}
 use Rattle.bb_sim.specs.Run.{after}
+use Rattle.bb_cert.specs.declared.rules.Rule.{Rule}
 
 -- a state, and the symbols that are known at some distances from the head, to the right and, negative, to the left
 pub record Node : Type 0 where
@@ -33,13 +34,7 @@ OneOf P (x ∷ xs) = P x ⊎ OneOf P xs
 abbrev pub MatchesOne : List Node → Configuration → Type 0
 MatchesOne nodes c = OneOf (λ node. Matches node c) nodes
 
--- an entry with the state and the symbol for which it stands in a table
-pub record Rule : Type 0 where
-  pub state : ℕ
-  pub symbol : ℕ
-  pub entry : Entry
-
--- the rules of a state from a symbol on
+-- the rules of a state from a symbol on: each entry, with the state and the symbol for which it stands
 abbrev pub rules_in : ℕ → ℕ → List Entry → List Rule
 rules_in state symbol [] = []
 rules_in state symbol (entry ∷ entries) =
@@ -61,9 +56,12 @@ is_same (State p) Halt = false
 is_same Halt (State q) = false
 is_same Halt Halt = true
 
+abbrev pub leads_to : Next → Rule → Bool
+leads_to next rule = is_same (goes_to rule.entry) next
+
 -- the rules that lead to a state, or those that halt, in the table's order
 abbrev pub rules_to : Table → Next → List Rule
-rules_to table next = filter (λ rule. is_same (goes_to rule.entry) next) (rules_from 0 table)
+rules_to table next = filter (leads_to next) (rules_from 0 table)
 
 -- with this symbol known at a distance
 abbrev pub with_known : (ℤ → Option ℕ) → ℤ → ℕ → ℤ → Option ℕ
@@ -128,12 +126,20 @@ pub record Ends (table : Table) (h k : ℕ) : Type 0 where
 pub record Clear (table : Table) (h : ℕ) : Type 0 where
   pub clear : (i : ℕ) → i < h → MatchesOne (level table i) start → ⊥
 
--- the tree ends within the bounds, and the start matches no node of it
-pub record Back (table : Table) (bounds : Bounds) (h k : ℕ) : Type 0 where
+-- the tree ends in h levels with k nodes, no more than so many, and the start matches no node of it
+pub record EndsWithin (table : Table) (levels nodes h k : ℕ) : Type 0 where
   pub ends : Ends table h k
   pub clear : Clear table h
-  pub within_levels : h ≤ bounds.depth
-  pub within_nodes : k ≤ bounds.nodes
+  pub within_levels : h ≤ levels
+  pub within_nodes : k ≤ nodes
+
+-- the same within bounds
+abbrev pub Back : Table → Bounds → ℕ → ℕ → Type 0
+Back table bounds h k = EndsWithin table bounds.depth bounds.nodes h k
+
+-- no tree that ends has no more than so many levels and nodes, and no node that the start matches
+pub record EndsNowhere (table : Table) (levels nodes : ℕ) : Type 0 where
+  pub nowhere : (h k : ℕ) → EndsWithin table levels nodes h k → ⊥
 
 -- the table has an entry for the state and the symbol under the head, and it halts
 pub record IsAtHaltingEntry (table : Table) (c : Configuration) : Type 0 where

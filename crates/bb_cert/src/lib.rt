@@ -3,11 +3,15 @@
 
 pub mod laws;
 pub mod line;
+pub mod path;
 pub mod reader;
+mod rules;
 #[cfg(test)]
 mod tests;
 pub mod verdict;
+pub mod walk;
 
 pub use line::{LINE_BUFFER, LONGEST, line_into, lines_are_short, refusal_into};
+pub use path::Path;
 pub use reader::{Line, read_line};
 pub use verdict::{Side, Verdict, Why};

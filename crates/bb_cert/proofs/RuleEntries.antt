@@ -6,7 +6,8 @@ use Rattle.bb_machine.specs.declared.entry.Next.TheVariants.{State, Halt}
 use Rattle.bb_machine.specs.declared.entry.Entry.{Entry}
 use Rattle.bb_machine.specs.declared.entry.Entry.TheVariants.{Undefined}
 use Rattle.bb_machine.specs.Machine.{Table, entry_of}
-use Rattle.bb_cert.specs.Tree.{OneOf, Rule, rules_in, rules_from, goes_to, is_same, rules_to}
+use Rattle.bb_cert.specs.declared.rules.Rule.{Rule}
+use Rattle.bb_cert.specs.Tree.{OneOf, rules_in, rules_from, goes_to, is_same, rules_to}
 use Rattle.bb_cert.proofs.OneOf.{one-append_left, one-append_right, one-append_cases, one-filter, one-in_filter}
 
 pub is_same-true : (a b : Next) → is_same a b ≡ true → a ≡ b
