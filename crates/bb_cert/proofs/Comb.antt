@@ -183,10 +183,15 @@ walk_refused table node rest comb nodes levels most_nodes most_levels walked (ma
 
 pub walk_begins : (table : Table) → IsWalked table (level table 0 ∷ []) 0 0
 walk_begins table = record {
-  counted = λ h deep. omega arith;
+  counted = λ h deep.
+      let n : h - 0 ≡ h = omega arith in
+      let e = ap (grown_below table (level table 0)) n in
+      omega (arith, e);
   reached = λ i less. absurd (omega arith);
   parts = (record { front = []; rest = []; is = sym (one_node (level table 0)) }, tt);
-  matches = λ i one. inl (omega arith, one);
+  matches = λ i one.
+      let n : i ≡ i - 0 = omega arith in
+      inl (omega arith, subst (λ j. MatchesOne (grown table (level table 0) j) start) n one);
 }
 
 none_if_short : (nodes : List Node) → length nodes ≡ 0 → nodes ≡ []

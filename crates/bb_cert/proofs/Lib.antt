@@ -20,4 +20,6 @@ pub mod TreeEnds
 pub mod Comb
 pub mod Shown
 pub mod Entering
+pub mod Exploring
+pub mod Roots
 pub mod Facts

@@ -33,7 +33,7 @@ pub struct Path {
 }
 
 impl Path {
-    ghost use Rattle.std.specs.Prelude.{◌≡◌, ◌<◌, [], ◌∷◌, ◌++◌, IfOk, option_to_list};
+    ghost use Rattle.std.specs.Prelude.{◌≡◌, ◌<◌, [], ◌∷◌, ◌++◌, IfOk, MatchOption};
     ghost use Rattle.bb_cert.specs.Path.{depth_of, frames_of};
 
     /// Reserves the room for walks of so many levels.
@@ -80,7 +80,8 @@ impl Path {
 
     #[inline]
     pub(crate) fn pop(&mut self) -> Option<Frame>
-        ensures frames { frames_of self.old ≡ frames_of self.new ++ option_to_list result }
+        ensures frames { MatchOption result (frames_of self.old ≡ [])
+            (λ frame. frames_of self.old ≡ frames_of self.new ++ frame ∷ []) }
         ensures depth { depth_of self.new ≡ depth_of self.old }
     {
         self.frames.pop()
