@@ -22,4 +22,6 @@ pub mod Shown
 pub mod Entering
 pub mod Exploring
 pub mod Roots
+pub mod RuleLists
+pub mod SortedRules
 pub mod Facts

@@ -99,7 +99,7 @@ module _ (content : Content) (position : ℤ) (state : ℕ) (rule : Rule) (write
 
 -- one rule of a range
 
-slice_step : {X : Type 0} (xs : List X) (from to : ℕ) (d : X) → from < to → from < length xs → slice_range xs from to ≡ get_or xs from d ∷ slice_range xs (from + 1) to
+pub slice_step : {X : Type 0} (xs : List X) (from to : ℕ) (d : X) → from < to → from < length xs → slice_range xs from to ≡ get_or xs from d ∷ slice_range xs (from + 1) to
 slice_step xs from to d less within =
     let n : to - from ≡ suc (to - (from + 1)) = omega (arith, less) in
     ap (λ k. take k (drop from xs)) n ∙ ap (take (suc (to - (from + 1)))) (drop_more xs from d within)
@@ -132,7 +132,7 @@ pub undefined_else : (entry : Entry) → ((write : ℕ) (dir : Dir) (next : Next
 undefined_else Undefined other = refl
 undefined_else (Go write dir next) other = absurd (other write dir next refl)
 
-named_at : (states : ℕ) (list : List Rule) → AllByRecursion (IsRule states) list → (index : ℕ) (d : Rule) → index < length list → IsRule states (get_or list index d)
+pub named_at : (states : ℕ) (list : List Rule) → AllByRecursion (IsRule states) list → (index : ℕ) (d : Rule) → index < length list → IsRule states (get_or list index d)
 named_at states [] all index d h = absurd (omega (arith, h))
 named_at states (r ∷ list) all zero d h = all.0
 named_at states (r ∷ list) all (suc index) d h = named_at states list all.1 index d (omega (arith, h))

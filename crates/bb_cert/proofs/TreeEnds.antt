@@ -50,7 +50,7 @@ table_named states symbols [] all state symbol = tt
 table_named states symbols (group ∷ groups) all zero symbol = entry_named states symbols group (all.0).entries symbol
 table_named states symbols (group ∷ groups) all (suc state) symbol = table_named states symbols groups all.1 state symbol
 
-group_long : (states symbols : ℕ) (table : Table) → AllByRecursion (IsGroup states symbols) table → (state : ℕ) → state < length table → length (get_or table state []) ≡ symbols
+pub group_long : (states symbols : ℕ) (table : Table) → AllByRecursion (IsGroup states symbols) table → (state : ℕ) → state < length table → length (get_or table state []) ≡ symbols
 group_long states symbols [] all state h = absurd (omega (arith, h))
 group_long states symbols (group ∷ groups) all zero h = (all.0).full
 group_long states symbols (group ∷ groups) all (suc state) h = group_long states symbols groups all.1 state (omega (arith, h))

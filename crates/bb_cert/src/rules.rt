@@ -1,9 +1,9 @@
 //! A machine's entries, ordered by the state that they lead to.
-ghost use Rattle.std.specs.Prelude.{◌≡◌, ◌+◌, ◌<◌, ◌≤◌, ◌++◌, ◌∷◌, [], length, slice_index, slice_index_or};
+ghost use Rattle.std.specs.Prelude.{◌≡◌, ◌+◌, ◌<◌, ◌≤◌, ◌++◌, ◌∷◌, [], length, slice_index_or, IsTrue, ◌↔◌};
 ghost use Rattle.std.specs.List.{filter};
 ghost use Rattle.bb_machine.specs.Machine.{IsMachine};
 ghost use Rattle.bb_cert.specs.Tree as tree;
-ghost use Rattle.bb_cert.specs.Tree.{leads_to, rules_in, rules_to};
+ghost use Rattle.bb_cert.specs.Tree.{rules_in, rules_to};
 ghost use Rattle.bb_cert.specs.Walk.{AreRules};
 
 use arrayvec::ArrayVec;
@@ -82,13 +82,13 @@ fn add_rules_of(
 )
     requires state { state < length machine.now }
     requires room { length list.old.items
-        + length (filter (leads_to next) (rules_in state 0 (slice_index_or machine.now state []))) ≤ MOST_RULES }
+        + length (filter (tree.leads_to next) (rules_in state 0 (slice_index_or machine.now state []))) ≤ MOST_RULES }
     ensures { list.new.items
-        ≡ list.old.items ++ filter (leads_to next) (rules_in state 0 (slice_index_or machine.now state [])) }
+        ≡ list.old.items ++ filter (tree.leads_to next) (rules_in state 0 (slice_index_or machine.now state [])) }
 {
     for symbol in 0..machine.symbols() {
         let entry = machine.entry(state, symbol);
-        if goes_to(entry) == next {
+        if leads_to(entry, next) {
             list.push(Rule {
                 state,
                 symbol,
@@ -96,6 +96,13 @@ fn add_rules_of(
             });
         }
     }
+}
+
+/// Whether an entry leads to a state, or halts.
+fn leads_to(entry: Entry, next: Next) -> bool
+    ensures { IsTrue result ↔ (tree.goes_to entry ≡ next) }
+{
+    goes_to(entry) == next
 }
 
 /// The state to which an entry leads; an undefined one halts.
