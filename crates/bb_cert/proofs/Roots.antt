@@ -11,7 +11,7 @@ use Rattle.bb_cert.specs.declared.walk.Branch.{Branch}
 use Rattle.bb_cert.specs.declared.walk.Count.{Count}
 use Rattle.bb_cert.specs.Tree.{Node, halting_node, level, rules_to, EndsNowhere}
 use Rattle.bb_cert.specs.Walk.{AreRules, IsBranch, IsRange, IsRule, IsWalked, HasRoom, branch_node}
-use Rattle.bb_cert.specs.Steps.{Explores, WalksAll}
+use Rattle.bb_cert.specs.Steps.{Explores, IsWithin, WalksAll}
 use Rattle.bb_cert.proofs.Comb.{walk_begins, walk_ends}
 use Rattle.bb_cert.proofs.Shown.{blank_others, halting_shown, named_at, no_rule, slice_none, slice_step}
 
@@ -68,3 +68,16 @@ fresh_room limit levels room = record {
   not_above = omega (arith, ints);
   limit = room;
 }
+
+pub no_more : (most entered : Count) → entered.nodes ≡ 0 → entered.levels ≡ 0 → IsWithin most entered
+no_more most entered none no_levels = record { nodes = omega (arith, none); levels = omega (arith, no_levels) }
+
+-- where the halting rules end, as the code reads it
+pub end_at : (seen starts : List ℕ) (states n : ℕ) → seen ≡ starts → states ≡ n → get_or seen (states + 1) 0 ≡ get_or starts (n + 1) 0
+end_at seen starts states n same e = ap (λ xs. get_or xs (states + 1) 0) same ∙ ap (λ k. get_or starts (k + 1) 0) e
+
+pub before_end : (index read to : ℕ) → read ≡ to → index < read → index < to
+before_end index read to e h = omega (arith, e, h)
+
+pub past_end : (index read to : ℕ) → read ≡ to → read ≤ index → to ≤ index
+past_end index read to e h = omega (arith, e, h)
