@@ -1,14 +1,13 @@
 -- What is left of the tree when a walk enters a node and leaves one.
-use Rattle.std.proofs.Common.{◌≡◌, ◌≢◌, ℕ, zero, suc, ◌+◌, ◌-◌, ◌<◌, ◌≤◌, max, inl, inr, List, [], ◌∷◌, ◌++◌, length, map, refl, ap, sym, subst, ◌∙◌, append_assoc, length-append, arith}
+use Rattle.std.proofs.Common.{◌≡◌, ◌≢◌, ℕ, zero, suc, ◌+◌, ◌-◌, ◌<◌, ◌≤◌, max, inl, inr, List, [], ◌∷◌, ◌++◌, length, refl, ap, sym, subst, ◌∙◌, length-append, arith}
 use Rattle.std.specs.List.{flat_map}
 use Rattle.std.proofs.lemmas.Bool.{cases_lt}
 use Rattle.std.proofs.lemmas.List.Concat.{flat_map-append}
-use Rattle.bb_machine.specs.declared.entry.Next.TheVariants.{Halt}
 use Rattle.bb_machine.specs.Machine.{Table}
 use Rattle.bb_sim.specs.Configuration.{start}
-use Rattle.bb_cert.specs.Tree.{Node, Matches, MatchesOne, rules_to, halting_node, before, grown, level, grown_below, nodes_below, Ends, Clear, EndsWithin, EndsNowhere}
-use Rattle.bb_cert.specs.Walk.{comb_below, CombMatches, IsPart, AreParts, IsWalked, Refused, too_deep, too_many, matched}
-use Rattle.bb_cert.proofs.OneOf.{one-append_left, one-append_right, one-append_cases}
+use Rattle.bb_cert.specs.Tree.{Node, Matches, MatchesOne, before, grown, level, grown_below, Ends, Clear, EndsNowhere}
+use Rattle.bb_cert.specs.Walk.{comb_below, CombMatches, IsPart, IsWalked, Refused, too_deep, too_many, matched}
+use Rattle.bb_cert.proofs.OneOf.{one-append_right, one-append_cases}
 use Rattle.bb_cert.proofs.TreeEnds.{empty_levels_stay}
 
 -- trees of two lists
@@ -204,8 +203,7 @@ walk_ends table nodes levels walked =
     let next = walked.counted (suc levels) (omega arith) in
     let none_here = empty_below table (levels - 0) in
     let none_next = empty_below table (suc levels - 0) in
-    let empty : length (level table levels) ≡ 0 = omega (arith, here, next, none_here, none_next) in
-    (
+    let empty : length (level table levels) ≡ 0 = omega (arith, here, next, none_here, none_next) in (
       record { is_empty = none_if_short (level table levels) empty; is_first = walked.reached; counted = omega (arith, here, none_here) },
-      record { clear = λ i less one. no_matches table [] i (walked.matches i one) }
+      record { clear = λ i less one. no_matches table [] i (walked.matches i one) },
     )

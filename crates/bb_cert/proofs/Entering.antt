@@ -1,12 +1,10 @@
 -- What entering a branch does to the tape and its window.
-use Rattle.std.proofs.Common.{◌≡◌, ℕ, ◌+◌, ◌-◌, ◌<◌, ◌≤◌, min, List, slice_index, ℤ, pos, neg_ℤ, ◌≤ℤ◌, refl, ap, sym, subst, ◌∙◌, arith}
+use Rattle.std.proofs.Common.{◌≡◌, ℕ, ◌+◌, ◌-◌, ◌<◌, min, List, slice_index, ℤ, pos, neg_ℤ, ◌≤ℤ◌, refl, ap, sym, subst, ◌∙◌, arith}
 use Rattle.std.specs.Int.{int_min, int_max}
 use Rattle.std.proofs.lemmas.Int.{ints, clamps}
-use Rattle.bb_tape.specs.Content.{Content, cell, with_cell}
+use Rattle.bb_tape.specs.Content.{cell}
 use Rattle.bb_tape.specs.Strip.{Strip, visited, written}
-use Rattle.bb_sim.specs.Configuration.{start}
 use Rattle.bb_cert.specs.declared.walk.Branch.{Branch}
-use Rattle.bb_cert.specs.Tree.{Matches}
 use Rattle.bb_cert.specs.Walk.{HasOthers, HasRoom, IsBranch, Refused, matched, branch_node, content_in}
 use Rattle.bb_cert.specs.Steps.{Enters}
 use Rattle.bb_cert.proofs.Shown.{written_others, some_others, start_matches, matched_in_a, matched_none}

@@ -1,23 +1,22 @@
 -- What a walk knows between its steps, and why each step keeps it.
-use Rattle.std.proofs.Common.{◌≡◌, ℕ, zero, suc, ◌+◌, ◌-◌, ◌<◌, ◌≤◌, max, Bool, true, false, List, [], ◌∷◌, ◌++◌, length, reverse, slice_index, slice_range, ℤ, pos, neg_ℤ, ◌+ℤ◌, ◌≤ℤ◌, refl, ap, sym, subst, ◌∙◌, length-append, arith}
+use Rattle.std.proofs.Common.{◌≡◌, ℕ, ◌+◌, ◌-◌, ◌<◌, ◌≤◌, max, true, false, List, [], ◌∷◌, ◌++◌, length, reverse, slice_index, slice_range, ℤ, pos, neg_ℤ, ◌+ℤ◌, ◌≤ℤ◌, refl, ap, sym, subst, ◌∙◌, length-append, arith}
 use Rattle.std.specs.Int.{int_min, int_max}
 use Rattle.std.specs.List.{flat_map}
 use Rattle.std.proofs.lemmas.Int.{ints, clamps}
 use Rattle.std.proofs.lemmas.List.{reverse-append, length-reverse}
 use Rattle.bb_machine.specs.declared.entry.Next.TheVariants.{State}
-use Rattle.bb_machine.specs.declared.machine.TheConstants.{MAX_SYMBOLS}
 use Rattle.bb_machine.specs.declared.limits.TheConstants.{MOST_LEVELS}
 use Rattle.bb_machine.specs.Machine.{Table}
-use Rattle.bb_tape.specs.Content.{Content, HasSymbols, blank, cell, with_cell}
-use Rattle.bb_tape.specs.Strip.{Strip, IsInside, IsBeside, visited, written}
+use Rattle.bb_tape.specs.Content.{Content, HasSymbols, blank, with_cell}
+use Rattle.bb_tape.specs.Strip.{Strip, IsInside, IsBeside, written}
 use Rattle.bb_tape.proofs.Facts.{put_back}
 use Rattle.bb_cert.specs.declared.path.Frame.{Frame}
 use Rattle.bb_cert.specs.declared.rules.Rule.{Rule}
 use Rattle.bb_cert.specs.declared.walk.Branch.{Branch}
 use Rattle.bb_cert.specs.declared.walk.Count.{Count}
-use Rattle.bb_cert.specs.Tree.{Node, rules_to, before, before_by, EndsNowhere}
+use Rattle.bb_cert.specs.Tree.{Node, before, before_by}
 use Rattle.bb_cert.specs.Walk.{AreRules, AreFrames, IsFrame, IsBranch, IsRange, IsWalked, HasOthers, Refused, shown_node, branches, comb_of, content_in, branch_node}
-use Rattle.bb_cert.specs.Steps.{HasTable, IsWithin, Enters, Explores, IsFirstBranch, entered_on}
+use Rattle.bb_cert.specs.Steps.{HasTable, Enters, Explores, IsFirstBranch, entered_on}
 use Rattle.bb_cert.proofs.Comb.{walk_enters, walk_leaves, walk_refused}
 
 frame_wider : (list : List Rule) (low high low' high' : ℤ) (content : Content) (level : ℕ) (f : Frame) → low' ≤ℤ low → high ≤ℤ high' → IsFrame list low high content level f → IsFrame list low' high' content level f
@@ -87,14 +86,13 @@ module _ (list : List Rule) (starts : List ℕ) (known : HasTable list starts) (
   }
 
   pub frames_entered : (fs : List Frame) → length fs ≡ level → AreFrames list old.low old.high old.content fs → AreFrames list new.low new.high new.content (frame ∷ fs)
-  frames_entered fs long are =
-      (
-        subst (λ n. IsFrame list new.low new.high new.content n frame) (sym long) frame_is,
-        frames_wider list old.low old.high new.low new.high
-            (subst (λ l. l ≤ℤ old.low) (sym enters.low) (int_min_below old.low branch.position))
-            (subst (λ h. old.high ≤ℤ h) (sym enters.high) (int_max_above old.high branch.position))
-            fs _ (subst (λ c. AreFrames list old.low old.high c fs) (sym undone) are)
-      )
+  frames_entered fs long are = (
+    subst (λ n. IsFrame list new.low new.high new.content n frame) (sym long) frame_is,
+    frames_wider list old.low old.high new.low new.high
+        (subst (λ l. l ≤ℤ old.low) (sym enters.low) (int_min_below old.low branch.position))
+        (subst (λ h. old.high ≤ℤ h) (sym enters.high) (int_max_above old.high branch.position))
+        fs _ (subst (λ c. AreFrames list old.low old.high c fs) (sym undone) are),
+  )
 
   branches_before : (table : Table) → AreRules table list starts → branches list new.content frame ≡ before table (branch_node old.content branch)
   branches_before table rules =
@@ -112,8 +110,8 @@ module _ (list : List Rule) (starts : List ℕ) (known : HasTable list starts) (
       let deep : max levels (length tail + 1) ≡ max levels (level + 1) = ap (λ n. max levels (n + 1)) long in
       let below : comb_of list rest (with_cell new.content frame.position frame.before) fs ≡ more ∷ tail = ap (λ c. comb_of list rest c fs) undone ∙ comb in
       let all : comb_of list rest new.content (frame ∷ fs) ≡ before table (branch_node old.content branch) ∷ more ∷ tail =
-          ap (λ ns. ns ∷ comb_of list rest (with_cell new.content frame.position frame.before) fs) (branches_before table rules)
-          ∙ ap (λ comb. before table (branch_node old.content branch) ∷ comb) below in
+      ap (λ ns. ns ∷ comb_of list rest (with_cell new.content frame.position frame.before) fs) (branches_before table rules)
+      ∙ ap (λ comb. before table (branch_node old.content branch) ∷ comb) below in
       subst (λ comb. IsWalked table comb (nodes + 1) (max levels (level + 1))) (sym all)
       (subst (λ l. IsWalked table (before table (branch_node old.content branch) ∷ more ∷ tail) (nodes + 1) l) deep entered)
 
@@ -255,10 +253,9 @@ module _ (list : List Rule) (starts : List ℕ) (root : Branch) (old most : Coun
 
     pub explored : frames ≡ [] → (content : Content) → content ≡ after.content → Explores list starts root most old entered content true
     explored empty content same =
-        let gone : reverse frames ≡ [] = ap reverse empty in
-        (
+        let gone : reverse frames ≡ [] = ap reverse empty in (
           same ∙ ap (λ s. s.content) left ∙ subst (λ fs. AreFrames list strip.low strip.high (with_cell strip.content top.position top.before) fs) gone now.are.1,
-          λ table rest rules walked. subst (λ fs. IsWalked table (comb_of list rest (with_cell strip.content top.position top.before) fs) entered.nodes entered.levels) gone (walked_left table rest rules walked)
+          λ table rest rules walked. subst (λ fs. IsWalked table (comb_of list rest (with_cell strip.content top.position top.before) fs) entered.nodes entered.levels) gone (walked_left table rest rules walked),
         )
 
     pub exploring_returns : (parent : Frame) (then_frames : List Frame) → frames ≡ then_frames ++ (parent ∷ []) → IsExploring list starts root old most after parent then_frames entered

@@ -1,16 +1,14 @@
 -- A table's rules, gathered row by row and ordered by where they lead.
-use Rattle.std.proofs.Common.{◌≡◌, ℕ, zero, suc, ◌+◌, ◌-◌, ◌*◌, ◌<◌, ◌≤◌, Bool, true, false, cond, inl, inr, List, [], ◌∷◌, ◌++◌, length, get_or, take, drop, slice_index, slice_range, refl, ap, sym, subst, ◌∙◌, append_assoc, append-nil, length-append, add-one, arith}
-use Rattle.std.specs.List.{AllByRecursion, filter}
-use Rattle.std.proofs.lemmas.Bool.{cases_lt, cases_eq, cases_Bool, eqb-true, eq-eqb, ne_eqb}
-use Rattle.std.proofs.lemmas.List.{drop_more, drop_all, drop_at, take_at}
+use Rattle.std.proofs.Common.{◌≡◌, ℕ, ◌+◌, ◌<◌, ◌≤◌, Bool, true, false, cond, inl, inr, List, [], ◌∷◌, ◌++◌, length, get_or, drop, refl, ap, sym, ◌∙◌, append_assoc, append-nil, length-append, arith}
+use Rattle.std.specs.List.{filter}
+use Rattle.std.proofs.lemmas.Bool.{cases_Bool}
+use Rattle.std.proofs.lemmas.List.{drop_more, drop_all}
 use Rattle.bb_machine.specs.declared.entry.Next.{Next}
-use Rattle.bb_machine.specs.declared.entry.Next.TheVariants.{State, Halt}
 use Rattle.bb_machine.specs.declared.entry.Entry.{Entry}
 use Rattle.bb_machine.specs.declared.entry.Entry.TheVariants.{Undefined}
-use Rattle.bb_machine.specs.Machine.{Table, IsGroup, IsMachine, entry_of, symbols_of}
+use Rattle.bb_machine.specs.Machine.{Table, IsMachine, symbols_of}
 use Rattle.bb_cert.specs.declared.rules.Rule.{Rule}
-use Rattle.bb_cert.specs.Tree.{goes_to, is_same, leads_to, rules_in, rules_from, rules_to}
-use Rattle.bb_cert.specs.Walk.{AreRules, IsRange, IsRule}
+use Rattle.bb_cert.specs.Tree.{goes_to, is_same, leads_to, rules_in, rules_from}
 use Rattle.bb_cert.proofs.TreeEnds.{group_long}
 use Rattle.bb_cert.proofs.RuleEntries.{rule, is_same-true, is_same-itself}
 

@@ -1,10 +1,8 @@
 -- What a tape shows of a node, and what changes where a branch is entered and left.
-use Rattle.std.proofs.Common.{◌≡◌, ◌≢◌, ℕ, zero, suc, ◌+◌, ◌-◌, ◌<◌, ◌≤◌, min, Bool, true, false, cond, nat_eq, inl, inr, Option, Some, None, List, [], ◌∷◌, ◌++◌, length, get_or, take, drop, slice_range, ℤ, pos, neg_ℤ, ◌+ℤ◌, ◌≤ℤ◌, refl, ap, sym, subst, ◌∙◌, add-one, arith}
+use Rattle.std.proofs.Common.{◌≡◌, ◌≢◌, ℕ, zero, suc, ◌+◌, ◌-◌, ◌<◌, ◌≤◌, min, true, false, inl, inr, Option, Some, None, List, [], ◌∷◌, ◌++◌, length, get_or, take, drop, slice_range, ℤ, pos, neg_ℤ, ◌+ℤ◌, ◌≤ℤ◌, refl, ap, sym, subst, ◌∙◌, arith}
 use Rattle.std.proofs.Math.Path.{fun_ext}
 use Rattle.std.specs.List.{AllByRecursion, flat_map}
-use Rattle.std.specs.FinMap.{empty_of_len, get-empty}
-use Rattle.std.specs.Ordering.{int_cmp, int_eq}
-use Rattle.std.proofs.lemmas.Bool.{cases_eq, eqb-true, eq-eqb, ne_eqb, cond-true, cond-false}
+use Rattle.std.proofs.lemmas.Bool.{cases_eq, eq-eqb, ne_eqb, cond-true, cond-false}
 use Rattle.std.proofs.lemmas.List.{drop_more}
 use Rattle.std.proofs.lemmas.Int.{ints}
 use Rattle.bb_machine.specs.declared.entry.Dir.{Dir}
@@ -15,12 +13,11 @@ use Rattle.bb_machine.specs.declared.entry.Entry.{Entry}
 use Rattle.bb_machine.specs.declared.entry.Entry.TheVariants.{Undefined, Go}
 use Rattle.bb_machine.specs.declared.machine.TheConstants.{MAX_SYMBOLS}
 use Rattle.bb_machine.specs.Entry.{IsEntryOf}
-use Rattle.bb_tape.specs.Content.{Content, symbol_of, blank, cell, with_cell, score}
-use Rattle.bb_tape.proofs.Facts.{cell-blank, cell-with_cell-same, cell-with_cell-other, by_position, same_content, put_back, score-blank, score-with_cell}
+use Rattle.bb_tape.specs.Content.{Content, blank, cell, with_cell, score}
+use Rattle.bb_tape.proofs.Facts.{cell-blank, cell-with_cell-same, cell-with_cell-other, by_position, same_content, score-blank, score-with_cell}
 use Rattle.bb_sim.specs.Configuration.{start}
 use Rattle.bb_cert.specs.declared.path.Frame.{Frame}
 use Rattle.bb_cert.specs.declared.rules.Rule.{Rule}
-use Rattle.bb_cert.specs.declared.walk.Branch.{Branch}
 use Rattle.bb_cert.specs.Tree.{Node, Matches, with_known, halting_node, left_cell, may_be, seen_from, before_by_entry, before_by}
 use Rattle.bb_cert.specs.Walk.{shown_symbol, shown, shown_node, HasOthers, branches, IsRule}
 use Rattle.bb_cert.specs.Steps.{IsFirstBranch}
@@ -220,11 +217,11 @@ written_others content p symbol others more has sum = record {
       cell-with_cell-other has.one_less p symbol q apart ∙ has.each q
       ∙ ap (λ c. c - 1) (sym (cell-with_cell-other content p (symbol + 1) q apart)));
   counted =
-    let law = score-with_cell has.one_less p symbol in
-    let here = has.each p in
-    let old = has.counted in
-    let same : min 1 (cell has.one_less p) ≡ min 1 (cell content p - 1) = ap (min 1) here in
-    omega (arith, law, same, old, sum);
+      let law = score-with_cell has.one_less p symbol in
+      let here = has.each p in
+      let old = has.counted in
+      let same : min 1 (cell has.one_less p) ≡ min 1 (cell content p - 1) = ap (min 1) here in
+      omega (arith, law, same, old, sum);
 }
 
 -- a cell that is known to be other than 0 is counted

@@ -2,19 +2,19 @@
 use Rattle.std.proofs.Common.{◌≡◌, ℕ, zero, suc, ◌+◌, ◌-◌, ◌*◌, ◌<◌, ◌≤◌, Bool, true, false, cond, inl, inr, List, [], ◌∷◌, ◌++◌, length, get_or, take, drop, slice_index, slice_range, refl, ap, sym, subst, ◌∙◌, append_assoc, append-nil, length-append, arith}
 use Rattle.std.proofs.Math.Nat.{mul-le-mul_left}
 use Rattle.std.specs.List.{AllByRecursion, filter}
-use Rattle.std.proofs.lemmas.Bool.{cases_lt, cases_eq, cases_order}
+use Rattle.std.proofs.lemmas.Bool.{cases_lt, cases_eq}
 use Rattle.std.proofs.lemmas.List.{drop_at, take_at}
 use Rattle.bb_machine.specs.declared.machine.TheConstants.{MAX_STATES, MAX_SYMBOLS}
 use Rattle.bb_machine.specs.declared.entry.Next.{Next}
 use Rattle.bb_machine.specs.declared.entry.Next.TheVariants.{State, Halt}
 use Rattle.bb_machine.specs.declared.entry.Entry.{Entry}
 use Rattle.bb_machine.specs.declared.entry.Entry.TheVariants.{Undefined, Go}
-use Rattle.bb_machine.specs.Entry.{IsEntryOf, IsNextOf}
+use Rattle.bb_machine.specs.Entry.{IsEntryOf}
 use Rattle.bb_machine.specs.Machine.{Table, IsGroup, IsMachine, symbols_of}
 use Rattle.bb_cert.specs.declared.rules.Rule.{Rule}
-use Rattle.bb_cert.specs.Tree.{goes_to, is_same, leads_to, rules_in, rules_from, rules_to}
+use Rattle.bb_cert.specs.Tree.{goes_to, leads_to, rules_in, rules_from, rules_to}
 use Rattle.bb_cert.specs.Walk.{AreRules, IsRange, IsRule}
-use Rattle.bb_cert.proofs.RuleEntries.{rule, is_same-itself}
+use Rattle.bb_cert.proofs.RuleEntries.{is_same-itself}
 use Rattle.bb_cert.proofs.RuleLists.{differs}
 
 -- the rules that lead to the first n states
@@ -215,7 +215,7 @@ row_named : (states symbols state symbol : ℕ) (group : List Entry) → state <
 row_named states symbols state symbol [] h few long all = tt
 row_named states symbols state symbol (entry ∷ entries) h few long all = (
   record { state = h; symbol = omega (arith, few, long); entry = more_symbols states symbols entry few all.0 },
-  row_named states symbols state (symbol + 1) entries h few (omega (arith, long)) all.1
+  row_named states symbols state (symbol + 1) entries h few (omega (arith, long)) all.1,
 )
 
 rules_named : (states symbols state : ℕ) (table : Table) → state + length table ≤ states → symbols ≤ MAX_SYMBOLS → AllByRecursion (IsGroup states symbols) table → AllByRecursion (IsRule states) (rules_from state table)

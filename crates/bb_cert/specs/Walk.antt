@@ -7,12 +7,12 @@ use Rattle.bb_machine.specs.declared.machine.TheConstants.{MAX_SYMBOLS}
 use Rattle.bb_machine.specs.Entry.{IsEntryOf}
 use Rattle.bb_machine.specs.Machine.{Table}
 use Rattle.bb_tape.specs.Content.{Content, blank, cell, with_cell, score}
-use Rattle.bb_tape.specs.Strip.{Strip, IsInside}
+use Rattle.bb_tape.specs.Strip.{Strip}
 use Rattle.bb_sim.specs.Configuration.{start}
 use Rattle.bb_cert.specs.declared.path.Frame.{Frame}
 use Rattle.bb_cert.specs.declared.rules.Rule.{Rule}
 use Rattle.bb_cert.specs.declared.walk.Branch.{Branch}
-use Rattle.bb_cert.specs.Tree.{Node, Matches, MatchesOne, before_by, grown, level, grown_below, nodes_below, leads_to, rules_to}
+use Rattle.bb_cert.specs.Tree.{Node, Matches, MatchesOne, before_by, grown, level, grown_below, nodes_below, rules_to}
 
 -- a tape shows the symbol r as r + 1, and an unknown cell as 0
 abbrev pub shown_symbol : ℕ → Option ℕ

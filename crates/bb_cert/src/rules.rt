@@ -74,12 +74,7 @@ impl Rules {
 }
 
 /// Appends the rules of a state that lead to a state, or halt.
-fn add_rules_of(
-    machine: &Machine,
-    state: u8,
-    next: Next,
-    list: &mut ArrayVec<Rule, MOST_RULES>,
-)
+fn add_rules_of(machine: &Machine, state: u8, next: Next, list: &mut ArrayVec<Rule, MOST_RULES>)
     requires state { state < length machine.now }
     requires room { length list.old.items
         + length (filter (tree.leads_to next) (rules_in state 0 (slice_index_or machine.now state []))) ≤ MOST_RULES }

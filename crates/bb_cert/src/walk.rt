@@ -227,7 +227,11 @@ fn count_others(branch: Branch) -> u16
     requires counted { 1 < branch.held → 0 < branch.others }
     ensures { result + min 1 (branch.held - 1) ≡ branch.others + min 1 branch.symbol }
 {
-    let more = if branch.symbol == 0 { branch.others } else { branch.others + 1 };
+    let more = if branch.symbol == 0 {
+        branch.others
+    } else {
+        branch.others + 1
+    };
     if branch.held > 1 { more - 1 } else { more }
 }
 

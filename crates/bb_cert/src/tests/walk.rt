@@ -92,14 +92,26 @@ fn rows_hold<T: Tape>(rt: &impl Abort, mut tape: T, mut path: Path)
         assert!(rt; *levels <= 400 && *nodes <= 1_000_000);
         assert!(rt; tape.limit() == CELLS && path.depth() == 400);
         let (found, _, _) = walked(rt, text, *levels, *nodes, &mut tape, &mut path);
-        assert_eq!(rt; found, *expected, "{text:?} in {levels} levels, {nodes} nodes");
+        assert_eq!(rt;
+            found,
+            *expected,
+            "{text:?} in {levels} levels, {nodes} nodes"
+        );
     }
     for (text, levels, nodes, entered, on_levels) in &COUNTS {
         assert!(rt; *levels <= 400 && *nodes <= 1_000_000);
         assert!(rt; tape.limit() == CELLS && path.depth() == 400);
         let (_, counted, most) = walked(rt, text, *levels, *nodes, &mut tape, &mut path);
-        assert_eq!(rt; counted, *entered, "{text:?} in {levels} levels, {nodes} nodes");
-        assert_eq!(rt; most, *on_levels, "{text:?} in {levels} levels, {nodes} nodes");
+        assert_eq!(rt;
+            counted,
+            *entered,
+            "{text:?} in {levels} levels, {nodes} nodes"
+        );
+        assert_eq!(rt;
+            most,
+            *on_levels,
+            "{text:?} in {levels} levels, {nodes} nodes"
+        );
     }
 }
 

@@ -1,4 +1,4 @@
-use Rattle.std.proofs.Common.{◌≡◌, ◌<◌, ◌≤◌, false, true, ap, sym, refl, subst, ◌∙◌, lit<, rules, arith}
+use Rattle.std.proofs.Common.{◌≡◌, false, true, ap, refl, ◌∙◌, lit<}
 use Rattle.bb_cert.proofs.RuleLists.{pushed_keeps, passed_keeps, pushed_room, in_row, past_row, row_ends}
 use Rattle.bb_cert.proofs.rules.add_rules_of.Goals as goal
 use Rattle.bb_cert.proofs.rules.add_rules_of.Goals.{then-leads_to, else-leads_to}

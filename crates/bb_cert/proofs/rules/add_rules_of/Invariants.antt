@@ -1,7 +1,6 @@
 use Rattle.std.proofs.Common.{◌≡◌, ◌++◌, [], drop, slice_index_or}
 use Rattle.std.specs.List.{filter}
 use Rattle.bb_cert.specs.Tree.{leads_to, rules_in}
-use Rattle.bb_cert.proofs.RuleLists.{row_keeps}
 use Rattle.bb_cert.proofs.rules.add_rules_of.Given as goal
 
 abbrev pub invariant-loop-symbol : goal.invariant-loop-symbol

@@ -1,8 +1,8 @@
-use Rattle.std.proofs.Common.{◌≡◌, ◌+◌, ◌<◌, inl, inr, FitsSigned, slice_index_or, to_z, of_z, w64, refl, ap, sym, subst, ◌∙◌, rules, arith}
+use Rattle.std.proofs.Common.{◌≡◌, ◌+◌, inl, inr, FitsSigned, slice_index_or, w64, ap, sym, subst, ◌∙◌, rules}
 use Rattle.bb_tape.specs.Strip.{visited}
 use Rattle.bb_cert.specs.Walk.{HasRoom}
-use Rattle.std.proofs.lemmas.Int.{ints, to_z-of_z}
-use Rattle.bb_cert.proofs.Entering.{has_some, room_widened, room_entered, matched_start, entered_frame, room_visited}
+use Rattle.std.proofs.lemmas.Int.{to_z-of_z}
+use Rattle.bb_cert.proofs.Entering.{has_some, room_entered, matched_start, entered_frame, room_visited}
 use Rattle.bb_cert.proofs.walk.enter.Goals as goal
 
 pub returns-in_default-write-clause-room : goal.returns-in_default-write-clause-room

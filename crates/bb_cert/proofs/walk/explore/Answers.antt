@@ -1,9 +1,7 @@
-use Rattle.std.proofs.Common.{◌≡◌, ℕ, ◌+◌, ◌-◌, ◌<◌, ◌≤◌, [], ◌∷◌, ◌++◌, length, refl, ap, sym, subst, ◌∙◌, arith}
+use Rattle.std.proofs.Common.{◌≡◌, ℕ, ◌+◌, ◌-◌, ◌<◌, ◌≤◌, length, refl, ap, sym, subst, ◌∙◌, arith}
 use Rattle.bb_machine.specs.declared.limits.TheConstants.{MOST_LEVELS}
-use Rattle.bb_tape.specs.Strip.{written}
 use Rattle.bb_cert.specs.Walk.{HasRoom, IsBranch, Refused, branch_node}
-use Rattle.bb_cert.specs.Steps.{IsFirstBranch, Enters}
-use Rattle.bb_cert.specs.Path.{depth_of, frames_of}
+use Rattle.bb_cert.specs.Path.{frames_of}
 use Rattle.bb_cert.proofs.Entering.{room_written}
 use Rattle.bb_cert.proofs.Exploring.{IsExploring, exploring_begins, top_is, top_low, top_high, top_inside, branch_is, branch_beside, branch_refused, exploring_descends, explored, exploring_returns, root_refused}
 use Rattle.bb_cert.proofs.walk.explore.Goals as goal

@@ -1,9 +1,7 @@
-use Rattle.std.proofs.Common.{◌≡◌, ℕ, ◌+◌, ◌<◌, ◌≤◌, false, true, List, [], ◌∷◌, length, get_or, map, slice_index, slice_index_or, slice_range, ap, sym, refl, subst, ◌∙◌, rules, arith}
+use Rattle.std.proofs.Common.{◌≡◌, ◌+◌, false, true, [], ◌∷◌, length, get_or, map, slice_index, slice_range, ap, sym, refl, subst, ◌∙◌, rules}
 use Rattle.bb_cert.specs.Tree.{halting_node}
 use Rattle.bb_cert.specs.Walk.{IsWalked}
-use Rattle.bb_cert.specs.Steps.{Explores, IsWithin}
-use Rattle.bb_cert.proofs.Roots.{root_of, root_is, root_explored, root_stops, roots_begin, roots_end, end_at, no_more, before_end, past_end}
-use Rattle.bb_cert.proofs.Shown.{no_rule}
+use Rattle.bb_cert.proofs.Roots.{root_is, root_explored, root_stops, roots_begin, roots_end, end_at, no_more, before_end, past_end}
 use Rattle.bb_cert.proofs.walk.explore_all.Goals as goal
 
 pub loop-index-init : goal.loop-index-init

@@ -4,7 +4,6 @@ use Rattle.bb_cert.specs.Path.{depth_of}
 use Rattle.bb_cert.specs.Tree.{halting_node}
 use Rattle.bb_cert.specs.Walk.{HasRoom, IsWalked}
 use Rattle.bb_cert.specs.Steps.{IsWithin}
-use Rattle.bb_cert.proofs.Roots.{root_is}
 use Rattle.bb_cert.proofs.walk.explore_all.Given as goal
 
 abbrev pub invariant-loop-index : goal.invariant-loop-index

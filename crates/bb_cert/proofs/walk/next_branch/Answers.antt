@@ -1,6 +1,5 @@
-use Rattle.std.proofs.Common.{◌≡◌, ℤ, ◌+ℤ◌, FitsSigned, to_z, of_z, w64, refl, ap, sym, ◌∙◌, rules, arith}
-use Rattle.std.proofs.lemmas.Int.{ints, to_z-of_z}
-use Rattle.bb_tape.specs.Content.{cell}
+use Rattle.std.proofs.Common.{◌≡◌, ◌+ℤ◌, FitsSigned, to_z, of_z, w64, refl, ◌∙◌, rules}
+use Rattle.std.proofs.lemmas.Int.{to_z-of_z}
 use Rattle.bb_cert.specs.Tree.{left_cell}
 use Rattle.bb_cert.proofs.Shown.{no_rule, undefined_else, skips_undefined, skips_unfit, first_unknown, first_written, branches_none}
 use Rattle.bb_cert.proofs.walk.next_branch.Goals as goal

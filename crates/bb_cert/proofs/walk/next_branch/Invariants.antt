@@ -1,4 +1,4 @@
-use Rattle.std.proofs.Common.{◌≡◌, ◌≤◌}
+use Rattle.std.proofs.Common.{◌≡◌}
 use Rattle.bb_cert.specs.Walk.{branches}
 use Rattle.bb_cert.proofs.walk.next_branch.Given as goal
 

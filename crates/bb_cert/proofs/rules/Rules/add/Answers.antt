@@ -1,5 +1,5 @@
-use Rattle.std.proofs.Common.{◌≡◌, ◌<◌, ◌≤◌, ℕ, length, ap, sym, refl, subst, ◌∙◌, rules, arith}
-use Rattle.bb_cert.proofs.RuleLists.{rows_room, table_keeps, table_ends}
+use Rattle.std.proofs.Common.{◌≡◌, ◌<◌, ℕ, arith}
+use Rattle.bb_cert.proofs.RuleLists.{rows_room, table_keeps}
 use Rattle.bb_cert.proofs.rules.Rules.add.Goals as goal
 
 inside : (state states n : ℕ) → state < states → states ≡ n → state < n

@@ -1,4 +1,3 @@
-use Rattle.std.proofs.Common.{◌≡◌, ◌<◌, ◌≤◌, arith}
 use Rattle.bb_cert.proofs.SortedRules.{room_for_state, room_for_halt, room_for_start, rules_gathered}
 use Rattle.bb_cert.proofs.rules.Rules.new.Goals as goal
 

@@ -1,5 +1,5 @@
 use Rattle.std.proofs.Common.{◌≡◌}
-use Rattle.bb_cert.proofs.SortedRules.{sorted, starts_of, are_rules}
+use Rattle.bb_cert.proofs.SortedRules.{sorted, starts_of}
 use Rattle.bb_cert.proofs.rules.Rules.new.Given as goal
 
 abbrev pub invariant-loop-state : goal.invariant-loop-state
