@@ -93,8 +93,8 @@ abbrev pub AgreeingRecordsNeverRepeat : Type 0
 AgreeingRecordsNeverRepeat = (table : Table) (side : Side) (a b c d : ℕ) → AgreeingRecords table side a b
     → c < d → Same table c d → ⊥
 
--- i steps after a configuration, whatever it is, there is one at a halting entry just where it matches a node of
--- level i
+-- i steps after a configuration, whatever it is, there is one at a halting entry just where it matches a node
+-- of level i
 abbrev pub LevelsComeBeforeHalts : Type 0
 LevelsComeBeforeHalts = (table : Table) (c : Configuration) (i : ℕ)
     → HaltsNextAfter table c i ↔ MatchesOne (level table i) c

@@ -26,8 +26,10 @@ pub record IsWithin (most entered : Count) : Type 0 where
 abbrev pub entered_on : ℕ → Count → Count
 entered_on level entered = record { nodes = entered.nodes + 1; levels = max entered.levels (level + 1) }
 
--- a branch was entered: the tape shows its node, which the start doesn't match, and the frame tells what was there
-pub record Enters (starts : List ℕ) (branch : Branch) (level : ℕ) (old new : Strip) (frame : Frame) : Type 0 where
+-- a branch was entered: the tape shows its node, which the start doesn't match, and the frame tells what was
+-- there
+pub record Enters (starts : List ℕ) (branch : Branch) (level : ℕ) (old new : Strip) (frame : Frame)
+    : Type 0 where
   pub content : new.content ≡ content_in old.content branch
   pub low : new.low ≡ int_min old.low branch.position
   pub high : new.high ≡ int_max old.high branch.position
@@ -41,7 +43,8 @@ pub record Enters (starts : List ℕ) (branch : Branch) (level : ℕ) (old new :
   pub apart : Matches (branch_node old.content branch) start → ⊥
 
 -- the first of a frame's branches, and the rule after the one by which it comes
-pub record IsFirstBranch (list : List Rule) (states : ℕ) (content : Content) (frame : Frame) (branch : Branch) (next : ℕ) : Type 0 where
+pub record IsFirstBranch (list : List Rule) (states : ℕ) (content : Content) (frame : Frame) (branch : Branch)
+    (next : ℕ) : Type 0 where
   pub not_below : frame.position ≤ℤ (branch.position +ℤ pos 1)
   pub not_above : branch.position ≤ℤ (frame.position +ℤ pos 1)
   pub state : branch.state < states
@@ -50,7 +53,8 @@ pub record IsFirstBranch (list : List Rule) (states : ℕ) (content : Content) (
   pub others : branch.others ≡ frame.others
   pub further : frame.next < next
   pub within : next ≤ frame.end
-  pub first : branches list content frame ≡ branch_node content branch ∷ branches list content (record frame { next = next })
+  pub first : branches list content frame
+      ≡ branch_node content branch ∷ branches list content (record frame { next = next })
 
 -- the tree of a root was walked through, and the tape is blank; or no tree ends within the bounds
 abbrev pub Explores : List Rule → List ℕ → Branch → Count → Count → Count → Content → Bool → Type 0
@@ -58,7 +62,8 @@ Explores list starts root most old new content true = (content ≡ blank)
     × ((table : Table) (rest : List Node) → AreRules table list starts
     → IsWalked table ((branch_node blank root ∷ rest) ∷ []) old.nodes old.levels
     → IsWalked table (rest ∷ []) new.nodes new.levels)
-Explores list starts root most old new content false = (table : Table) (rest : List Node) → AreRules table list starts
+Explores list starts root most old new content false = (table : Table) (rest : List Node)
+    → AreRules table list starts
     → IsWalked table ((branch_node blank root ∷ rest) ∷ []) old.nodes old.levels
     → EndsNowhere table most.levels most.nodes
 

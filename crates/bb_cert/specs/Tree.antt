@@ -1,4 +1,5 @@
--- What could come before a halt. Backward reasoning is bbchallenge's; this profile of it is this project's own.
+-- What could come before a halt. Backward reasoning is bbchallenge's; this profile of it is this project's
+-- own.
 use Rattle.std.specs.Prelude.{◌≡◌, ◌≢◌, ℕ, zero, suc, ◌+◌, ◌<◌, ◌≤◌, ◌⊎◌, Bool, true, false, cond, nat_eq, Option, Some, None, List, [], ◌∷◌, ◌++◌, length, map, slice_index_or, ℤ, pos, neg_ℤ, ◌+ℤ◌}
 use Rattle.std.specs.List.{filter, flat_map}
 use Rattle.std.specs.Ordering.{int_eq}
@@ -14,7 +15,8 @@ use Rattle.bb_sim.specs.Configuration.{Configuration, start, beside}
 use Rattle.bb_sim.specs.Run.{after}
 use Rattle.bb_cert.specs.declared.rules.Rule.{Rule}
 
--- a state, and the symbols that are known at some distances from the head, to the right and, negative, to the left
+-- a state, and the symbols that are known at some distances from the head: to the right, and negative ones to
+-- the left
 pub record Node : Type 0 where
   pub state : ℕ
   pub known : ℤ → Option ℕ
@@ -84,12 +86,16 @@ may_be (Some known) symbol = nat_eq known symbol
 abbrev pub seen_from : ℤ → (ℤ → Option ℕ) → ℤ → Option ℕ
 seen_from distance known x = known (x +ℤ distance)
 
--- what could come before a node by an entry that leads to its state: nothing where the cell that the head left is
--- known to have another symbol than was written; else the node as seen from that cell, which had the rule's symbol
+-- what could come before a node by an entry that leads to its state: nothing where the cell that the head
+-- left is known to have another symbol than was written; else the node as seen from that cell, which had the
+-- rule's symbol
 abbrev pub before_by_entry : Node → ℕ → ℕ → Entry → List Node
 before_by_entry node state symbol Undefined = []
 before_by_entry node state symbol (Go write dir next) = cond (may_be (node.known (left_cell dir)) write)
-    (record { state = state; known = with_known (seen_from (left_cell dir) node.known) (pos 0) symbol } ∷ []) []
+    (record {
+      state = state;
+      known = with_known (seen_from (left_cell dir) node.known) (pos 0) symbol;
+    } ∷ []) []
 
 abbrev pub before_by : Node → Rule → List Node
 before_by node rule = before_by_entry node rule.state rule.symbol rule.entry

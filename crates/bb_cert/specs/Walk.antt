@@ -35,10 +35,11 @@ pub record HasOthers (content : Content) (others : ℕ) : Type 0 where
 
 -- what could come before a frame's node by the rules that are still to be tried
 abbrev pub branches : List Rule → Content → Frame → List Node
-branches rules content f = flat_map (before_by (shown_node content f.position f.state)) (slice_range rules f.next f.end)
+branches rules content f =
+    flat_map (before_by (shown_node content f.position f.state)) (slice_range rules f.next f.end)
 
--- The nodes that are still to be entered: before each frame's node, the deepest frame first, with the tape as it was
--- when that node was entered last; and then the halting nodes. Those before a list are a level further.
+-- The nodes that are still to be entered: before each frame's node, the deepest frame first, with the tape as
+-- it was when that node was entered last; and then the halting nodes. Those before a list are a level further.
 abbrev pub comb_of : List Rule → List Node → Content → List Frame → List (List Node)
 comb_of rules roots content [] = roots ∷ []
 comb_of rules roots content (f ∷ fs) =
@@ -66,8 +67,8 @@ abbrev pub AreParts : Table → List (List Node) → Type 0
 AreParts table [] = Unit {0}
 AreParts table (nodes ∷ comb) = IsPart nodes (level table (length comb)) × AreParts table comb
 
--- a walk entered so many nodes, the deepest on level `levels` - 1, none of which the start matches, and these are
--- still to be entered
+-- a walk entered so many nodes, the deepest on level `levels` - 1, none of which the start matches, and these
+-- are still to be entered
 pub record IsWalked (table : Table) (comb : List (List Node)) (nodes levels : ℕ) : Type 0 where
   pub counted : (h : ℕ) → levels ≤ h → nodes_below table h ≡ nodes + comb_below table comb h
   pub reached : (i : ℕ) → i < levels → level table i ≢ []
@@ -75,7 +76,8 @@ pub record IsWalked (table : Table) (comb : List (List Node)) (nodes levels : �
   pub matches : (i : ℕ) → MatchesOne (level table i) start → CombMatches table comb i
 
 -- a frame of a node on a level, whose node the tape shows
-pub record IsFrame (rules : List Rule) (low high : ℤ) (content : Content) (level : ℕ) (f : Frame) : Type 0 where
+pub record IsFrame (rules : List Rule) (low high : ℤ) (content : Content) (level : ℕ) (f : Frame)
+    : Type 0 where
   pub not_below : neg_ℤ (pos level) ≤ℤ f.position
   pub not_above : f.position ≤ℤ pos level
   pub from_low : low ≤ℤ f.position
@@ -110,7 +112,8 @@ pub record AreRules (table : Table) (list : List Rule) (starts : List ℕ) : Typ
   pub count : length starts ≡ length table + 2
   pub to_state : (state : ℕ) → state < length table
       → IsRange table list (slice_index starts state) (slice_index starts (state + 1)) (State state)
-  pub halting : IsRange table list (slice_index starts (length table)) (slice_index starts (length table + 1)) Halt
+  pub halting :
+      IsRange table list (slice_index starts (length table)) (slice_index starts (length table + 1)) Halt
 
 -- what could come before a node, as the tape shows that node, on a level
 pub record IsBranch (states : ℕ) (content : Content) (level : ℕ) (branch : Branch) : Type 0 where

@@ -4,7 +4,8 @@ use Rattle.bb_sim.specs.declared.meter.Meter.{Meter}
 
 -- a tree of so many levels and nodes was walked through
 abbrev pub walked : Meter → ℕ → ℕ → Meter
-walked meter levels nodes = record meter { nodes = meter.nodes + nodes; most_levels = max meter.most_levels levels }
+walked meter levels nodes =
+    record meter { nodes = meter.nodes + nodes; most_levels = max meter.most_levels levels }
 
 -- no more than so many levels and nodes were counted
 pub record IsWithinWalk (levels nodes : ℕ) (old new : Meter) : Type 0 where

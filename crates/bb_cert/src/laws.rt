@@ -1,4 +1,5 @@
-//! Laws of verdict lines, of runs that repeat and of what could come before a halt, as contracts: a call of each does nothing.
+//! Laws of verdict lines, of runs that repeat and of what could come before a halt, as contracts: a call of
+//! each does nothing.
 ghost use Rattle.bb_cert.specs.Laws.{
   AgreeingRecordsGoOn,
   AgreeingRecordsNeverHalt,

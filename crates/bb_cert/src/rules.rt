@@ -77,9 +77,10 @@ impl Rules {
 fn add_rules_of(machine: &Machine, state: u8, next: Next, list: &mut ArrayVec<Rule, MOST_RULES>)
     requires state { state < length machine.now }
     requires room { length list.old.items
-        + length (filter (tree.leads_to next) (rules_in state 0 (slice_index_or machine.now state []))) ≤ MOST_RULES }
-    ensures { list.new.items
-        ≡ list.old.items ++ filter (tree.leads_to next) (rules_in state 0 (slice_index_or machine.now state [])) }
+        + length (filter (tree.leads_to next) (rules_in state 0 (slice_index_or machine.now state [])))
+        ≤ MOST_RULES }
+    ensures { list.new.items ≡ list.old.items
+        ++ filter (tree.leads_to next) (rules_in state 0 (slice_index_or machine.now state [])) }
 {
     for symbol in 0..machine.symbols() {
         let entry = machine.entry(state, symbol);

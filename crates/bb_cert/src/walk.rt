@@ -40,8 +40,8 @@ struct Branch {
     others: u16,
 }
 
-/// How many levels and nodes the tree of what could come before a halt has: where it ends within so many of each, and
-/// the start matches no node of it. Such a machine never halts.
+/// How many levels and nodes the tree of what could come before a halt has: where it ends within so many of
+/// each, and the start matches no node of it. Such a machine never halts.
 ///
 /// The tape is lent, and blank at the end. After an error nothing is said of what it holds.
 #[inline(never)]
@@ -183,12 +183,14 @@ fn enter<T: Tape>(
     requires level { level ≤ MOST_LEVELS }
     requires room { HasRoom (T.strip tape.old) most.levels }
     requires within { IsWithin most entered.old }
-    ensures enters { IfOk result (λ frame. IfSome frame (Enters rules.now.starts.items branch level (T.strip tape.old)
-        (T.strip tape.new))) }
+    ensures enters { IfOk result (λ frame. IfSome frame (Enters rules.now.starts.items branch level
+        (T.strip tape.old) (T.strip tape.new))) }
     ensures counted { IfOk result (λ frame. IfSome frame (λ frame. (level < most.levels)
         × (entered.old.nodes < most.nodes) × (entered.new ≡ entered_on level entered.old))) }
-    ensures refused { IfOk result (λ frame. MatchOption frame (Refused (branch_node (T.strip tape.old).content branch)
-        level entered.old.nodes most.nodes most.levels) (λ frame. Unit {0})) }
+    ensures refused { IfOk result (λ frame. MatchOption frame
+        (Refused (branch_node (T.strip tape.old).content branch) level entered.old.nodes most.nodes
+        most.levels)
+        (λ frame. Unit {0})) }
     ensures room { HasRoom (T.strip tape.new) most.levels }
     ensures within { IsWithin most entered.new }
     ensures limit { (T.strip tape.new).limit ≡ (T.strip tape.old).limit }
@@ -259,8 +261,8 @@ fn next_branch<T: Tape>(rules: &Rules, frame: Frame, tape: &T) -> Option<(Branch
     requires low { neg_ℤ (pos MOST_LEVELS) ≤ℤ frame.position }
     requires high { frame.position ≤ℤ pos MOST_LEVELS }
     ensures { MatchOption result (branches rules.now.list.items (T.strip tape.now).content frame ≡ [])
-        (λ found. IsFirstBranch rules.now.list.items (length rules.now.starts.items - 2) (T.strip tape.now).content frame
-        found.0 found.1) }
+        (λ found. IsFirstBranch rules.now.list.items (length rules.now.starts.items - 2)
+        (T.strip tape.now).content frame found.0 found.1) }
 {
     for index in frame.next..frame.end {
         let rule = rules.list[index as usize];

@@ -41,7 +41,8 @@ static ROWS: [Row; 24] = [
     (b"0RB---_0LA1RC_0RC0LB", 8, 9, Some((8, 9))),
 ];
 
-/// What a walk enters, where it is known: a machine, the bounds of levels and nodes, and the nodes and levels.
+/// What a walk enters, where it is known: a machine, the bounds of levels and nodes, and the nodes and the
+/// levels entered.
 static COUNTS: [(&[u8], u64, u64, u64, u64); 8] = [
     (b"0RB---_0LA---", 2, 4, 4, 2),
     (b"0RB---_0LA---", 1, 4, 1, 1),
