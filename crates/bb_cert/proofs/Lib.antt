@@ -15,4 +15,15 @@ pub mod RecordPairs
 pub mod NoRecords
 pub mod Claims
 pub mod Standing
+pub mod OneOf
+pub mod RuleEntries
+pub mod Levels
+pub mod TreeEnds
+pub mod Comb
+pub mod Shown
+pub mod Entering
+pub mod Exploring
+pub mod Roots
+pub mod RuleLists
+pub mod SortedRules
 pub mod Facts

@@ -1,6 +1,7 @@
--- Laws of verdict lines, and of runs that repeat.
-use Rattle.std.specs.Prelude.{◌≡◌, ℕ, ◌+◌, ◌<◌, ◌≤◌, ◌↔◌, List, pos, ◌<ℤ◌}
-use Rattle.bb_machine.specs.Machine.{Table}
+-- Laws of verdict lines, of runs that repeat, and of what could come before a halt.
+use Rattle.std.specs.Prelude.{◌≡◌, ℕ, ◌+◌, ◌<◌, ◌≤◌, ◌↔◌, List, [], pos, ◌<ℤ◌}
+use Rattle.bb_machine.specs.Machine.{Table, IsMachine}
+use Rattle.bb_sim.specs.Configuration.{Configuration}
 use Rattle.bb_sim.specs.Run.{Never}
 use Rattle.bb_cert.specs.declared.reader.Line.{Line}
 use Rattle.bb_cert.specs.declared.verdict.Side.{Side}
@@ -11,6 +12,7 @@ use Rattle.bb_cert.specs.Line.{IsLineOf}
 use Rattle.bb_cert.specs.Repeat.{Same}
 use Rattle.bb_cert.specs.Record.{out, head_at, IsRecord}
 use Rattle.bb_cert.specs.Agree.{Agree, AgreeingRecords, GoesAlike}
+use Rattle.bb_cert.specs.Tree.{MatchesOne, level, Ends, Clear, HaltsNextAfter}
 
 -- different claims and columns have different lines
 abbrev pub LinesDiffer : Type 0
@@ -96,3 +98,23 @@ AgreeingRecordsNeverRepeat = (table : Table) (side : Side) (a b c d : ℕ) → A
 -- where a claim says that a machine never halts, it never does
 abbrev pub ClaimsNeverHalt : Type 0
 ClaimsNeverHalt = (table : Table) (verdict : Verdict) → SaysNever verdict → Claim table verdict → Never table
+
+
+-- i steps after a configuration, whatever it is, there is one at a halting entry just where it matches a node
+-- of level i
+abbrev pub LevelsComeBeforeHalts : Type 0
+LevelsComeBeforeHalts = (table : Table) (c : Configuration) (i : ℕ)
+    → HaltsNextAfter table c i ↔ MatchesOne (level table i) c
+
+-- an empty level ends all later ones
+abbrev pub EmptyLevelsStay : Type 0
+EmptyLevelsStay = (table : Table) (i j : ℕ) → i ≤ j → level table i ≡ [] → level table j ≡ []
+
+-- a machine whose tree ends, and whose start matches no node of it, never halts
+abbrev pub ClearTreesNeverHalt : Type 0
+ClearTreesNeverHalt = (table : Table) (h k : ℕ) → IsMachine table → Ends table h k → Clear table h
+    → Never table
+
+-- a tree ends in one number of levels, with one number of nodes
+abbrev pub TreeHasOneEnd : Type 0
+TreeHasOneEnd = (table : Table) (h k i j : ℕ) → Ends table h k → Ends table i j → (h ≡ i) × (k ≡ j)

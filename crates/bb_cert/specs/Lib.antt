@@ -3,5 +3,10 @@ pub mod Line
 pub mod Repeat
 pub mod Record
 pub mod Agree
+pub mod Tree
+pub mod Path
+pub mod WalkMeter
+pub mod Walk
+pub mod Steps
 pub mod Laws
 pub mod Claim

@@ -1,5 +1,29 @@
-//! Laws of verdict lines and of runs that repeat, as contracts: a call of each does nothing.
-ghost use Rattle.bb_cert.specs.Laws.{AgreeingRecordsGoOn, AgreeingRecordsNeverHalt, AgreeingRecordsNeverRepeat, ClaimsNeverHalt, HasRecord, LinesDiffer, LowerRecordsExist, RecordHasOneNumber, RecordHasOneSide, RecordHasOneStep, RecordPair, RecordTakesSteps, RecordsInOrder, RepeatsGoOn, RepeatsKeepDistance, RepeatsMakeNoRecord, RepeatsNeverHalt, ShortOfRecord};
+//! Laws of verdict lines, of runs that repeat and of what could come before a halt, as contracts: a call of
+//! each does nothing.
+ghost use Rattle.bb_cert.specs.Laws.{
+  AgreeingRecordsGoOn,
+  AgreeingRecordsNeverHalt,
+  AgreeingRecordsNeverRepeat,
+  ClaimsNeverHalt,
+  ClearTreesNeverHalt,
+  EmptyLevelsStay,
+  HasRecord,
+  LevelsComeBeforeHalts,
+  LinesDiffer,
+  LowerRecordsExist,
+  RecordHasOneNumber,
+  RecordHasOneSide,
+  RecordHasOneStep,
+  RecordPair,
+  RecordTakesSteps,
+  RecordsInOrder,
+  RepeatsGoOn,
+  RepeatsKeepDistance,
+  RepeatsMakeNoRecord,
+  RepeatsNeverHalt,
+  ShortOfRecord,
+  TreeHasOneEnd,
+};
 
 /// A verdict line says one thing only: it is the line of one machine and one verdict, or of one column.
 pub fn lines_differ()
@@ -45,4 +69,13 @@ pub fn repeats_make_no_record()
 /// A claim that a machine never halts is right.
 pub fn claims_never_halt()
     ensures { ClaimsNeverHalt }
+{}
+
+/// What could come before a halt: level `i` of the tree tells of every configuration whether it is `i` steps
+/// before a halting entry, so a machine whose tree ends and has no match for the start never halts.
+pub fn levels_come_before_halts()
+    ensures before { LevelsComeBeforeHalts }
+    ensures stay { EmptyLevelsStay }
+    ensures never { ClearTreesNeverHalt }
+    ensures one_end { TreeHasOneEnd }
 {}

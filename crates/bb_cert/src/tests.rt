@@ -7,6 +7,8 @@ use itoa::Buffer;
 use std::process::Abort;
 use std::test::Fail;
 
+mod walk;
+
 /// The longest line: a machine of seven states, and the greatest numbers.
 const LONG: &[u8] =
     b"0RA0RA_0RA0RA_0RA0RA_0RA0RA_0RA0RA_0RA0RA_0RA0RA translated R 18446744073709551615 18446744073709551615";
