@@ -11,7 +11,7 @@ use Rattle.bb_machine.specs.declared.entry.Entry.{Entry}
 use Rattle.bb_machine.specs.declared.entry.Entry.TheVariants.{Undefined}
 use Rattle.bb_machine.specs.Entry.{entry_text, IsEntryOf}
 use Rattle.bb_machine.specs.Machine.{IsGroup, group_text, text}
-use Rattle.bb_machine.specs.Rows.{entries_in, table_in, IsTable}
+use Rattle.bb_machine.specs.Rows.{entry_in, entries_in, table_in, IsTable}
 use Rattle.bb_machine.specs.Column.{BeginsWith}
 use Rattle.bb_machine.proofs.Texts.{tail_text}
 use Rattle.bb_machine.proofs.Stops.{entry_length}
@@ -49,17 +49,17 @@ group_stands s k (g ∷ gs) (suc q) below p =
     (more.0, rw (offset, drop-append-add (group_text g) (tail_text gs) (q * (3 * k + 1) + 1), ← drop-drop 1 (q * (3 * k + 1)) (tail_text gs), more.1) refl)
 
 -- one more entry of a row
-pub row_grows : (ps : List Slot) (row symbols symbol : ℕ) (p : Slot) (g : List Entry) → length ps ≡ SLOTS → row < MAX_STATES → symbols ≤ MAX_SYMBOLS → symbol < symbols → length g ≡ symbols → p.entry ≡ get_or g symbol Undefined → take symbol (drop (row * MAX_SYMBOLS) (entries_in ps)) ≡ take symbol g → take (symbol + 1) (drop (row * MAX_SYMBOLS) (entries_in (set ps (row * MAX_SYMBOLS + symbol) p))) ≡ take (symbol + 1) g
+pub row_grows : (ps : List Slot) (row symbols symbol : ℕ) (p : Slot) (g : List Entry) → length ps ≡ SLOTS → row < MAX_STATES → symbols ≤ MAX_SYMBOLS → symbol < symbols → length g ≡ symbols → entry_in p ≡ get_or g symbol Undefined → take symbol (drop (row * MAX_SYMBOLS) (entries_in ps)) ≡ take symbol g → take (symbol + 1) (drop (row * MAX_SYMBOLS) (entries_in (set ps (row * MAX_SYMBOLS + symbol) p))) ≡ take (symbol + 1) g
 row_grows ps row symbols symbol p g all below few inside long is so_far =
-    let count : length (entries_in ps) ≡ SLOTS = length-map ps (λ (x : Slot). x.entry) ∙ all in
+    let count : length (entries_in ps) ≡ SLOTS = length-map ps entry_in ∙ all in
     let room : row * MAX_SYMBOLS + symbol < length (entries_in ps) = omega arith in
-    let entries : entries_in (set ps (row * MAX_SYMBOLS + symbol) p) ≡ set (entries_in ps) (row * MAX_SYMBOLS + symbol) p.entry = map-set (λ (x : Slot). x.entry) ps (row * MAX_SYMBOLS + symbol) p in
-    rw (entries, row-more (row * MAX_SYMBOLS) symbol (entries_in ps) p.entry room, so_far, is, take_more g symbol Undefined (omega arith)) refl
+    let entries : entries_in (set ps (row * MAX_SYMBOLS + symbol) p) ≡ set (entries_in ps) (row * MAX_SYMBOLS + symbol) (entry_in p) = map-set entry_in ps (row * MAX_SYMBOLS + symbol) p in
+    rw (entries, row-more (row * MAX_SYMBOLS) symbol (entries_in ps) (entry_in p) room, so_far, is, take_more g symbol Undefined (omega arith)) refl
 
 pub rows_stay : (ps : List Slot) (row symbols symbol : ℕ) (p : Slot) → symbols ≤ MAX_SYMBOLS → table_in row symbols (set ps (row * MAX_SYMBOLS + symbol) p) ≡ table_in row symbols ps
 rows_stay ps row symbols symbol p few =
-    let entries : entries_in (set ps (row * MAX_SYMBOLS + symbol) p) ≡ set (entries_in ps) (row * MAX_SYMBOLS + symbol) p.entry = map-set (λ (x : Slot). x.entry) ps (row * MAX_SYMBOLS + symbol) p in
-    rw (entries, rows-set MAX_SYMBOLS row symbols (entries_in ps) symbol p.entry few) refl
+    let entries : entries_in (set ps (row * MAX_SYMBOLS + symbol) p) ≡ set (entries_in ps) (row * MAX_SYMBOLS + symbol) (entry_in p) = map-set entry_in ps (row * MAX_SYMBOLS + symbol) p in
+    rw (entries, rows-set MAX_SYMBOLS row symbols (entries_in ps) symbol (entry_in p) few) refl
 
 -- one more row of a table
 pub table_grows : (old new : List Slot) (row symbols : ℕ) (gs : List (List Entry)) → row < length gs → table_in row symbols old ≡ take row gs → table_in row symbols new ≡ table_in row symbols old → take symbols (drop (row * MAX_SYMBOLS) (entries_in new)) ≡ get_or gs row [] → table_in (row + 1) symbols new ≡ take (row + 1) gs

@@ -1,6 +1,6 @@
 -- A table that stands row by row in a flat list.
 use Rattle.std.proofs.Common.{◌≡◌, ℕ, zero, suc, ◌+◌, ◌*◌, ◌<◌, ◌≤◌, List, [], ◌∷◌, ◌++◌, length, take, drop, get_or, set, refl, sym, ◌∙◌, ap, subst, zero-mul, arith}
-use Rattle.std.proofs.lemmas.List.{length-drop, take-set-le, drop-set-add, drop-drop, take_more_set, get_or-take, get_or-drop}
+use Rattle.std.proofs.lemmas.List.{length-drop, take-set-le, drop-set-add, drop-drop, take_more_set, get_or-take, get_or-drop, get_or_default}
 use Rattle.std.specs.Prelude.{map}
 use Rattle.std.proofs.lemmas.List.Elements.{All-from_recursion}
 use Rattle.bb_machine.specs.declared.machine.TheConstants.{MAX_SYMBOLS}
@@ -9,7 +9,7 @@ use Rattle.bb_machine.specs.declared.entry.Entry.{Entry}
 use Rattle.bb_machine.specs.declared.entry.Entry.TheVariants.{Undefined}
 use Rattle.bb_machine.specs.Entry.{IsEntryOf}
 use Rattle.bb_machine.specs.Machine.{symbols_of, entry_of, IsGroup, IsMachineWithin}
-use Rattle.bb_machine.specs.Rows.{rows, entries_in, table_in, IsTable}
+use Rattle.bb_machine.specs.Rows.{rows, entry_in, entries_in, table_in, IsTable}
 
 module _ {X : Type 0} where
   -- a write past the rows
@@ -52,13 +52,14 @@ get_or-map f (x ∷ xs) zero d = refl
 get_or-map f (x ∷ xs) (suc i) d = get_or-map f xs i d
 
 -- the entry of a table, where it stands
-pub entry_of-table_in : (n k : ℕ) (ps : List Slot) (gs : List (List Entry)) (q i : ℕ) (d : Slot) → d.entry ≡ Undefined → table_in n k ps ≡ gs → IsTable n k (table_in n k ps) → q < length gs → i < symbols_of gs → (get_or ps (q * MAX_SYMBOLS + i) d).entry ≡ entry_of gs q i
-entry_of-table_in n k ps gs q i d blank is table below inside =
+pub entry_of-table_in : (n k : ℕ) (ps : List Slot) (gs : List (List Entry)) (q i : ℕ) (d : Slot) → table_in n k ps ≡ gs → IsTable n k (table_in n k ps) → q < length gs → i < symbols_of gs → entry_in (get_or ps (q * MAX_SYMBOLS + i) d) ≡ entry_of gs q i
+entry_of-table_in n k ps gs q i d is table below inside =
+    let group : IsGroup (length gs) (symbols_of gs) (get_or gs q []) = All-from_recursion (IsGroup (length gs) (symbols_of gs)) gs (rw is at table.machine.groups) q [] below in
     let states : length gs ≡ n = subst (λ (x : List (List Entry)). length x ≡ n) is table.states_is in
     let symbols : symbols_of gs ≡ k = subst (λ (x : List (List Entry)). symbols_of x ≡ k) is table.symbols_is in
-    let there : entry_of (table_in n k ps) q i ≡ get_or (entries_in ps) (q * MAX_SYMBOLS + i) Undefined = row-get MAX_SYMBOLS n k (entries_in ps) q i Undefined (omega arith) (omega arith) in
-    let offset : get_or (entries_in ps) (q * MAX_SYMBOLS + i) d.entry ≡ (get_or ps (q * MAX_SYMBOLS + i) d).entry = get_or-map (λ (p : Slot). p.entry) ps (q * MAX_SYMBOLS + i) d in
-    sym offset ∙ (ap (λ e. get_or (entries_in ps) (q * MAX_SYMBOLS + i) e) blank ∙ (sym there ∙ ap (λ (x : List (List Entry)). entry_of x q i) is))
+    let there : get_or (get_or (table_in n k ps) q []) i (entry_in d) ≡ get_or (entries_in ps) (q * MAX_SYMBOLS + i) (entry_in d) = row-get MAX_SYMBOLS n k (entries_in ps) q i (entry_in d) (omega arith) (omega arith) in
+    let offset : get_or (entries_in ps) (q * MAX_SYMBOLS + i) (entry_in d) ≡ entry_in (get_or ps (q * MAX_SYMBOLS + i) d) = get_or-map entry_in ps (q * MAX_SYMBOLS + i) d in
+    sym offset ∙ (sym there ∙ (ap (λ (x : List (List Entry)). get_or (get_or x q []) i (entry_in d)) is ∙ get_or_default (get_or gs q []) i (entry_in d) Undefined (omega (arith, group.full))))
 
 -- each entry of a machine's table names its states and symbols
 pub entry_named : (s k : ℕ) (gs : List (List Entry)) (q i : ℕ) → IsMachineWithin s k gs → q < length gs → i < symbols_of gs → IsEntryOf (length gs) (symbols_of gs) (entry_of gs q i)

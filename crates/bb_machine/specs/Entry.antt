@@ -1,13 +1,14 @@
 -- The text of an entry of a machine's table, and which entries a machine may have. The form of the
 -- text is bbchallenge's standard text format for Turing machines; that `---` is an undefined
 -- transition and that `Z` alone halts is this project's choice.
-use Rattle.std.specs.Prelude.{ℕ, ◌+◌, ◌<◌, List, [], ◌∷◌}
+use Rattle.std.specs.Prelude.{ℕ, ◌+◌, ◌<◌, List, [], ◌∷◌, Option, Some, None, ℤ, pos, neg_ℤ}
 use Rattle.bb_machine.specs.declared.entry.Dir.{Dir}
 use Rattle.bb_machine.specs.declared.entry.Dir.TheVariants.{L, R}
 use Rattle.bb_machine.specs.declared.entry.Next.{Next}
 use Rattle.bb_machine.specs.declared.entry.Next.TheVariants.{State, Halt}
 use Rattle.bb_machine.specs.declared.entry.Entry.{Entry}
 use Rattle.bb_machine.specs.declared.entry.Entry.TheVariants.{Undefined, Go}
+use Rattle.bb_machine.specs.declared.machine.Step.{Step}
 
 -- `L` or `R`
 abbrev pub dir_letter : Dir → ℕ
@@ -33,3 +34,14 @@ IsNextOf states Halt = Unit {0}
 abbrev pub IsEntryOf : ℕ → ℕ → Entry → Type 0
 IsEntryOf states symbols Undefined = Unit {0}
 IsEntryOf states symbols (Go write dir next) = (write < symbols) × IsNextOf states next
+
+-- a direction as a number: -1 or 1
+abbrev pub offset_of : Dir → ℤ
+offset_of L = neg_ℤ (pos 1)
+offset_of R = pos 1
+
+-- what an entry that goes to a state does: its symbol, its direction as a number, its state; none for other entries
+abbrev pub step_of : Entry → Option Step
+step_of Undefined = None
+step_of (Go write dir (State state)) = Some (record { write = write; offset = offset_of dir; state = state })
+step_of (Go write dir Halt) = None

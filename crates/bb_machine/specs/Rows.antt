@@ -1,8 +1,14 @@
 -- How a table stands in a flat list: each row at a multiple of the stride, in its first slots.
-use Rattle.std.specs.Prelude.{◌≡◌, ℕ, zero, suc, List, [], ◌∷◌, length, map, take, drop}
+use Rattle.std.specs.Prelude.{◌≡◌, ℕ, zero, suc, List, [], ◌∷◌, length, map, take, drop, ℤ, pos, negsuc}
 use Rattle.bb_machine.specs.declared.machine.TheConstants.{MAX_SYMBOLS}
+use Rattle.bb_machine.specs.declared.machine.Kind.{Kind}
+use Rattle.bb_machine.specs.declared.machine.Kind.TheVariants as kind
 use Rattle.bb_machine.specs.declared.machine.Slot.{Slot}
+use Rattle.bb_machine.specs.declared.entry.Dir.{Dir}
+use Rattle.bb_machine.specs.declared.entry.Dir.TheVariants.{L, R}
+use Rattle.bb_machine.specs.declared.entry.Next.TheVariants.{State, Halt}
 use Rattle.bb_machine.specs.declared.entry.Entry.{Entry}
+use Rattle.bb_machine.specs.declared.entry.Entry.TheVariants.{Undefined, Go}
 use Rattle.bb_machine.specs.Machine.{IsMachine, symbols_of}
 
 -- the first `width` elements of each of the first `count` rows
@@ -10,8 +16,23 @@ abbrev pub rows : {X : Type 0} → ℕ → ℕ → ℕ → List X → List (List
 rows stride zero width xs = []
 rows stride (suc count) width xs = take width xs ∷ rows stride count width (drop stride xs)
 
+-- left is below 0
+abbrev pub direction : ℤ → Dir
+direction (pos n) = R
+direction (negsuc n) = L
+
+-- the entry of a kind, with what it writes, where it moves and the state that it goes to, if it does
+abbrev pub entry_of_kind : Kind → ℕ → ℤ → ℕ → Entry
+entry_of_kind kind.Undefined write offset state = Undefined
+entry_of_kind kind.State write offset state = Go write (direction offset) (State state)
+entry_of_kind kind.Halt write offset state = Go write (direction offset) Halt
+
+-- the entry in a slot
+abbrev pub entry_in : Slot → Entry
+entry_in slot = entry_of_kind slot.kind slot.write slot.offset slot.state
+
 abbrev pub entries_in : List Slot → List Entry
-entries_in slots = map (λ p. p.entry) slots
+entries_in slots = map entry_in slots
 
 -- the table of so many states and symbols that stands in the slots
 abbrev pub table_in : ℕ → ℕ → List Slot → List (List Entry)

@@ -12,4 +12,4 @@ mod tests;
 
 pub use entry::{Dir, Entry, Next};
 pub use limits::{LimitFault, Limits};
-pub use machine::{LINE, MAX_STATES, MAX_SYMBOLS, Machine, Refused};
+pub use machine::{LINE, MAX_STATES, MAX_SYMBOLS, Machine, Refused, Step};

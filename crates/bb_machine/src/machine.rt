@@ -1,11 +1,12 @@
 //! A machine: its table of entries, and the line that is its text.
 ghost use Rattle.std.specs.Prelude.{◌≡◌, ℕ, ◌+◌, ◌*◌, ◌≤◌, ◌<◌, List, ◌++◌, length, IfOk, IfErr, Ok};
+ghost use Rattle.std.specs.Int.RustNames.{unsigned_abs};
 ghost use Rattle.arrayvec.specs.ArrayVec.{array_vec_len};
 
 mod reader;
 mod writer;
 
-use crate::entry::Entry;
+use crate::entry::{Dir, Entry, Next};
 use arrayvec::ArrayVec;
 use reader::read_prefix;
 use std::marker::Model;
@@ -30,12 +31,107 @@ pub struct Refused {
     pub column: u32,
 }
 
-/// An entry where it stands in a table. It fills eight bytes, since a step of a run then finds it
-/// without a multiplication.
+/// What the entry in a slot is: undefined, or one that goes to a state or to Z.
+#[derive(Clone, Copy)]
+enum Kind {
+    Undefined,
+    State,
+    Halt,
+}
+
+/// An entry where it stands in a table, in four bytes: a step of a run then finds it without a
+/// multiplication, tests one byte of it, and finds the next position by one addition. The other bytes
+/// of an undefined entry, and the state of one that goes to Z, are of no account.
 #[derive(Clone, Copy)]
 struct Slot {
-    entry: Entry,
-    _padding: [u8; 3],
+    kind: Kind,
+    write: u8,
+    offset: i8,
+    state: u8,
+    ghost one_cell: { unsigned_abs offset ≡ 1 },
+}
+
+impl Slot {
+    ghost use Rattle.bb_machine.specs.declared.entry.Entry.{Entry};
+    ghost use Rattle.bb_machine.specs.Entry.{step_of};
+    ghost use Rattle.bb_machine.specs.Rows.{entry_in};
+
+    fn undefined() -> Slot
+        ensures { entry_in result ≡ Entry.Undefined }
+    {
+        Slot {
+            kind: Kind::Undefined,
+            write: 0,
+            offset: 1,
+            state: 0,
+        }
+    }
+
+    fn new(entry: Entry) -> Slot
+        ensures { entry_in result ≡ entry }
+    {
+        let Entry::Go { write, dir, next } = entry else {
+            return Slot::undefined();
+        };
+        let offset = match dir {
+            Dir::L => -1,
+            Dir::R => 1,
+        };
+        let (kind, state) = match next {
+            Next::State(state) => (Kind::State, state),
+            Next::Halt => (Kind::Halt, 0),
+        };
+        Slot {
+            kind,
+            write,
+            offset,
+            state,
+        }
+    }
+
+    /// The entry in the slot. It takes `&self`, so that after `Machine::step` the kind isn't read again.
+    #[inline]
+    fn entry(&self) -> Entry
+        ensures { result ≡ entry_in self.now }
+    {
+        let dir = if self.offset < 0 { Dir::L } else { Dir::R };
+        match self.kind {
+            Kind::Undefined => Entry::Undefined,
+            Kind::State => Entry::Go {
+                write: self.write,
+                dir,
+                next: Next::State(self.state),
+            },
+            Kind::Halt => Entry::Go {
+                write: self.write,
+                dir,
+                next: Next::Halt,
+            },
+        }
+    }
+
+    #[inline]
+    fn step(&self) -> Option<Step>
+        ensures { result ≡ step_of (entry_in self.now) }
+    {
+        match self.kind {
+            Kind::State => Some(Step {
+                write: self.write,
+                offset: self.offset,
+                state: self.state,
+            }),
+            Kind::Undefined | Kind::Halt => None,
+        }
+    }
+}
+
+/// What an entry that goes to a state does: it writes a symbol, moves by the offset, which is -1 or 1,
+/// and goes to the state.
+#[derive(Clone, Copy, Debug, PartialEq, Eq)]
+pub struct Step {
+    pub write: u8,
+    pub offset: i8,
+    pub state: u8,
 }
 
 /// A Turing machine. Its table stands row by row in an array, each row at a multiple of
@@ -61,7 +157,7 @@ impl Model for Machine {
 
 impl Machine {
     ghost use Rattle.bb_machine.specs.declared.entry.Entry.{Entry};
-    ghost use Rattle.bb_machine.specs.Entry.{IsEntryOf};
+    ghost use Rattle.bb_machine.specs.Entry.{IsEntryOf, step_of};
     ghost use Rattle.bb_machine.specs.Machine.{Table, IsMachine, symbols_of, entry_of, text};
     ghost use Rattle.bb_machine.specs.Column.{IsColumn};
 
@@ -106,7 +202,20 @@ impl Machine {
         ensures named { IsEntryOf (length self.now) (symbols_of self.now) result }
         ensures machine { IsMachine self.now }
     {
-        self.slots[state as usize * MAX_SYMBOLS + symbol as usize].entry
+        self.slots[state as usize * MAX_SYMBOLS + symbol as usize].entry()
+    }
+
+    /// What the entry for a state and a symbol does, where it goes to a state; none where it is
+    /// undefined or goes to Z.
+    #[inline]
+    pub fn step(&self, state: u8, symbol: u8) -> Option<Step>
+        requires in_states { state < length self.now }
+        requires in_symbols { symbol < symbols_of self.now }
+        ensures value { result ≡ step_of (entry_of self.now state symbol) }
+        ensures named { IsEntryOf (length self.now) (symbols_of self.now) (entry_of self.now state symbol) }
+        ensures machine { IsMachine self.now }
+    {
+        self.slots[state as usize * MAX_SYMBOLS + symbol as usize].step()
     }
 
     /// How many states the machine has, the halting state not counted.

@@ -1,7 +1,7 @@
 //! Worked lines, and a comparison with a second reader that only tries each prefix of a line.
 ghost use Rattle.std.specs.Prelude.{◌≤◌};
 
-use crate::{Dir, Entry, LimitFault, Limits, MAX_STATES, MAX_SYMBOLS, Machine, Next};
+use crate::{Dir, Entry, LimitFault, Limits, MAX_STATES, MAX_SYMBOLS, Machine, Next, Step};
 use arrayvec::ArrayVec;
 use std::test::Fail;
 
@@ -161,6 +161,13 @@ fn entries_are_the_table(rt: HostRuntime) -> Result<(), Fail> {
     };
     assert_eq!(rt; machine.entry(0, 1), to_c);
     assert_eq!(rt; machine.entry(4, 0), to_halt);
+    let step = Step {
+        write: 1,
+        offset: -1,
+        state: 2,
+    };
+    assert_eq!(rt; machine.step(0, 1), Some(step));
+    assert_eq!(rt; machine.step(4, 0), None);
     Ok(())
 }
 

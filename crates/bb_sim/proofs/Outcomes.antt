@@ -108,7 +108,7 @@ span_fits table runner strip stands sound =
     let b = sound.to_zero in
     let d = sound.within in
     let n = cells_between-is strip.low strip.high (omega (arith, ints)) in
-    let e : span table runner.steps ≡ cells_between strip.low strip.high = rw (stands.window_low, stands.window_high, stands.low, stands.high) refl in
+    let e : span table runner.steps ≡ cells_between strip.low strip.high = rw (stands.window_low ∙ stands.low, stands.window_high ∙ stands.high) refl in
     omega (arith, ints, e)
 
 pub inside_here : (table : Table) (runner : Runner) (strip : Strip) (bounds : Bounds) → Stands table runner strip → IsSound strip → strip.limit ≡ bounds.cells → runner.steps ≤ bounds.steps → Inside table bounds runner.steps

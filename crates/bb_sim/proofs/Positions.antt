@@ -1,5 +1,5 @@
 -- Facts on the least and greatest positions of a run, over the definitions alone.
-use Rattle.std.proofs.Common.{◌≡◌, ℕ, zero, suc, ◌+◌, ◌≤◌, ℤ, pos, negsuc, ◌+ℤ◌, ◌-ℤ◌, ◌≤ℤ◌, refl, add-one, arith}
+use Rattle.std.proofs.Common.{◌≡◌, ℕ, zero, suc, ◌+◌, ◌<◌, ◌≤◌, ℤ, pos, negsuc, ◌+ℤ◌, ◌-ℤ◌, ◌≤ℤ◌, refl, add-one, arith}
 use Rattle.std.specs.Int.{int_min, int_max}
 use Rattle.std.specs.Int.RustNames.{unsigned_abs}
 use Rattle.std.proofs.lemmas.Int.{ints, clamps}
@@ -51,3 +51,7 @@ cells_between_wider low high low' high' h l g =
     let a = cells_between-is low high h in
     let b = cells_between-is low' high' (omega (arith, ints)) in
     omega (arith, ints)
+
+-- a window that is told by its low end and its number of positions
+pub cells_between-count : (low : ℤ) (cells : ℕ) → 0 < cells → cells_between low ((low +ℤ pos cells) -ℤ pos 1) ≡ cells
+cells_between-count low cells some = let e = cells_between-is low ((low +ℤ pos cells) -ℤ pos 1) (omega (arith, ints)) in omega (arith, ints, e)

@@ -1,5 +1,5 @@
 -- What follows for a runner from where it stands.
-use Rattle.std.proofs.Common.{◌≡◌, ◌≢◌, ℕ, ◌<◌, ◌≤◌, Some, ℤ, pos, neg_ℤ, ◌<ℤ◌, ◌≤ℤ◌, refl, ap, sym, ◌∙◌, arith}
+use Rattle.std.proofs.Common.{◌≡◌, ◌≢◌, ℕ, ◌+◌, ◌<◌, ◌≤◌, Some, ℤ, pos, negsuc, neg_ℤ, ◌+ℤ◌, ◌-ℤ◌, ◌<ℤ◌, ◌≤ℤ◌, w64, of_z, refl, ap, sym, ◌∙◌, arith}
 use Rattle.std.specs.Int.{int_min, int_max}
 use Rattle.std.proofs.lemmas.Int.{ints, clamps}
 use Rattle.bb_machine.specs.declared.entry.Dir.{Dir}
@@ -15,21 +15,25 @@ use Rattle.bb_sim.specs.declared.runner.Runner.{Runner}
 use Rattle.bb_sim.specs.Configuration.{beside}
 use Rattle.bb_sim.specs.CellsBetween.{cells_between}
 use Rattle.bb_sim.specs.Span.{counted_position, counted_head}
-use Rattle.bb_sim.specs.Runner.{Stands}
+use Rattle.bb_sim.specs.Runner.{Stands, state_of, position_of, steps_of, low_of, high_of}
 use Rattle.bb_sim.proofs.Positions.{least_last, greatest_last, cells_between-is, min-same, max-same}
 use Rattle.bb_sim.proofs.Steps.{conf-start, counted_head-start, counted_head-at}
 
 -- a fresh tape has a runner at its start
-pub at_start : (table : Table) (strip : Strip) (limit : ℕ) → IsMachine table → strip ≡ fresh limit → Stands table (record { state = State 0; position = pos 0; steps = 0; low = pos 0; high = pos 0 }) strip
-at_start table strip limit machine is = record {
-  at = conf-start table ∙ ap (λ (s : Strip). Some (record { state = State 0; head = pos 0; tape = s.content })) (sym is);
-  low = sym (counted_head-start table);
-  high = sym (counted_head-start table);
-  window_low = ap (λ (s : Strip). s.low) is;
-  window_high = ap (λ (s : Strip). s.high) is;
-  state_named = machine.some_state;
-  symbols_named = λ p. let none : cell strip.content p ≡ 0 = ap (λ (s : Strip). cell s.content p) is ∙ cell-blank p in omega (arith, machine.two_symbols, none);
-}
+pub at_start : (table : Table) (strip : Strip) (limit : ℕ) (runner : Runner) → IsMachine table → strip ≡ fresh limit
+    → state_of runner ≡ State 0 → position_of runner ≡ pos 0 → steps_of runner ≡ 0 → low_of runner ≡ pos 0 → high_of runner ≡ pos 0
+    → Stands table runner strip
+at_start table strip limit runner machine is state head steps low high =
+    let content = ap (λ (s : Strip). s.content) is in
+    record {
+      at = rw (steps, state, head, content) (conf-start table);
+      low = rw (steps, low) (sym (counted_head-start table));
+      high = rw steps (high ∙ sym (counted_head-start table));
+      window_low = ap (λ (s : Strip). s.low) is ∙ sym low;
+      window_high = ap (λ (s : Strip). s.high) is ∙ sym high;
+      state_named = rw state machine.some_state;
+      symbols_named = λ p. let none : cell strip.content p ≡ 0 = ap (λ (s : Strip). cell s.content p) is ∙ cell-blank p in omega (arith, machine.two_symbols, none);
+    }
 
 counted_running : (state : Next) (head : ℤ) → state ≢ Halt → counted_position state head ≡ head
 counted_running (State q) head running = refl
@@ -80,16 +84,6 @@ near_head table runner strip dir stands running sound =
     let here = head_inside table runner strip stands running in
     record { here = here; near = beside_inside strip runner.position dir here; small = small_position strip runner.position sound here }
 
--- the runner with a wider window
-abbrev pub widened : Runner → ℤ → Runner
-widened runner position = record runner { low = int_min runner.low position; high = int_max runner.high position }
-
-pub widened-same : (runner : Runner) (low high : ℤ) (position : ℤ) → low ≡ int_min runner.low position → high ≡ int_max runner.high position → record runner { low = low; high = high } ≡ widened runner position
-widened-same runner low high position l h = ap (λ (ends : ℤ × ℤ). record runner { low = ends.0; high = ends.1 }) (cc (l, h))
-
-pub widened-inside : (runner : Runner) (position : ℤ) → runner.low ≤ℤ position → position ≤ℤ runner.high → runner ≡ widened runner position
-widened-inside runner position l h = widened-same runner runner.low runner.high position (sym (min-same runner.low position l)) (sym (max-same runner.high position h))
-
 -- a position of the window needs no more cells
 pub inside_fits : (strip : Strip) (p : ℤ) → IsSound strip → IsInside strip p → cells_between (int_min strip.low p) (int_max strip.high p) ≤ strip.limit
 inside_fits strip p sound inside =
@@ -108,16 +102,77 @@ width-cells_between strip p sound =
     let b = sound.to_zero in
     sym (cells_between-is (int_min strip.low p) (int_max strip.high p) (omega (arith, ints, clamps)))
 
-pub visit_fits : (strip : Strip) (p : ℤ) → IsSound strip → (pos strip.limit <ℤ width (visited strip p) → ⊥) → cells_between (int_min strip.low p) (int_max strip.high p) ≤ strip.limit
-visit_fits strip p sound refused =
-    let e = width-cells_between strip p sound in
-    let m : ℕ = cells_between (int_min strip.low p) (int_max strip.high p) in
-    not_below strip.limit m (λ h. refused (rw e (omega (arith, ints, h)))) where
-      not_below : (l m : ℕ) → (l < m → ⊥) → m ≤ l
-      not_below l m never = omega (arith, never)
+-- a window told by its low end and its number of cells, and a position in it or next to it
+module _ (runner : Runner) (strip : Strip) (p : ℤ) (sound : IsSound strip) (low : strip.low ≡ low_of runner) (high : strip.high ≡ high_of runner) where
+  above : (l m : ℕ) → (m ≤ l → ⊥) → l < m
+  above l m never = omega (arith, never)
 
-pub visit_refused : (strip : Strip) (p : ℤ) → IsSound strip → pos strip.limit <ℤ width (visited strip p) → strip.limit < cells_between (int_min strip.low p) (int_max strip.high p)
-visit_refused strip p sound h =
-    let e = width-cells_between strip p sound in
-    let k = rw e at h in
-    omega (arith, ints, k)
+  -- with as many cells as the limit there is no room for a position outside it
+  pub full_window : ((low_of runner ≤ℤ p) × (p ≤ℤ high_of runner) → ⊥) → runner.cells ≡ strip.limit → strip.limit < cells_between (int_min strip.low p) (int_max strip.high p)
+  full_window outside same =
+      let a = sound.from_zero in
+      let b = sound.to_zero in
+      let e = cells_between-is (int_min strip.low p) (int_max strip.high p) (omega (arith, ints, clamps)) in
+      above _ _ (λ h. outside (omega (arith, ints, clamps, h, e, same), omega (arith, ints, clamps, h, e, same)))
+
+  -- with fewer there is
+  pub room_left : runner.cells ≢ strip.limit → width strip <ℤ pos strip.limit
+  room_left apart = let d = sound.within in omega (arith, ints, apart)
+
+  -- and so for a position next to it
+  pub fits_next : runner.cells ≢ strip.limit → IsBeside strip p → cells_between (int_min strip.low p) (int_max strip.high p) ≤ strip.limit
+  fits_next apart near =
+      let a = sound.from_zero in
+      let b = sound.to_zero in
+      let d = room_left apart in
+      let near_low = near.0 in
+      let near_high = near.1 in
+      let e = cells_between-is (int_min strip.low p) (int_max strip.high p) (omega (arith, ints, clamps)) in
+      omega (arith, ints, clamps, e)
+
+  -- what the wider window's cells and its low end keep to
+  pub few_grown : runner.cells ≢ strip.limit → runner.cells + 1 ≤ MOST_CELLS
+  few_grown apart =
+      let d = room_left apart in
+      let e = sound.limited in
+      omega (arith, ints)
+
+  pub low_grown : runner.cells ≢ strip.limit → IsBeside strip p → neg_ℤ (pos MOST_CELLS) ≤ℤ p
+  low_grown apart near =
+      let b = sound.to_zero in
+      let d = room_left apart in
+      let e = sound.limited in
+      let near_low = near.0 in
+      omega (arith, ints)
+
+  -- a position next to it that isn't below it is above it
+  pub next_above : ((low_of runner ≤ℤ p) × (p ≤ℤ high_of runner) → ⊥) → IsBeside strip p → low_of runner ≤ℤ p → p ≡ strip.high +ℤ pos 1
+  next_above outside near at = let near_high = near.1 in not_inside (λ h. outside (at, h)) near_high where
+    not_inside : (p ≤ℤ high_of runner → ⊥) → p ≤ℤ (strip.high +ℤ pos 1) → p ≡ strip.high +ℤ pos 1
+    not_inside never most = grind (arith, ints, never)
+
+-- the ends of a window that has grown by one cell
+pub low_grows : (low p : ℤ) → p <ℤ low → p ≡ int_min low p
+low_grows low p below = omega (arith, ints, clamps)
+
+pub high_stays : (low p : ℤ) (cells : ℕ) → 0 < cells → p <ℤ low → low ≤ℤ (p +ℤ pos 1) → (p +ℤ pos (cells + 1)) -ℤ pos 1 ≡ int_max ((low +ℤ pos cells) -ℤ pos 1) p
+high_stays low p cells some below near = omega (arith, ints, clamps)
+
+pub low_stays : (low p : ℤ) (cells : ℕ) → p ≡ ((low +ℤ pos cells) -ℤ pos 1) +ℤ pos 1 → low ≡ int_min low p
+low_stays low p cells next = omega (arith, ints, clamps)
+
+pub high_grows : (low p : ℤ) (cells : ℕ) → p ≡ ((low +ℤ pos cells) -ℤ pos 1) +ℤ pos 1 → (low +ℤ pos (cells + 1)) -ℤ pos 1 ≡ int_max ((low +ℤ pos cells) -ℤ pos 1) p
+high_grows low p cells next = omega (arith, ints, clamps)
+
+-- one test without a sign tells whether a difference that is at least -1 is in a window
+unsigned_below : (d : ℤ) (cells : ℕ) → cells ≤ MOST_CELLS → neg_ℤ (pos 1) ≤ℤ d
+    → (of_z w64 d < cells → (pos 0 ≤ℤ d) × (d <ℤ pos cells)) × ((pos 0 ≤ℤ d) × (d <ℤ pos cells) → of_z w64 d < cells)
+unsigned_below (pos n) cells few least = (λ h. (omega (arith, ints), omega (arith, ints, h)), λ h. omega (arith, ints, h.1))
+unsigned_below (negsuc n) cells few least = (λ h. absurd (omega (arith, ints, few, least, h)), λ h. absurd (omega (arith, ints, h.0)))
+
+pub inside_test : (low p : ℤ) (cells : ℕ) → cells ≤ MOST_CELLS → low ≤ℤ (p +ℤ pos 1)
+    → (of_z w64 (p -ℤ low) < cells → (low ≤ℤ p) × (p ≤ℤ ((low +ℤ pos cells) -ℤ pos 1))) × ((low ≤ℤ p) × (p ≤ℤ ((low +ℤ pos cells) -ℤ pos 1)) → of_z w64 (p -ℤ low) < cells)
+inside_test low p cells few near =
+    let test = unsigned_below (p -ℤ low) cells few (omega (arith, ints, near)) in
+    (λ h. let inside = test.0 h in (omega (arith, ints, inside.0), omega (arith, ints, inside.1)),
+     λ h. test.1 (omega (arith, ints, h.0), omega (arith, ints, h.1)))

@@ -1,13 +1,17 @@
 -- A runner's step, from what it stands on to what it stands on next.
-use Rattle.std.proofs.Common.{◌≡◌, ◌≢◌, ℕ, ◌+◌, ◌<◌, ℤ, ◌≤ℤ◌, length, refl, ap, sym, ◌∙◌, arith}
+use Rattle.std.proofs.Common.{◌≡◌, ◌≢◌, ℕ, ◌+◌, ◌<◌, ◌≤◌, ℤ, ◌+ℤ◌, ◌≤ℤ◌, pos, Some, None, length, refl, ap, sym, ◌∙◌, arith}
 use Rattle.std.specs.Int.{int_min, int_max}
 use Rattle.std.proofs.lemmas.Int.{ints, clamps}
 use Rattle.bb_machine.specs.declared.entry.Dir.{Dir}
 use Rattle.bb_machine.specs.declared.entry.Next.{Next}
 use Rattle.bb_machine.specs.declared.entry.Next.TheVariants.{State, Halt}
 use Rattle.bb_machine.specs.declared.entry.Entry.TheVariants.{Undefined, Go}
-use Rattle.bb_machine.specs.Entry.{IsEntryOf}
-use Rattle.bb_machine.specs.Machine.{Table, symbols_of}
+use Rattle.bb_machine.specs.declared.entry.Entry.{Entry}
+use Rattle.bb_machine.specs.declared.entry.Dir.TheVariants.{L, R}
+use Rattle.bb_machine.specs.declared.machine.Step.{Step}
+use Rattle.bb_machine.specs.Limits.{Bounds}
+use Rattle.bb_machine.specs.Entry.{IsEntryOf, offset_of, step_of}
+use Rattle.bb_machine.specs.Machine.{Table, symbols_of, entry_of}
 use Rattle.bb_tape.specs.Content.{Content, cell, with_cell}
 use Rattle.bb_tape.specs.Strip.{Strip, visited, written, IsInside, IsBeside, IsSound}
 use Rattle.bb_tape.proofs.Facts.{cell-with_cell-same, cell-with_cell-other, by_position}
@@ -16,10 +20,15 @@ use Rattle.bb_sim.specs.Configuration.{beside, entry_at}
 use Rattle.bb_sim.specs.Run.{HaltsAt}
 use Rattle.bb_sim.specs.CellsBetween.{cells_between}
 use Rattle.bb_sim.specs.Span.{counted_position, counted_head, span}
-use Rattle.bb_sim.specs.Runner.{Stands}
-use Rattle.bb_sim.proofs.Positions.{least-next, greatest-next}
+use Rattle.bb_sim.specs.Runner.{Stands, Answers, Moves, Reaches, state_of, position_of, steps_of, low_of, high_of}
+use Rattle.bb_sim.specs.Widening.{GoesNowhere, IsWidened, StepsTo}
+use Rattle.bb_sim.specs.Meter.{stepped}
+use Rattle.bb_sim.specs.declared.meter.Meter.{Meter}
+use Rattle.bb_sim.specs.declared.runner.Moved.TheVariants as moved
+use Rattle.bb_sim.proofs.Positions.{least-next, greatest-next, min-same, max-same}
 use Rattle.bb_sim.proofs.Steps.{counted_head-at, halts_here, conf-next, goes_on, span-next}
-use Rattle.bb_sim.proofs.Standing.{widened}
+use Rattle.bb_sim.proofs.Standing.{near_head, inside_fits, inside_stays}
+use Rattle.bb_sim.proofs.Outcomes.{inside_here, next_inside}
 
 no_entry_in_Z : (table : Table) (state : Next) (symbol : ℕ) (write : ℕ) (dir : Dir) (next : Next) → Go write dir next ≡ entry_at table state symbol → state ≢ Halt
 no_entry_in_Z table (State q) symbol write dir next here = λ e. cc
@@ -32,42 +41,6 @@ symbols_stay content head write symbols small all p =
     by_position p head _
     (λ e. least _ (rw e (cell-with_cell-same content head write)))
     (λ ne. let same = cell-with_cell-other content head write p ne in omega (arith, same, all p))
-
-module _ (table : Table) (old : Runner) (strip : Strip) (stands : Stands table old strip) where
-  pub halts_undefined : Undefined ≡ entry_at table old.state (cell strip.content old.position) → HaltsAt table old.steps
-  halts_undefined here = halts_here table old.steps _ stands.at (sym here)
-
-module _ (table : Table) (old : Runner) (strip : Strip) (write : ℕ) (dir : Dir) (next : Next) (stands : Stands table old strip) (here : Go write dir next ≡ entry_at table old.state (cell strip.content old.position)) where
-  pub running : old.state ≢ Halt
-  running = no_entry_in_Z table old.state _ write dir next here
-
-  pub moves_on : HaltsAt table old.steps → ⊥
-  moves_on = goes_on table old.steps _ stands.at write dir next (sym here)
-
-  pub next-counted_head : counted_head table (old.steps + 1) ≡ counted_position next (beside dir old.position)
-  next-counted_head = counted_head-at table (old.steps + 1) _ (conf-next table old.steps _ stands.at write dir next (sym here))
-
-  pub next-span : span table (old.steps + 1) ≡ cells_between (int_min strip.low (counted_position next (beside dir old.position))) (int_max strip.high (counted_position next (beside dir old.position)))
-  next-span = span-next table old.steps ∙ rw (next-counted_head, stands.window_low, stands.window_high, stands.low, stands.high) refl
-
-  pub stands_next : (mid : Runner) (strip_mid strip_new : Strip) (q : ℤ) → IsEntryOf (length table) (symbols_of table) (Go write dir next) → q ≡ beside dir old.position
-      → mid ≡ widened old (counted_position next (beside dir old.position)) → strip_mid ≡ visited strip (counted_position next (beside dir old.position)) → strip_new ≡ written strip_mid old.position write
-      → Stands table (record { state = next; position = q; steps = mid.steps + 1; low = mid.low; high = mid.high }) strip_new
-  stands_next mid strip_mid strip_new q named position mid_is visited_is written_is =
-      let steps : mid.steps ≡ old.steps = ap (λ (r : Runner). r.steps) mid_is in
-      let content : strip_new.content ≡ with_cell strip.content old.position write = ap (λ (s : Strip). s.content) written_is ∙ ap (λ (s : Strip). with_cell s.content old.position write) visited_is in
-      let low : mid.low ≡ int_min old.low (counted_position next (beside dir old.position)) = ap (λ (r : Runner). r.low) mid_is in
-      let high : mid.high ≡ int_max old.high (counted_position next (beside dir old.position)) = ap (λ (r : Runner). r.high) mid_is in
-      let at = conf-next table old.steps _ stands.at write dir next (sym here) in
-      record {
-        at = rw (steps, content, position) at;
-        low = rw (steps, low, least-next, next-counted_head, stands.low) refl;
-        high = rw (steps, high, greatest-next, next-counted_head, stands.high) refl;
-        window_low = ap (λ (s : Strip). s.low) written_is ∙ ap (λ (s : Strip). s.low) visited_is ∙ rw (low, stands.window_low) refl;
-        window_high = ap (λ (s : Strip). s.high) written_is ∙ ap (λ (s : Strip). s.high) visited_is ∙ rw (high, stands.window_high) refl;
-        state_named = named.1;
-        symbols_named = λ p. rw content (symbols_stay strip.content old.position write (symbols_of table) named.0 stands.symbols_named p);
-      }
 
 -- a wider window has the positions of the old one
 pub inside_visited : (strip wider : Strip) (position p : ℤ) → wider ≡ visited strip position → IsInside strip p → IsInside wider p
@@ -84,14 +57,8 @@ beside_visited strip wider new position at p symbol is written_is near =
     let high : new.high ≡ int_max strip.high position = ap (λ (s : Strip). s.high) written_is ∙ ap (λ (s : Strip). s.high) is in
     (omega (arith, ints, clamps, low, near.0), omega (arith, ints, clamps, high, near.1))
 
--- a widened runner's window is in order
-pub widened_order : (old mid : Runner) (position : ℤ) → old.low ≤ℤ old.high → mid ≡ widened old position → mid.low ≤ℤ mid.high
-widened_order old mid position order is =
-    let low : mid.low ≡ int_min old.low position = ap (λ (r : Runner). r.low) is in
-    let high : mid.high ≡ int_max old.high position = ap (λ (r : Runner). r.high) is in
-    omega (arith, ints, clamps, low, high, order)
-
-pub order : (table : Table) (runner : Runner) (strip : Strip) → Stands table runner strip → IsSound strip → runner.low ≤ℤ runner.high
+-- a runner's window is in order
+pub order : (table : Table) (runner : Runner) (strip : Strip) → Stands table runner strip → IsSound strip → low_of runner ≤ℤ high_of runner
 order table runner strip stands sound =
     let a = sound.from_zero in
     let b = sound.to_zero in
@@ -99,6 +66,145 @@ order table runner strip stands sound =
     let h = stands.window_high in
     omega (arith, ints)
 
--- how many positions a widened runner's window has
-pub widened-cells_between : (old mid : Runner) (strip : Strip) (position : ℤ) → strip.low ≡ old.low → strip.high ≡ old.high → mid ≡ widened old position → cells_between mid.low mid.high ≡ cells_between (int_min strip.low position) (int_max strip.high position)
-widened-cells_between old mid strip position low high is = ap (λ (r : Runner). cells_between r.low r.high) is ∙ rw (low, high) refl
+module _ (table : Table) (old : Runner) (strip : Strip) (stands : Stands table old strip) where
+  pub halts_undefined : Undefined ≡ entry_at table old.state (cell strip.content old.position) → HaltsAt table old.steps
+  halts_undefined here = halts_here table old.steps _ stands.at (sym here)
+
+module _ (table : Table) (old : Runner) (strip : Strip) (write : ℕ) (dir : Dir) (next : Next) (stands : Stands table old strip) (here : Go write dir next ≡ entry_at table old.state (cell strip.content old.position)) where
+  pub running : old.state ≢ Halt
+  running = no_entry_in_Z table old.state _ write dir next here
+
+  pub moves_on : HaltsAt table old.steps → ⊥
+  moves_on = goes_on table old.steps _ stands.at write dir next (sym here)
+
+  pub next-counted_head : counted_head table (old.steps + 1) ≡ counted_position next (beside dir old.position)
+  next-counted_head = counted_head-at table (old.steps + 1) _ (conf-next table old.steps _ stands.at write dir next (sym here))
+
+  pub next-span : span table (old.steps + 1) ≡ cells_between (int_min strip.low (counted_position next (beside dir old.position))) (int_max strip.high (counted_position next (beside dir old.position)))
+  next-span = span-next table old.steps ∙ rw (next-counted_head, stands.window_low ∙ stands.low, stands.window_high ∙ stands.high) refl
+
+  -- the position that the step's end counts for
+  abbrev pub counts_for : ℤ
+  counts_for = counted_position next (beside dir old.position)
+
+  -- a runner and its tape after the step
+  pub record Stepped (new : Runner) (strip_new : Strip) : Type 0 where
+    pub state : state_of new ≡ next
+    pub head : position_of new ≡ beside dir old.position
+    pub steps : steps_of new ≡ old.steps + 1
+    pub low : low_of new ≡ int_min (low_of old) counts_for
+    pub high : high_of new ≡ int_max (high_of old) counts_for
+    pub tape : strip_new ≡ written (visited strip counts_for) old.position write
+
+  pub stands_next : (new : Runner) (strip_new : Strip) → IsEntryOf (length table) (symbols_of table) (Go write dir next) → Stepped new strip_new → Stands table new strip_new
+  stands_next new strip_new named is =
+      let content : strip_new.content ≡ with_cell strip.content old.position write = ap (λ (s : Strip). s.content) is.tape in
+      let at = conf-next table old.steps _ stands.at write dir next (sym here) in
+      record {
+        at = rw (is.steps, is.state, is.head, content) at;
+        low = rw (is.steps, least-next, next-counted_head) (is.low ∙ ap (λ l. int_min l counts_for) stands.low);
+        high = rw (is.steps, greatest-next, next-counted_head) (is.high ∙ ap (λ h. int_max h counts_for) stands.high);
+        window_low = ap (λ (s : Strip). s.low) is.tape ∙ ap (λ l. int_min l counts_for) stands.window_low ∙ sym is.low;
+        window_high = ap (λ (s : Strip). s.high) is.tape ∙ ap (λ h. int_max h counts_for) stands.window_high ∙ sym is.high;
+        state_named = rw is.state named.1;
+        symbols_named = λ p. rw content (symbols_stay strip.content old.position write (symbols_of table) named.0 stands.symbols_named p);
+      }
+
+  -- what is to be shown of a call that made the step
+  pub record Made (bounds : Bounds) (new : Runner) (strip_new : Strip) (meter_old meter_new : Meter) : Type 0 where
+    pub answers : Answers table bounds old.steps moved.Stepped
+    pub moves : Moves table old new strip strip_new meter_old meter_new moved.Stepped
+    pub reaches : Reaches table bounds new strip_new moved.Stepped
+    pub end : Stands table new strip_new
+
+  pub wanted : (bounds : Bounds) → old.steps ≢ bounds.steps → strip.limit ≡ bounds.cells → cells_between (int_min strip.low counts_for) (int_max strip.high counts_for) ≤ strip.limit → Answers table bounds old.steps moved.Stepped
+  wanted bounds apart limit fits = (moves_on, apart, let spans = next-span in omega (arith, spans, fits, limit))
+
+  pub made : (bounds : Bounds) (new : Runner) (strip_new : Strip) (meter_old meter_new : Meter) → IsSound strip → IsEntryOf (length table) (symbols_of table) (Go write dir next)
+      → strip.limit ≡ bounds.cells → old.steps ≤ bounds.steps → old.steps ≢ bounds.steps → cells_between (int_min strip.low counts_for) (int_max strip.high counts_for) ≤ strip.limit
+      → Stepped new strip_new → meter_new ≡ stepped meter_old (cells_between (low_of new) (high_of new)) → Made bounds new strip_new meter_old meter_new
+  made bounds new strip_new meter_old meter_new sound named limit few apart fits is counts =
+      let low : low_of new ≡ int_min strip.low counts_for = is.low ∙ ap (λ l. int_min l counts_for) (sym stands.window_low) in
+      let high : high_of new ≡ int_max strip.high counts_for = is.high ∙ ap (λ h. int_max h counts_for) (sym stands.window_high) in
+      let cells : cells_between (low_of new) (high_of new) ≡ span table (old.steps + 1) = ap (λ l. cells_between l (high_of new)) low ∙ ap (cells_between (int_min strip.low counts_for)) high ∙ sym next-span in
+      let answers = wanted bounds apart limit fits in
+      let inside = inside_here table old strip bounds stands sound limit few in
+      let near = near_head table old strip dir stands running sound in
+      let beside_is : IsBeside strip_new (beside dir old.position) = beside_visited strip (visited strip counts_for) strip_new counts_for old.position _ write refl is.tape near.near in
+      record {
+        answers = answers;
+        moves = (is.steps, counts ∙ ap (stepped meter_old) cells);
+        reaches = (rw is.steps (next_inside table bounds old.steps inside answers.0 answers.1 answers.2), rw is.head beside_is);
+        end = stands_next new strip_new named is;
+      }
+
+-- a step into Z, which leaves the window as it is
+pub into_Z : (table : Table) (old : Runner) (strip : Strip) (write : ℕ) (dir : Dir) (next : Next) (stands : Stands table old strip) (here : Go write dir next ≡ entry_at table old.state (cell strip.content old.position))
+    → IsSound strip → GoesNowhere table (Go write dir next) → (new : Runner) (strip_new : Strip) → StepsTo old new next (beside dir old.position) → strip_new ≡ written strip old.position write
+    → Stepped table old strip write dir next stands here new strip_new
+into_Z table old strip write dir (State q) stands here sound nowhere new strip_new steps is = absurd nowhere
+into_Z table old strip write dir Halt stands here sound nowhere new strip_new steps is =
+    let zero : IsInside strip (pos 0) = (sound.from_zero, sound.to_zero) in
+    let low : low_of old ≤ℤ pos 0 = rw (← stands.window_low) sound.from_zero in
+    let high : pos 0 ≤ℤ high_of old = rw (← stands.window_high) sound.to_zero in
+    record {
+      state = steps.state;
+      head = steps.head;
+      steps = steps.steps;
+      low = steps.low ∙ sym (min-same (low_of old) (pos 0) low);
+      high = steps.high ∙ sym (max-same (high_of old) (pos 0) high);
+      tape = is ∙ ap (λ s. written s old.position write) (sym (inside_stays strip (pos 0) zero));
+    }
+
+pub fits_Z : (strip : Strip) (write : ℕ) (dir : Dir) (next : Next) (table : Table) (p : ℤ) → IsSound strip → GoesNowhere table (Go write dir next)
+    → (cells_between (int_min strip.low (counted_position next p)) (int_max strip.high (counted_position next p)) ≤ strip.limit) × IsEntryOf (length table) (symbols_of table) (Go write dir next)
+fits_Z strip write dir (State q) table p sound nowhere = absurd nowhere
+fits_Z strip write dir Halt table p sound nowhere = (inside_fits strip (pos 0) sound (sound.from_zero, sound.to_zero), (nowhere, tt))
+
+-- a step to a state, after the window has taken in where it goes
+pub into_state : (table : Table) (old : Runner) (strip : Strip) (write : ℕ) (dir : Dir) (q : ℕ) (stands : Stands table old strip) (here : Go write dir (State q) ≡ entry_at table old.state (cell strip.content old.position))
+    → (mid new : Runner) (strip_mid strip_new : Strip) (p : ℤ) → p ≡ beside dir old.position → IsWidened old mid p → strip_mid ≡ visited strip p
+    → StepsTo mid new (State q) p → strip_new ≡ written strip_mid mid.position write
+    → Stepped table old strip write dir (State q) stands here new strip_new
+into_state table old strip write dir q stands here mid new strip_mid strip_new p there wider visited_is steps is =
+    record {
+      state = steps.state;
+      head = steps.head ∙ there;
+      steps = steps.steps ∙ ap (λ n. n + 1) wider.steps;
+      low = steps.low ∙ wider.low ∙ ap (int_min (low_of old)) there;
+      high = steps.high ∙ wider.high ∙ ap (int_max (high_of old)) there;
+      tape = is ∙ ap (λ q. written strip_mid q write) wider.head ∙ ap (λ (s : Strip). written s old.position write) (visited_is ∙ ap (visited strip) there);
+    }
+
+-- the cells of a window that a step leaves as it is
+pub cells_stay : (mid new : Runner) (next : Next) (p : ℤ) → StepsTo mid new next p → cells_between (low_of mid) (high_of mid) ≡ cells_between (low_of new) (high_of new)
+cells_stay mid new next p steps = ap (λ l. cells_between l (high_of mid)) (sym steps.low) ∙ ap (cells_between (low_of new)) (sym steps.high)
+
+-- what a step says of the entry that it is made from
+pub record Goes (table : Table) (old : Runner) (strip : Strip) (write : ℕ) (offset : ℤ) (state : ℕ) : Type 0 where
+  pub dir : Dir
+  pub here : Go write dir (State state) ≡ entry_at table old.state (cell strip.content old.position)
+  pub named : IsEntryOf (length table) (symbols_of table) (Go write dir (State state))
+  pub position : (p : ℤ) → p +ℤ offset ≡ beside dir p
+
+offset_is : (dir : Dir) (p : ℤ) → p +ℤ offset_of dir ≡ beside dir p
+offset_is L p = omega (arith, ints)
+offset_is R p = refl
+
+record GoesBy (e : Entry) (step : Step) : Type 0 where
+  pub dir : Dir
+  pub is : e ≡ Go step.write dir (State step.state)
+  pub position : (p : ℤ) → p +ℤ step.offset ≡ beside dir p
+
+goes_by : (e : Entry) (step : Step) → Some step ≡ step_of e → GoesBy e step
+goes_by Undefined step is = absurd cc
+goes_by (Go write dir (State state)) step is =
+    let same : step ≡ record { write = write; offset = offset_of dir; state = state } = cc in
+    rw same (record { dir = dir; is = refl; position = offset_is dir })
+goes_by (Go write dir Halt) step is = absurd cc
+
+pub goes : (table : Table) (old : Runner) (strip : Strip) (q symbol : ℕ) (step : Step) → old.state ≡ State q → symbol ≡ cell strip.content old.position
+    → Some step ≡ step_of (entry_of table q symbol) → IsEntryOf (length table) (symbols_of table) (entry_of table q symbol) → Goes table old strip step.write step.offset step.state
+goes table old strip q symbol step state read is named =
+    let by = goes_by (entry_of table q symbol) step is in
+    record { dir = by.dir; here = rw (state, ← read) (sym by.is); named = rw by.is at named; position = by.position }

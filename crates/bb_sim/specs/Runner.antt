@@ -1,5 +1,5 @@
 -- What a runner stands for, and what one call of `advance` does.
-use Rattle.std.specs.Prelude.{◌≡◌, ◌≢◌, ℕ, ◌+◌, ◌<◌, ◌≤◌, Some, length, ℤ}
+use Rattle.std.specs.Prelude.{◌≡◌, ◌≢◌, ℕ, ◌+◌, ◌<◌, ◌≤◌, Some, length, ℤ, pos, ◌+ℤ◌, ◌-ℤ◌}
 use Rattle.bb_machine.specs.declared.entry.Next.{Next}
 use Rattle.bb_machine.specs.Entry.{IsNextOf}
 use Rattle.bb_machine.specs.Limits.{Bounds}
@@ -32,7 +32,7 @@ low_of runner = runner.low
 
 -- the greatest position of its window
 abbrev pub high_of : Runner → ℤ
-high_of runner = runner.high
+high_of runner = (runner.low +ℤ pos runner.cells) -ℤ pos 1
 
 -- a runner that has made n steps is at configuration n, and the tape's window is that of the span up to n
 pub record Stands (table : Table) (runner : Runner) (strip : Strip) : Type 0 where

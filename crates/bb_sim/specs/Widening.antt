@@ -1,16 +1,45 @@
--- What the runner's own functions tell one another of a window that grows; no public contract cites it.
-use Rattle.std.specs.Prelude.{◌≡◌, ◌<◌, ◌≤◌, Bool, true, false, ℤ}
+-- What the runner's own functions tell one another of a step and of a window that grows; no public contract cites it.
+use Rattle.std.specs.Prelude.{◌≡◌, ℕ, ◌+◌, ◌<◌, ◌≤◌, Bool, true, false, ℤ, length}
 use Rattle.std.specs.Int.{int_min, int_max}
+use Rattle.bb_machine.specs.declared.entry.Dir.{Dir}
+use Rattle.bb_machine.specs.declared.entry.Next.{Next}
+use Rattle.bb_machine.specs.declared.entry.Next.TheVariants.{State, Halt}
+use Rattle.bb_machine.specs.declared.entry.Entry.{Entry}
+use Rattle.bb_machine.specs.declared.entry.Entry.TheVariants.{Undefined, Go}
+use Rattle.bb_machine.specs.Machine.{Table, symbols_of}
 use Rattle.bb_tape.specs.Strip.{Strip, visited}
 use Rattle.bb_sim.specs.declared.runner.Runner.{Runner}
 use Rattle.bb_sim.specs.CellsBetween.{cells_between}
+use Rattle.bb_sim.specs.Runner.{state_of, position_of, steps_of, low_of, high_of}
+
+-- an entry that goes to no state: undefined, or into Z with a symbol of the machine
+abbrev pub GoesNowhere : Table → Entry → Type 0
+GoesNowhere table Undefined = Unit {0}
+GoesNowhere table (Go write dir (State q)) = ⊥
+GoesNowhere table (Go write dir Halt) = write < symbols_of table
+
+-- only the window has changed: it has taken in a position
+pub record IsWidened (old new : Runner) (position : ℤ) : Type 0 where
+  pub state : state_of new ≡ state_of old
+  pub head : position_of new ≡ position_of old
+  pub steps : steps_of new ≡ steps_of old
+  pub low : low_of new ≡ int_min (low_of old) position
+  pub high : high_of new ≡ int_max (high_of old) position
 
 -- the window takes in a position just where the limit allows it; else nothing has changed
 abbrev pub Widens : Runner → Runner → Strip → Strip → ℤ → Bool → Type 0
 Widens old new strip_old strip_new position true =
     (cells_between (int_min strip_old.low position) (int_max strip_old.high position) ≤ strip_old.limit)
     × (strip_new ≡ visited strip_old position)
-    × (new ≡ record old { low = int_min old.low position; high = int_max old.high position })
+    × IsWidened old new position
 Widens old new strip_old strip_new position false =
     (strip_old.limit < cells_between (int_min strip_old.low position) (int_max strip_old.high position))
     × (strip_new ≡ strip_old) × (new ≡ old)
+
+-- one step more, in a state, at a position, with the same window
+pub record StepsTo (old new : Runner) (next : Next) (position : ℤ) : Type 0 where
+  pub state : state_of new ≡ next
+  pub head : position_of new ≡ position
+  pub steps : steps_of new ≡ steps_of old + 1
+  pub low : low_of new ≡ low_of old
+  pub high : high_of new ≡ high_of old

@@ -1,20 +1,10 @@
-ghost use Rattle.std.specs.Prelude.{◌≡◌, ◌≢◌, ◌+◌, ◌<◌, ◌≤◌, ◌^◌, ◌↔◌, ◌≤ℤ◌, length, neg_ℤ, pos, IfOk, IsTrue, MatchOption, OnErr, OnOk};
-ghost use Rattle.bb_machine.specs.Entry.{IsEntryOf};
-ghost use Rattle.bb_machine.specs.Machine.{IsMachine, symbols_of};
-ghost use Rattle.bb_tape.specs.Content.{cell};
-ghost use Rattle.bb_tape.specs.Strip.{visited, IsBeside};
+ghost use Rattle.std.specs.Prelude.{◌≡◌, ◌≢◌, ◌+◌, ◌<◌, ◌≤◌, ◌^◌, ◌↔◌, ◌≤ℤ◌, ◌+ℤ◌, neg_ℤ, pos, IfOk, IsTrue, MatchOption, OnErr, OnOk};
+ghost use Rattle.bb_tape.specs.declared.tape.TheConstants.{MOST_CELLS};
 ghost use Rattle.bb_sim.specs.Configuration as configuration;
-ghost use Rattle.bb_sim.specs.Configuration.{entry_at};
-ghost use Rattle.bb_sim.specs.CellsBetween.{cells_between};
-ghost use Rattle.bb_sim.specs.Span.{counted_position};
-ghost use Rattle.bb_sim.specs.Runner.{Answers, Moves, Reaches, Stands, high_of, low_of, position_of, state_of, steps_of};
-ghost use Rattle.bb_sim.specs.Span.{Inside};
-ghost use Rattle.bb_sim.specs.Widening.{Widens};
-ghost use Rattle.bb_sim.specs.declared.runner.Moved.{Moved};
 
 use crate::meter::Meter;
 use bb_machine::{Dir, Entry, Limits, Machine, Next};
-use bb_tape::tape::{MOST_CELLS, Memory, Tape, TapeFault};
+use bb_tape::{MOST_CELLS, MOST_SYMBOL, Memory, Tape};
 
 /// What a call of `Runner::advance` did. All but `Stepped` change nothing.
 #[derive(Clone, Copy, Debug, PartialEq, Eq)]
@@ -35,11 +25,29 @@ pub struct Runner {
     state: Next,
     position: i64,
     steps: u64,
+    /// The least position of the window.
     low: i64,
-    high: i64,
+    /// How many cells the window has.
+    cells: u64,
+    ghost some_cell: { 0 < cells },
+    ghost few_cells: { cells ≤ MOST_CELLS },
+    ghost low_to_zero: { low ≤ℤ pos 0 },
+    ghost low_small: { neg_ℤ (pos MOST_CELLS) ≤ℤ low },
 }
 
 impl Runner {
+    ghost use Rattle.bb_machine.specs.declared.entry.Entry.{Entry};
+    ghost use Rattle.bb_machine.specs.Machine.{IsMachine};
+    ghost use Rattle.bb_tape.specs.Content.{cell};
+    ghost use Rattle.bb_tape.specs.Strip.{IsBeside, IsInside, written};
+    ghost use Rattle.bb_sim.specs.Configuration.{entry_at};
+    ghost use Rattle.bb_sim.specs.CellsBetween.{cells_between};
+    ghost use Rattle.bb_sim.specs.Meter.{stepped};
+    ghost use Rattle.bb_sim.specs.Runner.{Answers, Moves, Reaches, Stands, high_of, low_of, position_of, state_of, steps_of};
+    ghost use Rattle.bb_sim.specs.Span.{Inside};
+    ghost use Rattle.bb_sim.specs.Widening.{GoesNowhere, Widens, StepsTo};
+    ghost use Rattle.bb_sim.specs.declared.runner.Moved.{Moved};
+
     /// Resets the tape and stands at configuration 0: state A, at position 0.
     pub fn start<T: Tape>(machine: &Machine, tape: &mut T) -> Runner
         ensures stands { Stands machine.now result (T.strip tape.new) }
@@ -53,7 +61,7 @@ impl Runner {
             position: 0,
             steps: 0,
             low: 0,
-            high: 0,
+            cells: 1,
         }
     }
 
@@ -83,16 +91,118 @@ impl Runner {
         ensures wanted { OnErr result (Answers machine.now limits.now (steps_of self.old) Moved.Stepped) }
         ensures uncounted { OnErr result (meter.new ≡ meter.old) }
     {
-        let Entry::Go { write, dir, next } = self.entry(machine, tape) else {
+        let Next::State(state) = self.state else {
+            return Ok(Moved::Halted);
+        };
+        let symbol = tape.read_inside(self.position);
+        let Some(step) = machine.step(state, symbol) else {
+            let entry = machine.entry(state, symbol);
+            return self.advance_to_halt(machine, tape, limits, meter, entry);
+        };
+        if self.steps == limits.steps() {
+            return Ok(Moved::NoSteps);
+        }
+        let position = moved_by(self.position, step.offset);
+        if !self.enter(tape, limits, position) {
+            return Ok(Moved::NoCells);
+        }
+        let next = Next::State(step.state);
+        let Ok(()) = self.step_to(tape, meter, step.write, next, position) else {
+            return Err(Memory);
+        };
+        Ok(Moved::Stepped)
+    }
+
+    /// The rest of `advance` where the entry that applies goes to no state: it is undefined, or goes
+    /// to Z. It is inlined, so that a runner that is a local of its caller stays in registers.
+    #[inline(always)]
+    fn advance_to_halt<T: Tape>(
+        &mut self,
+        machine: &Machine,
+        tape: &mut T,
+        limits: &Limits,
+        meter: &mut Meter,
+        entry: Entry,
+    ) -> Result<Moved, Memory>
+        requires stands { Stands machine.now self.old (T.strip tape.old) }
+        requires limit { (T.strip tape.old).limit ≡ limits.now.cells }
+        requires steps { steps_of self.old ≤ limits.now.steps }
+        requires room { meter.old.steps + 1 < 2 ^ 64 }
+        requires entry { entry ≡ entry_at machine.now (state_of self.old)
+            (cell (T.strip tape.old).content (position_of self.old)) }
+        requires nowhere { GoesNowhere machine.now entry }
+        requires machine { IsMachine machine.now }
+        ensures answers { IfOk result (Answers machine.now limits.now (steps_of self.old)) }
+        ensures moves { IfOk result (Moves machine.now self.old self.new (T.strip tape.old) (T.strip tape.new)
+            meter.old meter.new) }
+        ensures reaches { IfOk result (Reaches machine.now limits.now self.new (T.strip tape.new)) }
+        ensures stands { OnOk result (Stands machine.now self.new (T.strip tape.new)) }
+        ensures limit { (T.strip tape.new).limit ≡ (T.strip tape.old).limit }
+        ensures memory { OnErr result (IsTrue T.GROWS) }
+        ensures wanted { OnErr result (Answers machine.now limits.now (steps_of self.old) Moved.Stepped) }
+        ensures uncounted { OnErr result (meter.new ≡ meter.old) }
+    {
+        let Entry::Go { write, dir, next } = entry else {
             return Ok(Moved::Halted);
         };
         if self.steps == limits.steps() {
             return Ok(Moved::NoSteps);
         }
         let position = beside(self.position, dir);
-        if !self.enter(tape, next, position) {
-            return Ok(Moved::NoCells);
+        let Ok(()) = self.step_to(tape, meter, write, next, position) else {
+            return Err(Memory);
+        };
+        Ok(Moved::Stepped)
+    }
+
+    /// Widens the window to a position in it or next to it, if the limit of cells allows it.
+    #[inline(always)]
+    fn enter<T: Tape>(&mut self, tape: &mut T, limits: &Limits, position: i64) -> bool
+        requires near { IsBeside (T.strip tape.old) position }
+        requires low { (T.strip tape.old).low ≡ low_of self.old }
+        requires high { (T.strip tape.old).high ≡ high_of self.old }
+        requires limit { (T.strip tape.old).limit ≡ limits.now.cells }
+        ensures { Widens self.old self.new (T.strip tape.old) (T.strip tape.new) position result }
+    {
+        if self.is_inside(position) {
+            return true;
         }
+        if self.cells == limits.cells() {
+            return false;
+        }
+        if position < self.low {
+            tape.widen_low(position);
+            self.low = position;
+            self.cells += 1;
+            return true;
+        }
+        tape.widen_high(position);
+        self.cells += 1;
+        true
+    }
+
+    /// Writes a symbol where the head stands, goes to a state and a position, and counts the step.
+    #[inline(always)]
+    fn step_to<T: Tape>(
+        &mut self,
+        tape: &mut T,
+        meter: &mut Meter,
+        write: u8,
+        next: Next,
+        position: i64,
+    ) -> Result<(), Memory>
+        requires inside { IsInside (T.strip tape.old) (position_of self.old) }
+        requires symbol { write ≤ MOST_SYMBOL }
+        requires steps { steps_of self.old + 1 < 2 ^ 64 }
+        requires room { meter.old.steps + 1 < 2 ^ 64 }
+        ensures steps { OnOk result (StepsTo self.old self.new next position) }
+        ensures written { OnOk result (T.strip tape.new ≡ written (T.strip tape.old) (position_of self.old) write) }
+        ensures counted { OnOk result (meter.new
+            ≡ stepped meter.old (cells_between (low_of self.old) (high_of self.old))) }
+        ensures limit { (T.strip tape.new).limit ≡ (T.strip tape.old).limit }
+        ensures memory { OnErr result (IsTrue T.GROWS) }
+        ensures uncounted { OnErr result (meter.new ≡ meter.old) }
+    {
         let Ok(()) = tape.write(self.position, write) else {
             return Err(Memory);
         };
@@ -100,58 +210,18 @@ impl Runner {
         self.position = position;
         self.steps += 1;
         meter.steps += 1;
-        meter.most_cells = meter.most_cells.max(self.cells());
-        Ok(Moved::Stepped)
+        meter.most_cells = meter.most_cells.max(self.cells);
+        Ok(())
     }
 
-    /// The entry that applies here.
+    /// Whether a position in the window or next to it is in the window: one compare.
     #[inline]
-    fn entry<T: Tape>(&self, machine: &Machine, tape: &T) -> Entry
-        requires { Stands machine.now self.now (T.strip tape.now) }
-        ensures value { result ≡ entry_at machine.now self.now.state (cell (T.strip tape.now).content self.now.position) }
-        ensures named { IsEntryOf (length machine.now) (symbols_of machine.now) result }
-        ensures machine { IsMachine machine.now }
+    fn is_inside(&self, position: i64) -> bool
+        requires low { low_of self.now ≤ℤ (position +ℤ pos 1) }
+        requires high { position ≤ℤ (high_of self.now +ℤ pos 1) }
+        ensures { IsTrue result ↔ ((low_of self.now ≤ℤ position) × (position ≤ℤ high_of self.now)) }
     {
-        let _states = machine.states();
-        match self.state {
-            Next::State(state) => machine.entry(state, tape.read(self.position)),
-            Next::Halt => Entry::Undefined,
-        }
-    }
-
-    /// Lets the head into a position beside the window, or into Z, if the limit of cells allows it.
-    #[inline]
-    fn enter<T: Tape>(&mut self, tape: &mut T, next: Next, position: i64) -> bool
-        requires near { IsBeside (T.strip tape.old) position }
-        requires low { (T.strip tape.old).low ≡ self.old.low }
-        requires high { (T.strip tape.old).high ≡ self.old.high }
-        ensures { Widens self.old self.new (T.strip tape.old) (T.strip tape.new) (counted_position next position) result }
-    {
-        match next {
-            Next::State(_) => self.widen(tape, position),
-            Next::Halt => true,
-        }
-    }
-
-    /// Widens the window to a position beside it, if the limit of cells allows it.
-    #[inline]
-    fn widen<T: Tape>(&mut self, tape: &mut T, position: i64) -> bool
-        requires near { IsBeside (T.strip tape.old) position }
-        requires low { (T.strip tape.old).low ≡ self.old.low }
-        requires high { (T.strip tape.old).high ≡ self.old.high }
-        ensures { Widens self.old self.new (T.strip tape.old) (T.strip tape.new) position result }
-    {
-        if self.low <= position && position <= self.high {
-            return true;
-        }
-        match tape.visit(position) {
-            Ok(()) => {
-                self.low = self.low.min(position);
-                self.high = self.high.max(position);
-                true
-            }
-            Err(_) => false,
-        }
+        (position - self.low).cast_unsigned() < self.cells
     }
 
     /// How many cells the window has.
@@ -161,7 +231,7 @@ impl Runner {
         requires small { cells_between (low_of self.now) (high_of self.now) ≤ MOST_CELLS }
         ensures { result ≡ cells_between (low_of self.now) (high_of self.now) }
     {
-        (self.high - self.low) as u64 + 1
+        self.cells
     }
 
     /// The state, from 0 for A; none in Z.
@@ -209,7 +279,7 @@ impl Runner {
     pub fn high(&self) -> i64
         ensures { result ≡ high_of self.now }
     {
-        self.high
+        self.low + (self.cells - 1) as i64
     }
 }
 
@@ -224,4 +294,14 @@ fn beside(position: i64, dir: Dir) -> i64
         Dir::L => position - 1,
         Dir::R => position + 1,
     }
+}
+
+/// The position an offset of one cell away.
+#[inline]
+fn moved_by(position: i64, offset: i8) -> i64
+    requires low { neg_ℤ (pos MOST_CELLS) ≤ℤ position }
+    requires high { position ≤ℤ pos MOST_CELLS }
+    ensures { result ≡ position +ℤ offset }
+{
+    position + i64::from(offset)
 }

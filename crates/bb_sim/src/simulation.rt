@@ -21,7 +21,31 @@ pub enum Outcome {
 /// Runs a machine from its start until it halts or a limit is met.
 ///
 /// After an error nothing is said of what the tape holds; the next run resets it.
+#[inline(never)]
 pub fn simulate<T: Tape>(
+    machine: &Machine,
+    tape: &mut T,
+    limits: &Limits,
+    meter: &mut Meter,
+) -> Result<Outcome, Memory>
+    requires limit { (T.strip tape.old).limit ≡ limits.now.cells }
+    requires room { meter.old.steps + limits.now.steps + 1 < 2 ^ 64 }
+    ensures outcome { IfOk result (IsOutcome machine.now limits.now) }
+    ensures counted { OnOk result (CountsRun machine.now limits.now meter.old meter.new) }
+    ensures within { IsWithinRun limits.now meter.old meter.new }
+    ensures limit { (T.strip tape.new).limit ≡ (T.strip tape.old).limit }
+    ensures memory { OnErr result (IsTrue T.GROWS) }
+{
+    let limits = *limits;
+    let mut spent = *meter;
+    let outcome = run(machine, tape, &limits, &mut spent);
+    *meter = spent;
+    outcome
+}
+
+/// `simulate`, inlined there, so that the limits and the meter, which are its locals, stay in registers.
+#[inline(always)]
+fn run<T: Tape>(
     machine: &Machine,
     tape: &mut T,
     limits: &Limits,

@@ -151,10 +151,7 @@ fn machine_of(line: &[u8], states: usize, symbols: usize) -> Machine
     requires { (gs : List (List Entry)) × IsTable states symbols gs × (text gs ≡ line.now) }
     ensures { (gs : List (List Entry)) → IsTable states symbols gs → text gs ≡ line.now → result ≡ gs }
 {
-    let mut slots = [Slot {
-        entry: Entry::Undefined,
-        _padding: [0; 3],
-    }; SLOTS];
+    let mut slots = [Slot::undefined(); SLOTS];
     for row in 0..states {
         fill_row(&mut slots, row, symbols, &line[row * (3 * symbols + 1)..]);
     }
@@ -175,6 +172,6 @@ fn fill_row(slots: &mut [Slot; SLOTS], row: usize, symbols: usize, bytes: &[u8])
     ensures before { table_in row symbols slots.new ≡ table_in row symbols slots.old }
 {
     for symbol in 0..symbols {
-        slots[row * MAX_SYMBOLS + symbol].entry = Entry::at_first(&bytes[3 * symbol..]);
+        slots[row * MAX_SYMBOLS + symbol] = Slot::new(Entry::at_first(&bytes[3 * symbol..]));
     }
 }

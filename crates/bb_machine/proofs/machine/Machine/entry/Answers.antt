@@ -1,4 +1,4 @@
-use Rattle.std.proofs.Common.{refl}
+use Rattle.std.proofs.Common.{◌∙◌}
 use Rattle.bb_machine.specs.declared.machine.TheConstants.{MAX_STATES, MAX_SYMBOLS}
 use Rattle.bb_machine.proofs.Tables.{entry_of-table_in, entry_named}
 use Rattle.bb_machine.proofs.machine.Machine.entry.Goals as goal
@@ -6,7 +6,7 @@ use Rattle.bb_machine.proofs.machine.Machine.entry.Goals as goal
 pub returns-clause-value : goal.returns-clause-value
 returns-clause-value c =
     let fields = c.self.inside in
-    entry_of-table_in fields.state_count fields.symbol_count fields.slots c.args.self.now c.args.state c.args.symbol _ refl c.self.view_is c.self.invariant c.requires.in_states c.requires.in_symbols
+    c.entry.ensures ∙ entry_of-table_in fields.state_count fields.symbol_count fields.slots c.args.self.now c.args.state c.args.symbol _ c.self.view_is c.self.invariant c.requires.in_states c.requires.in_symbols
 
 pub returns-clause-named : goal.returns-clause-named
 returns-clause-named c =

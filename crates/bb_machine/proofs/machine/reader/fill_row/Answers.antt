@@ -27,6 +27,6 @@ loop-symbol-preserved c =
       count = length-set c.loop-symbol.slots _ _ ∙ c.loop-symbol.invariant.count;
       row = λ g group begins.
           let read = entry_read g c.args.bytes.now c.args.symbols c.loop-symbol.symbol group c.requires.symbols c.loop-symbol-test.true begins in
-          row_grows c.loop-symbol.slots c.args.row c.args.symbols c.loop-symbol.symbol _ g c.loop-symbol.invariant.count c.requires.row c.requires.symbols c.loop-symbol-test.true group.full (c.at_first.ensures (get_or g c.loop-symbol.symbol Undefined) read.0 read.1) (c.loop-symbol.invariant.row g group begins);
+          row_grows c.loop-symbol.slots c.args.row c.args.symbols c.loop-symbol.symbol _ g c.loop-symbol.invariant.count c.requires.row c.requires.symbols c.loop-symbol-test.true group.full (c.new.ensures ∙ c.at_first.ensures (get_or g c.loop-symbol.symbol Undefined) read.0 read.1) (c.loop-symbol.invariant.row g group begins);
       before = rows_stay c.loop-symbol.slots c.args.row c.args.symbols c.loop-symbol.symbol _ c.requires.symbols ∙ c.loop-symbol.invariant.before;
     }

@@ -2,7 +2,7 @@ use Rattle.std.proofs.Common.{◌≡◌, ◌≤◌, ◌-◌}
 use Rattle.bb_sim.specs.Runner.{Stands}
 use Rattle.bb_sim.specs.Span.{span}
 use Rattle.bb_sim.specs.Meter.{counted}
-use Rattle.bb_sim.proofs.simulation.simulate.Given as goal
+use Rattle.bb_sim.proofs.simulation.run.Given as goal
 
 -- the runner stands within the limits, and what it has done so far is counted
 abbrev pub invariant-loop-runner : goal.invariant-loop-runner
