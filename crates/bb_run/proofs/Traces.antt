@@ -44,13 +44,21 @@ AppendsPrefix-cells old new past tape low i n h f =
 pub record IsJoined (line head cells : List ℕ) : Type 0 where
   pub is : line ≡ head ++ cells
 
+same_cells : (tape : Content) (low high least greatest : ℤ) → low ≡ least → high ≡ greatest
+    → cells_text tape least (cells_between least greatest) ≡ cells_text tape low (cells_between low high)
+same_cells tape low high least greatest l h =
+    ap (λ x. cells_text tape x (cells_between x greatest)) (sym l) ∙ ap (λ x. cells_text tape low (cells_between low x)) (sym h)
+
 -- the line of the step at which a runner stands, by the runner and its tape
 pub step_text-is : (table : Table) (runner : Runner) (strip : Strip) (head : List ℕ) → Stands table runner strip
     → head ≡ head_text (steps_of runner) (state_of runner) (position_of runner)
     → IsJoined (step_text table (steps_of runner)) head
     (cells_text strip.content (low_of runner) (cells_between (low_of runner) (high_of runner)))
 step_text-is table runner strip head stands is_head = record {
-  is = ap (text_at table (steps_of runner)) stands.at ∙ rw (stands.low, stands.high, is_head) refl;
+  is = ap (text_at table (steps_of runner)) stands.at
+      ∙ ap (λ c. head_text (steps_of runner) (state_of runner) (position_of runner) ++ c)
+        (same_cells strip.content _ _ _ _ stands.low stands.high)
+      ∙ ap (λ h. h ++ cells_text strip.content (low_of runner) (cells_between (low_of runner) (high_of runner))) (sym is_head);
 }
 
 module _ (old first second : Option (List ℕ)) (waiting one head cells line : List ℕ) (parts : IsJoined line head cells) (sent_head : Sends old first waiting one head) where

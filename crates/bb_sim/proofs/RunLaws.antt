@@ -1,23 +1,19 @@
 -- Why the laws of runs hold.
-use Rattle.std.proofs.Common.{◌≡◌, ◌≢◌, ℕ, zero, suc, ◌+◌, ◌-◌, ◌<◌, ◌≤◌, ◌⊎◌, inl, inr, max, Option, Some, None, ℤ, pos, negsuc, ◌<ℤ◌, ◌≤ℤ◌, refl, ap, sym, subst, ◌∙◌, arith}
+use Rattle.std.proofs.Common.{◌≡◌, ◌≢◌, ℕ, zero, suc, ◌+◌, ◌-◌, ◌≤◌, ◌⊎◌, inl, inr, max, Option, Some, None, ℤ, pos, negsuc, ◌<ℤ◌, ◌≤ℤ◌, refl, ap, sym, subst, ◌∙◌, arith}
 use Rattle.std.specs.Int.{int_min, int_max}
 use Rattle.std.proofs.lemmas.Bool.{cases_lt}
 use Rattle.std.proofs.lemmas.Int.{ints, clamps}
 use Rattle.bb_machine.specs.declared.entry.Next.TheVariants.{State, Halt}
-use Rattle.bb_machine.specs.Limits.{Bounds}
 use Rattle.bb_machine.specs.Machine.{Table}
 use Rattle.bb_tape.specs.Content.{score}
 use Rattle.bb_sim.specs.declared.meter.Meter.{Meter}
-use Rattle.bb_sim.specs.declared.simulation.Outcome.{Outcome}
 use Rattle.bb_sim.specs.declared.simulation.Outcome.TheVariants.{Halt as Halted, NoSteps, NoCells}
 use Rattle.bb_sim.specs.Configuration.{Configuration}
-use Rattle.bb_sim.specs.Run.{conf, Exists, HaltsAt, IsScore}
-use Rattle.bb_sim.specs.Span.{counted_position, counted_position_in, counted_head, least, greatest, span, Inside, IsLastInside}
-use Rattle.bb_sim.specs.Meter.{counted, CountsTo, IsWithinRun}
-use Rattle.bb_sim.specs.Outcome.{HaltsInside, HaltsNowhere, IsOutcome}
-use Rattle.bb_sim.specs.Laws.{EarlierExists, HaltIsLast, HaltIsUnique, LastStepIsUnique, ScoreIsUnique, OutcomeIsUnique, SpanGrows, EarlierIsInside, IsRunningAt, SpanIsReachedAt, SpanIsReached, CountIsWithin}
+use Rattle.bb_sim.specs.Run.{conf, Exists, IsScore}
+use Rattle.bb_sim.specs.Span.{counted_position, counted_head, least, greatest, span}
+use Rattle.bb_sim.specs.Laws.{EarlierExists, HaltIsLast, HaltIsUnique, LastStepIsUnique, ScoreIsUnique, OutcomeIsUnique, SpanGrows, EarlierIsInside, IsRunningAt, SpanIsReached, CountIsWithin}
 use Rattle.bb_sim.proofs.Positions.{least_last, greatest_last}
-use Rattle.bb_sim.proofs.Steps.{conf-start, counted_head-start, counted_head-at}
+use Rattle.bb_sim.proofs.Steps.{conf-start, counted_head-at}
 use Rattle.bb_sim.proofs.Outcomes.{none_on, halt_is_last, span_grows, least_falls, greatest_rises, counted_head-none}
 
 pub earlier_exists : EarlierExists
@@ -196,8 +192,8 @@ span_is_reached table n =
       high_before = omega arith;
       high = subst (λ p. IsRunningAt table high_there.step p) high.is high_there.runs;
       between = λ m position few there.
-        let at = running_counts table m position there in
-        let above = least_bounds f m n few in
-        let below = greatest_bounds f m n few in
-        (subst (λ p. least f n ≤ℤ p) at above, subst (λ p. p ≤ℤ greatest f n) at below);
+          let at = running_counts table m position there in
+          let above = least_bounds f m n few in
+          let below = greatest_bounds f m n few in
+          (subst (λ p. least f n ≤ℤ p) at above, subst (λ p. p ≤ℤ greatest f n) at below);
     }

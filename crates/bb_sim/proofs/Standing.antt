@@ -1,5 +1,5 @@
 -- What follows for a runner from where it stands.
-use Rattle.std.proofs.Common.{◌≡◌, ◌≢◌, ℕ, ◌+◌, ◌<◌, ◌≤◌, Some, ℤ, pos, negsuc, neg_ℤ, ◌+ℤ◌, ◌-ℤ◌, ◌<ℤ◌, ◌≤ℤ◌, w64, of_z, refl, ap, sym, ◌∙◌, arith}
+use Rattle.std.proofs.Common.{◌≡◌, ◌≢◌, ℕ, ◌+◌, ◌<◌, ◌≤◌, ℤ, pos, negsuc, neg_ℤ, ◌+ℤ◌, ◌-ℤ◌, ◌<ℤ◌, ◌≤ℤ◌, w64, of_z, refl, ap, sym, ◌∙◌, arith}
 use Rattle.std.specs.Int.{int_min, int_max}
 use Rattle.std.proofs.lemmas.Int.{ints, clamps}
 use Rattle.bb_machine.specs.declared.entry.Dir.{Dir}
@@ -173,6 +173,7 @@ unsigned_below (negsuc n) cells few least = (λ h. absurd (omega (arith, ints, f
 pub inside_test : (low p : ℤ) (cells : ℕ) → cells ≤ MOST_CELLS → low ≤ℤ (p +ℤ pos 1)
     → (of_z w64 (p -ℤ low) < cells → (low ≤ℤ p) × (p ≤ℤ ((low +ℤ pos cells) -ℤ pos 1))) × ((low ≤ℤ p) × (p ≤ℤ ((low +ℤ pos cells) -ℤ pos 1)) → of_z w64 (p -ℤ low) < cells)
 inside_test low p cells few near =
-    let test = unsigned_below (p -ℤ low) cells few (omega (arith, ints, near)) in
-    (λ h. let inside = test.0 h in (omega (arith, ints, inside.0), omega (arith, ints, inside.1)),
-     λ h. test.1 (omega (arith, ints, h.0), omega (arith, ints, h.1)))
+    let test = unsigned_below (p -ℤ low) cells few (omega (arith, ints, near)) in (
+      λ h. let inside = test.0 h in (omega (arith, ints, inside.0), omega (arith, ints, inside.1)),
+      λ h. test.1 (omega (arith, ints, h.0), omega (arith, ints, h.1)),
+    )

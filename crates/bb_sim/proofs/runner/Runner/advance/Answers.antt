@@ -1,20 +1,15 @@
-use Rattle.std.proofs.Common.{◌≡◌, ◌≢◌, ◌+◌, ◌<◌, ◌≤◌, ◌≤ℤ◌, ◌+ℤ◌, refl, sym, ap, ◌∙◌, arith, rules, w64, w8, FitsSigned}
+use Rattle.std.proofs.Common.{◌≡◌, ◌≢◌, ◌+ℤ◌, refl, ap, ◌∙◌, arith, rules, w64, w8, FitsSigned}
 use Rattle.std.proofs.lemmas.Int.{ints, to_z-of_z}
 use Rattle.bb_machine.specs.declared.entry.Next.TheVariants.{State, Halt}
-use Rattle.bb_machine.specs.declared.entry.Entry.TheVariants.{Undefined, Go}
 use Rattle.bb_tape.specs.Content.{cell}
-use Rattle.bb_tape.specs.Strip.{IsInside, IsBeside, visited, written}
 use Rattle.bb_sim.specs.declared.runner.Runner.{Runner}
-use Rattle.bb_sim.specs.Configuration.{beside, entry_at}
+use Rattle.bb_sim.specs.Configuration.{beside}
 use Rattle.bb_sim.specs.Meter.{stepped}
-use Rattle.bb_sim.specs.CellsBetween.{cells_between}
-use Rattle.bb_sim.specs.Runner.{low_of, high_of}
-use Rattle.bb_sim.specs.Widening.{StepsTo, IsWidened, GoesNowhere}
+use Rattle.bb_sim.specs.Widening.{StepsTo, IsWidened}
 use Rattle.bb_sim.proofs.Outcomes.{inside_here, halts_last, steps_last, cells_last}
 use Rattle.bb_sim.proofs.Standing.{near_head, head_inside}
-use Rattle.bb_sim.proofs.Stepping.{halts_undefined, running, moves_on, next-span, wanted, made, Made, into_Z, fits_Z, into_state, cells_stay, goes, Goes, inside_visited}
+use Rattle.bb_sim.proofs.Stepping.{halts_undefined, running, moves_on, next-span, wanted, made, into_state, cells_stay, goes, inside_visited}
 use Rattle.bb_sim.proofs.runner.Runner.advance.Goals as goal
-use Rattle.bb_sim.proofs.runner.Runner.advance.Given as given
 
 pub returns-in_default-clause-before : goal.returns-in_default-clause-before
 returns-in_default-clause-before g c = inside_here _ _ _ _ c.requires.stands (g.met.T.Tape.sound c.args.tape.now) c.requires.limit c.requires.steps
@@ -182,7 +177,7 @@ returns-clause-answers g c =
     let steps : StepsTo c.enter.new.self c.step_to.new.self (State c.in-Some.step.state) c.moved_by-position.result = simp to_z-of_z at c.in-Ok.ensures.steps in
     let stepped_is = into_state table old strip c.in-Some.step.write by.dir c.in-Some.step.state c.requires.stands by.here c.enter.new.self c.step_to.new.self (g.T.Tape.strip c.enter.new.tape) (g.T.Tape.strip c.step_to.new.tape) c.moved_by-position.result there wider visited_is steps c.in-Ok.ensures.written in
     (made table old strip c.in-Some.step.write by.dir (State c.in-Some.step.state) c.requires.stands by.here c.args.limits.now c.step_to.new.self (g.T.Tape.strip c.step_to.new.tape) c.args.meter.now c.step_to.new.meter
-      sound by.named c.requires.limit c.requires.steps (λ e. c.if-self-steps.false cc) room stepped_is (c.in-Ok.ensures.counted ∙ ap (stepped c.args.meter.now) (cells_stay c.enter.new.self c.step_to.new.self _ _ steps))).answers
+    sound by.named c.requires.limit c.requires.steps (λ e. c.if-self-steps.false cc) room stepped_is (c.in-Ok.ensures.counted ∙ ap (stepped c.args.meter.now) (cells_stay c.enter.new.self c.step_to.new.self _ _ steps))).answers
 
 pub returns-clause-moves : goal.returns-clause-moves
 returns-clause-moves g c =
@@ -203,7 +198,7 @@ returns-clause-moves g c =
     let steps : StepsTo c.enter.new.self c.step_to.new.self (State c.in-Some.step.state) c.moved_by-position.result = simp to_z-of_z at c.in-Ok.ensures.steps in
     let stepped_is = into_state table old strip c.in-Some.step.write by.dir c.in-Some.step.state c.requires.stands by.here c.enter.new.self c.step_to.new.self (g.T.Tape.strip c.enter.new.tape) (g.T.Tape.strip c.step_to.new.tape) c.moved_by-position.result there wider visited_is steps c.in-Ok.ensures.written in
     (made table old strip c.in-Some.step.write by.dir (State c.in-Some.step.state) c.requires.stands by.here c.args.limits.now c.step_to.new.self (g.T.Tape.strip c.step_to.new.tape) c.args.meter.now c.step_to.new.meter
-      sound by.named c.requires.limit c.requires.steps (λ e. c.if-self-steps.false cc) room stepped_is (c.in-Ok.ensures.counted ∙ ap (stepped c.args.meter.now) (cells_stay c.enter.new.self c.step_to.new.self _ _ steps))).moves
+    sound by.named c.requires.limit c.requires.steps (λ e. c.if-self-steps.false cc) room stepped_is (c.in-Ok.ensures.counted ∙ ap (stepped c.args.meter.now) (cells_stay c.enter.new.self c.step_to.new.self _ _ steps))).moves
 
 pub returns-clause-reaches : goal.returns-clause-reaches
 returns-clause-reaches g c =
@@ -224,7 +219,7 @@ returns-clause-reaches g c =
     let steps : StepsTo c.enter.new.self c.step_to.new.self (State c.in-Some.step.state) c.moved_by-position.result = simp to_z-of_z at c.in-Ok.ensures.steps in
     let stepped_is = into_state table old strip c.in-Some.step.write by.dir c.in-Some.step.state c.requires.stands by.here c.enter.new.self c.step_to.new.self (g.T.Tape.strip c.enter.new.tape) (g.T.Tape.strip c.step_to.new.tape) c.moved_by-position.result there wider visited_is steps c.in-Ok.ensures.written in
     (made table old strip c.in-Some.step.write by.dir (State c.in-Some.step.state) c.requires.stands by.here c.args.limits.now c.step_to.new.self (g.T.Tape.strip c.step_to.new.tape) c.args.meter.now c.step_to.new.meter
-      sound by.named c.requires.limit c.requires.steps (λ e. c.if-self-steps.false cc) room stepped_is (c.in-Ok.ensures.counted ∙ ap (stepped c.args.meter.now) (cells_stay c.enter.new.self c.step_to.new.self _ _ steps))).reaches
+    sound by.named c.requires.limit c.requires.steps (λ e. c.if-self-steps.false cc) room stepped_is (c.in-Ok.ensures.counted ∙ ap (stepped c.args.meter.now) (cells_stay c.enter.new.self c.step_to.new.self _ _ steps))).reaches
 
 pub returns-clause-stands : goal.returns-clause-stands
 returns-clause-stands g c =
@@ -245,4 +240,4 @@ returns-clause-stands g c =
     let steps : StepsTo c.enter.new.self c.step_to.new.self (State c.in-Some.step.state) c.moved_by-position.result = simp to_z-of_z at c.in-Ok.ensures.steps in
     let stepped_is = into_state table old strip c.in-Some.step.write by.dir c.in-Some.step.state c.requires.stands by.here c.enter.new.self c.step_to.new.self (g.T.Tape.strip c.enter.new.tape) (g.T.Tape.strip c.step_to.new.tape) c.moved_by-position.result there wider visited_is steps c.in-Ok.ensures.written in
     (made table old strip c.in-Some.step.write by.dir (State c.in-Some.step.state) c.requires.stands by.here c.args.limits.now c.step_to.new.self (g.T.Tape.strip c.step_to.new.tape) c.args.meter.now c.step_to.new.meter
-      sound by.named c.requires.limit c.requires.steps (λ e. c.if-self-steps.false cc) room stepped_is (c.in-Ok.ensures.counted ∙ ap (stepped c.args.meter.now) (cells_stay c.enter.new.self c.step_to.new.self _ _ steps))).end
+    sound by.named c.requires.limit c.requires.steps (λ e. c.if-self-steps.false cc) room stepped_is (c.in-Ok.ensures.counted ∙ ap (stepped c.args.meter.now) (cells_stay c.enter.new.self c.step_to.new.self _ _ steps))).end

@@ -1,17 +1,12 @@
-use Rattle.std.proofs.Common.{pos, ◌≡◌, ◌≢◌, ◌+◌, ◌<◌, ◌≤◌, ◌≤ℤ◌, ◌+ℤ◌, refl, sym, ap, ◌∙◌, arith, rules, w64, FitsSigned}
+use Rattle.std.proofs.Common.{pos, ◌≡◌, sym, ap, ◌∙◌, arith, rules, w64, FitsSigned}
 use Rattle.std.proofs.lemmas.Int.{ints, to_z-of_z}
-use Rattle.bb_machine.specs.declared.entry.Next.TheVariants.{State, Halt}
-use Rattle.bb_machine.specs.declared.entry.Entry.TheVariants.{Undefined, Go}
-use Rattle.bb_tape.specs.Content.{cell}
-use Rattle.bb_tape.specs.Strip.{IsInside, IsBeside, visited, written}
-use Rattle.bb_sim.specs.Configuration.{beside, entry_at}
+use Rattle.bb_machine.specs.declared.entry.Entry.TheVariants.{Go}
+use Rattle.bb_sim.specs.Configuration.{beside}
 use Rattle.bb_sim.specs.Meter.{stepped}
-use Rattle.bb_sim.specs.CellsBetween.{cells_between}
-use Rattle.bb_sim.specs.Runner.{low_of, high_of}
-use Rattle.bb_sim.specs.Widening.{StepsTo, IsWidened, GoesNowhere}
-use Rattle.bb_sim.proofs.Outcomes.{inside_here, halts_last, steps_last, cells_last}
+use Rattle.bb_sim.specs.Widening.{StepsTo, GoesNowhere}
+use Rattle.bb_sim.proofs.Outcomes.{inside_here, halts_last, steps_last}
 use Rattle.bb_sim.proofs.Standing.{near_head, head_inside}
-use Rattle.bb_sim.proofs.Stepping.{halts_undefined, running, moves_on, next-span, wanted, made, Made, into_Z, fits_Z, into_state, cells_stay, goes, Goes, inside_visited}
+use Rattle.bb_sim.proofs.Stepping.{halts_undefined, running, moves_on, wanted, made, Made, into_Z, fits_Z, cells_stay}
 use Rattle.bb_sim.proofs.runner.Runner.advance_to_halt.Goals as goal
 use Rattle.bb_sim.proofs.runner.Runner.advance_to_halt.Given as given
 
@@ -65,7 +60,7 @@ returns-in_default-step_to-clause-wanted g c =
 
 made_here : (g : given.Over) (c : goal.In-Ok g)
     → Made c.args.machine.now c.args.self.now (g.T.Tape.strip c.args.tape.now) c.in-Go.write c.in-Go.dir c.in-Go.next c.requires.stands (sym c.in-Go.is ∙ c.requires.entry)
-        c.args.limits.now c.step_to.new.self (g.T.Tape.strip c.step_to.new.tape) c.args.meter.now c.step_to.new.meter
+    c.args.limits.now c.step_to.new.self (g.T.Tape.strip c.step_to.new.tape) c.args.meter.now c.step_to.new.meter
 made_here g c =
     let table = c.args.machine.now in
     let old = c.args.self.now in
@@ -80,7 +75,7 @@ made_here g c =
     let here = sym c.in-Go.is ∙ c.requires.entry in
     let stepped_is = into_Z table old strip c.in-Go.write c.in-Go.dir c.in-Go.next c.requires.stands here sound nowhere c.step_to.new.self (g.T.Tape.strip c.step_to.new.tape) steps c.in-Ok.ensures.written in
     made table old strip c.in-Go.write c.in-Go.dir c.in-Go.next c.requires.stands here c.args.limits.now c.step_to.new.self (g.T.Tape.strip c.step_to.new.tape) c.args.meter.now c.step_to.new.meter
-      sound end.1 c.requires.limit c.requires.steps (λ e. c.if-self-steps.false cc) end.0 stepped_is (c.in-Ok.ensures.counted ∙ ap (stepped c.args.meter.now) (cells_stay old c.step_to.new.self _ _ steps))
+    sound end.1 c.requires.limit c.requires.steps (λ e. c.if-self-steps.false cc) end.0 stepped_is (c.in-Ok.ensures.counted ∙ ap (stepped c.args.meter.now) (cells_stay old c.step_to.new.self _ _ steps))
 
 pub returns-clause-answers : goal.returns-clause-answers
 returns-clause-answers g c = (made_here g c).answers

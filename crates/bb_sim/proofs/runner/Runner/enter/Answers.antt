@@ -1,9 +1,9 @@
-use Rattle.std.proofs.Common.{◌≡◌, ◌≢◌, ◌<ℤ◌, ◌≤ℤ◌, ◌+ℤ◌, ◌-ℤ◌, pos, refl, sym, ◌∙◌, w64, FitsSigned, IsTrue, arith, rules}
-use Rattle.std.proofs.lemmas.Int.{ints, to_z-of_z}
+use Rattle.std.proofs.Common.{◌≡◌, ◌<ℤ◌, ◌≤ℤ◌, ◌+ℤ◌, pos, refl, sym, ◌∙◌, w64, FitsSigned, IsTrue, rules}
+use Rattle.std.proofs.lemmas.Int.{to_z-of_z}
 use Rattle.bb_tape.specs.Strip.{IsInside}
 use Rattle.bb_sim.specs.Runner.{low_of, high_of}
 use Rattle.bb_sim.proofs.Positions.{min-same, max-same}
-use Rattle.bb_sim.proofs.Standing.{inside_fits, inside_stays, room_left, fits_next, next_above, few_grown, low_grown, low_grows, high_stays, low_stays, high_grows}
+use Rattle.bb_sim.proofs.Standing.{inside_fits, inside_stays, room_left, fits_next, next_above, low_grows, high_stays, low_stays, high_grows}
 use Rattle.bb_sim.proofs.runner.Runner.enter.Goals as goal
 
 pub returns-then-is_inside : goal.returns-then-is_inside
@@ -15,9 +15,11 @@ returns-then-is_inside g c =
     let test = simp to_z-of_z at c.is_inside.ensures in
     let yes : IsTrue c.is_inside.result = search rules in
     let inside = test.0 yes in
-    let here : IsInside strip c.args.position = (rw c.requires.low inside.0, rw c.requires.high inside.1) in
-    (inside_fits strip c.args.position sound here, sym (inside_stays strip c.args.position here),
-     record { state = refl; head = refl; steps = refl; low = sym (min-same _ _ inside.0); high = sym (max-same _ _ inside.1) })
+    let here : IsInside strip c.args.position = (rw c.requires.low inside.0, rw c.requires.high inside.1) in (
+      inside_fits strip c.args.position sound here,
+      sym (inside_stays strip c.args.position here),
+      record { state = refl; head = refl; steps = refl; low = sym (min-same _ _ inside.0); high = sym (max-same _ _ inside.1) },
+    )
 
 pub widen_high-requires-clause-room : goal.widen_high-requires-clause-room
 widen_high-requires-clause-room g c =
@@ -33,10 +35,11 @@ returns-then-position-self g c =
     let position_fits : FitsSigned w64 c.args.position = c.ranges.position in
     let low_fits : FitsSigned w64 runner.low = search rules in
     let below : c.args.position <ℤ runner.low = search rules in
-    let near : runner.low ≤ℤ (c.args.position +ℤ pos 1) = rw (← c.requires.low) c.requires.near.0 in
-    (fits_next runner strip c.args.position sound c.requires.low c.requires.high (λ e. c.if-self-cells.false (e ∙ c.requires.limit ∙ sym c.cells.ensures.value)) c.requires.near,
-     simp to_z-of_z at c.widen_low.ensures,
-     record { state = refl; head = refl; steps = refl; low = simp to_z-of_z (low_grows runner.low c.args.position below); high = simp to_z-of_z (high_stays runner.low c.args.position runner.cells runner.some_cell below near) })
+    let near : runner.low ≤ℤ (c.args.position +ℤ pos 1) = rw (← c.requires.low) c.requires.near.0 in (
+      fits_next runner strip c.args.position sound c.requires.low c.requires.high (λ e. c.if-self-cells.false (e ∙ c.requires.limit ∙ sym c.cells.ensures.value)) c.requires.near,
+      simp to_z-of_z at c.widen_low.ensures,
+      record { state = refl; head = refl; steps = refl; low = simp to_z-of_z (low_grows runner.low c.args.position below); high = simp to_z-of_z (high_stays runner.low c.args.position runner.cells runner.some_cell below near) },
+    )
 
 pub returns : goal.returns
 returns g c =
@@ -49,7 +52,8 @@ returns g c =
     let test = simp to_z-of_z at c.is_inside.ensures in
     let outside : (low_of runner ≤ℤ c.args.position) × (c.args.position ≤ℤ high_of runner) → ⊥ = λ h. let yes : IsTrue c.is_inside.result = test.1 h in absurd (search rules) in
     let next = next_above runner strip c.args.position sound c.requires.low c.requires.high outside c.requires.near at in
-    let above : c.args.position ≡ high_of runner +ℤ pos 1 = rw (← c.requires.high) next in
-    (fits_next runner strip c.args.position sound c.requires.low c.requires.high (λ e. c.if-self-cells.false (e ∙ c.requires.limit ∙ sym c.cells.ensures.value)) c.requires.near,
-     simp to_z-of_z at c.widen_high.ensures,
-     record { state = refl; head = refl; steps = refl; low = low_stays runner.low c.args.position runner.cells above; high = high_grows runner.low c.args.position runner.cells above })
+    let above : c.args.position ≡ high_of runner +ℤ pos 1 = rw (← c.requires.high) next in (
+      fits_next runner strip c.args.position sound c.requires.low c.requires.high (λ e. c.if-self-cells.false (e ∙ c.requires.limit ∙ sym c.cells.ensures.value)) c.requires.near,
+      simp to_z-of_z at c.widen_high.ensures,
+      record { state = refl; head = refl; steps = refl; low = low_stays runner.low c.args.position runner.cells above; high = high_grows runner.low c.args.position runner.cells above },
+    )

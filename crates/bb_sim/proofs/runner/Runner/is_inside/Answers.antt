@@ -1,5 +1,5 @@
-use Rattle.std.proofs.Common.{◌≡◌, ◌-ℤ◌, w64, to_z, of_z, FitsSigned, arith, rules, ◌<◌, IsTrue}
-use Rattle.std.proofs.lemmas.Int.{ints, to_z-of_z}
+use Rattle.std.proofs.Common.{◌≡◌, ◌-ℤ◌, w64, of_z, FitsSigned, rules, ◌<◌}
+use Rattle.std.proofs.lemmas.Int.{to_z-of_z}
 use Rattle.bb_sim.proofs.Standing.{inside_test}
 use Rattle.bb_sim.proofs.runner.Runner.is_inside.Goals as goal
 
@@ -10,6 +10,7 @@ returns c =
     let position_fits : FitsSigned w64 c.args.position = c.ranges.position in
     let low_fits : FitsSigned w64 runner.low = search rules in
     let difference_fits : FitsSigned w64 (c.args.position -ℤ runner.low) = search rules in
-    let value : c.cast_unsigned.result ≡ of_z w64 (c.args.position -ℤ runner.low) = simp to_z-of_z at c.cast_unsigned.ensures in
-    (λ yes. let below : c.cast_unsigned.result < runner.cells = search rules in test.0 (rw (← value) below),
-     λ inside. let below : c.cast_unsigned.result < runner.cells = rw value (test.1 inside) in search rules)
+    let value : c.cast_unsigned.result ≡ of_z w64 (c.args.position -ℤ runner.low) = simp to_z-of_z at c.cast_unsigned.ensures in (
+      λ yes. let below : c.cast_unsigned.result < runner.cells = search rules in test.0 (rw (← value) below),
+      λ inside. let below : c.cast_unsigned.result < runner.cells = rw value (test.1 inside) in search rules,
+    )
