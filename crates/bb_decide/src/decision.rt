@@ -13,6 +13,7 @@ ghost use Rattle.bb_decide.specs.Work.{CountsWork, IsWithinWork};
 use crate::bench::Bench;
 use crate::cycle::cyclers;
 use crate::plan::Plan;
+use crate::translation::translated;
 use bb_cert::{Verdict, Why};
 use bb_machine::{Limits, Machine};
 use bb_sim::{Meter, Outcome, simulate};
@@ -47,10 +48,26 @@ pub fn decide<T: Tape>(
         Outcome::NoSteps => Why::Steps,
         Outcome::NoCells => Why::Cells,
     };
-    match cyclers_if_on(machine, limits, plan, bench, meter)? {
+    match search(machine, limits, plan, bench, meter)? {
         Some(verdict) => Ok(verdict),
         None => Ok(Verdict::Undecided(why)),
     }
+}
+
+/// What the searches that are on find, those for cycles first.
+fn search<T: Tape>(
+    machine: &Machine,
+    limits: &Limits,
+    plan: Plan,
+    bench: &mut Bench<T>,
+    meter: &mut Meter,
+) -> Result<Option<Verdict>, Memory>
+{
+    let found = cyclers_if_on(machine, limits, plan, bench, meter)?;
+    if let Some(verdict) = found {
+        return Ok(Some(verdict));
+    }
+    translated_if_on(machine, limits, plan, bench, meter)
 }
 
 /// What the cyclers find, where they are on.
@@ -75,4 +92,19 @@ fn cyclers_if_on<T: Tape>(
         return Ok(None);
     }
     cyclers(machine, limits, bench, meter)
+}
+
+/// What the search for records that agree finds, where it is on.
+fn translated_if_on<T: Tape>(
+    machine: &Machine,
+    limits: &Limits,
+    plan: Plan,
+    bench: &mut Bench<T>,
+    meter: &mut Meter,
+) -> Result<Option<Verdict>, Memory>
+{
+    if !plan.translated {
+        return Ok(None);
+    }
+    translated(machine, limits, bench, meter)
 }
