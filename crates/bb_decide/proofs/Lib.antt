@@ -1,5 +1,7 @@
 pub mod Cycles
 pub mod Facts
+pub mod Following
+pub mod Heads
 pub mod Partners
 pub mod Reaching
 pub mod Stretches
