@@ -1,8 +1,8 @@
 -- What is known of a side's records, as the run goes on by a step.
-use Rattle.std.proofs.Common.{◌≡◌, ◌≢◌, ℕ, zero, suc, ◌+◌, ◌*◌, ◌<◌, ◌≤◌, inl, inr, Some, ℤ, pos, neg_ℤ, ◌+ℤ◌, ◌-ℤ◌, ◌≤ℤ◌, refl, ap, sym, subst, ◌∙◌, add-one, arith}
+use Rattle.std.proofs.Common.{◌≡◌, ◌≢◌, ℕ, zero, suc, ◌+◌, ◌*◌, ◌<◌, ◌≤◌, inl, inr, Some, ℤ, pos, neg_ℤ, ◌+ℤ◌, ◌-ℤ◌, ◌≤ℤ◌, refl, ap, sym, subst, ◌∙◌, add-one, int_lt, false, arith}
 use Rattle.std.specs.Prelude.{◌<ℤ◌}
 use Rattle.std.specs.Int.{int_min, int_max}
-use Rattle.std.proofs.lemmas.Int.{ints, clamps}
+use Rattle.std.proofs.lemmas.Int.{ints, clamps, by_lt_z}
 use Rattle.bb_machine.specs.Machine.{Table}
 use Rattle.bb_tape.specs.Strip.{Strip, IsInside, visited}
 use Rattle.bb_sim.specs.declared.runner.Runner.{Runner}
@@ -14,7 +14,7 @@ use Rattle.bb_cert.specs.declared.verdict.Side.{Side}
 use Rattle.bb_cert.specs.Record.{out, head_at, far, IsRecord}
 use Rattle.bb_cert.proofs.Facts.{climbs, head_at-is, short_of_record, stands_on}
 use Rattle.bb_decide.specs.declared.records.Records.{Records}
-use Rattle.bb_decide.specs.Follow.{IsTop, IsKeptRecord, IsFollowed, IsAtRecord}
+use Rattle.bb_decide.specs.Follow.{IsTop, IsKeptRecord, IsFollowed, IsFollowedBefore, IsAtRecord}
 use Rattle.bb_decide.specs.Partner.{IsKept}
 use Rattle.bb_decide.specs.Translation.{AgreesWithPartner}
 use Rattle.bb_decide.proofs.Heads.{far-next, top_at_first, top-next, window_falls, window_rises}
@@ -129,3 +129,35 @@ module _ (table : Table) (n : ℕ) (records : Records) (saved : Strip) (followed
         partner = followed.partner;
         kept = kept_is;
       }
+
+-- ---- told of the runner that stands there
+
+pub not_below : (p q : ℤ) → int_lt p q ≡ false → q ≤ℤ p
+not_below p q test = grind (arith, ints)
+
+pub not_less : (p q : ℤ) → (p <ℤ q → ⊥) → q ≤ℤ p
+not_less p q never = by_lt_z p q (λ less. absurd (never less)) (λ more. more)
+
+module _ (table : Table) (runner : Runner) (run saved : Strip) (records : Records) (stands : Stands table runner run)
+  (before : IsFollowedBefore table (steps_of runner) records saved) where
+  there : Exists table (before.before + 1)
+  there = subst (Exists table) before.next (record { here = _; exists = stands.at })
+
+  at : out records.side (position_of runner) ≡ out records.side (head_at table (before.before + 1))
+  at = ap (out records.side) (sym (head_at-is table (steps_of runner) _ stands.at) ∙ ap (head_at table) before.next)
+
+  pub follows_on : out records.side (position_of runner) ≤ℤ records.top
+      → IsFollowed table (steps_of runner) (taken records (out records.side (position_of runner))) saved
+  follows_on low = subst (λ b. IsFollowed table b (taken records (out records.side (position_of runner))) saved) (sym before.next)
+      (followed-next table before.before records saved before.followed there (out records.side (position_of runner)) at low)
+
+  pub none_here : out records.side (position_of runner) ≤ℤ records.top
+      → (a : ℕ) → AgreesWithPartner table records.side a (steps_of runner) → ⊥
+  none_here low a pair =
+      no_record table before.before records saved before.followed there (out records.side (position_of runner)) at low a
+      (subst (λ b. AgreesWithPartner table records.side a b) before.next pair)
+
+  pub record_here : records.top <ℤ out records.side (position_of runner)
+      → IsAtRecord table (steps_of runner) (taken records (out records.side (position_of runner))) saved
+  record_here high = subst (λ b. IsAtRecord table b (taken records (out records.side (position_of runner))) saved) (sym before.next)
+      (at_record table before.before records saved before.followed there (out records.side (position_of runner)) at high)

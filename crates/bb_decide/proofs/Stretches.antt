@@ -1,9 +1,9 @@
 -- The stretch that is compared: how far out its ends are, and which positions those are.
-use Rattle.std.proofs.Common.{◌≡◌, ℕ, ◌<◌, ◌≤◌, ◌↔◌, ℤ, pos, negsuc, neg_ℤ, ◌+ℤ◌, ◌-ℤ◌, ◌≤ℤ◌, refl, ap, sym, subst, ◌∙◌, w64, FitsSigned, arith}
-use Rattle.std.proofs.lemmas.Int.{ints}
+use Rattle.std.proofs.Common.{◌≡◌, ℕ, ◌<◌, ◌≤◌, ◌↔◌, ℤ, pos, negsuc, neg_ℤ, ◌+ℤ◌, ◌-ℤ◌, ◌*ℤ◌, ◌≤ℤ◌, refl, ap, sym, subst, ◌∙◌, w64, FitsSigned, arith}
+use Rattle.std.proofs.lemmas.Int.{ints, clamps}
 use Rattle.std.specs.Prelude.{◌<ℤ◌}
 use Rattle.bb_tape.specs.Content.{Content, cell}
-use Rattle.bb_tape.specs.Strip.{Strip, IsInside, IsSound, IsStretch, AgreesFrom}
+use Rattle.bb_tape.specs.Strip.{Strip, IsInside, IsSound, IsStretch, AgreesFrom, visited, width}
 use Rattle.bb_cert.specs.declared.verdict.Side.{Side}
 use Rattle.bb_cert.specs.declared.verdict.Side.TheVariants.{L, R}
 use Rattle.bb_cert.specs.Record.{out}
@@ -36,6 +36,9 @@ narrow_fits z n = wide_fits z (omega (arith, ints, n.low)) (omega (arith, ints, 
 
 pub difference_fits : (x y : ℤ) → IsNarrow x → IsNarrow y → FitsSigned w64 (x -ℤ y)
 difference_fits x y n m = wide_fits (x -ℤ y) (omega (arith, ints, n.low, m.high)) (omega (arith, ints, n.high, m.low))
+
+pub doubled_fits : (z : ℤ) → IsNarrow z → FitsSigned w64 (pos 2 *ℤ z)
+doubled_fits z n = wide_fits (pos 2 *ℤ z) (omega (arith, ints, n.low)) (omega (arith, ints, n.high))
 
 pub shifted_fits : (x y z : ℤ) → IsNarrow x → IsNarrow y → IsNarrow z → FitsSigned w64 (x +ℤ (y -ℤ z))
 shifted_fits x y z n m k =
@@ -137,3 +140,37 @@ pub moved_from : (side : Side) (near number top from other : ℤ) → from ≡ l
 moved_from side near number top from other is at =
     at ∙ ap (λ e. lesser_of side (near +ℤ (top -ℤ number)) e) (sym (moved_end near number top))
     ∙ lesser_shifted side near number (top -ℤ number) ∙ ap (λ f. f +ℤ out side (top -ℤ number)) (sym is)
+
+-- ---- what was saved, widened to a position in the window of the run
+
+pub room_for : (saved run : Strip) (p : ℤ) → IsSound run → saved.limit ≡ run.limit → run.low ≤ℤ saved.low
+    → saved.high ≤ℤ run.high → IsInside run p → width (visited saved p) ≤ℤ pos saved.limit
+room_for saved run p sound limit low high inside =
+    let a = inside.0 in
+    let b = inside.1 in
+    omega (arith, ints, clamps, sound.within, limit, low, high, a, b)
+
+pub seen_wider : (saved : Strip) (p q : ℤ) → IsInside saved q → IsInside (visited saved p) q
+seen_wider saved p q inside =
+    let a = inside.0 in let b = inside.1 in (omega (arith, ints, clamps, a, b), omega (arith, ints, clamps, a, b))
+
+pub seen_at : (saved : Strip) (p : ℤ) → IsInside (visited saved p) p
+seen_at saved p = (omega (arith, ints, clamps), omega (arith, ints, clamps))
+
+pub low_wider : (low p : ℤ) (saved : Strip) → low ≤ℤ saved.low → low ≤ℤ p → low ≤ℤ (visited saved p).low
+low_wider low p saved a b = omega (arith, ints, clamps, a, b)
+
+pub high_wider : (high p : ℤ) (saved : Strip) → saved.high ≤ℤ high → p ≤ℤ high → (visited saved p).high ≤ℤ high
+high_wider high p saved a b = omega (arith, ints, clamps, a, b)
+
+pub comparable_wider : (records : Records) (saved run : Strip) → IsComparable records saved run
+    → IsComparable records (visited saved (out records.side records.far)) run
+comparable_wider records saved run is = record {
+  low = low_wider _ _ saved is.low is.far_seen.0;
+  high = high_wider _ _ saved is.high is.far_seen.1;
+  order = is.order;
+  later = is.later;
+  far_seen = is.far_seen;
+  top_seen = is.top_seen;
+  number_saved = seen_wider saved _ _ is.number_saved;
+}

@@ -74,7 +74,7 @@ impl Records {
     fn follow(&mut self, position: i64) -> bool
         requires low { neg_ℤ (pos MOST_CELLS) ≤ℤ position }
         requires high { position ≤ℤ pos MOST_CELLS }
-        ensures record { IsTrue result ↔ (self.old.top <ℤ out self.old.side position) }
+        ensures told { IsTrue result ↔ (self.old.top <ℤ out self.old.side position) }
         ensures taken { self.new ≡ record self.old {
             top = int_max self.old.top (out self.old.side position);
             far = int_min self.old.far (out self.old.side position) } }
