@@ -6,7 +6,7 @@ ghost use Rattle.bb_cert.specs.Claim.{Claim, SaysNever};
 ghost use Rattle.bb_cert.specs.Verdict.{HasNumbers};
 ghost use Rattle.bb_decide.specs.Bench.{HasCells};
 ghost use Rattle.bb_decide.specs.Plan.{IsBuilt};
-ghost use Rattle.bb_decide.specs.Search.{CyclersCount, CyclersFind};
+ghost use Rattle.bb_decide.specs.Search.{CyclersCount, CyclersFind, IsWithinSearches, SearchesCount, SearchesFind, TranslatedCount, TranslatedFind};
 ghost use Rattle.bb_decide.specs.Verdict.{IsVerdict};
 ghost use Rattle.bb_decide.specs.Work.{CountsWork, IsWithinWork};
 
@@ -21,7 +21,7 @@ use bb_tape::{Memory, Tape};
 
 /// The verdict on a machine, and under the meter what it cost: the meter is begun at 0.
 ///
-/// Only cyclers are built yet, so the plan may switch on no other decider. After an error nothing is said of what the
+/// Backward reasoning isn't built yet, so the plan may not switch it on. After an error nothing is said of what the
 /// tapes hold; the next call resets them.
 pub fn decide<T: Tape>(
     machine: &Machine,
@@ -62,10 +62,19 @@ fn search<T: Tape>(
     bench: &mut Bench<T>,
     meter: &mut Meter,
 ) -> Result<Option<Verdict>, Memory>
+    requires tapes { HasCells T.strip limits.now.cells bench.old }
+    requires room { meter.old.steps ≤ limits.now.steps }
+    ensures found { IfOk result (SearchesFind machine.now limits.now plan) }
+    ensures counted { OnOk result (SearchesCount machine.now limits.now plan meter.old meter.new) }
+    ensures within { IsWithinSearches limits.now meter.old meter.new }
+    ensures claim { IfOk result (λ found. IfSome found (Claim machine.now)) }
+    ensures numbers { IfOk result (λ found. IfSome found HasNumbers) }
+    ensures tapes { HasCells T.strip limits.now.cells bench.new }
+    ensures memory { OnErr result (IsTrue T.GROWS) }
 {
-    let found = cyclers_if_on(machine, limits, plan, bench, meter)?;
-    if let Some(verdict) = found {
-        return Ok(Some(verdict));
+    match cyclers_if_on(machine, limits, plan, bench, meter)? {
+        Some(verdict) => return Ok(Some(verdict)),
+        None => {}
     }
     translated_if_on(machine, limits, plan, bench, meter)
 }
@@ -102,6 +111,15 @@ fn translated_if_on<T: Tape>(
     bench: &mut Bench<T>,
     meter: &mut Meter,
 ) -> Result<Option<Verdict>, Memory>
+    requires tapes { HasCells T.strip limits.now.cells bench.old }
+    requires room { meter.old.steps ≤ 2 * limits.now.steps }
+    ensures found { IfOk result (TranslatedFind machine.now limits.now plan) }
+    ensures counted { IfOk result (TranslatedCount machine.now limits.now plan meter.old meter.new) }
+    ensures within { IsWithinRun limits.now meter.old meter.new }
+    ensures claim { IfOk result (λ found. IfSome found (Claim machine.now)) }
+    ensures numbers { IfOk result (λ found. IfSome found HasNumbers) }
+    ensures tapes { HasCells T.strip limits.now.cells bench.new }
+    ensures memory { OnErr result (IsTrue T.GROWS) }
 {
     if !plan.translated {
         return Ok(None);
