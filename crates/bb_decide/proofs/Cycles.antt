@@ -7,9 +7,9 @@ use Rattle.bb_machine.specs.Machine.{Table}
 use Rattle.bb_sim.specs.Span.{Inside}
 use Rattle.bb_cert.specs.Repeat.{Same}
 use Rattle.bb_cert.proofs.Facts.{no_repeat_at_once}
-use Rattle.bb_decide.specs.Partner.{IsPartner}
+use Rattle.bb_decide.specs.Partner.{IsKept, IsPartner}
 use Rattle.bb_decide.specs.Cycle.{IsCycle, IsFirstCycle}
-use Rattle.bb_decide.proofs.Partners.{IsKept, partner_is_unique}
+use Rattle.bb_decide.proofs.Partners.{partner_is_unique}
 
 module _ (table : Table) (bounds : Bounds) (k n : ℕ) (kept : IsKept k n) (none : (a t : ℕ) → t ≤ n → IsCycle table bounds a t → ⊥) where
   -- where the next step has the configuration of what is kept, that is its partner: it isn't the start

@@ -1,5 +1,11 @@
 pub mod Cycles
 pub mod Facts
+pub mod Following
+pub mod Heads
+pub mod Looking
 pub mod Partners
+pub mod Reaching
+pub mod Stretches
+pub mod Translations
 pub mod Verdicts
 pub mod Works

@@ -3,11 +3,7 @@ use Rattle.std.proofs.Common.{◌≡◌, ℕ, zero, suc, ◌+◌, ◌*◌, ◌-�
 use Rattle.std.proofs.Math.Nat.{pow-succ'}
 use Rattle.std.proofs.Math.Pow.{pow_mono}
 use Rattle.std.proofs.lemmas.Bool.{cases_lt}
-use Rattle.bb_decide.specs.Partner.{IsPartner}
-
--- after n steps k is kept: nothing but the start at first, then the partner of the next step
-abbrev pub IsKept : ℕ → ℕ → Type 0
-IsKept k n = ((n ≡ 0) × (k ≡ 0)) ⊎ IsPartner k (n + 1)
+use Rattle.bb_decide.specs.Partner.{IsKept, IsPartner}
 
 pub kept_at_first : IsKept 0 0
 kept_at_first = inl (refl, refl)

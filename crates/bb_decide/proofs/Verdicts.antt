@@ -1,5 +1,6 @@
 -- Why a machine has one verdict, and costs as many steps each time.
-use Rattle.std.proofs.Common.{◌≡◌, ℕ, ◌+◌, ◌≤◌, IsTrue, inl, inr, refl, sym, ◌∙◌, arith}
+use Rattle.std.proofs.Common.{◌≡◌, ℕ, ◌+◌, ◌<◌, ◌≤◌, ℤ, pos, neg_ℤ, IsTrue, inl, inr, refl, sym, subst, ◌∙◌, arith}
+use Rattle.std.proofs.lemmas.Int.{ints}
 use Rattle.bb_machine.specs.Limits.{Bounds}
 use Rattle.bb_machine.specs.Machine.{Table}
 use Rattle.bb_sim.specs.declared.simulation.Outcome.TheVariants.{Halt as Halts, NoSteps, NoCells}
@@ -8,9 +9,15 @@ use Rattle.bb_cert.specs.declared.verdict.Why.TheVariants.{Steps, Cells}
 use Rattle.bb_cert.specs.declared.verdict.Verdict.{Verdict}
 use Rattle.bb_cert.specs.declared.verdict.Verdict.TheVariants.{Halt, Cycler, Translated, Backward, Undecided}
 use Rattle.bb_decide.specs.declared.plan.Plan.{Plan}
+use Rattle.bb_cert.specs.declared.verdict.Side.{Side}
+use Rattle.bb_cert.specs.declared.verdict.Side.TheVariants.{L, R}
+use Rattle.bb_cert.specs.Record.{IsRecord}
+use Rattle.bb_cert.proofs.Facts.{record_has_one_step, stands_on}
 use Rattle.bb_decide.specs.Cycle.{IsFirstCycle}
+use Rattle.bb_decide.specs.Partner.{IsPartner}
+use Rattle.bb_decide.specs.Translation.{IsFirstTranslation}
 use Rattle.bb_decide.specs.Laws.{VerdictIsUnique, WorkIsUnique}
-use Rattle.bb_decide.specs.Work.{CycleSteps, IsWork, StepsIfMade, MakesCycleSearch}
+use Rattle.bb_decide.specs.Work.{CycleSteps, IsWork, MakesCycleSearch, MakesTranslationSearch, StepsIfMade, TranslationSteps}
 use Rattle.bb_decide.proofs.Partners.{partner_is_unique}
 
 -- there is one first cycle
@@ -24,6 +31,56 @@ module _ (table : Table) (bounds : Bounds) (a t b u : ℕ) (one : IsFirstCycle t
   partner_of_cycle_is_one : a ≡ b
   partner_of_cycle_is_one =
       partner_is_unique a b u (rw (← first_cycle_is_one) one.cycle.partner) other.cycle.partner
+
+-- there is one first record that agrees with its partner: of one side, and with one partner
+one_number : (i j : ℕ) (p : ℤ) → p ≡ pos i → p ≡ pos j → i ≡ j
+one_number i j p a b = omega (arith, ints, a, b)
+
+module _ (table : Table) (bounds : Bounds) where
+  first_translation_is_one : (s r : Side) (a b c d : ℕ) → IsFirstTranslation table bounds s a b
+      → IsFirstTranslation table bounds r c d → b ≡ d
+  first_translation_is_one s r a b c d one other =
+      let below = one.first r c d other.translation in
+      let above = other.first s a b one.translation in
+      omega arith
+
+  left_or_right : (a b c : ℕ) → IsFirstTranslation table bounds L a b → IsFirstTranslation table bounds R c b → ⊥
+  left_or_right a b c one other =
+      let left = one.translation.pair.second_record in
+      let right = other.translation.pair.second_record in
+      not_both _ _ _ (stands_on table L one.translation.pair.second_number b left)
+      (stands_on table R other.translation.pair.second_number b right) left.positive right.positive where
+        not_both : (p : ℤ) (i j : ℕ) → neg_ℤ p ≡ pos i → p ≡ pos j → 0 < i → 0 < j → ⊥
+        not_both p i j a b c d = omega (arith, ints, a, b, c, d)
+
+  side_is_one : (s r : Side) (a b c : ℕ) → IsFirstTranslation table bounds s a b → IsFirstTranslation table bounds r c b → s ≡ r
+  side_is_one L L a b c one other = refl
+  side_is_one R R a b c one other = refl
+  side_is_one L R a b c one other = absurd (left_or_right a b c one other)
+  side_is_one R L a b c one other = absurd (left_or_right c b a other one)
+
+  partner_of_translation_is_one : (s : Side) (a b c : ℕ) → IsFirstTranslation table bounds s a b
+      → IsFirstTranslation table bounds s c b → a ≡ c
+  partner_of_translation_is_one s a b c one other =
+      let first = one.translation.pair in
+      let second = other.translation.pair in
+      let number = one_number first.second_number second.second_number _
+            (stands_on table s first.second_number b first.second_record)
+            (stands_on table s second.second_number b second.second_record) in
+      let partner = partner_is_unique first.first_number second.first_number second.second_number
+            (subst (IsPartner first.first_number) number first.partner) second.partner in
+      record_has_one_step table s second.first_number a c
+      (subst (λ n. IsRecord table s n a) partner first.first_record) second.first_record
+
+  translations_are_one : (s r : Side) (a b c d : ℕ) → IsFirstTranslation table bounds s a b
+      → IsFirstTranslation table bounds r c d → Translated s a b ≡ Translated r c d
+  translations_are_one s r a b c d one other =
+      let step = first_translation_is_one s r a b c d one other in
+      let there = subst (IsFirstTranslation table bounds r c) (sym step) other in
+      let side = side_is_one s r a b c one there in
+      let here = subst (λ t. IsFirstTranslation table bounds t c b) (sym side) there in
+      let partner = partner_of_translation_is_one s a b c one here in
+      cc
 
 pub verdict_is_unique : VerdictIsUnique
 verdict_is_unique table bounds plan (Halt n ones) (Halt m twos) a b =
@@ -52,9 +109,23 @@ verdict_is_unique table bounds plan (Undecided Steps) (Undecided Cells) a b =
     let same = outcome_is_unique table bounds NoSteps NoCells a.0 b.0 in cc
 verdict_is_unique table bounds plan (Undecided Cells) (Undecided Steps) a b =
     let same = outcome_is_unique table bounds NoCells NoSteps a.0 b.0 in cc
-verdict_is_unique table bounds plan (Translated side first second) other a b = elim a [ ]
+verdict_is_unique table bounds plan (Translated side first second) (Halt m twos) a b = absurd (a.0 m b.0)
+verdict_is_unique table bounds plan (Translated side first second) (Cycler third fourth) a b =
+    absurd (a.1 b.1 third fourth b.2.cycle)
+verdict_is_unique table bounds plan (Translated side first second) (Translated other third fourth) a b =
+    translations_are_one table bounds side other first second third fourth a.3 b.3
+verdict_is_unique table bounds plan (Translated side first second) (Undecided Steps) a b =
+    absurd (b.2 a.2 side first second a.3.translation)
+verdict_is_unique table bounds plan (Translated side first second) (Undecided Cells) a b =
+    absurd (b.2 a.2 side first second a.3.translation)
+verdict_is_unique table bounds plan (Halt n ones) (Translated side third fourth) a b = absurd (b.0 n a.0)
+verdict_is_unique table bounds plan (Cycler first second) (Translated side third fourth) a b =
+    absurd (b.1 a.1 first second a.2.cycle)
+verdict_is_unique table bounds plan (Undecided Steps) (Translated side third fourth) a b =
+    absurd (a.2 b.2 side third fourth b.3.translation)
+verdict_is_unique table bounds plan (Undecided Cells) (Translated side third fourth) a b =
+    absurd (a.2 b.2 side third fourth b.3.translation)
 verdict_is_unique table bounds plan (Backward levels nodes) other a b = elim a [ ]
-verdict_is_unique table bounds plan other (Translated side first second) a b = elim b [ ]
 verdict_is_unique table bounds plan other (Backward levels nodes) a b = elim b [ ]
 
 module _ (table : Table) (bounds : Bounds) where
@@ -63,6 +134,13 @@ module _ (table : Table) (bounds : Bounds) where
   cycle_steps_are_one n m (inl one) (inr none) = absurd (none.0 one.0 n one.1.cycle)
   cycle_steps_are_one n m (inr none) (inl other) = absurd (none.0 other.0 m other.1.cycle)
   cycle_steps_are_one n m (inr one) (inr other) = last_step_is_unique table bounds n m one.1 other.1
+
+  translation_steps_are_one : (n m : ℕ) → TranslationSteps table bounds n → TranslationSteps table bounds m → n ≡ m
+  translation_steps_are_one n m (inl one) (inl other) =
+      first_translation_is_one table bounds one.0 other.0 one.1 n other.1 m one.2 other.2
+  translation_steps_are_one n m (inl one) (inr none) = absurd (none.0 one.0 one.1 n one.2.translation)
+  translation_steps_are_one n m (inr none) (inl other) = absurd (none.0 other.0 other.1 m other.2.translation)
+  translation_steps_are_one n m (inr one) (inr other) = last_step_is_unique table bounds n m one.1 other.1
 
 -- what is made costs as much each time, if its steps do
 steps_if_made_are_one : (Made : Type 0) (Cost : ℕ → Type 0) → ((n m : ℕ) → Cost n → Cost m → n ≡ m)
@@ -77,6 +155,8 @@ work_is_unique table bounds plan a b first second =
     let run = last_step_is_unique table bounds first.run second.run first.is_run second.is_run in
     let cycles = steps_if_made_are_one (MakesCycleSearch table bounds plan) (CycleSteps table bounds)
     (cycle_steps_are_one table bounds) first.cycles second.cycles first.is_cycles second.is_cycles in
+    let translations = steps_if_made_are_one (MakesTranslationSearch table bounds plan) (TranslationSteps table bounds)
+    (translation_steps_are_one table bounds) first.translations second.translations first.is_translations second.is_translations in
     let one = first.sum in
     let other = second.sum in
     omega arith

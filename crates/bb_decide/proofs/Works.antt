@@ -1,5 +1,6 @@
--- What deciding a machine has counted, by what was found.
-use Rattle.std.proofs.Common.{◌≡◌, ℕ, ◌+◌, ◌≤◌, max, Option, Some, None, true, false, IsTrue, inl, inr, refl, ap, sym, subst, ◌∙◌, arith}
+-- What deciding a machine has counted.
+use Rattle.std.proofs.Common.{◌≡◌, ℕ, ◌+◌, ◌≤◌, max, Option, Some, None, Result, Ok, Err, true, false, IsTrue, inl, inr, refl, ap, sym, subst, ◌∙◌, arith}
+use Rattle.std.specs.Prelude.{IfOk, OnOk}
 use Rattle.bb_machine.specs.Limits.{Bounds}
 use Rattle.bb_machine.specs.Machine.{Table}
 use Rattle.bb_sim.specs.declared.meter.Meter.{Meter}
@@ -10,9 +11,11 @@ use Rattle.bb_sim.proofs.Facts.{last_step_is_unique, span_grows}
 use Rattle.bb_cert.specs.declared.verdict.Verdict.{Verdict}
 use Rattle.bb_cert.specs.declared.verdict.Verdict.TheVariants.{Halt, Cycler, Translated, Backward, Undecided}
 use Rattle.bb_decide.specs.declared.plan.Plan.{Plan}
-use Rattle.bb_decide.specs.Cycle.{HasNoCycle, IsFirstCycle, CountsSearch, FindsCycle}
-use Rattle.bb_decide.specs.Search.{CyclersCount}
-use Rattle.bb_decide.specs.Work.{CountsWork, IsWork, MakesCycleSearch, CycleSteps, StepsIfMade}
+use Rattle.bb_decide.specs.Cycle.{CountsSearch, FindsCycle}
+use Rattle.bb_decide.specs.Translation.{FindsTranslation}
+use Rattle.bb_decide.specs.Verdict.{IsVerdict, PassesCycles}
+use Rattle.bb_decide.specs.Search.{Adds, CyclersCount, SearchesCount, SearchesFind, TranslatedCount, TranslatedFind}
+use Rattle.bb_decide.specs.Work.{CountsWork, CycleSteps, IsWork, MakesCycleSearch, MakesTranslationSearch, StepsIfMade, TranslationSteps}
 
 -- what the simulation has counted, from a meter that was begun at 0
 record Simulated (table : Table) (bounds : Bounds) (meter : Meter) : Type 0 where
@@ -45,6 +48,8 @@ module _ (table : Table) (bounds : Bounds) (plan : Plan) (begin mid : Meter) (ze
       is_run = s.is_last;
       cycles = 0;
       is_cycles = inr (λ made. made.0 n halts, refl);
+      translations = 0;
+      is_translations = inr (λ made. made.0 n halts, refl);
       sum = s.steps ∙ omega arith;
     };
     last = s.last;
@@ -54,60 +59,213 @@ module _ (table : Table) (bounds : Bounds) (plan : Plan) (begin mid : Meter) (ze
     most_levels = s.most_levels;
   }
 
-  module _ (nowhere : HaltsNowhere table bounds) (meter : Meter) where
-    -- nor where it is off
-    without : plan.cyclers ≡ false → meter ≡ mid → CountsWork table bounds plan meter
-    without off same = let s = simulated in record {
-      steps = record {
-        run = s.last;
-        is_run = s.is_last;
-        cycles = 0;
-        is_cycles = inr (λ made. let on = made.1 in cc, refl);
-        sum = ap (λ (m : Meter). m.steps) same ∙ s.steps ∙ omega arith;
-      };
-      last = s.last;
-      is_last = s.is_last;
-      most_cells = ap (λ (m : Meter). m.most_cells) same ∙ s.most_cells;
-      nodes = ap (λ (m : Meter). m.nodes) same ∙ s.nodes;
-      most_levels = ap (λ (m : Meter). m.most_levels) same ∙ s.most_levels;
-    }
+  -- else the two searches are
+  pub work_of_searches : HaltsNowhere table bounds → (meter : Meter) → SearchesCount table bounds plan mid meter
+      → CountsWork table bounds plan meter
+  work_of_searches nowhere meter counts =
+      let s = simulated in
+      let ran = s.steps in
+      let seen = s.most_cells in
+      let steps = counts.adds.steps in
+      let above = counts.adds.cells_kept in
+      let below = counts.adds.cells s.last s.is_last in
+      record {
+        steps = record {
+          run = s.last;
+          is_run = s.is_last;
+          cycles = counts.cycles;
+          is_cycles = where_nowhere (IsTrue plan.cyclers) (CycleSteps table bounds) counts.cycles counts.is_cycles;
+          translations = counts.translations;
+          is_translations = elim counts.is_translations [
+            | inl made ↦ inl ((nowhere, made.0.0, made.0.1), made.1)
+            | inr not_made ↦ inr (λ made. not_made.0 (made.1, made.2), not_made.1)
+          ];
+          sum = omega (arith, ran, steps);
+        };
+        last = s.last;
+        is_last = s.is_last;
+        most_cells = omega (arith, seen, above, below);
+        nodes = counts.adds.nodes ∙ s.nodes;
+        most_levels = counts.adds.most_levels ∙ s.most_levels;
+      } where
+        where_nowhere : (On : Type 0) (Cost : ℕ → Type 0) (n : ℕ) → StepsIfMade On Cost n
+            → StepsIfMade (HaltsNowhere table bounds × On) Cost n
+        where_nowhere On Cost n (inl made) = inl ((nowhere, made.0), made.1)
+        where_nowhere On Cost n (inr not_made) = inr (λ made. not_made.0 made.1, not_made.1)
 
-    -- a search up to step n, inside the bounds, was made
-    with_steps : (n : ℕ) → ((last : ℕ) → IsLastInside table bounds last → n ≤ last) → IsTrue plan.cyclers
-        → CycleSteps table bounds n → CountsTo table n mid meter → CountsWork table bounds plan meter
-    with_steps n inside on made counts =
-        let s = simulated in
-        let grows = span_grows table n s.last (inside s.last s.is_last) in
-        let steps : meter.steps ≡ mid.steps + n = ap (λ (m : Meter). m.steps) counts in
-        let cells : meter.most_cells ≡ max mid.most_cells (span table n) = ap (λ (m : Meter). m.most_cells) counts in
-        let ran = s.steps in
-        let seen = s.most_cells in record {
-          steps = record {
-            run = s.last;
-            is_run = s.is_last;
-            cycles = n;
-            is_cycles = inl ((nowhere, on), made);
-            sum = omega arith;
-          };
-          last = s.last;
-          is_last = s.is_last;
-          most_cells = omega arith;
-          nodes = ap (λ (m : Meter). m.nodes) counts ∙ s.nodes;
-          most_levels = ap (λ (m : Meter). m.most_levels) counts ∙ s.most_levels;
+-- ---- what the searches have counted
+
+module _ (table : Table) (bounds : Bounds) where
+  adds_nothing : (old new : Meter) → new ≡ old → Adds table bounds 0 old new
+  adds_nothing old new same =
+      let steps : new.steps ≡ old.steps = ap (λ (m : Meter). m.steps) same in
+      let cells : new.most_cells ≡ old.most_cells = ap (λ (m : Meter). m.most_cells) same in
+      record {
+        steps = omega (arith, steps);
+        cells_kept = omega (arith, cells);
+        cells = λ last is_last. omega (arith, cells);
+        nodes = ap (λ (m : Meter). m.nodes) same;
+        most_levels = ap (λ (m : Meter). m.most_levels) same;
+      }
+
+  adds_run : (n : ℕ) (old new : Meter) → ((last : ℕ) → IsLastInside table bounds last → n ≤ last) → CountsTo table n old new
+      → Adds table bounds n old new
+  adds_run n old new inside counts =
+      let steps : new.steps ≡ old.steps + n = ap (λ (m : Meter). m.steps) counts in
+      let cells : new.most_cells ≡ max old.most_cells (span table n) = ap (λ (m : Meter). m.most_cells) counts in
+      record {
+        steps = steps;
+        cells_kept = omega (arith, cells);
+        cells = λ last is_last. let grows = span_grows table n last (inside last is_last) in omega (arith, cells, grows);
+        nodes = ap (λ (m : Meter). m.nodes) counts;
+        most_levels = ap (λ (m : Meter). m.most_levels) counts;
+      }
+
+  adds_both : (n m : ℕ) (old mid new : Meter) → Adds table bounds n old mid → Adds table bounds m mid new
+      → Adds table bounds (n + m) old new
+  adds_both n m old mid new one other =
+      let a = one.steps in
+      let b = other.steps in
+      let c = one.cells_kept in
+      let d = other.cells_kept in
+      record {
+        steps = omega (arith, a, b);
+        cells_kept = omega (arith, c, d);
+        cells = λ last is_last. let e = one.cells last is_last in let f = other.cells last is_last in omega (arith, e, f);
+        nodes = other.nodes ∙ one.nodes;
+        most_levels = other.most_levels ∙ one.most_levels;
+      }
+
+  -- a search that was made or not, and what it has added
+  record Searched (Made : Type 0) (Cost : ℕ → Type 0) (old new : Meter) : Type 0 where
+    steps : ℕ
+    is_steps : StepsIfMade Made Cost steps
+    adds : Adds table bounds steps old new
+
+  not_made : (Made : Type 0) (Cost : ℕ → Type 0) (old new : Meter) → (Made → ⊥) → new ≡ old → Searched Made Cost old new
+  not_made Made Cost old new off same = record { steps = 0; is_steps = inr (off, refl); adds = adds_nothing old new same }
+
+  cycles_searched : (Made : Type 0) (found : Option Verdict) (old new : Meter) → Made → CountsSearch table bounds old new found
+      → FindsCycle table bounds found → Searched Made (CycleSteps table bounds) old new
+  cycles_searched Made None old new made counts none = record {
+    steps = counts.last;
+    is_steps = inl (made, inr (none, counts.is_last));
+    adds = adds_run counts.last old new (λ last is_last. is_last.greatest counts.last counts.is_last.inside) counts.counts;
+  }
+  cycles_searched Made (Some (Cycler first second)) old new made counts finds = record {
+    steps = second;
+    is_steps = inl (made, inl (first, finds));
+    adds = adds_run second old new (λ last is_last. is_last.greatest second finds.cycle.inside) counts;
+  }
+  cycles_searched Made (Some (Halt steps score)) old new made counts finds = absurd finds
+  cycles_searched Made (Some (Translated side first second)) old new made counts finds = absurd finds
+  cycles_searched Made (Some (Backward levels nodes)) old new made counts finds = absurd finds
+  cycles_searched Made (Some (Undecided why)) old new made counts finds = absurd finds
+
+  translations_searched : (Made : Type 0) (found : Option Verdict) (old new : Meter) → Made
+      → CountsSearch table bounds old new found → FindsTranslation table bounds found
+      → Searched Made (TranslationSteps table bounds) old new
+  translations_searched Made None old new made counts none = record {
+    steps = counts.last;
+    is_steps = inl (made, inr (none, counts.is_last));
+    adds = adds_run counts.last old new (λ last is_last. is_last.greatest counts.last counts.is_last.inside) counts.counts;
+  }
+  translations_searched Made (Some (Translated side first second)) old new made counts finds = record {
+    steps = second;
+    is_steps = inl (made, inl (side, first, finds));
+    adds = adds_run second old new (λ last is_last. is_last.greatest second finds.translation.inside) counts;
+  }
+  translations_searched Made (Some (Halt steps score)) old new made counts finds = absurd finds
+  translations_searched Made (Some (Cycler first second)) old new made counts finds = absurd finds
+  translations_searched Made (Some (Backward levels nodes)) old new made counts finds = absurd finds
+  translations_searched Made (Some (Undecided why)) old new made counts finds = absurd finds
+
+  module _ (plan : Plan) where
+    cycle_search : (found : Option Verdict) (old new : Meter) → CyclersCount table bounds plan old new found
+        → Searched (IsTrue plan.cyclers) (CycleSteps table bounds) old new
+    cycle_search found old new (inl made) = cycles_searched (IsTrue plan.cyclers) found old new made.0 made.1 made.2
+    cycle_search found old new (inr off) =
+        not_made (IsTrue plan.cyclers) (CycleSteps table bounds) old new (λ on. let no = off.0 in cc) off.1
+
+    translation_search : (found : Option Verdict) (old new : Meter) → PassesCycles table bounds plan
+        → TranslatedCount table bounds plan old new found
+        → Searched (PassesCycles table bounds plan × IsTrue plan.translated) (TranslationSteps table bounds) old new
+    translation_search found old new passes (inl made) =
+        translations_searched (PassesCycles table bounds plan × IsTrue plan.translated) found old new (passes, made.0) made.1 made.2
+    translation_search found old new passes (inr off) =
+        not_made (PassesCycles table bounds plan × IsTrue plan.translated) (TranslationSteps table bounds) old new
+        (λ both. let on = both.1 in let no = off.0 in cc) off.1
+
+    -- where no cycle was found, both searches may have been made
+    pub counts_both : (found : Option Verdict) (old mid new : Meter) → PassesCycles table bounds plan
+        → CyclersCount table bounds plan old mid None → TranslatedCount table bounds plan mid new found
+        → SearchesCount table bounds plan old new
+    counts_both found old mid new passes first second =
+        let one = cycle_search None old mid first in
+        let other = translation_search found mid new passes second in
+        record {
+          cycles = one.steps;
+          is_cycles = one.is_steps;
+          translations = other.steps;
+          is_translations = other.is_steps;
+          adds = adds_both one.steps other.steps old mid new one.adds other.adds;
         }
 
-    searched : (found : Option Verdict) → IsTrue plan.cyclers → CountsSearch table bounds mid meter found
-        → FindsCycle table bounds found → CountsWork table bounds plan meter
-    searched None on counts none =
-        with_steps counts.last (λ last is_last. is_last.greatest counts.last counts.is_last.inside) on (inr (none, counts.is_last)) counts.counts
-    searched (Some (Cycler first second)) on counts finds =
-        with_steps second (λ last is_last. is_last.greatest second finds.cycle.inside) on (inl (first, finds)) counts
-    searched (Some (Halt steps score)) on counts finds = absurd finds
-    searched (Some (Translated side first second)) on counts finds = absurd finds
-    searched (Some (Backward levels nodes)) on counts finds = absurd finds
-    searched (Some (Undecided why)) on counts finds = absurd finds
+    -- where one was found, the other isn't made
+    pub counts_cycles : (verdict : Verdict) (old new : Meter) → (PassesCycles table bounds plan → ⊥)
+        → CyclersCount table bounds plan old new (Some verdict) → SearchesCount table bounds plan old new
+    counts_cycles verdict old new found first =
+        let one = cycle_search (Some verdict) old new first in
+        record {
+          cycles = one.steps;
+          is_cycles = one.is_steps;
+          translations = 0;
+          is_translations = inr (λ made. found made.0, refl);
+          adds = adds_both one.steps 0 old new new one.adds (adds_nothing new new refl);
+        }
 
-    pub work_of_search : (found : Option Verdict) → CyclersCount table bounds plan mid meter found
-        → CountsWork table bounds plan meter
-    work_of_search found (inl made) = searched found made.0 made.1 made.2
-    work_of_search found (inr off) = without off.0 off.1
+    -- a cycle that was found was not passed
+    pub not_passed : (verdict : Verdict) → IsTrue plan.cyclers × FindsCycle table bounds (Some verdict)
+        → PassesCycles table bounds plan → ⊥
+    not_passed (Cycler first second) found passes = passes found.0 first second found.1.cycle
+    not_passed (Halt steps score) found passes = absurd found.1
+    not_passed (Translated side first second) found passes = absurd found.1
+    not_passed (Backward levels nodes) found passes = absurd found.1
+    not_passed (Undecided why) found passes = absurd found.1
+
+    -- ---- what is found by both
+
+    pub cycle_of_searches : (verdict : Verdict) → IsTrue plan.cyclers × FindsCycle table bounds (Some verdict)
+        → SearchesFind table bounds plan (Some verdict)
+    cycle_of_searches (Cycler first second) found = found
+    cycle_of_searches (Halt steps score) found = absurd found.1
+    cycle_of_searches (Translated side first second) found = absurd found.1
+    cycle_of_searches (Backward levels nodes) found = absurd found.1
+    cycle_of_searches (Undecided why) found = absurd found.1
+
+    pub found_by_searches : (found : Option Verdict) → PassesCycles table bounds plan → TranslatedFind table bounds plan found
+        → SearchesFind table bounds plan found
+    found_by_searches None passes none = (passes, none)
+    found_by_searches (Some (Translated side first second)) passes found = (passes, found.0, found.1)
+    found_by_searches (Some (Halt steps score)) passes found = absurd found.1
+    found_by_searches (Some (Cycler first second)) passes found = absurd found.1
+    found_by_searches (Some (Backward levels nodes)) passes found = absurd found.1
+    found_by_searches (Some (Undecided why)) passes found = absurd found.1
+
+-- what holds of an answer, from what else holds of it
+pub if_ok_map : {A E : Type 0} (r : Result A E) (P Q : A → Type 0) → ((x : A) → P x → Q x) → IfOk r P → IfOk r Q
+if_ok_map (Ok x) P Q f holds = f x holds
+if_ok_map (Err e) P Q f holds = tt
+
+pub if_ok_on : {A E : Type 0} (r : Result A E) (P : A → Type 0) (Q : Type 0) → ((x : A) → P x → Q) → IfOk r P → OnOk r Q
+if_ok_on (Ok x) P Q f holds = f x holds
+if_ok_on (Err e) P Q f holds = tt
+
+-- the verdict, where the machine doesn't halt inside the bounds and a search has found it
+pub verdict_of_searches : (table : Table) (bounds : Bounds) (plan : Plan) (verdict : Verdict) → HaltsNowhere table bounds
+    → SearchesFind table bounds plan (Some verdict) → IsVerdict table bounds plan verdict
+verdict_of_searches table bounds plan (Cycler first second) nowhere found = (nowhere, found.0, found.1)
+verdict_of_searches table bounds plan (Translated side first second) nowhere found = (nowhere, found.0, found.1, found.2)
+verdict_of_searches table bounds plan (Halt steps score) nowhere found = absurd found
+verdict_of_searches table bounds plan (Backward levels nodes) nowhere found = absurd found
+verdict_of_searches table bounds plan (Undecided why) nowhere found = absurd found

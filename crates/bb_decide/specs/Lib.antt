@@ -1,5 +1,6 @@
 pub mod Bench
 pub mod Cycle
+pub mod Follow
 pub mod Laws
 pub mod Partner
 pub mod Plan

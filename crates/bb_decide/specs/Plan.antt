@@ -4,4 +4,4 @@ use Rattle.bb_decide.specs.declared.plan.Plan.{Plan}
 
 -- only deciders that are built are switched on
 abbrev pub IsBuilt : Plan → Type 0
-IsBuilt plan = (plan.translated ≡ false) × (plan.backward ≡ false)
+IsBuilt plan = plan.backward ≡ false

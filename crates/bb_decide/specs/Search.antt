@@ -1,12 +1,16 @@
 -- What the deciders that are on find, as the functions of this crate tell one another; no public contract cites it.
-use Rattle.std.specs.Prelude.{◌≡◌, ◌⊎◌, false, IsTrue, Option, Some, None}
+use Rattle.std.specs.Prelude.{◌≡◌, ℕ, ◌+◌, ◌*◌, ◌≤◌, ◌⊎◌, max, false, IsTrue, Option, Some, None}
 use Rattle.bb_machine.specs.Limits.{Bounds}
 use Rattle.bb_machine.specs.Machine.{Table}
 use Rattle.bb_sim.specs.declared.meter.Meter.{Meter}
+use Rattle.bb_sim.specs.Span.{span, IsLastInside}
 use Rattle.bb_cert.specs.declared.verdict.Verdict.{Verdict}
+use Rattle.bb_cert.specs.declared.verdict.Verdict.TheVariants.{Halt, Cycler, Translated, Backward, Undecided}
 use Rattle.bb_decide.specs.declared.plan.Plan.{Plan}
-use Rattle.bb_decide.specs.Cycle.{CountsSearch, FindsCycle}
-use Rattle.bb_decide.specs.Verdict.{PassesCycles}
+use Rattle.bb_decide.specs.Cycle.{CountsSearch, FindsCycle, IsFirstCycle}
+use Rattle.bb_decide.specs.Translation.{FindsTranslation, IsFirstTranslation}
+use Rattle.bb_decide.specs.Verdict.{PassesCycles, PassesTranslations}
+use Rattle.bb_decide.specs.Work.{CycleSteps, StepsIfMade, TranslationSteps}
 
 -- the cyclers find a pair, where they are on; none where they are off, or there is none
 abbrev pub CyclersFind : Table → Bounds → Plan → Option Verdict → Type 0
@@ -18,3 +22,49 @@ abbrev pub CyclersCount : Table → Bounds → Plan → Meter → Meter → Opti
 CyclersCount table bounds plan old new found =
     (IsTrue plan.cyclers × CountsSearch table bounds old new found × FindsCycle table bounds found)
     ⊎ ((plan.cyclers ≡ false) × (new ≡ old))
+
+-- a record that agrees with its partner is found, where that search is on; none where it is off, or there is none
+abbrev pub TranslatedFind : Table → Bounds → Plan → Option Verdict → Type 0
+TranslatedFind table bounds plan None = PassesTranslations table bounds plan
+TranslatedFind table bounds plan (Some verdict) = IsTrue plan.translated × FindsTranslation table bounds (Some verdict)
+
+-- this search was counted, or nothing where it is off
+abbrev pub TranslatedCount : Table → Bounds → Plan → Meter → Meter → Option Verdict → Type 0
+TranslatedCount table bounds plan old new found =
+    (IsTrue plan.translated × CountsSearch table bounds old new found × FindsTranslation table bounds found)
+    ⊎ ((plan.translated ≡ false) × (new ≡ old))
+
+-- what the two searches find, that for cycles first
+abbrev pub SearchesFind : Table → Bounds → Plan → Option Verdict → Type 0
+SearchesFind table bounds plan None = PassesCycles table bounds plan × PassesTranslations table bounds plan
+SearchesFind table bounds plan (Some (Cycler first second)) =
+    IsTrue plan.cyclers × IsFirstCycle table bounds first second
+SearchesFind table bounds plan (Some (Translated side first second)) =
+    PassesCycles table bounds plan × IsTrue plan.translated × IsFirstTranslation table bounds side first second
+SearchesFind table bounds plan (Some (Halt steps score)) = ⊥
+SearchesFind table bounds plan (Some (Backward levels nodes)) = ⊥
+SearchesFind table bounds plan (Some (Undecided why)) = ⊥
+
+-- so many steps were counted, and no window beyond that of a run within bounds
+pub record Adds (table : Table) (bounds : Bounds) (count : ℕ) (old new : Meter) : Type 0 where
+  pub steps : new.steps ≡ old.steps + count
+  pub cells_kept : old.most_cells ≤ new.most_cells
+  pub cells : (last : ℕ) → IsLastInside table bounds last → new.most_cells ≤ max old.most_cells (span table last)
+  pub nodes : new.nodes ≡ old.nodes
+  pub most_levels : new.most_levels ≡ old.most_levels
+
+-- what the two searches count
+pub record SearchesCount (table : Table) (bounds : Bounds) (plan : Plan) (old new : Meter) : Type 0 where
+  pub cycles : ℕ
+  pub is_cycles : StepsIfMade (IsTrue plan.cyclers) (CycleSteps table bounds) cycles
+  pub translations : ℕ
+  pub is_translations : StepsIfMade (PassesCycles table bounds plan × IsTrue plan.translated)
+      (TranslationSteps table bounds) translations
+  pub adds : Adds table bounds (cycles + translations) old new
+
+-- and no more than two runs within bounds
+pub record IsWithinSearches (bounds : Bounds) (old new : Meter) : Type 0 where
+  pub steps : new.steps ≤ old.steps + 2 * bounds.steps
+  pub most_cells : new.most_cells ≤ max old.most_cells bounds.cells
+  pub nodes : new.nodes ≡ old.nodes
+  pub most_levels : new.most_levels ≡ old.most_levels

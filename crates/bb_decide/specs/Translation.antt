@@ -11,16 +11,20 @@ use Rattle.bb_cert.specs.Agree.{Agree}
 use Rattle.bb_cert.specs.Record.{IsRecord}
 use Rattle.bb_decide.specs.Partner.{IsPartner}
 
--- a record of a side is made at step b, inside, and agrees with the record of that side, at step a, whose number is the
+-- a record of a side is made at step b, and agrees with the record of that side, at step a, whose number is the
 -- partner of its own
-pub record IsTranslation (table : Table) (bounds : Bounds) (side : Side) (a b : ℕ) : Type 0 where
+pub record AgreesWithPartner (table : Table) (side : Side) (a b : ℕ) : Type 0 where
   pub first_number : ℕ
   pub second_number : ℕ
   pub partner : IsPartner first_number second_number
   pub first_record : IsRecord table side first_number a
   pub second_record : IsRecord table side second_number b
-  pub inside : Inside table bounds b
   pub agree : Agree table side a b
+
+-- one that does is made inside
+pub record IsTranslation (table : Table) (bounds : Bounds) (side : Side) (a b : ℕ) : Type 0 where
+  pub pair : AgreesWithPartner table side a b
+  pub inside : Inside table bounds b
 
 -- no record inside agrees with its partner
 abbrev pub HasNoTranslation : Table → Bounds → Type 0

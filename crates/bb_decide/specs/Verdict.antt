@@ -1,4 +1,4 @@
--- The verdict on a machine within bounds, by a plan that switches on at most the cyclers: this project's own.
+-- The verdict on a machine within bounds, by a plan without backward reasoning: this project's own.
 use Rattle.std.specs.Prelude.{◌≡◌, false, IsTrue}
 use Rattle.bb_machine.specs.Limits.{Bounds}
 use Rattle.bb_machine.specs.Machine.{Table}
@@ -9,18 +9,27 @@ use Rattle.bb_cert.specs.declared.verdict.Verdict.{Verdict}
 use Rattle.bb_cert.specs.declared.verdict.Verdict.TheVariants.{Halt, Cycler, Translated, Backward, Undecided}
 use Rattle.bb_decide.specs.declared.plan.Plan.{Plan}
 use Rattle.bb_decide.specs.Cycle.{HasNoCycle, IsFirstCycle}
+use Rattle.bb_decide.specs.Translation.{HasNoTranslation, IsFirstTranslation}
 
 -- the cyclers are off, or there is no cycle
 abbrev pub PassesCycles : Table → Bounds → Plan → Type 0
 PassesCycles table bounds plan = IsTrue plan.cyclers → HasNoCycle table bounds
 
--- the first that applies, deciders that are off being passed over: a halt inside the bounds; the first cycle; else
--- which limit the simulation met
+-- translated cyclers are off, or no record agrees with its partner
+abbrev pub PassesTranslations : Table → Bounds → Plan → Type 0
+PassesTranslations table bounds plan = IsTrue plan.translated → HasNoTranslation table bounds
+
+-- the first that applies, deciders that are off being passed over: a halt inside the bounds; the first cycle; the first
+-- record that agrees with its partner; else which limit the simulation met
 abbrev pub IsVerdict : Table → Bounds → Plan → Verdict → Type 0
 IsVerdict table bounds plan (Halt n ones) = IsOutcome table bounds (Halts n ones)
 IsVerdict table bounds plan (Cycler first second) =
     HaltsNowhere table bounds × IsTrue plan.cyclers × IsFirstCycle table bounds first second
-IsVerdict table bounds plan (Undecided Steps) = IsOutcome table bounds NoSteps × PassesCycles table bounds plan
-IsVerdict table bounds plan (Undecided Cells) = IsOutcome table bounds NoCells × PassesCycles table bounds plan
-IsVerdict table bounds plan (Translated side first second) = ⊥
+IsVerdict table bounds plan (Translated side first second) =
+    HaltsNowhere table bounds × PassesCycles table bounds plan × IsTrue plan.translated
+    × IsFirstTranslation table bounds side first second
+IsVerdict table bounds plan (Undecided Steps) =
+    IsOutcome table bounds NoSteps × PassesCycles table bounds plan × PassesTranslations table bounds plan
+IsVerdict table bounds plan (Undecided Cells) =
+    IsOutcome table bounds NoCells × PassesCycles table bounds plan × PassesTranslations table bounds plan
 IsVerdict table bounds plan (Backward levels nodes) = ⊥

@@ -6,7 +6,10 @@ use Rattle.bb_sim.specs.declared.meter.Meter.{Meter}
 use Rattle.bb_sim.specs.Outcome.{HaltsNowhere}
 use Rattle.bb_sim.specs.Span.{span, IsLastInside}
 use Rattle.bb_decide.specs.declared.plan.Plan.{Plan}
+use Rattle.bb_cert.specs.declared.verdict.Side.{Side}
 use Rattle.bb_decide.specs.Cycle.{HasNoCycle, IsFirstCycle}
+use Rattle.bb_decide.specs.Translation.{HasNoTranslation, IsFirstTranslation}
+use Rattle.bb_decide.specs.Verdict.{PassesCycles}
 
 -- a search makes the steps up to what it finds first, or a whole run where there is nothing to find
 abbrev pub SearchSteps : Table → Bounds → (ℕ → Type 0) → Type 0 → ℕ → Type 0
@@ -25,14 +28,26 @@ abbrev pub CycleSteps : Table → Bounds → ℕ → Type 0
 CycleSteps table bounds n =
     SearchSteps table bounds (λ t. (a : ℕ) × IsFirstCycle table bounds a t) (HasNoCycle table bounds) n
 
--- the steps that deciding a machine makes: those of the simulation, up to the last step inside, and those of the
--- search for cycles
+-- the search for records that agree is reached where, besides, no cycle was found
+abbrev pub MakesTranslationSearch : Table → Bounds → Plan → Type 0
+MakesTranslationSearch table bounds plan =
+    HaltsNowhere table bounds × PassesCycles table bounds plan × IsTrue plan.translated
+
+-- its steps
+abbrev pub TranslationSteps : Table → Bounds → ℕ → Type 0
+TranslationSteps table bounds n = SearchSteps table bounds
+    (λ b. (side : Side) × (a : ℕ) × IsFirstTranslation table bounds side a b) (HasNoTranslation table bounds) n
+
+-- the steps that deciding a machine makes: those of the simulation, up to the last step inside, and those of the two
+-- searches
 pub record IsWork (table : Table) (bounds : Bounds) (plan : Plan) (work : ℕ) : Type 0 where
   pub run : ℕ
   pub is_run : IsLastInside table bounds run
   pub cycles : ℕ
   pub is_cycles : StepsIfMade (MakesCycleSearch table bounds plan) (CycleSteps table bounds) cycles
-  pub sum : work ≡ run + cycles
+  pub translations : ℕ
+  pub is_translations : StepsIfMade (MakesTranslationSearch table bounds plan) (TranslationSteps table bounds) translations
+  pub sum : work ≡ run + (cycles + translations)
 
 -- deciding a machine has counted its steps, and the span at the last step inside as its widest window
 pub record CountsWork (table : Table) (bounds : Bounds) (plan : Plan) (meter : Meter) : Type 0 where

@@ -6,13 +6,14 @@ ghost use Rattle.bb_cert.specs.Claim.{Claim, SaysNever};
 ghost use Rattle.bb_cert.specs.Verdict.{HasNumbers};
 ghost use Rattle.bb_decide.specs.Bench.{HasCells};
 ghost use Rattle.bb_decide.specs.Plan.{IsBuilt};
-ghost use Rattle.bb_decide.specs.Search.{CyclersCount, CyclersFind};
+ghost use Rattle.bb_decide.specs.Search.{CyclersCount, CyclersFind, IsWithinSearches, SearchesCount, SearchesFind, TranslatedCount, TranslatedFind};
 ghost use Rattle.bb_decide.specs.Verdict.{IsVerdict};
 ghost use Rattle.bb_decide.specs.Work.{CountsWork, IsWithinWork};
 
 use crate::bench::Bench;
 use crate::cycle::cyclers;
 use crate::plan::Plan;
+use crate::translation::translated;
 use bb_cert::{Verdict, Why};
 use bb_machine::{Limits, Machine};
 use bb_sim::{Meter, Outcome, simulate};
@@ -20,7 +21,7 @@ use bb_tape::{Memory, Tape};
 
 /// The verdict on a machine, and under the meter what it cost: the meter is begun at 0.
 ///
-/// Only cyclers are built yet, so the plan may switch on no other decider. After an error nothing is said of what the
+/// Backward reasoning isn't built yet, so the plan may not switch it on. After an error nothing is said of what the
 /// tapes hold; the next call resets them.
 pub fn decide<T: Tape>(
     machine: &Machine,
@@ -47,10 +48,35 @@ pub fn decide<T: Tape>(
         Outcome::NoSteps => Why::Steps,
         Outcome::NoCells => Why::Cells,
     };
-    match cyclers_if_on(machine, limits, plan, bench, meter)? {
+    match search(machine, limits, plan, bench, meter)? {
         Some(verdict) => Ok(verdict),
         None => Ok(Verdict::Undecided(why)),
     }
+}
+
+/// What the searches that are on find, those for cycles first.
+fn search<T: Tape>(
+    machine: &Machine,
+    limits: &Limits,
+    plan: Plan,
+    bench: &mut Bench<T>,
+    meter: &mut Meter,
+) -> Result<Option<Verdict>, Memory>
+    requires tapes { HasCells T.strip limits.now.cells bench.old }
+    requires room { meter.old.steps ≤ limits.now.steps }
+    ensures found { IfOk result (SearchesFind machine.now limits.now plan) }
+    ensures counted { OnOk result (SearchesCount machine.now limits.now plan meter.old meter.new) }
+    ensures within { IsWithinSearches limits.now meter.old meter.new }
+    ensures claim { IfOk result (λ found. IfSome found (Claim machine.now)) }
+    ensures numbers { IfOk result (λ found. IfSome found HasNumbers) }
+    ensures tapes { HasCells T.strip limits.now.cells bench.new }
+    ensures memory { OnErr result (IsTrue T.GROWS) }
+{
+    match cyclers_if_on(machine, limits, plan, bench, meter)? {
+        Some(verdict) => return Ok(Some(verdict)),
+        None => {}
+    }
+    translated_if_on(machine, limits, plan, bench, meter)
 }
 
 /// What the cyclers find, where they are on.
@@ -75,4 +101,28 @@ fn cyclers_if_on<T: Tape>(
         return Ok(None);
     }
     cyclers(machine, limits, bench, meter)
+}
+
+/// What the search for records that agree finds, where it is on.
+fn translated_if_on<T: Tape>(
+    machine: &Machine,
+    limits: &Limits,
+    plan: Plan,
+    bench: &mut Bench<T>,
+    meter: &mut Meter,
+) -> Result<Option<Verdict>, Memory>
+    requires tapes { HasCells T.strip limits.now.cells bench.old }
+    requires room { meter.old.steps ≤ 2 * limits.now.steps }
+    ensures found { IfOk result (TranslatedFind machine.now limits.now plan) }
+    ensures counted { IfOk result (TranslatedCount machine.now limits.now plan meter.old meter.new) }
+    ensures within { IsWithinRun limits.now meter.old meter.new }
+    ensures claim { IfOk result (λ found. IfSome found (Claim machine.now)) }
+    ensures numbers { IfOk result (λ found. IfSome found HasNumbers) }
+    ensures tapes { HasCells T.strip limits.now.cells bench.new }
+    ensures memory { OnErr result (IsTrue T.GROWS) }
+{
+    if !plan.translated {
+        return Ok(None);
+    }
+    translated(machine, limits, bench, meter)
 }

@@ -6,10 +6,14 @@ pub mod cycle;
 pub mod decision;
 pub mod laws;
 pub mod plan;
+mod reach;
+mod records;
 #[cfg(test)]
 mod tests;
+pub mod translation;
 
 pub use bench::Bench;
 pub use cycle::cyclers;
 pub use decision::decide;
 pub use plan::Plan;
+pub use translation::translated;

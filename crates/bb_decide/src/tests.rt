@@ -3,7 +3,7 @@ ghost use Rattle.std.specs.Prelude.{◌≡◌};
 ghost use Rattle.bb_decide.specs.Bench.{HasCells};
 
 use crate::{Bench, Plan, cyclers, decide};
-use bb_cert::{Verdict, Why};
+use bb_cert::{Side, Verdict, Why};
 use bb_machine::{Limits, Machine};
 use bb_sim::Meter;
 use bb_tape::{MapTape, RingTape, Tape};
@@ -69,16 +69,42 @@ static ROWS: [Row; 12] = [
     (b"0RA0RA", 1000, Verdict::Undecided(Why::Cells), 126),
 ];
 
+/// Rows where the search for records that agree is on too. The two machines with 300 steps go, between their records,
+/// beyond what they had visited at the first of them.
+static TRANSLATED_ROWS: [Row; 15] = [
+    (b"1RA1RA", 1000, Verdict::Translated { side: Side::R, first: 1, second: 2 }, 128),
+    (b"0LA0LA", 1000, Verdict::Translated { side: Side::L, first: 1, second: 2 }, 128),
+    (b"1RB---_1RC---_1RA---", 1000, Verdict::Translated { side: Side::R, first: 4, second: 7 }, 133),
+    (b"1RB---_1RC---_1RA---", 7, Verdict::Translated { side: Side::R, first: 4, second: 7 }, 21),
+    (b"1RB---_1RC---_1RA---", 6, STEPS, 18),
+    (b"0LB---_0RC1RC_1RA---", 1000, Verdict::Translated { side: Side::R, first: 3, second: 6 }, 382),
+    (b"0RB---_0LC1LC_1LA---", 1000, Verdict::Translated { side: Side::L, first: 3, second: 6 }, 382),
+    (b"1RB1RZ_1LB0RC_1LC1LA", 20, STEPS, 60),
+    (b"1RB0RA_1LA---", 1000, Verdict::Translated { side: Side::R, first: 4, second: 8 }, 262),
+    (b"1LB0LA_1RA---", 1000, Verdict::Translated { side: Side::L, first: 4, second: 8 }, 262),
+    (b"1RB0RA_1LA---", 8, Verdict::Translated { side: Side::R, first: 4, second: 8 }, 24),
+    (b"1RB0RA_1LA---", 7, STEPS, 21),
+    (b"1LB0LA_0RB1RA", 300, Verdict::Translated { side: Side::L, first: 1, second: 8 }, 608),
+    (b"1RB0RA_0LB1LA", 300, Verdict::Translated { side: Side::R, first: 1, second: 8 }, 608),
+    (b"0RB---_0LA---", 1000, Verdict::Cycler { first: 2, second: 4 }, 1004),
+];
+
 /// Decides each machine on three tapes, and holds verdict and steps against what was worked out.
-fn are_decided<T: Tape>(rt: &impl Abort, bench: &mut Bench<T>) -> Result<(), Fail>
+fn are_decided<T: Tape>(
+    rt: &impl Abort,
+    bench: &mut Bench<T>,
+    translated: bool,
+    rows: &[Row],
+) -> Result<(), Fail>
     requires { HasCells T.strip CELLS bench.old }
+    ensures { HasCells T.strip CELLS bench.new }
 {
     let plan = Plan {
         cyclers: true,
-        translated: false,
+        translated,
         backward: false,
     };
-    for (text, most_steps, verdict, steps) in &ROWS {
+    for (text, most_steps, verdict, steps) in rows {
         let limits = Limits::new(*most_steps, CELLS, 0, 0)?;
         let machine = Machine::read(text)?;
         let mut meter = Meter::new();
@@ -119,7 +145,8 @@ fn machines_are_decided_on_maps(rt: HostRuntime) -> Result<(), Fail> {
     let left = MapTape::new(alloc, CELLS);
     let mut bench = Bench::new(alloc, run, right, left, &limits)?;
     is_searched(&rt, &mut bench)?;
-    are_decided(&rt, &mut bench)
+    are_decided(&rt, &mut bench, false, &ROWS)?;
+    are_decided(&rt, &mut bench, true, &TRANSLATED_ROWS)
 }
 
 #[test]
@@ -131,5 +158,6 @@ fn machines_are_decided_on_rings(rt: HostRuntime) -> Result<(), Fail> {
     let left = RingTape::new(alloc, CELLS)?;
     let mut bench = Bench::new(alloc, run, right, left, &limits)?;
     is_searched(&rt, &mut bench)?;
-    are_decided(&rt, &mut bench)
+    are_decided(&rt, &mut bench, false, &ROWS)?;
+    are_decided(&rt, &mut bench, true, &TRANSLATED_ROWS)
 }

@@ -7,7 +7,7 @@ use Rattle.bb_cert.specs.Repeat.{Same}
 use Rattle.bb_cert.proofs.Facts.{alike_of_same, same_of_alike, repeats_never_halt}
 use Rattle.bb_decide.specs.Cycle.{IsFirstCycle}
 use Rattle.bb_decide.proofs.Cycles.{first_cycle, no_cycle_next}
-use Rattle.bb_decide.proofs.Partners.{IsKept, kept_below, keeps_next, keeps_on}
+use Rattle.bb_decide.proofs.Partners.{kept_below, keeps_next, keeps_on}
 use Rattle.bb_decide.proofs.cycle.cyclers.Goals as goal
 
 pub returns-in_default : goal.returns-in_default

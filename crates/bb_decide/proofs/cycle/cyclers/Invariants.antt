@@ -3,7 +3,7 @@ use Rattle.bb_sim.specs.Meter.{CountsTo}
 use Rattle.bb_sim.specs.Runner.{Stands, steps_of}
 use Rattle.bb_decide.specs.Bench.{HasCells}
 use Rattle.bb_decide.specs.Cycle.{IsCycle}
-use Rattle.bb_decide.proofs.Partners.{IsKept}
+use Rattle.bb_decide.specs.Partner.{IsKept}
 use Rattle.bb_decide.proofs.cycle.cyclers.Given as goal
 
 -- both runners stand within the limits, the kept one at the partner of the next step; no step up to here is a cycle

@@ -1,0 +1,57 @@
+-- What the search for records that agree has found, step by step.
+use Rattle.std.proofs.Common.{◌≡◌, ℕ, ◌+◌, ◌<◌, ◌≤◌, inl, inr, sym, subst, arith}
+use Rattle.std.proofs.lemmas.Bool.{cases_lt}
+use Rattle.bb_machine.specs.Limits.{Bounds}
+use Rattle.bb_machine.specs.Machine.{Table}
+use Rattle.bb_sim.specs.Span.{Inside}
+use Rattle.bb_cert.specs.declared.verdict.Side.{Side}
+use Rattle.bb_cert.specs.declared.verdict.Side.TheVariants.{L, R}
+use Rattle.bb_cert.specs.Agree.{AgreeingRecords}
+use Rattle.bb_cert.proofs.Facts.{record_takes_steps, records_in_order}
+use Rattle.bb_decide.specs.Translation.{AgreesWithPartner, IsTranslation, IsFirstTranslation}
+
+-- step 0 makes no record
+pub none_at_first : (table : Table) (bounds : Bounds) (side : Side) (a b : ℕ) → b ≤ 0 → IsTranslation table bounds side a b → ⊥
+none_at_first table bounds side a b few found =
+    let record_b = found.pair.second_record in
+    let takes = record_takes_steps table side found.pair.second_number b record_b in
+    let some = record_b.positive in
+    omega (arith, few, takes, some)
+
+-- a record that agrees with its partner is one of two that agree
+pub pair_agrees : (table : Table) (side : Side) (a b : ℕ) → AgreesWithPartner table side a b → AgreeingRecords table side a b
+pair_agrees table side a b pair = record {
+  in_order = (records_in_order table side pair.first_number pair.second_number a b pair.first_record pair.second_record).0
+      pair.partner.below;
+  first_number = pair.first_number;
+  second_number = pair.second_number;
+  first_record = pair.first_record;
+  second_record = pair.second_record;
+  agree = pair.agree;
+}
+
+module _ (table : Table) (bounds : Bounds) (n : ℕ)
+  (none : (side : Side) (a b : ℕ) → b ≤ n → IsTranslation table bounds side a b → ⊥) where
+  -- the first is that of the next step
+  pub first_translation : (side : Side) (a : ℕ) → AgreesWithPartner table side a (n + 1) → Inside table bounds (n + 1)
+      → IsFirstTranslation table bounds side a (n + 1)
+  first_translation side a pair inside = record {
+    translation = record { pair = pair; inside = inside };
+    first = λ other c d found. elim (cases_lt n d) [
+      | inl past ↦ omega (arith, past)
+      | inr few ↦ absurd (none other c d few found)
+    ];
+  }
+
+  -- or it isn't made by the next step either
+  pub none_next : ((a : ℕ) → AgreesWithPartner table R a (n + 1) → ⊥) → ((a : ℕ) → AgreesWithPartner table L a (n + 1) → ⊥)
+      → (side : Side) (a b : ℕ) → b ≤ n + 1 → IsTranslation table bounds side a b → ⊥
+  none_next right left side a b few found = elim (cases_lt n b) [
+    | inr before ↦ none side a b before found
+    | inl past ↦
+        let same : b ≡ n + 1 = omega (arith, past, few) in
+        by_side side (subst (λ m. AgreesWithPartner table side a m) same found.pair)
+  ] where
+    by_side : (other : Side) → AgreesWithPartner table other a (n + 1) → ⊥
+    by_side R pair = right a pair
+    by_side L pair = left a pair

@@ -1,0 +1,144 @@
+use Rattle.std.proofs.Common.{◌≡◌, ◌+◌, ◌∙◌, ap, arith}
+use Rattle.bb_sim.specs.Runner.{steps_of}
+use Rattle.bb_sim.proofs.Facts.{counts_next, counts_start, counts_stopped, count_is_within, stopped}
+use Rattle.bb_cert.specs.declared.verdict.Side.TheVariants.{L, R}
+use Rattle.bb_cert.proofs.Facts.{agreeing_records_never_halt}
+use Rattle.bb_decide.specs.declared.records.Records.{Records}
+use Rattle.bb_decide.proofs.Following.{followed_at_first}
+use Rattle.bb_decide.proofs.Translations.{first_translation, none_at_first, none_next, pair_agrees}
+use Rattle.bb_decide.proofs.translation.translated.Goals as goal
+
+pub loop-right-init : goal.loop-right-init
+loop-right-init g c =
+    let zero = c.start-runner.ensures.steps in
+    record {
+      stands = c.start-runner.ensures.stands;
+      right = rw zero (followed_at_first _ _ _ (ap (λ (r : Records). r.top) c.new-right.ensures)
+          (ap (λ (r : Records). r.number) c.new-right.ensures));
+      left = rw zero (followed_at_first _ _ _ (ap (λ (r : Records). r.top) c.new-left.ensures)
+          (ap (λ (r : Records). r.number) c.new-left.ensures));
+      right_side = ap (λ (r : Records). r.side) c.new-right.ensures;
+      left_side = ap (λ (r : Records). r.side) c.new-left.ensures;
+      tapes = record {
+        run = c.start-runner.ensures.limit ∙ c.requires.tapes.run;
+        right = c.requires.tapes.right;
+        left = c.requires.tapes.left;
+      };
+      steps = rw zero (omega arith);
+      meter = rw zero (counts_start c.args.machine.now c.args.meter.now _
+          (ap (λ n. record c.args.meter.now { most_cells = n }) c.max-meter.ensures));
+      none = rw zero (none_at_first _ _);
+    }
+
+pub returns-in_default : goal.returns-in_default
+returns-in_default g c =
+    let here = c.loop-right.invariant in
+    let stop = stopped _ _ _ _ _ _ _ _ c.in_ok-advance.field-0 c.in_default.not-Stepped
+    c.in_ok-advance.ensures.reaches c.in_ok-advance.ensures.moves in
+    let same = ap (λ r. steps_of r) stop.stays.runner in
+    let counts = counts_stopped _ _ _ _ _ _ _ _ _ stop here.meter in
+    record {
+      found = λ side a b translation.
+          let few = stop.last.greatest b translation.inside in
+          here.none side a b (omega (arith, few, same)) translation;
+      counted = record { last = _; is_last = stop.last; counts = counts };
+      within = count_is_within _ _ _ _ _ stop.last.inside counts;
+      never = tt;
+      claim = tt;
+      numbers = tt;
+      tapes = record {
+        run = c.in_ok-advance.ensures.limit ∙ here.tapes.run;
+        right = here.tapes.right;
+        left = here.tapes.left;
+      };
+      memory = tt;
+    }
+
+pub returns-in-Some-clause-found : goal.returns-in-Some-clause-found
+returns-in-Some-clause-found g c =
+    let here = c.loop-right.invariant in
+    let moves = rw c.in-Stepped.is at c.in_ok-advance.ensures.moves in
+    let reaches = rw c.in-Stepped.is at c.in_ok-advance.ensures.reaches in
+    let found = rw c.in-Some.is at c.in_ok-first.ensures.found in
+    let pair = rw here.right_side at found in
+    let next = rw moves.0 at pair in
+    let inside = rw moves.0 at reaches.0 in
+    rw (c.steps.ensures, moves.0) (first_translation _ _ _ here.none R _ next inside)
+
+pub returns-in-Some-clause-counted : goal.returns-in-Some-clause-counted
+returns-in-Some-clause-counted g c =
+    let here = c.loop-right.invariant in
+    let moves = rw c.in-Stepped.is at c.in_ok-advance.ensures.moves in
+    rw (c.steps.ensures, moves.0) (counts_next _ _ _ _ _ here.meter moves.1)
+
+pub returns-in-Some-clause-never : goal.returns-in-Some-clause-never
+returns-in-Some-clause-never g c =
+    let here = c.loop-right.invariant in
+    let found = rw c.in-Some.is at c.in_ok-first.ensures.found in
+    let pair = rw here.right_side at found in
+    agreeing_records_never_halt _ _ _ _ (pair_agrees _ _ _ _ pair)
+
+pub returns-in-Some-clause-claim : goal.returns-in-Some-clause-claim
+returns-in-Some-clause-claim g c =
+    let here = c.loop-right.invariant in
+    let found = rw c.in-Some.is at c.in_ok-first.ensures.found in
+    let pair = rw here.right_side at found in
+    rw c.steps.ensures (pair_agrees _ _ _ _ pair)
+
+pub returns-in-Some-2-clause-found : goal.returns-in-Some-2-clause-found
+returns-in-Some-2-clause-found g c =
+    let here = c.loop-right.invariant in
+    let moves = rw c.in-Stepped.is at c.in_ok-advance.ensures.moves in
+    let reaches = rw c.in-Stepped.is at c.in_ok-advance.ensures.reaches in
+    let found = rw c.in-Some-2.is at c.in_ok-first-2.ensures.found in
+    let pair = rw here.left_side at found in
+    let next = rw moves.0 at pair in
+    let inside = rw moves.0 at reaches.0 in
+    rw (c.steps-in-Some-2.ensures, moves.0) (first_translation _ _ _ here.none L _ next inside)
+
+pub returns-in-Some-2-clause-counted : goal.returns-in-Some-2-clause-counted
+returns-in-Some-2-clause-counted g c =
+    let here = c.loop-right.invariant in
+    let moves = rw c.in-Stepped.is at c.in_ok-advance.ensures.moves in
+    rw (c.steps-in-Some-2.ensures, moves.0) (counts_next _ _ _ _ _ here.meter moves.1)
+
+pub returns-in-Some-2-clause-never : goal.returns-in-Some-2-clause-never
+returns-in-Some-2-clause-never g c =
+    let here = c.loop-right.invariant in
+    let found = rw c.in-Some-2.is at c.in_ok-first-2.ensures.found in
+    let pair = rw here.left_side at found in
+    agreeing_records_never_halt _ _ _ _ (pair_agrees _ _ _ _ pair)
+
+pub returns-in-Some-2-clause-claim : goal.returns-in-Some-2-clause-claim
+returns-in-Some-2-clause-claim g c =
+    let here = c.loop-right.invariant in
+    let found = rw c.in-Some-2.is at c.in_ok-first-2.ensures.found in
+    let pair = rw here.left_side at found in
+    rw c.steps-in-Some-2.ensures (pair_agrees _ _ _ _ pair)
+
+pub loop-right-preserved : goal.loop-right-preserved
+loop-right-preserved g c =
+    let here = c.loop-right.invariant in
+    let moves = rw c.in-Stepped.is at c.in_ok-advance.ensures.moves in
+    let reaches = rw c.in-Stepped.is at c.in_ok-advance.ensures.reaches in
+    let right_found = rw c.in-None.is at c.in_ok-first.ensures.found in
+    let right_here = rw here.right_side at right_found in
+    let right_none = rw moves.0 at right_here in
+    let left_found = rw c.in-None-2.is at c.in_ok-first-2.ensures.found in
+    let left_here = rw here.left_side at left_found in
+    let left_none = rw moves.0 at left_here in
+    record {
+      stands = c.in_ok-advance.ensures.stands;
+      right = rw c.in-None.is at c.in_ok-first.ensures.followed;
+      left = rw c.in-None-2.is at c.in_ok-first-2.ensures.followed;
+      right_side = c.in_ok-first.ensures.side ∙ here.right_side;
+      left_side = c.in_ok-first-2.ensures.side ∙ here.left_side;
+      tapes = record {
+        run = c.in_ok-advance.ensures.limit ∙ here.tapes.run;
+        right = c.in_ok-first.ensures.limit ∙ here.tapes.right;
+        left = c.in_ok-first-2.ensures.limit ∙ here.tapes.left;
+      };
+      steps = reaches.0.within_steps;
+      meter = rw moves.0 (counts_next _ _ _ _ _ here.meter moves.1);
+      none = let moved = moves.0 in rw moved (none_next _ _ _ here.none right_none left_none);
+    }

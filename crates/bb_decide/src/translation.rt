@@ -1,0 +1,71 @@
+//! The search for records that agree.
+ghost use Rattle.std.specs.Prelude.{◌*◌, ◌≤◌, IfOk, IfSome, IsTrue, OnErr};
+ghost use Rattle.bb_sim.specs.Meter.{IsWithinRun};
+ghost use Rattle.bb_sim.specs.Run.{Never};
+ghost use Rattle.bb_cert.specs.Claim.{Claim};
+ghost use Rattle.bb_cert.specs.Verdict.{HasNumbers};
+ghost use Rattle.bb_decide.specs.Bench.{HasCells};
+ghost use Rattle.bb_decide.specs.Cycle.{CountsSearch};
+ghost use Rattle.bb_decide.specs.Translation.{FindsTranslation};
+
+use crate::bench::Bench;
+use crate::records::Records;
+use bb_cert::{Side, Verdict};
+use bb_machine::{Limits, Machine};
+use bb_sim::{Meter, Moved, Runner};
+use bb_tape::{Memory, Tape};
+
+/// The first record of either side, from record 2 on, that agrees with its partner, the record of that side whose number
+/// is the greatest power of two below its own. None where there is none inside the limits.
+///
+/// After an error nothing is said of what the tapes hold; the next call resets them.
+#[inline(never)]
+pub fn translated<T: Tape>(
+    machine: &Machine,
+    limits: &Limits,
+    bench: &mut Bench<T>,
+    meter: &mut Meter,
+) -> Result<Option<Verdict>, Memory>
+    requires tapes { HasCells T.strip limits.now.cells bench.old }
+    requires room { meter.old.steps ≤ 2 * limits.now.steps }
+    ensures found { IfOk result (FindsTranslation machine.now limits.now) }
+    ensures counted { IfOk result (CountsSearch machine.now limits.now meter.old meter.new) }
+    ensures within { IsWithinRun limits.now meter.old meter.new }
+    ensures never { IfOk result (λ found. IfSome found (λ verdict. Never machine.now)) }
+    ensures claim { IfOk result (λ found. IfSome found (Claim machine.now)) }
+    ensures numbers { IfOk result (λ found. IfSome found HasNumbers) }
+    ensures tapes { HasCells T.strip limits.now.cells bench.new }
+    ensures memory { OnErr result (IsTrue T.GROWS) }
+{
+    let _accepted = limits.steps();
+    let mut runner = Runner::start(machine, &mut bench.run);
+    let mut right = Records::new(Side::R, runner);
+    let mut left = Records::new(Side::L, runner);
+    meter.most_cells = meter.most_cells.max(1);
+    loop {
+        match runner.advance(machine, &mut bench.run, limits, meter)? {
+            Moved::Stepped => {}
+            _ => return Ok(None),
+        }
+        match right.take_in(machine, &runner, &bench.run, &mut bench.right)? {
+            Some(first) => {
+                return Ok(Some(Verdict::Translated {
+                    side: Side::R,
+                    first,
+                    second: runner.steps(),
+                }));
+            }
+            None => {}
+        }
+        match left.take_in(machine, &runner, &bench.run, &mut bench.left)? {
+            Some(first) => {
+                return Ok(Some(Verdict::Translated {
+                    side: Side::L,
+                    first,
+                    second: runner.steps(),
+                }));
+            }
+            None => {}
+        }
+    }
+}
