@@ -13,9 +13,9 @@ import subprocess
 import sys
 import tempfile
 
-SWITCHES = ["--no-translated", "--no-backward"]
+SWITCHES = ["--no-backward"]
 MACHINES = b"1RB1LB_1LA1RZ\n0RB---_0LA---\n1RA1RA\n"
-VERDICTS = b"1RB1LB_1LA1RZ halt 6 4\n0RB---_0LA--- cycler 2 4\n1RA1RA undecided cells\n"
+VERDICTS = b"1RB1LB_1LA1RZ halt 6 4\n0RB---_0LA--- cycler 2 4\n1RA1RA translated R 1 2\n"
 
 
 def cases(folder):
@@ -31,7 +31,7 @@ def cases(folder):
         ("a refused line", ["decide", *SWITCHES], b"1rB1LB\n", 1, b"refused 2\n", b""),
         ("a missing file", ["decide", *SWITCHES, missing], b"------\n", 3, b"", b"bb: read failed\n"),
         ("a folder", ["decide", *SWITCHES, folder], b"", 3, b"", b"bb: read failed\n"),
-        ("a decider that isn't built", ["decide"], MACHINES, 2, b"", b"bb: translated not built\n"),
+        ("a decider that isn't built", ["decide"], MACHINES, 2, b"", b"bb: backward not built\n"),
         (
             "refused limits",
             ["decide", "--cells", "4", "--depth", "3", missing],

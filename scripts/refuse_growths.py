@@ -51,7 +51,7 @@ int posix_memalign(void **p, size_t a, size_t n) {
 }
 """
 
-SWITCHES = ["--no-translated", "--no-backward"]
+SWITCHES = ["--no-backward"]
 LIMITS = ["--steps=1000", "--cells=64", "--depth=10", "--nodes=100"]
 LINES = b"1RB1LB_1LA1RZ\n1RB0RA_1LA---\n0RB---_0LA---\n"
 

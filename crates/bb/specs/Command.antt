@@ -97,8 +97,7 @@ IsAskedBy words asked = (rows : List Row)
 -- the text that refuses a plan, by the first decider that is on; none where it switches on none
 abbrev pub not_built : Plan → Option (List ℕ)
 not_built plan =
-    if plan.translated then Some (codes "bb: translated not built")
-    else if plan.backward then Some (codes "bb: backward not built")
+    if plan.backward then Some (codes "bb: backward not built")
     else None
 
 -- why deciding under these limits by this plan is refused: the first fault of the limits; where they are accepted, the

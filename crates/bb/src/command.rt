@@ -256,9 +256,6 @@ fn accepted(steps: u64, cells: u64, depth: u64, nodes: u64, plan: Plan) -> Resul
     ensures first_stop { IfErr result (IsFirstStop (record { steps = steps; cells = cells; depth = depth; nodes = nodes }) plan) }
 {
     let limits = Limits::new(steps, cells, depth, nodes).map_err(Stop::Limits)?;
-    if plan.translated {
-        return Err(Stop::NotBuilt("bb: translated not built"));
-    }
     if plan.backward {
         return Err(Stop::NotBuilt("bb: backward not built"));
     }

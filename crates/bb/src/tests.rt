@@ -154,13 +154,9 @@ fn refuses_limits(rt: HostRuntime) {
 #[test]
 fn refuses_deciders_that_are_not_built(rt: HostRuntime) {
     for (words, text) in [
-        (["decide"].as_slice(), "bb: translated not built"),
+        (["decide"].as_slice(), "bb: backward not built"),
         (
-            ["decide", "--no-cyclers"].as_slice(),
-            "bb: translated not built",
-        ),
-        (
-            ["decide", "--no-translated"].as_slice(),
+            ["decide", "--no-cyclers", "--no-translated"].as_slice(),
             "bb: backward not built",
         ),
     ] {

@@ -57,7 +57,7 @@ pub step_text-is : (table : Table) (runner : Runner) (strip : Strip) (head : Lis
 step_text-is table runner strip head stands is_head = record {
   is = ap (text_at table (steps_of runner)) stands.at
       ∙ ap (λ c. head_text (steps_of runner) (state_of runner) (position_of runner) ++ c)
-        (same_cells strip.content _ _ _ _ stands.low stands.high)
+      (same_cells strip.content _ _ _ _ stands.low stands.high)
       ∙ ap (λ h. h ++ cells_text strip.content (low_of runner) (cells_between (low_of runner) (high_of runner))) (sym is_head);
 }
 

@@ -250,6 +250,59 @@ static REPEATS: [Row; 9] = [
     ),
 ];
 
+const PAIRS: Plan = Plan {
+    cyclers: true,
+    translated: true,
+    backward: false,
+};
+
+static RECORDS: [Row; 9] = [
+    (DEFAULTS, b"1RA1RA\n", b"1RA1RA translated R 1 2\n", true),
+    (DEFAULTS, b"0LA0LA\n", b"0LA0LA translated L 1 2\n", true),
+    (
+        DEFAULTS,
+        b"1RB---_1RC---_1RA---\n",
+        b"1RB---_1RC---_1RA--- translated R 4 7\n",
+        true,
+    ),
+    (
+        [6, 64, 10, 0],
+        b"1RB---_1RC---_1RA---\n",
+        b"1RB---_1RC---_1RA--- undecided steps\n",
+        true,
+    ),
+    (
+        DEFAULTS,
+        b"0LB---_0RC1RC_1RA---\n",
+        b"0LB---_0RC1RC_1RA--- translated R 3 6\n",
+        true,
+    ),
+    (
+        DEFAULTS,
+        b"0RB---_0LC1LC_1LA---\n",
+        b"0RB---_0LC1LC_1LA--- translated L 3 6\n",
+        true,
+    ),
+    (
+        [20, 64, 10, 0],
+        b"1RB1RZ_1LB0RC_1LC1LA\n",
+        b"1RB1RZ_1LB0RC_1LC1LA undecided steps\n",
+        true,
+    ),
+    (
+        DEFAULTS,
+        b"1RB0RA_1LA---\n1LB0LA_1RA---\n",
+        b"1RB0RA_1LA--- translated R 4 8\n1LB0LA_1RA--- translated L 4 8\n",
+        true,
+    ),
+    (
+        DEFAULTS,
+        b"0RB---_0LA---\n",
+        b"0RB---_0LA--- cycler 2 4\n",
+        true,
+    ),
+];
+
 /// Decides a list on maps.
 fn decided_on_maps(
     rt: &(impl Abort + AllocGlobal),
@@ -327,6 +380,20 @@ fn finds_repeats(rt: HostRuntime) {
 }
 
 #[test]
+fn finds_records_that_agree(rt: HostRuntime) {
+    answers(&rt, PAIRS, RECORDS.as_slice());
+    let limits = Limits::new(1_000_000, 65_536, 300, 0).expect(&rt, "limits");
+    for (input, steps) in [
+        (b"1RA1RA".as_slice(), 131_072),
+        (b"1RB---_1RC---_1RA---".as_slice(), 131_077),
+        (b"0LB---_0RC1RC_1RA---".as_slice(), 393_214),
+    ] {
+        let (end, _) = decided_on_rings(&rt, &limits, PAIRS, input);
+        assert_eq!(rt; end.expect(&rt, "no fault").peak.steps, steps);
+    }
+}
+
+#[test]
 fn refuses_lines(rt: HostRuntime) {
     answers(&rt, SIMULATION, REFUSED.as_slice());
 }
@@ -337,7 +404,7 @@ fn refuses_lines(rt: HostRuntime) {
 fn each_growth_of_a_run_refused(rt: HostRuntime) -> Result<(), Fail> {
     let input = b"1RB1LB_1LA1RZ\n1RB0RA_1LA---\n0RB---_0LA---\n".as_slice();
     let output =
-        b"1RB1LB_1LA1RZ halt 6 4\n1RB0RA_1LA--- undecided cells\n0RB---_0LA--- cycler 2 4\n".as_slice();
+        b"1RB1LB_1LA1RZ halt 6 4\n1RB0RA_1LA--- translated R 4 8\n0RB---_0LA--- cycler 2 4\n".as_slice();
     let limits = Limits::new(1000, 64, 10, 100).expect(&rt, "limits");
     let heap = LocalHeap::new(rt.alloc(), 1 << 13)?;
     let (mut refused, mut fitted) = (0, 0);
@@ -354,7 +421,7 @@ fn each_growth_of_a_run_refused(rt: HostRuntime) -> Result<(), Fail> {
             &mut Watched::new(input),
             &mut writer,
             &limits,
-            CYCLERS,
+            PAIRS,
             &mut bench,
         );
         drop(rest);
@@ -374,7 +441,7 @@ fn each_growth_of_a_run_refused(rt: HostRuntime) -> Result<(), Fail> {
             &mut Watched::new(input),
             &mut writer,
             &limits,
-            CYCLERS,
+            PAIRS,
             &mut bench,
         );
         assert!(rt;
