@@ -1,21 +1,19 @@
 -- What is known of a side's records, as the run goes on by a step.
-use Rattle.std.proofs.Common.{◌≡◌, ◌≢◌, ℕ, zero, suc, ◌+◌, ◌*◌, ◌<◌, ◌≤◌, inl, inr, Some, ℤ, pos, neg_ℤ, ◌+ℤ◌, ◌-ℤ◌, ◌≤ℤ◌, refl, ap, sym, subst, ◌∙◌, add-one, int_lt, false, arith}
+use Rattle.std.proofs.Common.{◌≡◌, ◌≢◌, ℕ, ◌+◌, ◌<◌, ℤ, pos, ◌+ℤ◌, ◌≤ℤ◌, ap, sym, subst, ◌∙◌, add-one, int_lt, false, arith}
 use Rattle.std.specs.Prelude.{◌<ℤ◌}
 use Rattle.std.specs.Int.{int_min, int_max}
 use Rattle.std.proofs.lemmas.Int.{ints, clamps, by_lt_z}
 use Rattle.bb_machine.specs.Machine.{Table}
-use Rattle.bb_tape.specs.Strip.{Strip, IsInside, visited}
+use Rattle.bb_tape.specs.Strip.{Strip}
 use Rattle.bb_sim.specs.declared.runner.Runner.{Runner}
-use Rattle.bb_sim.specs.Configuration.{Configuration}
-use Rattle.bb_sim.specs.Run.{conf, Exists}
-use Rattle.bb_sim.specs.Runner.{Stands, position_of, state_of, steps_of}
-use Rattle.bb_sim.specs.Span.{counted_head, least, greatest}
+use Rattle.bb_sim.specs.Run.{Exists}
+use Rattle.bb_sim.specs.Runner.{Stands, position_of, steps_of}
+use Rattle.bb_sim.specs.Span.{counted_head}
 use Rattle.bb_cert.specs.declared.verdict.Side.{Side}
-use Rattle.bb_cert.specs.Record.{out, head_at, far, IsRecord}
+use Rattle.bb_cert.specs.Record.{out, head_at}
 use Rattle.bb_cert.proofs.Facts.{climbs, head_at-is, short_of_record, stands_on}
 use Rattle.bb_decide.specs.declared.records.Records.{Records}
 use Rattle.bb_decide.specs.Follow.{IsTop, IsKeptRecord, IsFollowed, IsFollowedBefore, IsAtRecord}
-use Rattle.bb_decide.specs.Partner.{IsKept}
 use Rattle.bb_decide.specs.Translation.{AgreesWithPartner}
 use Rattle.bb_decide.proofs.Heads.{far-next, top_at_first, top-next, window_falls, window_rises}
 use Rattle.bb_decide.proofs.Partners.{kept_at_first}
@@ -74,7 +72,7 @@ not_above : (p q : ℤ) (n : ℕ) → q ≤ℤ p → q ≡ pos n → p <ℤ pos 
 not_above p q n a b c = omega (arith, ints, a, b, c)
 
 module _ (table : Table) (n : ℕ) (records : Records) (saved : Strip) (followed : IsFollowed table n records saved)
-  (there : Exists table (n + 1)) (far_out : ℤ) (at : far_out ≡ out records.side (head_at table (n + 1))) where
+    (there : Exists table (n + 1)) (far_out : ℤ) (at : far_out ≡ out records.side (head_at table (n + 1))) where
   top_is : IsTop table records.side (n + 1) (int_max records.top far_out)
   top_is = subst (λ f. IsTop table records.side (n + 1) (int_max records.top f)) (sym at)
       (top-next table records.side n records.top followed.top)
@@ -100,7 +98,7 @@ module _ (table : Table) (n : ℕ) (records : Records) (saved : Strip) (followed
   no_record low a pair =
       let top = followed.top in
       let short = short_of_record table records.side pair.second_number (n + 1) pair.second_record top.step
-            (let few = top.no_later in omega (arith, few)) in
+      (let few = top.no_later in omega (arith, few)) in
       let stands = stands_on table records.side pair.second_number (n + 1) pair.second_record in
       not_above records.top far_out pair.second_number low (at ∙ stands)
       (subst (λ t. t <ℤ pos pair.second_number) top.reached short)
@@ -109,7 +107,7 @@ module _ (table : Table) (n : ℕ) (records : Records) (saved : Strip) (followed
   pub at_record : records.top <ℤ far_out → IsAtRecord table (n + 1) (taken records far_out) saved
   at_record high =
       let step : out records.side (head_at table (n + 1)) ≤ℤ (out records.side (head_at table n) +ℤ pos 1) =
-            rw add-one (climbs table records.side n (rw add-one at there)) in
+      rw add-one (climbs table records.side n (rw add-one at there)) in
       let below = followed.top.bounds n (omega arith) in
       let is = next_up records.top far_out _ followed.count followed.count_is (rw at step) below high in
       record {
@@ -139,7 +137,7 @@ pub not_less : (p q : ℤ) → (p <ℤ q → ⊥) → q ≤ℤ p
 not_less p q never = by_lt_z p q (λ less. absurd (never less)) (λ more. more)
 
 module _ (table : Table) (runner : Runner) (run saved : Strip) (records : Records) (stands : Stands table runner run)
-  (before : IsFollowedBefore table (steps_of runner) records saved) where
+    (before : IsFollowedBefore table (steps_of runner) records saved) where
   there : Exists table (before.before + 1)
   there = subst (Exists table) before.next (record { here = _; exists = stands.at })
 

@@ -1,22 +1,21 @@
 -- Where the head stands on a side, step by step.
-use Rattle.std.proofs.Common.{◌≡◌, ◌≢◌, ℕ, zero, suc, ◌+◌, ◌-◌, ◌<◌, ◌≤◌, inl, inr, Some, None, ℤ, pos, neg_ℤ, ◌+ℤ◌, ◌-ℤ◌, ◌≤ℤ◌, refl, ap, sym, subst, ◌∙◌, add-one, arith}
+use Rattle.std.proofs.Common.{◌≡◌, ◌≢◌, ℕ, zero, suc, ◌+◌, ◌-◌, ◌<◌, ◌≤◌, inl, inr, Some, None, ℤ, pos, ◌≤ℤ◌, refl, ap, sym, subst, ◌∙◌, arith}
 use Rattle.std.specs.Prelude.{◌<ℤ◌}
 use Rattle.std.specs.Int.{int_min, int_max}
 use Rattle.std.proofs.lemmas.Bool.{cases_lt}
 use Rattle.std.proofs.lemmas.Int.{ints, clamps, by_lt_z}
-use Rattle.bb_machine.specs.declared.entry.Next.{Next}
 use Rattle.bb_machine.specs.declared.entry.Next.TheVariants.{Halt}
 use Rattle.bb_machine.specs.Machine.{Table}
 use Rattle.bb_tape.specs.Content.{cell}
 use Rattle.bb_sim.specs.Configuration.{Configuration, entry_at, followed, next}
 use Rattle.bb_sim.specs.Laws.{IsRunningAt}
-use Rattle.bb_sim.specs.Run.{conf, Exists}
+use Rattle.bb_sim.specs.Run.{Exists}
 use Rattle.bb_sim.specs.Span.{counted_head, least, greatest}
 use Rattle.bb_sim.proofs.Facts.{least-next, greatest-next, least_bounds, span_is_reached}
 use Rattle.bb_cert.specs.declared.verdict.Side.{Side}
 use Rattle.bb_cert.specs.declared.verdict.Side.TheVariants.{L, R}
 use Rattle.bb_cert.specs.Record.{out, head_at, far}
-use Rattle.bb_cert.proofs.Facts.{climbs, earlier, head_at-is, head_at-start, moves, out-zero}
+use Rattle.bb_cert.proofs.Facts.{earlier, head_at-is, head_at-start, moves, out-zero}
 use Rattle.bb_decide.specs.Follow.{IsTop}
 
 -- as far out as one is

@@ -1,26 +1,24 @@
 -- A record that was just made: whether it agrees with the kept one, and which one is kept from then on.
-use Rattle.std.proofs.Common.{◌≡◌, ◌≢◌, ℕ, ◌+◌, ◌*◌, ◌^◌, ◌<◌, ◌≤◌, ◌⊎◌, inl, inr, Some, ℤ, pos, neg_ℤ, ◌+ℤ◌, ◌-ℤ◌, ◌*ℤ◌, ◌≤ℤ◌, refl, ap, sym, subst, ◌∙◌, arith}
+use Rattle.std.proofs.Common.{◌≡◌, ◌≢◌, ℕ, ◌+◌, ◌*◌, ◌<◌, ◌≤◌, inl, inr, ℤ, pos, ◌+ℤ◌, ◌-ℤ◌, ◌*ℤ◌, ◌≤ℤ◌, ap, sym, subst, ◌∙◌, arith}
 use Rattle.std.specs.Prelude.{◌<ℤ◌}
 use Rattle.std.proofs.Math.Nat.{one-le-pow}
 use Rattle.std.proofs.lemmas.Bool.{cases_lt}
 use Rattle.std.proofs.lemmas.Int.{ints}
 use Rattle.bb_machine.specs.declared.entry.Next.TheVariants.{Halt}
 use Rattle.bb_machine.specs.Machine.{Table}
-use Rattle.bb_tape.specs.Content.{Content, cell}
+use Rattle.bb_tape.specs.Content.{cell}
 use Rattle.bb_tape.specs.Strip.{Strip, IsInside, IsSound, visited}
 use Rattle.bb_sim.specs.declared.runner.Runner.{Runner}
 use Rattle.bb_sim.specs.Configuration.{Configuration}
 use Rattle.bb_sim.specs.Laws.{IsRunningAt}
-use Rattle.bb_sim.specs.Run.{conf, Exists}
 use Rattle.bb_sim.specs.Runner.{Stands, position_of, state_of, steps_of}
 use Rattle.bb_sim.specs.Span.{counted_head, least, greatest}
-use Rattle.bb_cert.specs.declared.verdict.Side.{Side}
 use Rattle.bb_cert.specs.Agree.{Agree}
-use Rattle.bb_cert.specs.Record.{out, head_at, far, IsRecord}
+use Rattle.bb_cert.specs.Record.{out, head_at, IsRecord}
 use Rattle.bb_cert.proofs.Facts.{head_at-is, out-subtract, record_has_one_step, records_in_order, stands_on}
 use Rattle.bb_decide.specs.declared.records.Records.{Records}
 use Rattle.bb_decide.specs.Follow.{IsAtRecord, IsComparable, IsFollowed, IsKeptInStateOf, IsKeptRecord, HasSameCells, IsTop, IsWidened}
-use Rattle.bb_decide.specs.Partner.{IsKept, IsPartner}
+use Rattle.bb_decide.specs.Partner.{IsPartner}
 use Rattle.bb_decide.specs.Translation.{AgreesWithPartner}
 use Rattle.bb_decide.proofs.Heads.{out-out, runs_before, runs_up_to, head_in_window, far-here, far_bounds, far_is_reached}
 use Rattle.bb_decide.proofs.Partners.{kept_below, keeps_next, keeps_on, partner_is_unique}
@@ -45,7 +43,7 @@ at_most_same : (p q r : ℤ) → p ≡ q → r ≤ℤ p → r ≤ℤ q
 at_most_same p q r is h = omega (arith, ints, is, h)
 
 module _ (table : Table) (runner : Runner) (run saved : Strip) (records : Records) (stands : Stands table runner run)
-  (at : IsAtRecord table (steps_of runner) records saved) where
+    (at : IsAtRecord table (steps_of runner) records saved) where
   -- the window of the run, by what was seen
   in_window : (p : ℤ) → (least (counted_head table) (steps_of runner) ≤ℤ p) × (p ≤ℤ greatest (counted_head table) (steps_of runner))
       → IsInside run p
@@ -158,23 +156,22 @@ module _ (table : Table) (runner : Runner) (run saved : Strip) (records : Record
         let at_kept = kept.at in
         let at_here = stands.at in
         let one : agree.first ≡ record { state = state_of records.kept; head = position_of records.kept; tape = saved.content } = cc in
-        let two : agree.second ≡ record { state = state_of runner; head = position_of runner; tape = run.content } = cc in
-        (
+        let two : agree.second ≡ record { state = state_of runner; head = position_of runner; tape = run.content } = cc in (
           (
             no_zero at.number records.number at.number_is some,
             sym (ap (λ (c : Configuration). c.state) one) ∙ agree.same_state ∙ ap (λ (c : Configuration). c.state) two,
             kept_runs,
           ),
           λ x low high.
-            let head = ap (λ (c : Configuration). c.head) one in
-            let there = ap (λ (c : Configuration). c.head) two in
-            sym (ap (λ (c : Configuration). cell c.tape x) one)
-            ∙ agree.same_cells x (subst (λ f. f ≤ℤ out records.side x) kept.far_is low)
-                (subst (λ n. out records.side x ≤ℤ n) (sym (ap (out records.side) head ∙ kept_out)) high)
-            ∙ ap (λ (c : Configuration). cell c.tape (x +ℤ (agree.second.head -ℤ agree.first.head))) two
-            ∙ ap (λ h. cell run.content (x +ℤ (h -ℤ agree.first.head))) there
-            ∙ ap (λ h. cell run.content (x +ℤ (position_of runner -ℤ h))) head
-            ∙ ap (λ d. cell run.content (x +ℤ d)) (sym distance),
+              let head = ap (λ (c : Configuration). c.head) one in
+              let there = ap (λ (c : Configuration). c.head) two in
+              sym (ap (λ (c : Configuration). cell c.tape x) one)
+              ∙ agree.same_cells x (subst (λ f. f ≤ℤ out records.side x) kept.far_is low)
+              (subst (λ n. out records.side x ≤ℤ n) (sym (ap (out records.side) head ∙ kept_out)) high)
+              ∙ ap (λ (c : Configuration). cell c.tape (x +ℤ (agree.second.head -ℤ agree.first.head))) two
+              ∙ ap (λ h. cell run.content (x +ℤ (h -ℤ agree.first.head))) there
+              ∙ ap (λ h. cell run.content (x +ℤ (position_of runner -ℤ h))) head
+              ∙ ap (λ d. cell run.content (x +ℤ d)) (sym distance),
         )
 
   -- its number is that of a position that was visited
@@ -194,8 +191,8 @@ module _ (table : Table) (runner : Runner) (run saved : Strip) (records : Record
       → IsKeptInStateOf records runner × HasSameCells records saved.content run.content
   cells_of_pair a pair =
       let second = one_number pair.second_number (at.count + 1) _
-            (stands_on table records.side pair.second_number (steps_of runner) pair.second_record)
-            (stands_on table records.side (at.count + 1) (steps_of runner) at.made) in
+      (stands_on table records.side pair.second_number (steps_of runner) pair.second_record)
+      (stands_on table records.side (at.count + 1) (steps_of runner) at.made) in
       let partner = subst (IsPartner pair.first_number) second pair.partner in
       elim at.partner [
         | inl first ↦ absurd (

@@ -1,5 +1,5 @@
 -- The stretch that is compared: how far out its ends are, and which positions those are.
-use Rattle.std.proofs.Common.{◌≡◌, ℕ, ◌<◌, ◌≤◌, ◌↔◌, ℤ, pos, negsuc, neg_ℤ, ◌+ℤ◌, ◌-ℤ◌, ◌*ℤ◌, ◌≤ℤ◌, refl, ap, sym, subst, ◌∙◌, w64, FitsSigned, arith}
+use Rattle.std.proofs.Common.{◌≡◌, ℕ, ◌<◌, ℤ, pos, negsuc, neg_ℤ, ◌+ℤ◌, ◌-ℤ◌, ◌*ℤ◌, ◌≤ℤ◌, refl, ap, sym, ◌∙◌, w64, FitsSigned, arith}
 use Rattle.std.proofs.lemmas.Int.{ints, clamps}
 use Rattle.std.specs.Prelude.{◌<ℤ◌}
 use Rattle.bb_tape.specs.Content.{Content, cell}
@@ -19,13 +19,17 @@ pub narrow_inside : (side : Side) (s : Strip) (z : ℤ) → IsSound s → IsInsi
 narrow_inside L s z sound inside =
     let low = inside.0 in
     let high = inside.1 in
-    record { low = omega (arith, ints, low, high, sound.from_zero, sound.to_zero, sound.within, sound.limited);
-      high = omega (arith, ints, low, high, sound.from_zero, sound.to_zero, sound.within, sound.limited) }
+    record {
+      low = omega (arith, ints, low, high, sound.from_zero, sound.to_zero, sound.within, sound.limited);
+      high = omega (arith, ints, low, high, sound.from_zero, sound.to_zero, sound.within, sound.limited);
+    }
 narrow_inside R s z sound inside =
     let low = inside.0 in
     let high = inside.1 in
-    record { low = omega (arith, ints, low, high, sound.from_zero, sound.to_zero, sound.within, sound.limited);
-      high = omega (arith, ints, low, high, sound.from_zero, sound.to_zero, sound.within, sound.limited) }
+    record {
+      low = omega (arith, ints, low, high, sound.from_zero, sound.to_zero, sound.within, sound.limited);
+      high = omega (arith, ints, low, high, sound.from_zero, sound.to_zero, sound.within, sound.limited);
+    }
 
 wide_fits : (z : ℤ) → neg_ℤ (pos 1073741824) ≤ℤ z → z ≤ℤ pos 1073741824 → FitsSigned w64 z
 wide_fits (pos n) a b = record { sfits = omega (arith, ints) }
@@ -92,7 +96,7 @@ reaches R near far_out from len k is long less = (omega (arith, ints, is, long, 
 
 -- the cells of a stretch, counted from its lesser end, or told by how far out they are
 module _ (side : Side) (near far_out d from other : ℤ) (len : ℕ) (a b : Content) (is : from ≡ lesser_of side near far_out)
-  (long : pos len ≡ (far_out -ℤ near) +ℤ pos 1) (shifted : other ≡ from +ℤ out side d) where
+    (long : pos len ≡ (far_out -ℤ near) +ℤ pos 1) (shifted : other ≡ from +ℤ out side d) where
   turned : (k : ℕ) → other +ℤ pos k ≡ (from +ℤ pos k) +ℤ out side d
   turned k = omega (arith, ints, shifted)
 

@@ -1,5 +1,5 @@
 -- What the search for records that agree has found, step by step.
-use Rattle.std.proofs.Common.{◌≡◌, ℕ, ◌+◌, ◌<◌, ◌≤◌, inl, inr, sym, subst, arith}
+use Rattle.std.proofs.Common.{◌≡◌, ℕ, ◌+◌, ◌≤◌, inl, inr, subst, arith}
 use Rattle.std.proofs.lemmas.Bool.{cases_lt}
 use Rattle.bb_machine.specs.Limits.{Bounds}
 use Rattle.bb_machine.specs.Machine.{Table}
@@ -31,7 +31,7 @@ pair_agrees table side a b pair = record {
 }
 
 module _ (table : Table) (bounds : Bounds) (n : ℕ)
-  (none : (side : Side) (a b : ℕ) → b ≤ n → IsTranslation table bounds side a b → ⊥) where
+    (none : (side : Side) (a b : ℕ) → b ≤ n → IsTranslation table bounds side a b → ⊥) where
   -- the first is that of the next step
   pub first_translation : (side : Side) (a : ℕ) → AgreesWithPartner table side a (n + 1) → Inside table bounds (n + 1)
       → IsFirstTranslation table bounds side a (n + 1)

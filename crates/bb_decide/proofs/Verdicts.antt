@@ -1,14 +1,12 @@
 -- Why a machine has one verdict, and costs as many steps each time.
-use Rattle.std.proofs.Common.{◌≡◌, ℕ, ◌+◌, ◌<◌, ◌≤◌, ℤ, pos, neg_ℤ, IsTrue, inl, inr, refl, sym, subst, ◌∙◌, arith}
+use Rattle.std.proofs.Common.{◌≡◌, ℕ, ◌<◌, ℤ, pos, neg_ℤ, inl, inr, refl, sym, subst, ◌∙◌, arith}
 use Rattle.std.proofs.lemmas.Int.{ints}
 use Rattle.bb_machine.specs.Limits.{Bounds}
 use Rattle.bb_machine.specs.Machine.{Table}
 use Rattle.bb_sim.specs.declared.simulation.Outcome.TheVariants.{Halt as Halts, NoSteps, NoCells}
 use Rattle.bb_sim.proofs.Facts.{last_step_is_unique, outcome_is_unique}
 use Rattle.bb_cert.specs.declared.verdict.Why.TheVariants.{Steps, Cells}
-use Rattle.bb_cert.specs.declared.verdict.Verdict.{Verdict}
 use Rattle.bb_cert.specs.declared.verdict.Verdict.TheVariants.{Halt, Cycler, Translated, Backward, Undecided}
-use Rattle.bb_decide.specs.declared.plan.Plan.{Plan}
 use Rattle.bb_cert.specs.declared.verdict.Side.{Side}
 use Rattle.bb_cert.specs.declared.verdict.Side.TheVariants.{L, R}
 use Rattle.bb_cert.specs.Record.{IsRecord}
@@ -17,7 +15,7 @@ use Rattle.bb_decide.specs.Cycle.{IsFirstCycle}
 use Rattle.bb_decide.specs.Partner.{IsPartner}
 use Rattle.bb_decide.specs.Translation.{IsFirstTranslation}
 use Rattle.bb_decide.specs.Laws.{VerdictIsUnique, WorkIsUnique}
-use Rattle.bb_decide.specs.Work.{CycleSteps, IsWork, MakesCycleSearch, MakesTranslationSearch, StepsIfMade, TranslationSteps}
+use Rattle.bb_decide.specs.Work.{CycleSteps, MakesCycleSearch, MakesTranslationSearch, StepsIfMade, TranslationSteps}
 use Rattle.bb_decide.proofs.Partners.{partner_is_unique}
 
 -- there is one first cycle
@@ -65,10 +63,10 @@ module _ (table : Table) (bounds : Bounds) where
       let first = one.translation.pair in
       let second = other.translation.pair in
       let number = one_number first.second_number second.second_number _
-            (stands_on table s first.second_number b first.second_record)
-            (stands_on table s second.second_number b second.second_record) in
+      (stands_on table s first.second_number b first.second_record)
+      (stands_on table s second.second_number b second.second_record) in
       let partner = partner_is_unique first.first_number second.first_number second.second_number
-            (subst (IsPartner first.first_number) number first.partner) second.partner in
+      (subst (IsPartner first.first_number) number first.partner) second.partner in
       record_has_one_step table s second.first_number a c
       (subst (λ n. IsRecord table s n a) partner first.first_record) second.first_record
 

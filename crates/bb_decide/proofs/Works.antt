@@ -1,5 +1,5 @@
 -- What deciding a machine has counted.
-use Rattle.std.proofs.Common.{◌≡◌, ℕ, ◌+◌, ◌≤◌, max, Option, Some, None, Result, Ok, Err, true, false, IsTrue, inl, inr, refl, ap, sym, subst, ◌∙◌, arith}
+use Rattle.std.proofs.Common.{◌≡◌, ℕ, ◌+◌, ◌≤◌, max, Option, Some, None, Result, Ok, Err, IsTrue, inl, inr, refl, ap, ◌∙◌, arith}
 use Rattle.std.specs.Prelude.{IfOk, OnOk}
 use Rattle.bb_machine.specs.Limits.{Bounds}
 use Rattle.bb_machine.specs.Machine.{Table}
@@ -7,7 +7,7 @@ use Rattle.bb_sim.specs.declared.meter.Meter.{Meter}
 use Rattle.bb_sim.specs.Meter.{zero_meter, counted, CountsRun, CountsTo}
 use Rattle.bb_sim.specs.Outcome.{HaltsInside, HaltsNowhere}
 use Rattle.bb_sim.specs.Span.{span, IsLastInside}
-use Rattle.bb_sim.proofs.Facts.{last_step_is_unique, span_grows}
+use Rattle.bb_sim.proofs.Facts.{span_grows}
 use Rattle.bb_cert.specs.declared.verdict.Verdict.{Verdict}
 use Rattle.bb_cert.specs.declared.verdict.Verdict.TheVariants.{Halt, Cycler, Translated, Backward, Undecided}
 use Rattle.bb_decide.specs.declared.plan.Plan.{Plan}
@@ -15,7 +15,7 @@ use Rattle.bb_decide.specs.Cycle.{CountsSearch, FindsCycle}
 use Rattle.bb_decide.specs.Translation.{FindsTranslation}
 use Rattle.bb_decide.specs.Verdict.{IsVerdict, PassesCycles}
 use Rattle.bb_decide.specs.Search.{Adds, CyclersCount, SearchesCount, SearchesFind, TranslatedCount, TranslatedFind}
-use Rattle.bb_decide.specs.Work.{CountsWork, CycleSteps, IsWork, MakesCycleSearch, MakesTranslationSearch, StepsIfMade, TranslationSteps}
+use Rattle.bb_decide.specs.Work.{CountsWork, CycleSteps, StepsIfMade, TranslationSteps}
 
 -- what the simulation has counted, from a meter that was begun at 0
 record Simulated (table : Table) (bounds : Bounds) (meter : Meter) : Type 0 where

@@ -1,5 +1,5 @@
 -- What deciding a machine costs: this project's own.
-use Rattle.std.specs.Prelude.{◌≡◌, ℕ, ◌+◌, ◌*◌, ◌≤◌, ◌⊎◌, IsTrue, Option, Some, None}
+use Rattle.std.specs.Prelude.{◌≡◌, ℕ, ◌+◌, ◌*◌, ◌≤◌, ◌⊎◌, IsTrue}
 use Rattle.bb_machine.specs.Limits.{Bounds}
 use Rattle.bb_machine.specs.Machine.{Table}
 use Rattle.bb_sim.specs.declared.meter.Meter.{Meter}

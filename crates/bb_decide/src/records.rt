@@ -76,8 +76,9 @@ impl Records {
         requires high { position ≤ℤ pos MOST_CELLS }
         ensures told { IsTrue result ↔ (self.old.top <ℤ out self.old.side position) }
         ensures taken { self.new ≡ record self.old {
-            top = int_max self.old.top (out self.old.side position);
-            far = int_min self.old.far (out self.old.side position) } }
+          top = int_max self.old.top (out self.old.side position);
+          far = int_min self.old.far (out self.old.side position);
+        } }
     {
         let far_out = how_far_out(self.side, position);
         let is_record = self.top < far_out;

@@ -72,21 +72,128 @@ static ROWS: [Row; 12] = [
 /// Rows where the search for records that agree is on too. The two machines with 300 steps go, between their records,
 /// beyond what they had visited at the first of them.
 static TRANSLATED_ROWS: [Row; 15] = [
-    (b"1RA1RA", 1000, Verdict::Translated { side: Side::R, first: 1, second: 2 }, 128),
-    (b"0LA0LA", 1000, Verdict::Translated { side: Side::L, first: 1, second: 2 }, 128),
-    (b"1RB---_1RC---_1RA---", 1000, Verdict::Translated { side: Side::R, first: 4, second: 7 }, 133),
-    (b"1RB---_1RC---_1RA---", 7, Verdict::Translated { side: Side::R, first: 4, second: 7 }, 21),
+    (
+        b"1RA1RA",
+        1000,
+        Verdict::Translated {
+            side: Side::R,
+            first: 1,
+            second: 2,
+        },
+        128,
+    ),
+    (
+        b"0LA0LA",
+        1000,
+        Verdict::Translated {
+            side: Side::L,
+            first: 1,
+            second: 2,
+        },
+        128,
+    ),
+    (
+        b"1RB---_1RC---_1RA---",
+        1000,
+        Verdict::Translated {
+            side: Side::R,
+            first: 4,
+            second: 7,
+        },
+        133,
+    ),
+    (
+        b"1RB---_1RC---_1RA---",
+        7,
+        Verdict::Translated {
+            side: Side::R,
+            first: 4,
+            second: 7,
+        },
+        21,
+    ),
     (b"1RB---_1RC---_1RA---", 6, STEPS, 18),
-    (b"0LB---_0RC1RC_1RA---", 1000, Verdict::Translated { side: Side::R, first: 3, second: 6 }, 382),
-    (b"0RB---_0LC1LC_1LA---", 1000, Verdict::Translated { side: Side::L, first: 3, second: 6 }, 382),
+    (
+        b"0LB---_0RC1RC_1RA---",
+        1000,
+        Verdict::Translated {
+            side: Side::R,
+            first: 3,
+            second: 6,
+        },
+        382,
+    ),
+    (
+        b"0RB---_0LC1LC_1LA---",
+        1000,
+        Verdict::Translated {
+            side: Side::L,
+            first: 3,
+            second: 6,
+        },
+        382,
+    ),
     (b"1RB1RZ_1LB0RC_1LC1LA", 20, STEPS, 60),
-    (b"1RB0RA_1LA---", 1000, Verdict::Translated { side: Side::R, first: 4, second: 8 }, 262),
-    (b"1LB0LA_1RA---", 1000, Verdict::Translated { side: Side::L, first: 4, second: 8 }, 262),
-    (b"1RB0RA_1LA---", 8, Verdict::Translated { side: Side::R, first: 4, second: 8 }, 24),
+    (
+        b"1RB0RA_1LA---",
+        1000,
+        Verdict::Translated {
+            side: Side::R,
+            first: 4,
+            second: 8,
+        },
+        262,
+    ),
+    (
+        b"1LB0LA_1RA---",
+        1000,
+        Verdict::Translated {
+            side: Side::L,
+            first: 4,
+            second: 8,
+        },
+        262,
+    ),
+    (
+        b"1RB0RA_1LA---",
+        8,
+        Verdict::Translated {
+            side: Side::R,
+            first: 4,
+            second: 8,
+        },
+        24,
+    ),
     (b"1RB0RA_1LA---", 7, STEPS, 21),
-    (b"1LB0LA_0RB1RA", 300, Verdict::Translated { side: Side::L, first: 1, second: 8 }, 608),
-    (b"1RB0RA_0LB1LA", 300, Verdict::Translated { side: Side::R, first: 1, second: 8 }, 608),
-    (b"0RB---_0LA---", 1000, Verdict::Cycler { first: 2, second: 4 }, 1004),
+    (
+        b"1LB0LA_0RB1RA",
+        300,
+        Verdict::Translated {
+            side: Side::L,
+            first: 1,
+            second: 8,
+        },
+        608,
+    ),
+    (
+        b"1RB0RA_0LB1LA",
+        300,
+        Verdict::Translated {
+            side: Side::R,
+            first: 1,
+            second: 8,
+        },
+        608,
+    ),
+    (
+        b"0RB---_0LA---",
+        1000,
+        Verdict::Cycler {
+            first: 2,
+            second: 4,
+        },
+        1004,
+    ),
 ];
 
 /// Decides each machine on three tapes, and holds verdict and steps against what was worked out.

@@ -1,11 +1,7 @@
-use Rattle.std.proofs.Common.{◌≡◌, ◌+◌, ◌<◌, ◌∙◌, true, false, ap, sym, subst, arith}
+use Rattle.std.proofs.Common.{◌∙◌, ap, arith}
 use Rattle.bb_sim.specs.Runner.{steps_of}
-use Rattle.bb_sim.specs.Meter.{CountsTo}
-use Rattle.bb_sim.specs.Span.{Inside}
 use Rattle.bb_sim.proofs.Facts.{counts_next, counts_stopped, count_is_within, stopped}
-use Rattle.bb_cert.specs.Repeat.{Same}
 use Rattle.bb_cert.proofs.Facts.{alike_of_same, same_of_alike, repeats_never_halt}
-use Rattle.bb_decide.specs.Cycle.{IsFirstCycle}
 use Rattle.bb_decide.proofs.Cycles.{first_cycle, no_cycle_next}
 use Rattle.bb_decide.proofs.Partners.{kept_below, keeps_next, keeps_on}
 use Rattle.bb_decide.proofs.cycle.cyclers.Goals as goal

@@ -1,6 +1,5 @@
-use Rattle.std.proofs.Common.{◌≡◌, ◌<ℤ◌, ◌≤ℤ◌, ◌+ℤ◌, ℤ, pos, Err, ap, sym, subst, ◌∙◌, arith, rules, to_z, of_z, w64, FitsSigned}
+use Rattle.std.proofs.Common.{◌≡◌, ◌<ℤ◌, ◌≤ℤ◌, ◌+ℤ◌, ℤ, pos, Err, ap, subst, ◌∙◌, arith, rules, to_z, of_z, w64, FitsSigned}
 use Rattle.std.proofs.lemmas.Int.{ints, to_z-of_z}
-use Rattle.std.specs.Int.{int_max}
 use Rattle.bb_tape.specs.declared.tape.TapeFault.TheVariants.{Cells}
 use Rattle.bb_tape.specs.Strip.{Strip, visited, width}
 use Rattle.bb_decide.proofs.Reaching.{raised, room_above, greatest_above, never_refused}
@@ -33,6 +32,6 @@ returns-in_default g c =
     let fits : FitsSigned w64 (high +ℤ pos 1) = search rules in
     let next : to_z w64 (of_z w64 (high +ℤ pos 1)) ≡ high +ℤ pos 1 = to_z-of_z w64 _ fits in
     let wide = λ (is : c.visit.result ≡ Err Cells). subst (λ (t : Strip). pos t.limit <ℤ width (visited t (to_z w64 (of_z w64 (high +ℤ pos 1)))))
-        c.loop-high.invariant.strip (c.visit.ensures.cells.0 is) in
+    c.loop-high.invariant.strip (c.visit.ensures.cells.0 is) in
     absurd (never_refused c.visit.result _ c.visit.ensures.memory wide
-        (room_above s sound c.args.p high _ above next test c.requires.room) c.in_default.not-Ok)
+    (room_above s sound c.args.p high _ above next test c.requires.room) c.in_default.not-Ok)

@@ -1,4 +1,4 @@
-use Rattle.std.proofs.Common.{◌≡◌, ◌+◌, ◌∙◌, ap, arith}
+use Rattle.std.proofs.Common.{◌∙◌, ap, arith}
 use Rattle.bb_sim.specs.Runner.{steps_of}
 use Rattle.bb_sim.proofs.Facts.{counts_next, counts_start, counts_stopped, count_is_within, stopped}
 use Rattle.bb_cert.specs.declared.verdict.Side.TheVariants.{L, R}

@@ -13,7 +13,7 @@ how_far_out-requires-clause-low g c =
     let kept : IsKeptInStateOf r c.args.runner.now = (λ e. c.if-self-eq0.false (ap (of_z w64) e), same.0, same.1) in
     let comparable = c.requires.comparable kept in
     let n = are_narrow r (g.T.Tape.strip c.args.saved.now) (g.T.Tape.strip c.args.run.now)
-          (g.met.T.Tape.sound c.args.saved.now) (g.met.T.Tape.sound c.args.run.now) comparable in
+    (g.met.T.Tape.sound c.args.saved.now) (g.met.T.Tape.sound c.args.run.now) comparable in
     let far_fits : FitsSigned w64 r.far = narrow_fits _ n.far in
     simp to_z-of_z n.far.low
 
@@ -24,7 +24,7 @@ how_far_out-requires-clause-high g c =
     let kept : IsKeptInStateOf r c.args.runner.now = (λ e. c.if-self-eq0.false (ap (of_z w64) e), same.0, same.1) in
     let comparable = c.requires.comparable kept in
     let n = are_narrow r (g.T.Tape.strip c.args.saved.now) (g.T.Tape.strip c.args.run.now)
-          (g.met.T.Tape.sound c.args.saved.now) (g.met.T.Tape.sound c.args.run.now) comparable in
+    (g.met.T.Tape.sound c.args.saved.now) (g.met.T.Tape.sound c.args.run.now) comparable in
     let far_fits : FitsSigned w64 r.far = narrow_fits _ n.far in
     simp to_z-of_z n.far.high
 
@@ -35,7 +35,7 @@ reach-requires g c =
     let kept : IsKeptInStateOf r c.args.runner.now = (λ e. c.if-self-eq0.false (ap (of_z w64) e), same.0, same.1) in
     let comparable = c.requires.comparable kept in
     let n = are_narrow r (g.T.Tape.strip c.args.saved.now) (g.T.Tape.strip c.args.run.now)
-          (g.met.T.Tape.sound c.args.saved.now) (g.met.T.Tape.sound c.args.run.now) comparable in
+    (g.met.T.Tape.sound c.args.saved.now) (g.met.T.Tape.sound c.args.run.now) comparable in
     let far_fits : FitsSigned w64 r.far = narrow_fits _ n.far in
     let at_fits : FitsSigned w64 c.how_far_out.result = search rules in
     let at : c.how_far_out.result ≡ out r.side r.far = simp to_z-of_z at c.how_far_out.ensures in
@@ -52,13 +52,13 @@ has_same_cells-requires-clause-comparable g c =
     let kept : IsKeptInStateOf r c.args.runner.now = (λ e. c.if-self-eq0.false (ap (of_z w64) e), same.0, same.1) in
     let comparable = c.requires.comparable kept in
     let n = are_narrow r (g.T.Tape.strip c.args.saved.now) (g.T.Tape.strip c.args.run.now)
-          (g.met.T.Tape.sound c.args.saved.now) (g.met.T.Tape.sound c.args.run.now) comparable in
+    (g.met.T.Tape.sound c.args.saved.now) (g.met.T.Tape.sound c.args.run.now) comparable in
     let far_fits : FitsSigned w64 r.far = narrow_fits _ n.far in
     let at_fits : FitsSigned w64 c.how_far_out.result = search rules in
     let at : c.how_far_out.result ≡ out r.side r.far = simp to_z-of_z at c.how_far_out.ensures in
     let there = simp to_z-of_z at c.reach.ensures in
     let reached : g.T.Tape.strip c.reach.new.tape ≡ visited (g.T.Tape.strip c.args.saved.now) (out r.side r.far) =
-          there ∙ ap (visited (g.T.Tape.strip c.args.saved.now)) at in
+    there ∙ ap (visited (g.T.Tape.strip c.args.saved.now)) at in
     subst (λ s. IsComparable r s (g.T.Tape.strip c.args.run.now)) (sym reached)
     (comparable_wider r (g.T.Tape.strip c.args.saved.now) (g.T.Tape.strip c.args.run.now) comparable)
 
@@ -69,13 +69,13 @@ has_same_cells-requires-clause-far g c =
     let kept : IsKeptInStateOf r c.args.runner.now = (λ e. c.if-self-eq0.false (ap (of_z w64) e), same.0, same.1) in
     let comparable = c.requires.comparable kept in
     let n = are_narrow r (g.T.Tape.strip c.args.saved.now) (g.T.Tape.strip c.args.run.now)
-          (g.met.T.Tape.sound c.args.saved.now) (g.met.T.Tape.sound c.args.run.now) comparable in
+    (g.met.T.Tape.sound c.args.saved.now) (g.met.T.Tape.sound c.args.run.now) comparable in
     let far_fits : FitsSigned w64 r.far = narrow_fits _ n.far in
     let at_fits : FitsSigned w64 c.how_far_out.result = search rules in
     let at : c.how_far_out.result ≡ out r.side r.far = simp to_z-of_z at c.how_far_out.ensures in
     let there = simp to_z-of_z at c.reach.ensures in
     let reached : g.T.Tape.strip c.reach.new.tape ≡ visited (g.T.Tape.strip c.args.saved.now) (out r.side r.far) =
-          there ∙ ap (visited (g.T.Tape.strip c.args.saved.now)) at in
+    there ∙ ap (visited (g.T.Tape.strip c.args.saved.now)) at in
     subst (λ s. IsInside s (out r.side r.far)) (sym reached) (seen_at (g.T.Tape.strip c.args.saved.now) (out r.side r.far))
 
 pub returns-clause-agree : goal.returns-clause-agree
@@ -85,14 +85,13 @@ returns-clause-agree g c =
     let kept : IsKeptInStateOf r c.args.runner.now = (λ e. c.if-self-eq0.false (ap (of_z w64) e), same.0, same.1) in
     let comparable = c.requires.comparable kept in
     let n = are_narrow r (g.T.Tape.strip c.args.saved.now) (g.T.Tape.strip c.args.run.now)
-          (g.met.T.Tape.sound c.args.saved.now) (g.met.T.Tape.sound c.args.run.now) comparable in
+    (g.met.T.Tape.sound c.args.saved.now) (g.met.T.Tape.sound c.args.run.now) comparable in
     let far_fits : FitsSigned w64 r.far = narrow_fits _ n.far in
     let at_fits : FitsSigned w64 c.how_far_out.result = search rules in
     let at : c.how_far_out.result ≡ out r.side r.far = simp to_z-of_z at c.how_far_out.ensures in
     let there = simp to_z-of_z at c.reach.ensures in
     let reached : g.T.Tape.strip c.reach.new.tape ≡ visited (g.T.Tape.strip c.args.saved.now) (out r.side r.far) =
-          there ∙ ap (visited (g.T.Tape.strip c.args.saved.now)) at in
-    (
+    there ∙ ap (visited (g.T.Tape.strip c.args.saved.now)) at in (
       λ yes. (kept, subst (λ (s : Strip). HasSameCells r s.content (g.T.Tape.strip c.args.run.now).content) reached (c.has_same_cells.ensures.0 yes)),
       λ both. c.has_same_cells.ensures.1 (subst (λ (s : Strip). HasSameCells r s.content (g.T.Tape.strip c.args.run.now).content) (sym reached) both.1),
     )
@@ -104,11 +103,11 @@ returns-clause-saved g c =
     let kept : IsKeptInStateOf r c.args.runner.now = (λ e. c.if-self-eq0.false (ap (of_z w64) e), same.0, same.1) in
     let comparable = c.requires.comparable kept in
     let n = are_narrow r (g.T.Tape.strip c.args.saved.now) (g.T.Tape.strip c.args.run.now)
-          (g.met.T.Tape.sound c.args.saved.now) (g.met.T.Tape.sound c.args.run.now) comparable in
+    (g.met.T.Tape.sound c.args.saved.now) (g.met.T.Tape.sound c.args.run.now) comparable in
     let far_fits : FitsSigned w64 r.far = narrow_fits _ n.far in
     let at_fits : FitsSigned w64 c.how_far_out.result = search rules in
     let at : c.how_far_out.result ≡ out r.side r.far = simp to_z-of_z at c.how_far_out.ensures in
     let there = simp to_z-of_z at c.reach.ensures in
     let reached : g.T.Tape.strip c.reach.new.tape ≡ visited (g.T.Tape.strip c.args.saved.now) (out r.side r.far) =
-          there ∙ ap (visited (g.T.Tape.strip c.args.saved.now)) at in
+    there ∙ ap (visited (g.T.Tape.strip c.args.saved.now)) at in
     inr (reached, comparable.far_seen)

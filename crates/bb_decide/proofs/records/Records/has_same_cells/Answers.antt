@@ -1,4 +1,4 @@
-use Rattle.std.proofs.Common.{ℤ, pos, ◌+ℤ◌, ◌-ℤ◌, ◌≤ℤ◌, w64, rules, FitsSigned}
+use Rattle.std.proofs.Common.{◌+ℤ◌, ◌-ℤ◌, w64, rules, FitsSigned}
 use Rattle.std.proofs.lemmas.Int.{to_z-of_z}
 use Rattle.bb_decide.proofs.Stretches.{are_narrow, narrow_fits, difference_fits, shifted_fits, stretch_inside, between_inside, moved_order, moved_length, moved_from, told_by_out, told_by_offset}
 use Rattle.bb_decide.proofs.records.Records.has_same_cells.Goals as goal
@@ -12,7 +12,7 @@ overflow_sub-shift g c =
     let top_fits : FitsSigned w64 r.top = narrow_fits _ n.top in
     let shift_fits : FitsSigned w64 (r.top -ℤ r.number) = difference_fits _ _ n.top n.number in
     let moved_fits : FitsSigned w64 (r.far +ℤ (r.top -ℤ r.number)) =
-          shifted_fits _ _ _ n.far n.top n.number in
+    shifted_fits _ _ _ n.far n.top n.number in
     simp to_z-of_z shift_fits
 
 pub lesser_end-from-requires-clause-low : goal.lesser_end-from-requires-clause-low
@@ -24,7 +24,7 @@ lesser_end-from-requires-clause-low g c =
     let top_fits : FitsSigned w64 r.top = narrow_fits _ n.top in
     let shift_fits : FitsSigned w64 (r.top -ℤ r.number) = difference_fits _ _ n.top n.number in
     let moved_fits : FitsSigned w64 (r.far +ℤ (r.top -ℤ r.number)) =
-          shifted_fits _ _ _ n.far n.top n.number in
+    shifted_fits _ _ _ n.far n.top n.number in
     simp to_z-of_z n.number.low
 
 pub lesser_end-from-requires-clause-high : goal.lesser_end-from-requires-clause-high
@@ -36,7 +36,7 @@ lesser_end-from-requires-clause-high g c =
     let top_fits : FitsSigned w64 r.top = narrow_fits _ n.top in
     let shift_fits : FitsSigned w64 (r.top -ℤ r.number) = difference_fits _ _ n.top n.number in
     let moved_fits : FitsSigned w64 (r.far +ℤ (r.top -ℤ r.number)) =
-          shifted_fits _ _ _ n.far n.top n.number in
+    shifted_fits _ _ _ n.far n.top n.number in
     simp to_z-of_z n.number.high
 
 pub overflow_add-self : goal.overflow_add-self
@@ -48,7 +48,7 @@ overflow_add-self g c =
     let top_fits : FitsSigned w64 r.top = narrow_fits _ n.top in
     let shift_fits : FitsSigned w64 (r.top -ℤ r.number) = difference_fits _ _ n.top n.number in
     let moved_fits : FitsSigned w64 (r.far +ℤ (r.top -ℤ r.number)) =
-          shifted_fits _ _ _ n.far n.top n.number in
+    shifted_fits _ _ _ n.far n.top n.number in
     simp to_z-of_z moved_fits
 
 pub lesser_end-run_from-requires-clause-low : goal.lesser_end-run_from-requires-clause-low
@@ -60,7 +60,7 @@ lesser_end-run_from-requires-clause-low g c =
     let top_fits : FitsSigned w64 r.top = narrow_fits _ n.top in
     let shift_fits : FitsSigned w64 (r.top -ℤ r.number) = difference_fits _ _ n.top n.number in
     let moved_fits : FitsSigned w64 (r.far +ℤ (r.top -ℤ r.number)) =
-          shifted_fits _ _ _ n.far n.top n.number in
+    shifted_fits _ _ _ n.far n.top n.number in
     simp to_z-of_z n.top.low
 
 pub lesser_end-run_from-requires-clause-high : goal.lesser_end-run_from-requires-clause-high
@@ -72,7 +72,7 @@ lesser_end-run_from-requires-clause-high g c =
     let top_fits : FitsSigned w64 r.top = narrow_fits _ n.top in
     let shift_fits : FitsSigned w64 (r.top -ℤ r.number) = difference_fits _ _ n.top n.number in
     let moved_fits : FitsSigned w64 (r.far +ℤ (r.top -ℤ r.number)) =
-          shifted_fits _ _ _ n.far n.top n.number in
+    shifted_fits _ _ _ n.far n.top n.number in
     simp to_z-of_z n.top.high
 
 pub length_of-length-requires : goal.length_of-length-requires
@@ -84,7 +84,7 @@ length_of-length-requires g c =
     let top_fits : FitsSigned w64 r.top = narrow_fits _ n.top in
     let shift_fits : FitsSigned w64 (r.top -ℤ r.number) = difference_fits _ _ n.top n.number in
     let moved_fits : FitsSigned w64 (r.far +ℤ (r.top -ℤ r.number)) =
-          shifted_fits _ _ _ n.far n.top n.number in
+    shifted_fits _ _ _ n.far n.top n.number in
     record { low = simp to_z-of_z n.far.low; order = simp to_z-of_z c.requires.comparable.order; high = simp to_z-of_z n.number.high }
 
 pub agrees-requires-clause-here : goal.agrees-requires-clause-here
@@ -96,7 +96,7 @@ agrees-requires-clause-here g c =
     let top_fits : FitsSigned w64 r.top = narrow_fits _ n.top in
     let shift_fits : FitsSigned w64 (r.top -ℤ r.number) = difference_fits _ _ n.top n.number in
     let moved_fits : FitsSigned w64 (r.far +ℤ (r.top -ℤ r.number)) =
-          shifted_fits _ _ _ n.far n.top n.number in
+    shifted_fits _ _ _ n.far n.top n.number in
     let from_fits : FitsSigned w64 c.lesser_end-from.result = search rules in
     let run_from_fits : FitsSigned w64 c.lesser_end-run_from.result = search rules in
     let from = simp to_z-of_z at c.lesser_end-from.ensures in
@@ -113,7 +113,7 @@ agrees-requires-clause-there g c =
     let top_fits : FitsSigned w64 r.top = narrow_fits _ n.top in
     let shift_fits : FitsSigned w64 (r.top -ℤ r.number) = difference_fits _ _ n.top n.number in
     let moved_fits : FitsSigned w64 (r.far +ℤ (r.top -ℤ r.number)) =
-          shifted_fits _ _ _ n.far n.top n.number in
+    shifted_fits _ _ _ n.far n.top n.number in
     let from_fits : FitsSigned w64 c.lesser_end-from.result = search rules in
     let run_from_fits : FitsSigned w64 c.lesser_end-run_from.result = search rules in
     let from = simp to_z-of_z at c.lesser_end-from.ensures in
@@ -132,7 +132,7 @@ returns g c =
     let top_fits : FitsSigned w64 r.top = narrow_fits _ n.top in
     let shift_fits : FitsSigned w64 (r.top -ℤ r.number) = difference_fits _ _ n.top n.number in
     let moved_fits : FitsSigned w64 (r.far +ℤ (r.top -ℤ r.number)) =
-          shifted_fits _ _ _ n.far n.top n.number in
+    shifted_fits _ _ _ n.far n.top n.number in
     let from_fits : FitsSigned w64 c.lesser_end-from.result = search rules in
     let run_from_fits : FitsSigned w64 c.lesser_end-run_from.result = search rules in
     let from = simp to_z-of_z at c.lesser_end-from.ensures in

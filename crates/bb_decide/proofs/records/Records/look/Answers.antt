@@ -22,7 +22,7 @@ returns-then-agrees-clause-found g c =
     let saved = g.T.Tape.strip c.args.saved.now in
     let both = c.agrees.ensures.agree.0 c.if-agrees.true in
     rw c.steps.ensures (pair_of_cells _ _ run saved r c.requires.stands c.requires.at
-        (some_number c.requires.at.number r.number c.requires.at.number_is both.0.0) both.0.1 both.1)
+    (some_number c.requires.at.number r.number c.requires.at.number_is both.0.0) both.0.1 both.1)
 
 pub returns-then-agrees-clause-limit : goal.returns-then-agrees-clause-limit
 returns-then-agrees-clause-limit g c =
@@ -47,9 +47,9 @@ returns-then-self-clause-found g c =
     let run = g.T.Tape.strip c.args.run.now in
     let saved = g.T.Tape.strip c.args.saved.now in
     λ a pair. let both = cells_of_pair _ _ run saved r c.requires.stands c.requires.at a pair in
-        let yes = c.agrees.ensures.agree.1 both in
-        let no = c.if-agrees.false in
-        cc
+    let yes = c.agrees.ensures.agree.1 both in
+    let no = c.if-agrees.false in
+    cc
 
 pub returns-then-self-clause-followed : goal.returns-then-self-clause-followed
 returns-then-self-clause-followed g c =
@@ -91,9 +91,9 @@ returns-clause-found g c =
     let run = g.T.Tape.strip c.args.run.now in
     let saved = g.T.Tape.strip c.args.saved.now in
     λ a pair. let both = cells_of_pair _ _ run saved r c.requires.stands c.requires.at a pair in
-        let yes = c.agrees.ensures.agree.1 both in
-        let no = c.if-agrees.false in
-        cc
+    let yes = c.agrees.ensures.agree.1 both in
+    let no = c.if-agrees.false in
+    cc
 
 pub returns-clause-followed : goal.returns-clause-followed
 returns-clause-followed g c =
