@@ -9,7 +9,6 @@ use Rattle.bb_cert.specs.declared.verdict.Side.{Side}
 use Rattle.bb_cert.specs.Record.{out, head_at, IsRecord, far}
 use Rattle.bb_cert.specs.Agree.{Agree, AgreeingRecords}
 use Rattle.bb_cert.specs.Laws.{HasRecord, RecordPair}
-
 use Rattle.bb_cert.proofs.Positions.{out-add, out-subtract, head_at-is, least_at_least}
 use Rattle.bb_cert.proofs.Records.{stands_on, reaches, records_in_order}
 use Rattle.bb_cert.proofs.Agreements.{distance, beyond, farther, alike}

@@ -39,9 +39,11 @@ module _ (table : Table) (a b : Runner) (strip_a strip_b : Strip) (stands_a : St
       let second = same.at_second in
       let at_a = stands_a.at in
       let at_b = stands_b.at in
-      let one : made (state_of a) (position_of a) strip_a.content ≡ made (state_of b) (position_of b) strip_b.content = cc in
-      (ap (λ (c : Configuration). c.state) one, ap (λ (c : Configuration). c.head) one,
-        ap (λ (c : Configuration). c.tape) one)
+      let one : made (state_of a) (position_of a) strip_a.content ≡ made (state_of b) (position_of b) strip_b.content = cc in (
+        ap (λ (c : Configuration). c.state) one,
+        ap (λ (c : Configuration). c.head) one,
+        ap (λ (c : Configuration). c.tape) one,
+      )
 
 moved_apart : (to : Dir) (p : ℤ) → p ≡ beside to p → ⊥
 moved_apart L p is = omega (arith, ints, is)
@@ -53,6 +55,6 @@ no_repeat_at_once table n same =
     let here = same.here in
     let then_here = rw add-one at same.at_second in
     let goes : next table here ≡ Some here =
-          ap (option_and_then (next table)) (sym same.at_first) ∙ sym (conf-suc table n) ∙ then_here in
+    ap (option_and_then (next table)) (sym same.at_first) ∙ sym (conf-suc table n) ∙ then_here in
     let led = led_by table here here goes in
     moved_apart led.to here.head (ap (λ (c : Configuration). c.head) led.is)

@@ -99,7 +99,6 @@ AgreeingRecordsNeverRepeat = (table : Table) (side : Side) (a b c d : ℕ) → A
 abbrev pub ClaimsNeverHalt : Type 0
 ClaimsNeverHalt = (table : Table) (verdict : Verdict) → SaysNever verdict → Claim table verdict → Never table
 
-
 -- i steps after a configuration, whatever it is, there is one at a halting entry just where it matches a node
 -- of level i
 abbrev pub LevelsComeBeforeHalts : Type 0

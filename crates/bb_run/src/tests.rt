@@ -257,10 +257,20 @@ const PAIRS: Plan = Plan {
 };
 
 static RECORDS: [Row; 9] = [
-    (DEFAULTS, b"1RA1RA\n", b"1RA1RA translated R 1 2\n", true),
-    (DEFAULTS, b"0LA0LA\n", b"0LA0LA translated L 1 2\n", true),
     (
-        DEFAULTS,
+        [1_000, 1_000, 10, 0],
+        b"1RA1RA\n",
+        b"1RA1RA translated R 1 2\n",
+        true,
+    ),
+    (
+        [1_000, 1_000, 10, 0],
+        b"0LA0LA\n",
+        b"0LA0LA translated L 1 2\n",
+        true,
+    ),
+    (
+        [1_000, 1_000, 10, 0],
         b"1RB---_1RC---_1RA---\n",
         b"1RB---_1RC---_1RA--- translated R 4 7\n",
         true,
@@ -272,13 +282,13 @@ static RECORDS: [Row; 9] = [
         true,
     ),
     (
-        DEFAULTS,
+        [1_000, 1_000, 10, 0],
         b"0LB---_0RC1RC_1RA---\n",
         b"0LB---_0RC1RC_1RA--- translated R 3 6\n",
         true,
     ),
     (
-        DEFAULTS,
+        [1_000, 1_000, 10, 0],
         b"0RB---_0LC1LC_1LA---\n",
         b"0RB---_0LC1LC_1LA--- translated L 3 6\n",
         true,
@@ -290,13 +300,13 @@ static RECORDS: [Row; 9] = [
         true,
     ),
     (
-        DEFAULTS,
+        [1_000, 1_000, 10, 0],
         b"1RB0RA_1LA---\n1LB0LA_1RA---\n",
         b"1RB0RA_1LA--- translated R 4 8\n1LB0LA_1RA--- translated L 4 8\n",
         true,
     ),
     (
-        DEFAULTS,
+        [1_000, 1_000, 10, 0],
         b"0RB---_0LA---\n",
         b"0RB---_0LA--- cycler 2 4\n",
         true,
