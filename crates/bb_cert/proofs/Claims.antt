@@ -4,10 +4,13 @@ use Rattle.bb_cert.specs.declared.verdict.Verdict.TheVariants.{Halt, Cycler, Tra
 use Rattle.bb_cert.specs.Laws.{ClaimsNeverHalt}
 use Rattle.bb_cert.proofs.Agreements.{agreeing_records_never_halt}
 use Rattle.bb_cert.proofs.Repeats.{repeats_never_halt}
+use Rattle.bb_cert.proofs.TreeEnds.{clear_trees_never_halt}
 
 pub claims_never_halt : ClaimsNeverHalt
-claims_never_halt table (Halt steps score) says claim = absurd says
-claims_never_halt table (Cycler first second) says claim = repeats_never_halt table first second claim.0 claim.1
-claims_never_halt table (Translated side first second) says claim = agreeing_records_never_halt table side first second claim
-claims_never_halt table (Backward levels nodes) says claim = absurd claim
-claims_never_halt table (Undecided why) says claim = absurd says
+claims_never_halt table (Halt steps score) machine says claim = absurd says
+claims_never_halt table (Cycler first second) machine says claim = repeats_never_halt table first second claim.0 claim.1
+claims_never_halt table (Translated side first second) machine says claim =
+    agreeing_records_never_halt table side first second claim
+claims_never_halt table (Backward levels nodes) machine says claim =
+    clear_trees_never_halt table levels nodes machine claim.0 claim.1
+claims_never_halt table (Undecided why) machine says claim = absurd says

@@ -6,15 +6,16 @@ use Rattle.bb_cert.specs.declared.verdict.Verdict.{Verdict}
 use Rattle.bb_cert.specs.declared.verdict.Verdict.TheVariants.{Halt, Cycler, Translated, Backward, Undecided}
 use Rattle.bb_cert.specs.Agree.{AgreeingRecords}
 use Rattle.bb_cert.specs.Repeat.{Same}
+use Rattle.bb_cert.specs.Tree.{Clear, Ends}
 
 -- the machine halts after so many steps with so many cells that aren't 0; or its configuration at the first step comes
--- again at the second; or both steps are records of the side and agree. An undecided verdict claims nothing, and one by
--- the backward tree isn't made yet
+-- again at the second; or both steps are records of the side and agree; or the tree of what could come before a halt
+-- ends in so many levels with so many nodes, none of which the start matches. An undecided verdict claims nothing
 abbrev pub Claim : Table → Verdict → Type 0
 Claim table (Halt steps score) = HaltsAt table steps × IsScore table steps score
 Claim table (Cycler first second) = (first < second) × Same table first second
 Claim table (Translated side first second) = AgreeingRecords table side first second
-Claim table (Backward levels nodes) = ⊥
+Claim table (Backward levels nodes) = Ends table levels nodes × Clear table levels
 Claim table (Undecided why) = Unit {0}
 
 -- the verdict says that the machine never halts
