@@ -1,7 +1,5 @@
 //! Command lines from end to end, over bytes in memory, with answers that were worked out by hand.
 
-ghost use Rattle.bb.specs.Command.{CanServe};
-
 use crate::command::{Asked, Stop, ask};
 use crate::serve::{serve, status};
 use bb_lines::fault::Fault;
@@ -19,9 +17,7 @@ const SIMULATION: [&str; 5] = [
 ];
 
 /// What these options ask for, with all deciders off.
-fn asked(rt: &(impl Abort + AllocGlobal), options: &[&'static str]) -> Asked
-    ensures { CanServe result.work }
-{
+fn asked(rt: &(impl Abort + AllocGlobal), options: &[&'static str]) -> Asked {
     let mut words: Vec<&str> = SIMULATION.to_vec(rt.alloc()).expect(rt, "memory");
     words.extend_from_slice(options).expect(rt, "memory");
     ask(rt.alloc(), words.as_slice()).expect(rt, "a command line")
@@ -146,22 +142,6 @@ fn refuses_limits(rt: HostRuntime) {
                 let told = fault.to_string(rt.alloc()).expect(&rt, "memory");
                 assert_eq!(rt; told.as_str(), text);
             }
-            other => panic!(rt; "{other:?}"),
-        }
-    }
-}
-
-#[test]
-fn refuses_deciders_that_are_not_built(rt: HostRuntime) {
-    for (words, text) in [
-        (["decide"].as_slice(), "bb: backward not built"),
-        (
-            ["decide", "--no-cyclers", "--no-translated"].as_slice(),
-            "bb: backward not built",
-        ),
-    ] {
-        match stop(&rt, words) {
-            Stop::NotBuilt(told) => assert_eq!(rt; told, text),
             other => panic!(rt; "{other:?}"),
         }
     }

@@ -1,5 +1,5 @@
 //! The search for a configuration that comes again.
-ghost use Rattle.std.specs.Prelude.{◌*◌, ◌≤◌, IfOk, IfSome, IsTrue, OnErr};
+ghost use Rattle.std.specs.Prelude.{◌≡◌, ◌*◌, ◌≤◌, IfOk, IfSome, IsTrue, OnErr};
 ghost use Rattle.bb_sim.specs.Meter.{IsWithinRun};
 ghost use Rattle.bb_sim.specs.Run.{Never};
 ghost use Rattle.bb_cert.specs.Claim.{Claim};
@@ -33,6 +33,7 @@ pub fn cyclers<T: Tape>(
     ensures claim { IfOk result (λ found. IfSome found (Claim machine.now)) }
     ensures numbers { IfOk result (λ found. IfSome found HasNumbers) }
     ensures tapes { HasCells T.strip limits.now.cells bench.new }
+    ensures path { bench.new.path ≡ bench.old.path }
     ensures memory { OnErr result (IsTrue T.GROWS) }
 {
     let _accepted = limits.steps();

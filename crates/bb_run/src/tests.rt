@@ -1,7 +1,5 @@
 //! Engines over bytes in memory, with answers that were worked out by hand.
 
-ghost use Rattle.bb_decide.specs.Plan.{IsBuilt};
-
 mod broken;
 mod streams;
 mod trace;
@@ -319,9 +317,7 @@ fn decided_on_maps(
     limits: &Limits,
     plan: Plan,
     input: &[u8],
-) -> (Result<Summary, Fault>, Vec<u8>)
-    requires { IsBuilt plan }
-{
+) -> (Result<Summary, Fault>, Vec<u8>) {
     let run = MapTape::new(rt.alloc(), limits.cells());
     let right = MapTape::new(rt.alloc(), limits.cells());
     let left = MapTape::new(rt.alloc(), limits.cells());
@@ -338,9 +334,7 @@ fn decided_on_rings(
     limits: &Limits,
     plan: Plan,
     input: &[u8],
-) -> (Result<Summary, Fault>, Vec<u8>)
-    requires { IsBuilt plan }
-{
+) -> (Result<Summary, Fault>, Vec<u8>) {
     let run = RingTape::new(rt.alloc(), limits.cells()).expect(rt, "memory");
     let right = RingTape::new(rt.alloc(), limits.cells()).expect(rt, "memory");
     let left = RingTape::new(rt.alloc(), limits.cells()).expect(rt, "memory");
@@ -351,9 +345,7 @@ fn decided_on_rings(
     (end, writer.into_inner())
 }
 
-fn answers(rt: &(impl Abort + AllocGlobal), plan: Plan, rows: &[Row])
-    requires { IsBuilt plan }
-{
+fn answers(rt: &(impl Abort + AllocGlobal), plan: Plan, rows: &[Row]) {
     for (four, input, output, clean) in rows {
         let limits = Limits::new(four[0], four[1], four[2], four[3]).expect(rt, "limits");
         let (end, written) = decided_on_maps(rt, &limits, plan, input);

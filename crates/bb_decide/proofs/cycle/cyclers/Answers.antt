@@ -27,6 +27,7 @@ returns-in_default g c =
         right = here.tapes.right;
         left = here.tapes.left;
       };
+      path = here.path;
       memory = tt;
     }
 
@@ -75,6 +76,7 @@ loop-runner-preserved-then-steps g c =
         right = c.in-Ok.ensures.limit ∙ here.tapes.right;
         left = here.tapes.left;
       };
+      path = here.path;
       steps = reaches.0.within_steps;
       meter = rw moves.0 (counts_next _ _ _ _ _ here.meter moves.1);
       partner = rw moves.0 (keeps_next _ _ here.partner (omega (arith, moves.0, c.if-steps.true, c.steps-in-loop-runner.ensures, c.steps-in-loop-runner-2.ensures)));
@@ -98,6 +100,7 @@ loop-runner-preserved g c =
         right = here.tapes.right;
         left = here.tapes.left;
       };
+      path = here.path;
       steps = reaches.0.within_steps;
       meter = rw moves.0 (counts_next _ _ _ _ _ here.meter moves.1);
       partner = rw moves.0 (keeps_on _ _ here.partner (omega (arith, moves.0, c.if-steps.false, c.steps-in-loop-runner.ensures, c.steps-in-loop-runner-2.ensures)));

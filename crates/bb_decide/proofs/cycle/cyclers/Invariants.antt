@@ -1,4 +1,4 @@
-use Rattle.std.proofs.Common.{ℕ, ◌≤◌, ◌-◌}
+use Rattle.std.proofs.Common.{◌≡◌, ℕ, ◌≤◌, ◌-◌}
 use Rattle.bb_sim.specs.Meter.{CountsTo}
 use Rattle.bb_sim.specs.Runner.{Stands, steps_of}
 use Rattle.bb_decide.specs.Bench.{HasCells}
@@ -12,6 +12,7 @@ invariant-loop-runner g l = record {
   stands : Stands l.machine l.runner (g.T.Tape.strip l.bench.run);
   kept : Stands l.machine l.kept (g.T.Tape.strip l.bench.right);
   tapes : HasCells g.T.Tape.strip l.limits.cells l.bench;
+  path : l.bench.path ≡ l.fn.bench.path;
   steps : steps_of l.runner ≤ l.limits.steps;
   meter : CountsTo l.machine (steps_of l.runner) l.fn.meter l.meter;
   partner : IsKept (steps_of l.kept) (steps_of l.runner);

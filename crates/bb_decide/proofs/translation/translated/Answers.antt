@@ -1,4 +1,4 @@
-use Rattle.std.proofs.Common.{◌∙◌, ap, arith}
+use Rattle.std.proofs.Common.{refl, ◌∙◌, ap, arith}
 use Rattle.bb_sim.specs.Runner.{steps_of}
 use Rattle.bb_sim.proofs.Facts.{counts_next, counts_start, counts_stopped, count_is_within, stopped}
 use Rattle.bb_cert.specs.declared.verdict.Side.TheVariants.{L, R}
@@ -24,6 +24,7 @@ loop-right-init g c =
         right = c.requires.tapes.right;
         left = c.requires.tapes.left;
       };
+      path = refl;
       steps = rw zero (omega arith);
       meter = rw zero (counts_start c.args.machine.now c.args.meter.now _
           (ap (λ n. record c.args.meter.now { most_cells = n }) c.max-meter.ensures));
@@ -51,6 +52,7 @@ returns-in_default g c =
         right = here.tapes.right;
         left = here.tapes.left;
       };
+      path = here.path;
       memory = tt;
     }
 
@@ -138,6 +140,7 @@ loop-right-preserved g c =
         right = c.in_ok-first.ensures.limit ∙ here.tapes.right;
         left = c.in_ok-first-2.ensures.limit ∙ here.tapes.left;
       };
+      path = here.path;
       steps = reaches.0.within_steps;
       meter = rw moves.0 (counts_next _ _ _ _ _ here.meter moves.1);
       none = let moved = moves.0 in rw moved (none_next _ _ _ here.none right_none left_none);

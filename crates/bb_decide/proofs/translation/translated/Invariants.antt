@@ -18,6 +18,7 @@ invariant-loop-right g l = record {
   right_side : l.right.side ≡ R;
   left_side : l.left.side ≡ L;
   tapes : HasCells g.T.Tape.strip l.limits.cells l.bench;
+  path : l.bench.path ≡ l.fn.bench.path;
   steps : steps_of l.runner ≤ l.limits.steps;
   meter : CountsTo l.machine (steps_of l.runner) l.fn.meter l.meter;
   none : (side : Side) (a b : ℕ) → b ≤ steps_of l.runner → IsTranslation l.machine l.limits side a b → ⊥;
