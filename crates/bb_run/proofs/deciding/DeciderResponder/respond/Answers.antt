@@ -17,7 +17,7 @@ returns-in-Err-clause-saw g c = (
     no_machine = λ m. let found = c.in-Err.ensures.only m.0 m.1.machine m.1.is_text in cc;
     clean = refl;
     peak = refl;
-    no_work = refl;
+    no_effort = refl;
   }),
 )
 
@@ -41,6 +41,6 @@ returns-clause-saw g c = (
     counts = c.in-Ok-decide.ensures.counted;
     clean = refl;
     peak = c.greatest-self.ensures;
-    is_work = refl;
+    is_effort = refl;
   }),
 )
