@@ -51,7 +51,6 @@ int posix_memalign(void **p, size_t a, size_t n) {
 }
 """
 
-SWITCHES = ["--no-backward"]
 LIMITS = ["--steps=1000", "--cells=64", "--depth=10", "--nodes=100"]
 LINES = b"1RB1LB_1LA1RZ\n1RB0RA_1LA---\n0RB---_0LA---\n"
 
@@ -95,16 +94,16 @@ def main():
         subprocess.run(["cc", "-shared", "-fPIC", "-O1", "-o", library, source, "-ldl"], check=True)
         failed = 0
         for words in (
-            ["decide", *SWITCHES],
-            ["decide", *SWITCHES, *LIMITS],
-            ["decide", *SWITCHES, *LIMITS, listed],
-            ["decide", *SWITCHES, "--cells=4"],
+            ["decide"],
+            ["decide", *LIMITS],
+            ["decide", *LIMITS, listed],
+            ["decide", "--cells=4"],
             ["trace", "--upto=10", "1RB1LB_1LA1RZ"],
             ["trace", "--upto=10", "--cells=2", "1RA1RA"],
             ["trace", "--upto=10", "1RB1LB_1LA1RC"],
             ["trace", "--upto=10"],
             ["decide", "--steps=x"],
-            ["decide"],
+            ["decide", "--no-cyclers", "--no-translated", *LIMITS],
             ["--help"],
         ):
             count, wrong = tried(program, words, library, folder)

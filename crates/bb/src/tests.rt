@@ -68,6 +68,21 @@ fn sums_up(rt: HostRuntime) {
 }
 
 #[test]
+fn asks_all_deciders(rt: HostRuntime) {
+    let words = ["bb", "decide", "--steps=1000", "--cells=599"];
+    let asked = ask(rt.alloc(), words.as_slice()).expect(&rt, "a command line");
+    let input = b"1RB1LB_1LA1RZ\n0RB---_0LA---\n1RA1RA\n".as_slice();
+    let mut reader = Watched::new(input);
+    let mut writer = Watched::new(Vec::new(rt.alloc()));
+    let end = serve(rt.alloc(), &asked, &mut reader, &mut writer);
+    assert_eq!(rt;
+        writer.into_inner().as_slice(),
+        b"1RB1LB_1LA1RZ halt 6 4\n0RB---_0LA--- cycler 2 4\n1RA1RA translated R 1 2\n".as_slice()
+    );
+    assert_eq!(rt; status(&end), 0);
+}
+
+#[test]
 fn runs_the_champion_of_five_states(rt: HostRuntime) {
     let (_, written) = decided(
         &rt,
