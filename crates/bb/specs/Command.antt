@@ -26,7 +26,8 @@ pub record Gives (words : List Text) (command : Text) (rows : List Row) : Type 0
 
 -- the number that a text says: digits, a `+` may stand in front. 0 for any other text, which no command line has there
 abbrev pub number_in : Text → ℕ
-number_in text = if is_unsigned_in 0 18446744073709551615 text then digits_value 10 (without_leading_plus text) else 0
+number_in text =
+    if is_unsigned_in 0 18446744073709551615 text then digits_value 10 (without_leading_plus text) else 0
 
 -- the number that is given for an option
 abbrev pub number_of : Text → List Row → ℕ
@@ -106,7 +107,8 @@ pub record IsRefused (words : List Text) (stop : Stop) : Type 0 where
 -- growth was refused
 abbrev pub IsStopOf : List Text → Stop → Type 0
 IsStopOf words (Help text) = IsAmong DisplayHelp (fault_of command_line words)
-IsStopOf words (Words text) = (kind : ErrorKind) × IsAmong kind (fault_of command_line words) × (kind ≢ DisplayHelp)
+IsStopOf words (Words text) =
+    (kind : ErrorKind) × IsAmong kind (fault_of command_line words) × (kind ≢ DisplayHelp)
 IsStopOf words (Limits fault) = IsRefused words (Limits fault)
 IsStopOf words Memory = Unit {0}
 

@@ -58,6 +58,10 @@ trace_shape = record (new_shape (codes "trace")) {
 -- bb, with one of the two commands
 abbrev pub command_line : App
 command_line = record {
-  top = record (new_shape (codes "bb")) { is_leaf = false; disable_help_subcommand = true; subcommand_required = true };
+  top = record (new_shape (codes "bb")) {
+    is_leaf = false;
+    disable_help_subcommand = true;
+    subcommand_required = true;
+  };
   subs = decide_shape ∷ trace_shape ∷ [];
 }

@@ -28,7 +28,8 @@ CyclersCount table bounds plan old new found =
 -- a record that agrees with its partner is found, where that search is on; none where it is off, or there is none
 abbrev pub TranslatedFind : Table → Bounds → Plan → Option Verdict → Type 0
 TranslatedFind table bounds plan None = PassesTranslations table bounds plan
-TranslatedFind table bounds plan (Some verdict) = IsTrue plan.translated × FindsTranslation table bounds (Some verdict)
+TranslatedFind table bounds plan (Some verdict) =
+    IsTrue plan.translated × FindsTranslation table bounds (Some verdict)
 
 -- this search was counted, or nothing where it is off
 abbrev pub TranslatedCount : Table → Bounds → Plan → Meter → Meter → Option Verdict → Type 0
@@ -53,7 +54,8 @@ SearchesFind table bounds plan None = PassesCycles table bounds plan × PassesTr
 SearchesFind table bounds plan (Some (Cycler first second)) =
     IsTrue plan.cyclers × IsFirstCycle table bounds first second
 SearchesFind table bounds plan (Some (Translated side first second)) =
-    PassesCycles table bounds plan × IsTrue plan.translated × IsFirstTranslation table bounds side first second
+    PassesCycles table bounds plan × IsTrue plan.translated
+    × IsFirstTranslation table bounds side first second
 SearchesFind table bounds plan (Some (Halt steps score)) = ⊥
 SearchesFind table bounds plan (Some (Backward levels nodes)) = ⊥
 SearchesFind table bounds plan (Some (Undecided why)) = ⊥
@@ -62,7 +64,8 @@ SearchesFind table bounds plan (Some (Undecided why)) = ⊥
 pub record Adds (table : Table) (bounds : Bounds) (count : ℕ) (old new : Meter) : Type 0 where
   pub steps : new.steps ≡ old.steps + count
   pub cells_kept : old.most_cells ≤ new.most_cells
-  pub cells : (last : ℕ) → IsLastInside table bounds last → new.most_cells ≤ max old.most_cells (span table last)
+  pub cells : (last : ℕ) → IsLastInside table bounds last
+      → new.most_cells ≤ max old.most_cells (span table last)
   pub nodes : new.nodes ≡ old.nodes
   pub most_levels : new.most_levels ≡ old.most_levels
 

@@ -37,7 +37,8 @@ MakesTranslationSearch table bounds plan =
 -- its steps
 abbrev pub TranslationSteps : Table → Bounds → ℕ → Type 0
 TranslationSteps table bounds n = SearchSteps table bounds
-    (λ b. (side : Side) × (a : ℕ) × IsFirstTranslation table bounds side a b) (HasNoTranslation table bounds) n
+    (λ b. (side : Side) × (a : ℕ) × IsFirstTranslation table bounds side a b)
+    (HasNoTranslation table bounds) n
 
 -- the steps that deciding a machine makes: those of the simulation, up to the last step inside, and those of the two
 -- searches
@@ -47,7 +48,8 @@ pub record IsWork (table : Table) (bounds : Bounds) (plan : Plan) (work : ℕ) :
   pub cycles : ℕ
   pub is_cycles : StepsIfMade (MakesCycleSearch table bounds plan) (CycleSteps table bounds) cycles
   pub translations : ℕ
-  pub is_translations : StepsIfMade (MakesTranslationSearch table bounds plan) (TranslationSteps table bounds) translations
+  pub is_translations :
+      StepsIfMade (MakesTranslationSearch table bounds plan) (TranslationSteps table bounds) translations
   pub sum : work ≡ run + (cycles + translations)
 
 -- backward reasoning is reached where, besides, no record agreed with its partner
