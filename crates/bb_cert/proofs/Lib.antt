@@ -26,4 +26,11 @@ pub mod Exploring
 pub mod Roots
 pub mod RuleLists
 pub mod SortedRules
+pub mod Heads
+pub mod Stretches
+pub mod UnderWay
+pub mod Courses
+pub mod Comparing
+pub mod AnswerRules
+pub mod ClaimChecks
 pub mod Facts

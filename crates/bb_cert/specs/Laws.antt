@@ -1,12 +1,15 @@
--- Laws of verdict lines, of runs that repeat, and of what could come before a halt.
+-- Laws of verdict lines, of answers, of runs that repeat, and of what could come before a halt.
 use Rattle.std.specs.Prelude.{◌≡◌, ℕ, ◌+◌, ◌<◌, ◌≤◌, ◌↔◌, List, [], pos, ◌<ℤ◌}
+use Rattle.bb_machine.specs.Limits.{Bounds}
 use Rattle.bb_machine.specs.Machine.{Table, IsMachine}
 use Rattle.bb_sim.specs.Configuration.{Configuration}
 use Rattle.bb_sim.specs.Run.{Never}
+use Rattle.bb_cert.specs.declared.answer.Answer.{Answer}
 use Rattle.bb_cert.specs.declared.reader.Line.{Line}
 use Rattle.bb_cert.specs.declared.verdict.Side.{Side}
 use Rattle.bb_cert.specs.declared.verdict.Side.TheVariants.{L, R}
 use Rattle.bb_cert.specs.declared.verdict.Verdict.{Verdict}
+use Rattle.bb_cert.specs.Answer.{IsAnswer}
 use Rattle.bb_cert.specs.Claim.{Claim, SaysNever}
 use Rattle.bb_cert.specs.Line.{IsLineOf}
 use Rattle.bb_cert.specs.Repeat.{Same}
@@ -118,3 +121,8 @@ ClearTreesNeverHalt = (table : Table) (h k : ℕ) → IsMachine table → Ends t
 -- a tree ends in one number of levels, with one number of nodes
 abbrev pub TreeHasOneEnd : Type 0
 TreeHasOneEnd = (table : Table) (h k i j : ℕ) → Ends table h k → Ends table i j → (h ≡ i) × (k ≡ j)
+
+-- the first rule that applies gives one answer
+abbrev pub AnswerIsUnique : Type 0
+AnswerIsUnique = (table : Table) (bounds : Bounds) (verdict : Verdict) (a b : Answer)
+    → IsAnswer table bounds verdict a → IsAnswer table bounds verdict b → a ≡ b

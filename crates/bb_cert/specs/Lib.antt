@@ -10,3 +10,8 @@ pub mod Walk
 pub mod Steps
 pub mod Laws
 pub mod Claim
+pub mod Answer
+pub mod ClaimMeter
+pub mod Pair
+pub mod Follow
+pub mod Checks

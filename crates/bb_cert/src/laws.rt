@@ -4,6 +4,7 @@ ghost use Rattle.bb_cert.specs.Laws.{
   AgreeingRecordsGoOn,
   AgreeingRecordsNeverHalt,
   AgreeingRecordsNeverRepeat,
+  AnswerIsUnique,
   ClaimsNeverHalt,
   ClearTreesNeverHalt,
   EmptyLevelsStay,
@@ -78,4 +79,9 @@ pub fn levels_come_before_halts()
     ensures stay { EmptyLevelsStay }
     ensures never { ClearTreesNeverHalt }
     ensures one_end { TreeHasOneEnd }
+{}
+
+/// A verdict has one answer.
+pub fn answer_is_unique()
+    ensures { AnswerIsUnique }
 {}

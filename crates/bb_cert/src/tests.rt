@@ -7,6 +7,7 @@ use itoa::Buffer;
 use std::process::Abort;
 use std::test::Fail;
 
+mod check;
 mod walk;
 
 /// The longest line: a machine of seven states, and the greatest numbers.

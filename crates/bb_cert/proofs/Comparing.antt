@@ -1,0 +1,219 @@
+-- A record that was just made, and the kept one: when they agree.
+use Rattle.std.proofs.Common.{◌≡◌, ℕ, ◌<◌, ◌≤◌, inl, inr, ℤ, pos, ◌+ℤ◌, ◌-ℤ◌, ◌≤ℤ◌, refl, ap, sym, subst, ◌∙◌, arith}
+use Rattle.std.specs.Prelude.{◌≢◌, ◌<ℤ◌}
+use Rattle.std.proofs.lemmas.Bool.{cases_lt}
+use Rattle.std.proofs.lemmas.Int.{ints}
+use Rattle.bb_machine.specs.declared.entry.Next.TheVariants.{Halt}
+use Rattle.bb_machine.specs.Machine.{Table}
+use Rattle.bb_tape.specs.Content.{cell}
+use Rattle.bb_tape.specs.Strip.{Strip, IsInside}
+use Rattle.bb_sim.specs.declared.runner.Runner.{Runner}
+use Rattle.bb_sim.specs.Configuration.{Configuration}
+use Rattle.bb_sim.specs.Laws.{IsRunningAt}
+use Rattle.bb_sim.specs.Runner.{Stands, position_of, state_of, steps_of}
+use Rattle.bb_sim.specs.Span.{counted_head, least, greatest}
+use Rattle.bb_cert.specs.declared.side_records.Records.{Records}
+use Rattle.bb_cert.specs.declared.verdict.Side.{Side}
+use Rattle.bb_cert.specs.Agree.{Agree, AgreeingRecords}
+use Rattle.bb_cert.specs.Checks.{KeepsStep, MakesRecord}
+use Rattle.bb_cert.specs.Follow.{IsComparable, IsFollowed, IsKeptInStateOf, IsKeptRecord, HasSameCells, IsTop}
+use Rattle.bb_cert.specs.Record.{out, head_at, IsRecord}
+use Rattle.bb_cert.proofs.Heads.{out-out, runs_before, runs_up_to, head_in_window, far-here, far_bounds, far_is_reached}
+use Rattle.bb_cert.proofs.Positions.{head_at-is, out-subtract}
+use Rattle.bb_cert.proofs.Records.{short_of_record, stands_on}
+
+pub some_number : (n : ℕ) (p : ℤ) → p ≡ pos n → p ≢ pos 0 → 0 < n
+some_number n p is apart = elim (cases_lt 0 n) [
+  | inl some ↦ some
+  | inr none ↦ absurd (apart (is ∙ ap pos (omega (arith, none))))
+]
+
+no_zero : (n : ℕ) (p : ℤ) → p ≡ pos n → 0 < n → p ≢ pos 0
+no_zero n p is some none = omega (arith, ints, is, some, none)
+
+at_most_same : (p q r : ℤ) → p ≡ q → r ≤ℤ p → r ≤ℤ q
+at_most_same p q r is h = omega (arith, ints, is, h)
+
+same_order : (p : ℤ) → p ≤ℤ p
+same_order p = omega (arith, ints)
+
+-- the last record is as far out as the head ever was
+top_here : (table : Table) (side : Side) (n j : ℕ) (top : ℤ) → IsTop table side n top → IsRecord table side j n
+    → out side (head_at table n) ≡ top
+top_here table side n j top is made = elim (cases_lt is.step n) [
+  | inl before ↦ absurd (
+      let short = short_of_record table side j n made is.step before in
+      let stands = stands_on table side j n made in
+      let high = is.bounds n (omega arith) in
+      below_top _ _ top j is.reached short stands high)
+  | inr here ↦ let few = is.no_later in let same : is.step ≡ n = omega (arith, few, here) in
+      subst (λ k. out side (head_at table k) ≡ top) same is.reached
+] where
+  below_top : (p q t : ℤ) (j : ℕ) → p ≡ t → p <ℤ pos j → q ≡ pos j → q ≤ℤ t → ⊥
+  below_top p q t j a b c d = omega (arith, ints, a, b, c, d)
+
+module _ (table : Table) (runner : Runner) (run saved : Strip) (records : Records) (stands : Stands table runner run)
+    (followed : IsFollowed table (steps_of runner) records saved)
+    (made : MakesRecord table records.side (steps_of runner)) where
+  -- the window of the run, by what was seen
+  in_window : (p : ℤ) → (least (counted_head table) (steps_of runner) ≤ℤ p) × (p ≤ℤ greatest (counted_head table) (steps_of runner))
+      → IsInside run p
+  in_window p between = (
+    subst (λ l. l ≤ℤ p) (sym (stands.window_low ∙ stands.low)) between.0,
+    subst (λ h. p ≤ℤ h) (sym (stands.window_high ∙ stands.high)) between.1,
+  )
+
+  here_is : head_at table (steps_of runner) ≡ position_of runner
+  here_is = head_at-is table (steps_of runner) _ stands.at
+
+  runs_here : state_of runner ≢ Halt → IsRunningAt table (steps_of runner) (head_at table (steps_of runner))
+  runs_here runs = record { here = _; exists = stands.at; runs = runs; at = sym here_is }
+
+  head_inside : state_of runner ≢ Halt → (m : ℕ) → m ≤ steps_of runner → IsInside run (head_at table m)
+  head_inside runs m few =
+      in_window (head_at table m) (head_in_window table m (steps_of runner) few (runs_up_to table m (steps_of runner) few (runs_here runs)))
+
+  top_out : out records.side (head_at table (steps_of runner)) ≡ records.top
+  top_out = top_here table records.side (steps_of runner) made.0 records.top followed.top made.1
+
+  -- it is kept, in what the run has now
+  pub keeps : (new : Records) → new ≡ record records { number = records.top; kept = runner; far = records.top }
+      → IsFollowed table (steps_of runner) new run
+  keeps new is = subst (λ r. IsFollowed table (steps_of runner) r run) (sym is) (record {
+    count = followed.count;
+    number = followed.count;
+    count_is = followed.count_is;
+    number_is = followed.count_is;
+    top = followed.top;
+    kept = λ some. record {
+      made = subst (λ j. IsRecord table records.side j (steps_of runner)) number made.1;
+      before = omega arith;
+      at = stands.at;
+      far_is = sym top_out ∙ sym (far-here table records.side (steps_of runner));
+      low = subst (λ l. l ≤ℤ run.low) (stands.window_low ∙ stands.low) (same_order run.low);
+      high = subst (λ h. run.high ≤ℤ h) (stands.window_high ∙ stands.high) (same_order run.high);
+      seen = λ runs. subst (IsInside run) here_is (head_inside runs (steps_of runner) (omega arith));
+    };
+  }) where
+    one_number : (i j : ℕ) (p : ℤ) → p ≡ pos i → p ≡ pos j → i ≡ j
+    one_number i j p a b = omega (arith, ints, a, b)
+
+    number : made.0 ≡ followed.count
+    number = one_number made.0 followed.count records.top
+        (sym top_out ∙ stands_on table records.side made.0 (steps_of runner) made.1) followed.count_is
+
+  pub keeps_step : (new : Records) → new ≡ record records { number = records.top; kept = runner; far = records.top }
+      → KeepsStep table (steps_of runner) new
+  keeps_step new is = subst (KeepsStep table (steps_of runner)) (sym is) (record {
+    made = λ some none.
+        let stands_out = stands_on table records.side made.0 (steps_of runner) made.1 in
+        no_zero made.0 records.top (sym top_out ∙ stands_out) ((made.1).positive) none;
+    at = λ some. refl;
+  })
+
+  module _ (some : 0 < followed.number) where
+    kept : IsKeptRecord table records.side followed.number (steps_of runner) records.kept records.far saved
+    kept = followed.kept some
+
+    number_out : out records.side (head_at table (steps_of records.kept)) ≡ records.number
+    number_out = stands_on table records.side followed.number (steps_of records.kept) kept.made ∙ sym followed.number_is
+
+    kept_is : head_at table (steps_of records.kept) ≡ position_of records.kept
+    kept_is = head_at-is table (steps_of records.kept) _ kept.at
+
+    turned : (p n : ℤ) → out records.side p ≡ n → p ≡ out records.side n
+    turned p n is = sym (out-out records.side p) ∙ ap (out records.side) is
+
+    pub comparable : state_of runner ≢ Halt → state_of records.kept ≢ Halt → IsComparable records saved run
+    comparable runs kept_runs =
+        let reached = far_is_reached table records.side (steps_of records.kept) (steps_of runner) kept.before in
+        record {
+          low = subst (λ l. l ≤ℤ saved.low) (sym (stands.window_low ∙ stands.low)) kept.low;
+          high = subst (λ h. saved.high ≤ℤ h) (sym (stands.window_high ∙ stands.high)) kept.high;
+          order = subst (λ f. f ≤ℤ records.number) (sym kept.far_is) (at_most_same _ _ _ number_out
+              (far_bounds table records.side (steps_of records.kept) (steps_of runner) kept.before));
+          later = subst (λ p. p ≤ℤ records.top) number_out (followed.top.bounds (steps_of records.kept) kept.before);
+          far_seen = subst (IsInside run) (turned _ _ (sym (kept.far_is ∙ reached.is)))
+              (head_inside runs reached.step reached.no_later);
+          top_seen = subst (IsInside run) (turned _ _ top_out) (head_inside runs (steps_of runner) (omega arith));
+          number_saved = subst (IsInside saved) (sym kept_is ∙ turned _ _ number_out) (kept.seen kept_runs);
+        }
+
+    distance : out records.side (records.top -ℤ records.number) ≡ position_of runner -ℤ position_of records.kept
+    distance =
+        let top : out records.side (position_of runner) ≡ records.top = ap (out records.side) (sym here_is) ∙ top_out in
+        let number : out records.side (position_of records.kept) ≡ records.number = ap (out records.side) (sym kept_is) ∙ number_out in
+        ap (λ t. out records.side (t -ℤ records.number)) (sym top)
+        ∙ ap (λ n. out records.side (out records.side (position_of runner) -ℤ n)) (sym number)
+        ∙ ap (out records.side) (sym (out-subtract records.side (position_of runner) (position_of records.kept)))
+        ∙ out-out records.side (position_of runner -ℤ position_of records.kept)
+
+    kept_out : out records.side (position_of records.kept) ≡ records.number
+    kept_out = ap (out records.side) (sym kept_is) ∙ number_out
+
+    -- the cells that were compared are those of two records that agree
+    agree_of_cells : state_of records.kept ≡ state_of runner → HasSameCells records saved.content run.content
+        → Agree table records.side (steps_of records.kept) (steps_of runner)
+    agree_of_cells states same = record {
+      first = _;
+      second = _;
+      at_first = kept.at;
+      at_second = stands.at;
+      same_state = states;
+      same_cells = λ x low high.
+          same x (subst (λ f. f ≤ℤ out records.side x) (sym kept.far_is) low) (subst (λ n. out records.side x ≤ℤ n) kept_out high)
+          ∙ ap (λ d. cell run.content (x +ℤ d)) distance;
+    }
+
+    module _ (first : ℕ) (at_kept : steps_of records.kept ≡ first) (less : first < steps_of runner) where
+      kept_before : steps_of records.kept < steps_of runner
+      kept_before = rw at_kept less
+
+      kept_runs : state_of records.kept ≢ Halt
+      kept_runs =
+          let runs = runs_before table (steps_of records.kept) (steps_of runner) kept_before (record { here = _; exists = stands.at }) in
+          let there = runs.exists in
+          let at_kept = kept.at in
+          let same : runs.here ≡ record { state = state_of records.kept; head = position_of records.kept; tape = saved.content } = cc in
+          λ halts. runs.runs (ap (λ (c : Configuration). c.state) same ∙ halts)
+
+      pub agreeing : IsKeptInStateOf records runner → HasSameCells records saved.content run.content
+          → AgreeingRecords table records.side first (steps_of runner)
+      agreeing kept_there same = record {
+        in_order = less;
+        first_number = followed.number;
+        second_number = made.0;
+        first_record = subst (IsRecord table records.side followed.number) at_kept kept.made;
+        second_record = made.1;
+        agree = subst (λ a. Agree table records.side a (steps_of runner)) at_kept (agree_of_cells kept_there.1 same);
+      }
+
+      cells_of_agree : Agree table records.side (steps_of records.kept) (steps_of runner)
+          → IsKeptInStateOf records runner × HasSameCells records saved.content run.content
+      cells_of_agree agree =
+          let first_is = agree.at_first in
+          let second_is = agree.at_second in
+          let kept_at = kept.at in
+          let at_here = stands.at in
+          let one : agree.first ≡ record { state = state_of records.kept; head = position_of records.kept; tape = saved.content } = cc in
+          let two : agree.second ≡ record { state = state_of runner; head = position_of runner; tape = run.content } = cc in (
+            (
+              no_zero followed.number records.number followed.number_is some,
+              sym (ap (λ (c : Configuration). c.state) one) ∙ agree.same_state ∙ ap (λ (c : Configuration). c.state) two,
+              kept_runs,
+            ),
+            λ x low high.
+                let head = ap (λ (c : Configuration). c.head) one in
+                let there = ap (λ (c : Configuration). c.head) two in
+                sym (ap (λ (c : Configuration). cell c.tape x) one)
+                ∙ agree.same_cells x (subst (λ f. f ≤ℤ out records.side x) kept.far_is low)
+                (subst (λ n. out records.side x ≤ℤ n) (sym (ap (out records.side) head ∙ kept_out)) high)
+                ∙ ap (λ (c : Configuration). cell c.tape (x +ℤ (agree.second.head -ℤ agree.first.head))) two
+                ∙ ap (λ h. cell run.content (x +ℤ (h -ℤ agree.first.head))) there
+                ∙ ap (λ h. cell run.content (x +ℤ (position_of runner -ℤ h))) head
+                ∙ ap (λ d. cell run.content (x +ℤ d)) (sym distance),
+          )
+
+      pub cells_of_agreeing : AgreeingRecords table records.side first (steps_of runner)
+          → IsKeptInStateOf records runner × HasSameCells records saved.content run.content
+      cells_of_agreeing pair = cells_of_agree (subst (λ a. Agree table records.side a (steps_of runner)) (sym at_kept) pair.agree)

@@ -1,0 +1,26 @@
+use Rattle.std.proofs.Common.{◌≡◌, subst}
+use Rattle.bb_sim.specs.Run.{Never}
+use Rattle.bb_cert.specs.declared.answer.Answer.{Answer}
+use Rattle.bb_cert.specs.declared.answer.Answer.TheVariants as answer
+use Rattle.bb_cert.specs.Answer.{IsAnswer}
+use Rattle.bb_cert.specs.Checks.{Checks}
+use Rattle.bb_cert.specs.Claim.{SaysNever}
+use Rattle.bb_cert.proofs.AnswerRules.{checked_answer, where_ok}
+use Rattle.bb_cert.proofs.Claims.{claims_never_halt}
+use Rattle.bb_cert.proofs.checking.check.Goals as goal
+
+pub returns-in-None-clause-answer : goal.returns-in-None-clause-answer
+returns-in-None-clause-answer g c =
+    let unsettled = rw c.in-None.is at c.settle.ensures in
+    where_ok (Checks c.args.machine.now c.args.limits.now c.args.verdict.now)
+    (IsAnswer c.args.machine.now c.args.limits.now c.args.verdict.now) _
+    (checked_answer c.args.machine.now c.args.limits.now c.args.verdict.now unsettled) c.check_claim.ensures.checks
+
+pub returns-in-None-clause-never : goal.returns-in-None-clause-never
+returns-in-None-clause-never g c =
+    where_ok (Checks c.args.machine.now c.args.limits.now c.args.verdict.now)
+    (λ (given : Answer). given ≡ answer.Ok → SaysNever c.args.verdict.now → Never c.args.machine.now) _
+    (λ given checks is says.
+    let claim = subst (Checks c.args.machine.now c.args.limits.now c.args.verdict.now) is checks in
+    claims_never_halt c.args.machine.now c.args.verdict.now c.states-states.ensures.machine says claim.1)
+    c.check_claim.ensures.checks
