@@ -2,7 +2,11 @@
 ghost use Rattle.std.specs.Prelude.{◌≡◌, ◌*◌, ◌≤◌, IfOk, IfSome, IsTrue, OnErr, OnOk};
 ghost use Rattle.bb_sim.specs.Meter.{IsWithinRun};
 ghost use Rattle.bb_sim.specs.Run.{Never};
+ghost use Rattle.bb_cert.specs.declared.answer.Answer.{Answer};
+ghost use Rattle.bb_cert.specs.declared.reader.Line.{Line};
+ghost use Rattle.bb_cert.specs.Answer.{IsAnswer, IsUndecided};
 ghost use Rattle.bb_cert.specs.Claim.{Claim, SaysNever};
+ghost use Rattle.bb_cert.specs.Line.{IsLineOf, line_text};
 ghost use Rattle.bb_cert.specs.Path.{depth_of};
 ghost use Rattle.bb_cert.specs.Verdict.{HasNumbers};
 ghost use Rattle.bb_cert.specs.WalkMeter.{IsWithinWalk};
@@ -51,6 +55,10 @@ pub fn decide<T: Tape>(
     ensures numbers { IfOk result HasNumbers }
     ensures claim { IfOk result (Claim machine.now) }
     ensures never { IfOk result (λ verdict. SaysNever verdict → Never machine.now) }
+    ensures confirmed { IfOk result (λ verdict. (IsUndecided verdict → ⊥)
+        → IsAnswer machine.now limits.now verdict Answer.Ok) }
+    ensures line { IfOk result (λ verdict.
+        IsLineOf (Line.Claim machine.now verdict) (line_text machine.now verdict)) }
     ensures counted { OnOk result (CountsWork machine.now limits.now plan meter.new) }
     ensures within { IsWithinWork limits.now meter.new }
     ensures tapes { HasCells T.strip limits.now.cells bench.new }

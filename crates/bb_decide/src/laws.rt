@@ -1,5 +1,5 @@
 //! Laws of verdicts, as contracts: a call of each does nothing.
-ghost use Rattle.bb_decide.specs.Laws.{VerdictIsUnique, WorkIsUnique};
+ghost use Rattle.bb_decide.specs.Laws.{VerdictIsUnique, VerdictsAreConfirmed, VerdictsHold, WorkIsUnique};
 
 /// A machine has one verdict under one set of limits and one plan.
 pub fn verdict_is_unique()
@@ -9,4 +9,10 @@ pub fn verdict_is_unique()
 /// Deciding it costs as many steps each time.
 pub fn work_is_unique()
     ensures { WorkIsUnique }
+{}
+
+/// What a verdict claims holds, so the checker confirms it under the same limits.
+pub fn verdicts_hold()
+    ensures claim { VerdictsHold }
+    ensures confirmed { VerdictsAreConfirmed }
 {}

@@ -1,4 +1,7 @@
 use Rattle.bb_cert.proofs.Facts.{claims_never_halt}
+use Rattle.std.proofs.Common.{refl, rules}
+use Rattle.bb_cert.specs.declared.verdict.Verdict.TheVariants.{Halt}
+use Rattle.bb_decide.proofs.Claims.{verdicts_are_confirmed}
 use Rattle.bb_decide.proofs.Works.{verdict_of_deciders, work_of_halt, work_of_deciders}
 use Rattle.bb_decide.proofs.decision.decide.Goals as goal
 use Rattle.bb_decide.proofs.decision.decide.Goals.{in-NoSteps, in-NoCells}
@@ -56,3 +59,25 @@ returns-in-None-clause-verdict g c =
           let outcome = rw w.in-NoCells.is at c.in_ok-steps.ensures.outcome in
           rw w.why-is (outcome, found)
     ]
+
+pub returns-in-Halt-clause-confirmed : goal.returns-in-Halt-clause-confirmed
+returns-in-Halt-clause-confirmed g c = λ claims.
+    let outcome = rw c.in-Halt.is at c.in_ok-steps.ensures.outcome in
+    verdicts_are_confirmed c.args.machine.now c.args.limits.now c.args.plan (Halt _ _) outcome claims
+
+pub returns-in-Some-clause-confirmed : goal.returns-in-Some-clause-confirmed
+returns-in-Some-clause-confirmed g c =
+    verdicts_are_confirmed c.args.machine.now c.args.limits.now c.args.plan _ (returns-in-Some-clause-verdict g c)
+
+pub returns-in-None-clause-confirmed : goal.returns-in-None-clause-confirmed
+returns-in-None-clause-confirmed g c = λ claims. absurd (claims tt)
+
+pub returns-in-Halt-clause-line : goal.returns-in-Halt-clause-line
+returns-in-Halt-clause-line g c = (c.states-read.ensures.machine, search rules, refl)
+
+pub returns-in-Some-clause-line : goal.returns-in-Some-clause-line
+returns-in-Some-clause-line g c =
+    (c.states-read.ensures.machine, rw c.in-Some.is at c.in_ok-verdict.ensures.numbers, refl)
+
+pub returns-in-None-clause-line : goal.returns-in-None-clause-line
+returns-in-None-clause-line g c = (c.states-read.ensures.machine, tt, refl)
