@@ -159,3 +159,8 @@ module _ (table : Table) (runner : Runner) (run saved : Strip) (records : Record
       → IsAtRecord table (steps_of runner) (taken records (out records.side (position_of runner))) saved
   record_here high = subst (λ b. IsAtRecord table b (taken records (out records.side (position_of runner))) saved) (sym before.next)
       (at_record table before.before records saved before.followed there (out records.side (position_of runner)) at high)
+
+-- records that were looked at, where the side and their number stay
+pub same_records : (old new : Records) → new.side ≡ old.side → new.top ≡ old.top
+    → new ≡ record old { number = new.number; kept = new.kept; far = new.far }
+same_records old new side top = λ i. record new { side = side i; top = top i }

@@ -6,15 +6,15 @@ ghost use Rattle.bb_sim.specs.Runner.{Stands, position_of, state_of, steps_of};
 ghost use Rattle.bb_cert.specs.Record.{out};
 ghost use Rattle.bb_decide.specs.Follow.{FindsPartner, GoesOn, HasSameCells, IsAtRecord, IsComparable, IsFollowedBefore, IsKeptInStateOf, IsWidened, lesser_of};
 
-use crate::reach::reach;
 use bb_cert::Side;
 use bb_machine::{Machine, Next};
 use bb_sim::Runner;
+use bb_tape::reach::reach;
 use bb_tape::{MOST_CELLS, Memory, Tape};
 
 /// How many records of a side there were, and the one that is kept. Everything is told in how far out a position is on
 /// the side.
-#[derive(Drop)]
+#[derive(Clone, Copy)]
 pub struct Records {
     side: Side,
     /// How far out the head was at most: the number of the last record.
@@ -44,7 +44,8 @@ impl Records {
     /// Takes in the configuration that the runner has come to. Where it makes a record that agrees with the kept one,
     /// that one's step; else the record is kept, if it is its turn.
     ///
-    /// The machine is the one that runs.
+    /// The machine is the one that runs. The comparison gets copies, so that the runner and the records, which are
+    /// locals of the caller, stay in registers.
     #[inline(always)]
     pub fn take_in<T: Tape>(
         &mut self,
@@ -66,7 +67,12 @@ impl Records {
         if !self.follow(runner.position()) {
             return Ok(None);
         }
-        self.look(machine, runner, run, saved)
+        let mut looked = *self;
+        let found = looked.look(machine, *runner, run, saved)?;
+        self.number = looked.number;
+        self.kept = looked.kept;
+        self.far = looked.far;
+        Ok(found)
     }
 
     /// Takes in the next position of the head, and tells whether it makes a record.
@@ -88,24 +94,26 @@ impl Records {
     }
 
     /// Compares the record that was just made with the kept one, and keeps it if its number is at least twice the other.
+    #[cold]
     #[inline(never)]
     fn look<T: Tape>(
         &mut self,
         _machine: &Machine,
-        runner: &Runner,
+        runner: Runner,
         run: &T,
         saved: &mut T,
     ) -> Result<Option<u64>, Memory>
-        requires stands { Stands _machine.now runner.now (T.strip run.now) }
+        requires stands { Stands _machine.now runner (T.strip run.now) }
         requires limit { (T.strip saved.old).limit ≡ (T.strip run.now).limit }
-        requires at { IsAtRecord _machine.now (steps_of runner.now) self.old (T.strip saved.old) }
-        ensures found { IfOk result (FindsPartner _machine.now self.old.side (steps_of runner.now)) }
-        ensures followed { IfOk result (GoesOn _machine.now (steps_of runner.now) self.new (T.strip saved.new)) }
+        requires at { IsAtRecord _machine.now (steps_of runner) self.old (T.strip saved.old) }
+        ensures found { IfOk result (FindsPartner _machine.now self.old.side (steps_of runner)) }
+        ensures followed { IfOk result (GoesOn _machine.now (steps_of runner) self.new (T.strip saved.new)) }
         ensures side { self.new.side ≡ self.old.side }
+        ensures top { self.new.top ≡ self.old.top }
         ensures limit { (T.strip saved.new).limit ≡ (T.strip saved.old).limit }
         ensures memory { OnErr result (IsTrue T.GROWS) }
     {
-        if self.agrees(runner, run, saved) {
+        if self.agrees(&runner, run, saved) {
             return Ok(Some(self.kept.steps()));
         }
         if self.top < 2 * self.number {
@@ -114,7 +122,7 @@ impl Records {
         let Ok(()) = saved.copy_from(run) else {
             return Err(Memory);
         };
-        self.kept = *runner;
+        self.kept = runner;
         self.number = self.top;
         self.far = self.top;
         Ok(None)
@@ -135,7 +143,9 @@ impl Records {
         if !is_in_same_state(&self.kept, runner) {
             return false;
         }
-        reach(saved, how_far_out(self.side, self.far));
+        let Ok(()) = reach(saved, how_far_out(self.side, self.far)) else {
+            unreachable!();
+        };
         self.has_same_cells(run, saved)
     }
 

@@ -37,6 +37,32 @@ pub fn translated<T: Tape>(
     ensures tapes { HasCells T.strip limits.now.cells bench.new }
     ensures memory { OnErr result (IsTrue T.GROWS) }
 {
+    let limits = *limits;
+    let mut spent = *meter;
+    let found = run(machine, &limits, bench, &mut spent);
+    *meter = spent;
+    found
+}
+
+/// `translated`, inlined there, so that the limits and the meter, which are its locals, stay in registers.
+#[inline(always)]
+fn run<T: Tape>(
+    machine: &Machine,
+    limits: &Limits,
+    bench: &mut Bench<T>,
+    meter: &mut Meter,
+) -> Result<Option<Verdict>, Memory>
+    requires tapes { HasCells T.strip limits.now.cells bench.old }
+    requires room { meter.old.steps ≤ 2 * limits.now.steps }
+    ensures found { IfOk result (FindsTranslation machine.now limits.now) }
+    ensures counted { IfOk result (CountsSearch machine.now limits.now meter.old meter.new) }
+    ensures within { IsWithinRun limits.now meter.old meter.new }
+    ensures never { IfOk result (λ found. IfSome found (λ verdict. Never machine.now)) }
+    ensures claim { IfOk result (λ found. IfSome found (Claim machine.now)) }
+    ensures numbers { IfOk result (λ found. IfSome found HasNumbers) }
+    ensures tapes { HasCells T.strip limits.now.cells bench.new }
+    ensures memory { OnErr result (IsTrue T.GROWS) }
+{
     let _accepted = limits.steps();
     let mut runner = Runner::start(machine, &mut bench.run);
     let mut right = Records::new(Side::R, runner);
@@ -47,6 +73,10 @@ pub fn translated<T: Tape>(
             Moved::Stepped => {}
             _ => return Ok(None),
         }
+        // In Z the run ends, in a state in which it wasn't before.
+        let Some(_) = runner.state() else {
+            return Ok(None);
+        };
         match right.take_in(machine, &runner, &bench.run, &mut bench.right)? {
             Some(first) => {
                 return Ok(Some(Verdict::Translated {
