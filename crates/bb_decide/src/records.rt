@@ -44,8 +44,7 @@ impl Records {
     /// Takes in the configuration that the runner has come to. Where it makes a record that agrees with the kept one,
     /// that one's step; else the record is kept, if it is its turn.
     ///
-    /// The machine is the one that runs. The comparison gets copies, so that the runner and the records, which are
-    /// locals of the caller, stay in registers.
+    /// The machine is the one that runs.
     #[inline(always)]
     pub fn take_in<T: Tape>(
         &mut self,
@@ -67,12 +66,7 @@ impl Records {
         if !self.follow(runner.position()) {
             return Ok(None);
         }
-        let mut looked = *self;
-        let found = looked.look(machine, *runner, run, saved)?;
-        self.number = looked.number;
-        self.kept = looked.kept;
-        self.far = looked.far;
-        Ok(found)
+        self.look(machine, runner, run, saved)
     }
 
     /// Takes in the next position of the head, and tells whether it makes a record.
@@ -87,16 +81,45 @@ impl Records {
         } }
     {
         let far_out = how_far_out(self.side, position);
-        let is_record = self.top < far_out;
-        self.top = self.top.max(far_out);
         self.far = self.far.min(far_out);
-        is_record
+        if far_out <= self.top {
+            return false;
+        }
+        self.top = far_out;
+        true
+    }
+
+    /// Compares the record that was just made with the kept one, and keeps it if it is its turn. The records and the
+    /// runner are locals of a loop: they stay in registers, since what is out of line gets copies of them.
+    #[inline(always)]
+    fn look<T: Tape>(
+        &mut self,
+        machine: &Machine,
+        runner: &Runner,
+        run: &T,
+        saved: &mut T,
+    ) -> Result<Option<u64>, Memory>
+        requires stands { Stands machine.now runner.now (T.strip run.now) }
+        requires limit { (T.strip saved.old).limit ≡ (T.strip run.now).limit }
+        requires at { IsAtRecord machine.now (steps_of runner.now) self.old (T.strip saved.old) }
+        ensures found { IfOk result (FindsPartner machine.now self.old.side (steps_of runner.now)) }
+        ensures followed { IfOk result (GoesOn machine.now (steps_of runner.now) self.new (T.strip saved.new)) }
+        ensures side { self.new.side ≡ self.old.side }
+        ensures limit { (T.strip saved.new).limit ≡ (T.strip saved.old).limit }
+        ensures memory { OnErr result (IsTrue T.GROWS) }
+    {
+        let mut looked = *self;
+        let found = looked.compare_and_keep(machine, *runner, run, saved)?;
+        self.number = looked.number;
+        self.kept = looked.kept;
+        self.far = looked.far;
+        Ok(found)
     }
 
     /// Compares the record that was just made with the kept one, and keeps it if its number is at least twice the other.
     #[cold]
     #[inline(never)]
-    fn look<T: Tape>(
+    fn compare_and_keep<T: Tape>(
         &mut self,
         _machine: &Machine,
         runner: Runner,

@@ -1,8 +1,8 @@
 use Rattle.std.proofs.Common.{w64, rules, sym, subst, FitsSigned}
 use Rattle.std.proofs.lemmas.Int.{to_z-of_z}
 use Rattle.bb_sim.specs.Runner.{steps_of}
-use Rattle.bb_decide.specs.Follow.{GoesOn, IsAtRecord, IsFollowed}
-use Rattle.bb_decide.proofs.Following.{follows_on, none_here, not_less, record_here, same_records}
+use Rattle.bb_decide.specs.Follow.{IsAtRecord, IsFollowed}
+use Rattle.bb_decide.proofs.Following.{follows_on, none_here, not_less, record_here}
 use Rattle.bb_decide.proofs.records.Records.take_in.Goals as goal
 
 pub returns-then-not-follow-clause-found : goal.returns-then-not-follow-clause-found
@@ -29,11 +29,3 @@ look-requires-clause-at g c =
     let told = simp c.position.ensures at plain in
     subst (λ r. IsAtRecord c.args.machine.now (steps_of c.args.runner.now) r (g.T.Tape.strip c.args.saved.now)) (sym told.taken)
     (record_here _ _ _ _ _ c.requires.stands c.requires.followed (told.told.0 c.if-not-follow.false))
-
-pub returns-clause-followed : goal.returns-clause-followed
-returns-clause-followed g c =
-    let same = same_records c.follow.new.self c.look.new.self c.look.ensures.side c.look.ensures.top in
-    let number_fits : FitsSigned w64 c.look.new.self.number = search rules in
-    let far_fits : FitsSigned w64 c.look.new.self.far = search rules in
-    simp to_z-of_z (subst (λ r. GoesOn c.args.machine.now (steps_of c.args.runner.now) r (g.T.Tape.strip c.look.new.saved) c.in_ok-found.found) same
-        c.in_ok-found.ensures.followed)
