@@ -96,16 +96,19 @@ def measure(name, commands, file, runs):
 
 
 def undecided(program, options, lines):
-    """Those of the lines on whose machines the program finds nothing. The simulation of such a machine and a search
-    that is on make the same steps, up to the limits, so that their times can be compared as they are."""
-    ran = subprocess.run([program, "decide", *options], input=lines.encode(), stdout=subprocess.PIPE, check=False)
+    """Those of the lines on whose machines the program finds nothing. Over such a machine the simulation
+    and a search that is on make the same steps, up to the limits, so that their times can be compared."""
+    command = [program, "decide", *options]
+    ran = subprocess.run(command, input=lines.encode(), stdout=subprocess.PIPE, check=False)
     replies = ran.stdout.decode().splitlines()
     return "".join(reply.split()[0] + "\n" for reply in replies if " undecided " in reply)
 
 
 def searches(program, draw):
-    """The name, the options with one search on, the switch that turns it off, and the list of each measurement of a
-    search. The champion doesn't halt within its first 40,000,000 steps, nor does a search end in them."""
+    """The name, the options with one search on, the switch that turns it off, and the list of each
+    measurement of a search. The champion doesn't halt within its first 40,000,000 steps, nor does a search
+    end in them. Of the list of all machines a search makes fewer steps than the simulation, since it ends
+    at its pair."""
     limits = ["--steps", "1000", "--cells", "200", "--depth", "60"]
     long = ["--steps", "40000000"]
     cycles = ["--no-translated", "--no-backward"]
@@ -114,7 +117,7 @@ def searches(program, draw):
     cases = [
         ("cyclers over the champion's first 40,000,000 steps", [*long, *cycles], "--no-cyclers", CHAMPION),
         (f"cyclers over {LIST} machines of four states", [*limits, *cycles], "--no-cyclers", four),
-        ("translated over the champion's first 40,000,000 steps", [*long, *records], "--no-translated", CHAMPION),
+        ("translated over the same steps", [*long, *records], "--no-translated", CHAMPION),
     ]
     for states in (4, 5):
         drawn = "".join(machine(draw, states) for _ in range(DRAWN))
@@ -132,7 +135,8 @@ def measure_search(program, name, options, switch, file, runs):
         for which, command in enumerate(commands):
             best[which] = min(best[which], timed(command, file))
     added = best[1] - best[0]
-    print(f"{name}: simulation {best[0]:.3f} s, the search adds {added:.3f} s, ratio {added / best[0]:.2f}", flush=True)
+    ratio = added / best[0]
+    print(f"{name}: simulation {best[0]:.3f} s, the search adds {added:.3f} s, ratio {ratio:.2f}", flush=True)
 
 
 def main():

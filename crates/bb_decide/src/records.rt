@@ -1,10 +1,12 @@
 //! The records of one side of a run, and the one with which later ones are compared.
-ghost use Rattle.std.specs.Prelude.{◌≡◌, ◌≢◌, ◌*◌, ◌↔◌, ◌+ℤ◌, ◌-ℤ◌, ◌<ℤ◌, ◌≤ℤ◌, neg_ℤ, pos, IfOk, IsTrue, OnErr};
+ghost use Rattle.std.specs.Prelude.{◌≡◌, ◌≢◌, ◌*◌, ◌↔◌, ◌+ℤ◌, ◌-ℤ◌, ◌<ℤ◌, ◌≤ℤ◌, neg_ℤ, pos};
+ghost use Rattle.std.specs.Prelude.{IfOk, IsTrue, OnErr};
 ghost use Rattle.std.specs.Int.{int_max, int_min};
 ghost use Rattle.bb_tape.specs.Strip.{IsBeside, IsInside};
 ghost use Rattle.bb_sim.specs.Runner.{Stands, position_of, state_of, steps_of};
 ghost use Rattle.bb_cert.specs.Record.{out};
-ghost use Rattle.bb_decide.specs.Follow.{FindsPartner, GoesOn, HasSameCells, IsAtRecord, IsComparable, IsFollowedBefore, IsKeptInStateOf, IsWidened, lesser_of};
+ghost use Rattle.bb_decide.specs.Follow.{FindsPartner, GoesOn, HasSameCells, IsAtRecord, IsComparable};
+ghost use Rattle.bb_decide.specs.Follow.{IsFollowedBefore, IsKeptInStateOf, IsWidened, lesser_of};
 
 use bb_cert::Side;
 use bb_machine::{Machine, Next};
@@ -58,7 +60,8 @@ impl Records {
         requires limit { (T.strip saved.old).limit ≡ (T.strip run.now).limit }
         requires followed { IsFollowedBefore machine.now (steps_of runner.now) self.old (T.strip saved.old) }
         ensures found { IfOk result (FindsPartner machine.now self.old.side (steps_of runner.now)) }
-        ensures followed { IfOk result (GoesOn machine.now (steps_of runner.now) self.new (T.strip saved.new)) }
+        ensures followed { IfOk result
+            (GoesOn machine.now (steps_of runner.now) self.new (T.strip saved.new)) }
         ensures side { self.new.side ≡ self.old.side }
         ensures limit { (T.strip saved.new).limit ≡ (T.strip saved.old).limit }
         ensures memory { OnErr result (IsTrue T.GROWS) }
@@ -103,7 +106,8 @@ impl Records {
         requires limit { (T.strip saved.old).limit ≡ (T.strip run.now).limit }
         requires at { IsAtRecord machine.now (steps_of runner.now) self.old (T.strip saved.old) }
         ensures found { IfOk result (FindsPartner machine.now self.old.side (steps_of runner.now)) }
-        ensures followed { IfOk result (GoesOn machine.now (steps_of runner.now) self.new (T.strip saved.new)) }
+        ensures followed { IfOk result
+            (GoesOn machine.now (steps_of runner.now) self.new (T.strip saved.new)) }
         ensures side { self.new.side ≡ self.old.side }
         ensures limit { (T.strip saved.new).limit ≡ (T.strip saved.old).limit }
         ensures memory { OnErr result (IsTrue T.GROWS) }
@@ -116,7 +120,8 @@ impl Records {
         Ok(found)
     }
 
-    /// Compares the record that was just made with the kept one, and keeps it if its number is at least twice the other.
+    /// Compares the record that was just made with the kept one, and keeps it if its number is at least twice the
+    /// other.
     #[cold]
     #[inline(never)]
     fn compare_and_keep<T: Tape>(
@@ -176,7 +181,8 @@ impl Records {
     fn has_same_cells<T: Tape>(&self, run: &T, saved: &T) -> bool
         requires comparable { IsComparable self.now (T.strip saved.now) (T.strip run.now) }
         requires far { IsInside (T.strip saved.now) (out self.now.side self.now.far) }
-        ensures { IsTrue result ↔ HasSameCells self.now (T.strip saved.now).content (T.strip run.now).content }
+        ensures { IsTrue result
+            ↔ HasSameCells self.now (T.strip saved.now).content (T.strip run.now).content }
     {
         let shift = self.top - self.number;
         let from = lesser_end(self.side, self.far, self.number);

@@ -121,10 +121,10 @@ returns-in_default-state-clause-found g c =
     let last = halts_last _ _ _ reaches.0 (halts_in_Z _ _ _ c.in_ok-advance.ensures.stands halts) in
     let below = kept_below _ _ here.partner in
     λ a t cycle.
-        no_cycle_next _ _ _ _ here.partner here.none (λ same.
-            let pair = rw (← moves.0) at same in
-            no_pair_in_Z _ _ _ c.in_ok-advance.ensures.stands halts _ _ _ (omega (arith, moves.0, below)) pair.at_first pair.at_second refl)
-        a t (let few = last.greatest t cycle.inside in omega (arith, moves.0, few)) cycle
+    no_cycle_next _ _ _ _ here.partner here.none (λ same.
+    let pair = rw (← moves.0) at same in
+    no_pair_in_Z _ _ _ c.in_ok-advance.ensures.stands halts _ _ _ (omega (arith, moves.0, below)) pair.at_first pair.at_second refl)
+    a t (let few = last.greatest t cycle.inside in omega (arith, moves.0, few)) cycle
 
 pub returns-in_default-state-clause-counted : goal.returns-in_default-state-clause-counted
 returns-in_default-state-clause-counted g c =

@@ -154,8 +154,8 @@ returns-in_default-state-clause-found g c =
     let last = halts_last _ _ _ reaches.0 (halts_in_Z _ _ _ c.in_ok-advance.ensures.stands halts) in
     let none = no_pair_at_end _ _ _ c.in_ok-advance.ensures.stands halts in
     λ side a b translation.
-        let few = last.greatest b translation.inside in
-        none_next _ _ _ here.none (rw moves.0 at (none R)) (rw moves.0 at (none L)) side a b (omega (arith, moves.0, few)) translation
+    let few = last.greatest b translation.inside in
+    none_next _ _ _ here.none (rw moves.0 at (none R)) (rw moves.0 at (none L)) side a b (omega (arith, moves.0, few)) translation
 
 pub returns-in_default-state-clause-counted : goal.returns-in_default-state-clause-counted
 returns-in_default-state-clause-counted g c =

@@ -11,4 +11,4 @@ returns-clause-followed g c =
     let number_fits : FitsSigned w64 c.compare_and_keep.new.self.number = search rules in
     let far_fits : FitsSigned w64 c.compare_and_keep.new.self.far = search rules in
     simp to_z-of_z (subst (λ r. GoesOn c.args.machine.now (steps_of c.args.runner.now) r (g.T.Tape.strip c.compare_and_keep.new.saved) c.in_ok-found.found) same
-        c.in_ok-found.ensures.followed)
+    c.in_ok-found.ensures.followed)
