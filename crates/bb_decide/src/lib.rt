@@ -6,7 +6,6 @@ pub mod cycle;
 pub mod decision;
 pub mod laws;
 pub mod plan;
-mod reach;
 pub mod reasoning;
 mod records;
 #[cfg(test)]
