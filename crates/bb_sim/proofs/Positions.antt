@@ -46,12 +46,15 @@ cells_between-is low high h = difference (high -ℤ low) (omega (arith, ints)) w
   difference (pos n) h = refl
   difference (negsuc n) h = omega (arith, ints)
 
-pub cells_between_wider : (low high low' high' : ℤ) → low ≤ℤ high → low' ≤ℤ low → high ≤ℤ high' → cells_between low high ≤ cells_between low' high'
+pub cells_between_wider : (low high low' high' : ℤ) → low ≤ℤ high → low' ≤ℤ low → high ≤ℤ high'
+    → cells_between low high ≤ cells_between low' high'
 cells_between_wider low high low' high' h l g =
     let a = cells_between-is low high h in
     let b = cells_between-is low' high' (omega (arith, ints)) in
     omega (arith, ints)
 
 -- a window that is told by its low end and its number of positions
-pub cells_between-count : (low : ℤ) (cells : ℕ) → 0 < cells → cells_between low ((low +ℤ pos cells) -ℤ pos 1) ≡ cells
-cells_between-count low cells some = let e = cells_between-is low ((low +ℤ pos cells) -ℤ pos 1) (omega (arith, ints)) in omega (arith, ints, e)
+pub cells_between-count : (low : ℤ) (cells : ℕ) → 0 < cells
+    → cells_between low ((low +ℤ pos cells) -ℤ pos 1) ≡ cells
+cells_between-count low cells some =
+    let e = cells_between-is low ((low +ℤ pos cells) -ℤ pos 1) (omega (arith, ints)) in omega (arith, ints, e)
