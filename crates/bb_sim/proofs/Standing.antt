@@ -110,31 +110,10 @@ inside_fits strip p sound inside =
     let n = cells_between-is strip.low strip.high (omega (arith, ints)) in
     rw (l, h) (omega (arith, ints))
 
--- the tape's own width of a widened window
-pub width-cells_between : (strip : Strip) (p : ℤ) → IsSound strip
-    → width (visited strip p) ≡ pos (cells_between (int_min strip.low p) (int_max strip.high p))
-width-cells_between strip p sound =
-    let a = sound.from_zero in
-    let b = sound.to_zero in
-    sym (cells_between-is (int_min strip.low p) (int_max strip.high p) (omega (arith, ints, clamps)))
-
 -- a window told by its low end and its number of cells, and a position in it or next to it
 module _ (runner : Runner) (strip : Strip) (p : ℤ) (sound : IsSound strip) (low : strip.low ≡ low_of runner)
     (high : strip.high ≡ high_of runner) where
-  above : (l m : ℕ) → (m ≤ l → ⊥) → l < m
-  above l m never = omega (arith, never)
-
-  -- with as many cells as the limit there is no room for a position outside it
-  pub full_window : ((low_of runner ≤ℤ p) × (p ≤ℤ high_of runner) → ⊥) → runner.cells ≡ strip.limit
-      → strip.limit < cells_between (int_min strip.low p) (int_max strip.high p)
-  full_window outside same =
-      let a = sound.from_zero in
-      let b = sound.to_zero in
-      let e = cells_between-is (int_min strip.low p) (int_max strip.high p) (omega (arith, ints, clamps)) in
-      above _ _ (λ h.
-      outside (omega (arith, ints, clamps, h, e, same), omega (arith, ints, clamps, h, e, same)))
-
-  -- with fewer there is
+  -- with fewer cells than the limit there is room for one more
   pub room_left : runner.cells ≢ strip.limit → width strip <ℤ pos strip.limit
   room_left apart = let d = sound.within in omega (arith, ints, apart)
 
@@ -149,21 +128,6 @@ module _ (runner : Runner) (strip : Strip) (p : ℤ) (sound : IsSound strip) (lo
       let near_high = near.1 in
       let e = cells_between-is (int_min strip.low p) (int_max strip.high p) (omega (arith, ints, clamps)) in
       omega (arith, ints, clamps, e)
-
-  -- what the wider window's cells and its low end keep to
-  pub few_grown : runner.cells ≢ strip.limit → runner.cells + 1 ≤ MOST_CELLS
-  few_grown apart =
-      let d = room_left apart in
-      let e = sound.limited in
-      omega (arith, ints)
-
-  pub low_grown : runner.cells ≢ strip.limit → IsBeside strip p → neg_ℤ (pos MOST_CELLS) ≤ℤ p
-  low_grown apart near =
-      let b = sound.to_zero in
-      let d = room_left apart in
-      let e = sound.limited in
-      let near_low = near.0 in
-      omega (arith, ints)
 
   -- a position next to it that isn't below it is above it
   pub next_above : ((low_of runner ≤ℤ p) × (p ≤ℤ high_of runner) → ⊥) → IsBeside strip p → low_of runner ≤ℤ p

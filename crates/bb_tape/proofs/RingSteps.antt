@@ -1,5 +1,5 @@
 -- What the calls on a ring do to its cells.
-use Rattle.std.proofs.Common.{◌≡◌, ◌≢◌, ◌⊎◌, inl, inr, ℕ, ◌<◌, ◌≤◌, ℤ, pos, ◌+ℤ◌, ◌≤ℤ◌, ◌<ℤ◌, List, Bool, true, false, get_or, set, length, sym, ap, ◌∙◌, arith, get_or-set_same, get_or-set_other}
+use Rattle.std.proofs.Common.{◌≡◌, ◌≢◌, ◌⊎◌, inl, inr, ℕ, ◌<◌, ◌≤◌, ℤ, pos, ◌+ℤ◌, ◌≤ℤ◌, ◌<ℤ◌, List, get_or, set, length, sym, ap, ◌∙◌, arith, get_or-set_same, get_or-set_other}
 use Rattle.std.proofs.lemmas.Int.{ints, clamps, by_lt_z}
 use Rattle.std.proofs.lemmas.Bool.{cases_lt}
 use Rattle.std.specs.Prelude.{unsigned_abs}
@@ -190,12 +190,3 @@ ring_copied cells dells w front back ef eb low high = ring_same cells dells w (�
       | inl c ↦ low (ring_index w.limit q) (omega (arith, ints, c.1))
       | inr c ↦ high (ring_index w.limit q) (omega (arith, ints, c.1))
     ])
-
--- a position that isn't in the window
-pub outside_from : (w : Window) (p p' : ℤ) (b : Bool) → p' ≡ p → ((w.low ≤ℤ p') × (p' ≤ℤ w.high) → b ≡ true)
-    → b ≡ false → (p <ℤ w.low) ⊎ (w.high <ℤ p)
-outside_from w p p' b same told is =
-    by_lt_z p w.low inl (λ from.
-    by_lt_z w.high p inr (λ to.
-    absurd (let found : b ≡ true = told (omega (arith, ints, same, from), omega (arith, ints, same, to)) in
-    cc)))
