@@ -28,10 +28,6 @@ add_to_last-onto_first byte x [] = refl
 add_to_last-onto_first byte x (part ∷ []) = refl
 add_to_last-onto_first byte x (part ∷ next ∷ parts) = refl
 
-onto_first-append : (x : ℕ) (parts : List (List ℕ)) (first part : List ℕ)
-    → onto_first x ((first ∷ parts) ++ part ∷ []) ≡ onto_first x (first ∷ parts) ++ part ∷ []
-onto_first-append x parts first part = refl
-
 module _ (p : ℕ → Bool) where
   -- some part is there
   split_some : (xs : List ℕ) → (first : List ℕ) × (rest : List (List ℕ)) × (slice_split p xs ≡ first ∷ rest)

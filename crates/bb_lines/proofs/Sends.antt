@@ -38,11 +38,6 @@ Sends-trans held held' held'' waiting waiting' waiting'' bytes more first second
   appends = Appends-trans held held' held'' first.written second.written first.appends second.appends;
 }
 
--- more bytes wait
-pub Sends-waits : (held : Option (List ℕ)) (waiting bytes : List ℕ)
-    → Sends held held waiting (waiting ++ bytes) bytes
-Sends-waits held waiting bytes = record { written = []; whole = refl; appends = Appends-nil held }
-
 -- a write took the first n bytes of what waits
 pub Sends-write : (held held' held'' : Option (List ℕ)) (waiting waiting' bytes : List ℕ) (n : ℕ)
     → Sends held held' waiting waiting' bytes → Appends held' held'' (take n waiting')
