@@ -34,6 +34,10 @@ void *malloc(size_t n) {
     if (!next) next = dlsym(RTLD_NEXT, "malloc");
     return refused() ? 0 : next(n);
 }
+void *__libc_calloc(size_t n, size_t size);
+void *calloc(size_t n, size_t size) {
+    return refused() ? 0 : __libc_calloc(n, size);
+}
 void *realloc(void *p, size_t n) {
     static void *(*next)(void *, size_t);
     if (!next) next = dlsym(RTLD_NEXT, "realloc");
