@@ -50,7 +50,8 @@ module _ (table : Table) (bounds : Bounds) (verdict : Verdict) where
   first_undecided claim_holds applies = omega arith
   first_undecided all_else applies = omega arith
 
-  first_named : (IsUndecided verdict → ⊥) → (other : Rule) → Applies table bounds verdict other → 2 ≤ rank other
+  first_named : (IsUndecided verdict → ⊥) → (other : Rule) → Applies table bounds verdict other
+      → 2 ≤ rank other
   first_named claims undecided applies = absurd (claims applies)
   first_named claims too_much_named applies = omega arith
   first_named claims out_of_order applies = omega arith
@@ -67,7 +68,8 @@ module _ (table : Table) (bounds : Bounds) (verdict : Verdict) where
   first_order claims within claim_holds applies = omega arith
   first_order claims within all_else applies = omega arith
 
-  first_unsettled : (IsSettled bounds verdict → ⊥) → (other : Rule) → Applies table bounds verdict other → 4 ≤ rank other
+  first_unsettled : (IsSettled bounds verdict → ⊥) → (other : Rule) → Applies table bounds verdict other
+      → 4 ≤ rank other
   first_unsettled unsettled undecided applies = absurd (unsettled (inl applies))
   first_unsettled unsettled too_much_named applies = absurd (unsettled (inr (inl applies)))
   first_unsettled unsettled out_of_order applies = absurd (unsettled (inr (inr applies)))
@@ -76,12 +78,26 @@ module _ (table : Table) (bounds : Bounds) (verdict : Verdict) where
   first_unsettled unsettled all_else applies = omega arith
 
   -- what is settled without a run
-  pub settled_answer : (given : Answer) → Settles bounds verdict (Some given) → IsAnswer table bounds verdict given
-  settled_answer answer.Open is = record { rule = undecided; is = refl; applies = is; first = first_undecided }
+  pub settled_answer : (given : Answer) → Settles bounds verdict (Some given)
+      → IsAnswer table bounds verdict given
+  settled_answer answer.Open is =
+      record { rule = undecided; is = refl; applies = is; first = first_undecided }
   settled_answer answer.Over is =
-      record { rule = too_much_named; is = refl; applies = is; first = first_named (named_nothing bounds verdict is) }
+      record {
+        rule = too_much_named;
+        is = refl;
+        applies = is;
+        first = first_named
+            (named_nothing bounds verdict is);
+      }
   settled_answer answer.Bad is =
-      record { rule = out_of_order; is = refl; applies = is.1; first = first_order (no_pair verdict is.1) is.0 }
+      record {
+        rule = out_of_order;
+        is = refl;
+        applies = is.1;
+        first = first_order
+            (no_pair verdict is.1) is.0;
+      }
   settled_answer answer.Ok is = absurd is
 
   module _ (unsettled : IsSettled bounds verdict → ⊥) where
@@ -94,7 +110,8 @@ module _ (table : Table) (bounds : Bounds) (verdict : Verdict) where
     first_fitting fits claim_holds applies = omega arith
     first_fitting fits all_else applies = omega arith
 
-    last_rule : (Applies table bounds verdict too_much_needed → ⊥) → (Applies table bounds verdict claim_holds → ⊥)
+    last_rule : (Applies table bounds verdict too_much_needed → ⊥)
+        → (Applies table bounds verdict claim_holds → ⊥)
         → (other : Rule) → Applies table bounds verdict other → 6 ≤ rank other
     last_rule fits fails undecided applies = absurd (unsettled (inl applies))
     last_rule fits fails too_much_named applies = absurd (unsettled (inr (inl applies)))
@@ -104,7 +121,8 @@ module _ (table : Table) (bounds : Bounds) (verdict : Verdict) where
     last_rule fits fails all_else applies = omega arith
 
     -- what was checked
-    pub checked_answer : (given : Answer) → Checks table bounds verdict given → IsAnswer table bounds verdict given
+    pub checked_answer : (given : Answer) → Checks table bounds verdict given
+        → IsAnswer table bounds verdict given
     checked_answer answer.Over is =
         record { rule = too_much_needed; is = refl; applies = is; first = first_unsettled unsettled }
     checked_answer answer.Ok is =
@@ -114,6 +132,7 @@ module _ (table : Table) (bounds : Bounds) (verdict : Verdict) where
     checked_answer answer.Open is = absurd is
 
 -- what follows of an answer follows where there is one
-pub where_ok : {A E : Type 0} (P Q : A → Type 0) (result : Result A E) → ((x : A) → P x → Q x) → IfOk result P → IfOk result Q
+pub where_ok : {A E : Type 0} (P Q : A → Type 0) (result : Result A E) → ((x : A) → P x → Q x)
+    → IfOk result P → IfOk result Q
 where_ok P Q (Ok x) each is = each x is
 where_ok P Q (Err e) each is = tt

@@ -5,7 +5,7 @@ use Rattle.std.proofs.lemmas.Bool.{cases_lt}
 use Rattle.std.proofs.lemmas.Int.{ints}
 use Rattle.bb_machine.specs.declared.entry.Next.TheVariants.{Halt}
 use Rattle.bb_machine.specs.Machine.{Table}
-use Rattle.bb_tape.specs.Content.{cell}
+use Rattle.bb_tape.specs.Content.{Content, cell}
 use Rattle.bb_tape.specs.Strip.{Strip, IsInside}
 use Rattle.bb_sim.specs.declared.runner.Runner.{Runner}
 use Rattle.bb_sim.specs.Configuration.{Configuration}
@@ -37,8 +37,14 @@ at_most_same p q r is h = omega (arith, ints, is, h)
 same_order : (p : ℤ) → p ≤ℤ p
 same_order p = omega (arith, ints)
 
+-- where a runner stands, on this content
+abbrev stood : Runner → Content → Configuration
+stood runner content =
+    record { state = state_of runner; head = position_of runner; tape = content }
+
 -- the last record is as far out as the head ever was
-top_here : (table : Table) (side : Side) (n j : ℕ) (top : ℤ) → IsTop table side n top → IsRecord table side j n
+top_here : (table : Table) (side : Side) (n j : ℕ) (top : ℤ) → IsTop table side n top
+    → IsRecord table side j n
     → out side (head_at table n) ≡ top
 top_here table side n j top is made = elim (cases_lt is.step n) [
   | inl before ↦ absurd (
@@ -52,11 +58,13 @@ top_here table side n j top is made = elim (cases_lt is.step n) [
   below_top : (p q t : ℤ) (j : ℕ) → p ≡ t → p <ℤ pos j → q ≡ pos j → q ≤ℤ t → ⊥
   below_top p q t j a b c d = omega (arith, ints, a, b, c, d)
 
-module _ (table : Table) (runner : Runner) (run saved : Strip) (records : Records) (stands : Stands table runner run)
+module _ (table : Table) (runner : Runner) (run saved : Strip) (records : Records)
+    (stands : Stands table runner run)
     (followed : IsFollowed table (steps_of runner) records saved)
     (made : MakesRecord table records.side (steps_of runner)) where
   -- the window of the run, by what was seen
-  in_window : (p : ℤ) → (least (counted_head table) (steps_of runner) ≤ℤ p) × (p ≤ℤ greatest (counted_head table) (steps_of runner))
+  in_window : (p : ℤ) → (least (counted_head table) (steps_of runner) ≤ℤ p)
+      × (p ≤ℤ greatest (counted_head table) (steps_of runner))
       → IsInside run p
   in_window p between = (
     subst (λ l. l ≤ℤ p) (sym (stands.window_low ∙ stands.low)) between.0,
@@ -71,13 +79,16 @@ module _ (table : Table) (runner : Runner) (run saved : Strip) (records : Record
 
   head_inside : state_of runner ≢ Halt → (m : ℕ) → m ≤ steps_of runner → IsInside run (head_at table m)
   head_inside runs m few =
-      in_window (head_at table m) (head_in_window table m (steps_of runner) few (runs_up_to table m (steps_of runner) few (runs_here runs)))
+      in_window (head_at table m)
+      (head_in_window table m (steps_of runner) few
+      (runs_up_to table m (steps_of runner) few (runs_here runs)))
 
   top_out : out records.side (head_at table (steps_of runner)) ≡ records.top
   top_out = top_here table records.side (steps_of runner) made.0 records.top followed.top made.1
 
   -- it is kept, in what the run has now
-  pub keeps : (new : Records) → new ≡ record records { number = records.top; kept = runner; far = records.top }
+  pub keeps : (new : Records)
+      → new ≡ record records { number = records.top; kept = runner; far = records.top }
       → IsFollowed table (steps_of runner) new run
   keeps new is = subst (λ r. IsFollowed table (steps_of runner) r run) (sym is) (record {
     count = followed.count;
@@ -102,7 +113,8 @@ module _ (table : Table) (runner : Runner) (run saved : Strip) (records : Record
     number = one_number made.0 followed.count records.top
         (sym top_out ∙ stands_on table records.side made.0 (steps_of runner) made.1) followed.count_is
 
-  pub keeps_step : (new : Records) → new ≡ record records { number = records.top; kept = runner; far = records.top }
+  pub keeps_step : (new : Records)
+      → new ≡ record records { number = records.top; kept = runner; far = records.top }
       → KeepsStep table (steps_of runner) new
   keeps_step new is = subst (KeepsStep table (steps_of runner)) (sym is) (record {
     made = λ some none.
@@ -116,7 +128,8 @@ module _ (table : Table) (runner : Runner) (run saved : Strip) (records : Record
     kept = followed.kept some
 
     number_out : out records.side (head_at table (steps_of records.kept)) ≡ records.number
-    number_out = stands_on table records.side followed.number (steps_of records.kept) kept.made ∙ sym followed.number_is
+    number_out = stands_on table records.side followed.number (steps_of records.kept) kept.made
+        ∙ sym followed.number_is
 
     kept_is : head_at table (steps_of records.kept) ≡ position_of records.kept
     kept_is = head_at-is table (steps_of records.kept) _ kept.at
@@ -126,26 +139,33 @@ module _ (table : Table) (runner : Runner) (run saved : Strip) (records : Record
 
     pub comparable : state_of runner ≢ Halt → state_of records.kept ≢ Halt → IsComparable records saved run
     comparable runs kept_runs =
-        let reached = far_is_reached table records.side (steps_of records.kept) (steps_of runner) kept.before in
+        let reached = far_is_reached table records.side (steps_of records.kept)
+        (steps_of runner) kept.before in
         record {
           low = subst (λ l. l ≤ℤ saved.low) (sym (stands.window_low ∙ stands.low)) kept.low;
           high = subst (λ h. saved.high ≤ℤ h) (sym (stands.window_high ∙ stands.high)) kept.high;
           order = subst (λ f. f ≤ℤ records.number) (sym kept.far_is) (at_most_same _ _ _ number_out
               (far_bounds table records.side (steps_of records.kept) (steps_of runner) kept.before));
-          later = subst (λ p. p ≤ℤ records.top) number_out (followed.top.bounds (steps_of records.kept) kept.before);
+          later = subst (λ p. p ≤ℤ records.top) number_out
+              (followed.top.bounds (steps_of records.kept) kept.before);
           far_seen = subst (IsInside run) (turned _ _ (sym (kept.far_is ∙ reached.is)))
               (head_inside runs reached.step reached.no_later);
-          top_seen = subst (IsInside run) (turned _ _ top_out) (head_inside runs (steps_of runner) (omega arith));
+          top_seen = subst (IsInside run) (turned _ _ top_out)
+              (head_inside runs (steps_of runner) (omega arith));
           number_saved = subst (IsInside saved) (sym kept_is ∙ turned _ _ number_out) (kept.seen kept_runs);
         }
 
-    distance : out records.side (records.top -ℤ records.number) ≡ position_of runner -ℤ position_of records.kept
+    distance : out records.side
+        (records.top -ℤ records.number) ≡ position_of runner -ℤ position_of records.kept
     distance =
-        let top : out records.side (position_of runner) ≡ records.top = ap (out records.side) (sym here_is) ∙ top_out in
-        let number : out records.side (position_of records.kept) ≡ records.number = ap (out records.side) (sym kept_is) ∙ number_out in
+        let top : out records.side (position_of runner) ≡ records.top = ap (out records.side) (sym here_is)
+        ∙ top_out in
+        let number : out records.side (position_of records.kept) ≡ records.number =
+        ap (out records.side) (sym kept_is) ∙ number_out in
         ap (λ t. out records.side (t -ℤ records.number)) (sym top)
         ∙ ap (λ n. out records.side (out records.side (position_of runner) -ℤ n)) (sym number)
-        ∙ ap (out records.side) (sym (out-subtract records.side (position_of runner) (position_of records.kept)))
+        ∙ ap (out records.side)
+        (sym (out-subtract records.side (position_of runner) (position_of records.kept)))
         ∙ out-out records.side (position_of runner -ℤ position_of records.kept)
 
     kept_out : out records.side (position_of records.kept) ≡ records.number
@@ -161,7 +181,8 @@ module _ (table : Table) (runner : Runner) (run saved : Strip) (records : Record
       at_second = stands.at;
       same_state = states;
       same_cells = λ x low high.
-          same x (subst (λ f. f ≤ℤ out records.side x) (sym kept.far_is) low) (subst (λ n. out records.side x ≤ℤ n) kept_out high)
+          same x (subst (λ f. f ≤ℤ out records.side x) (sym kept.far_is) low)
+          (subst (λ n. out records.side x ≤ℤ n) kept_out high)
           ∙ ap (λ d. cell run.content (x +ℤ d)) distance;
     }
 
@@ -171,10 +192,11 @@ module _ (table : Table) (runner : Runner) (run saved : Strip) (records : Record
 
       kept_runs : state_of records.kept ≢ Halt
       kept_runs =
-          let runs = runs_before table (steps_of records.kept) (steps_of runner) kept_before (record { here = _; exists = stands.at }) in
+          let runs = runs_before table (steps_of records.kept) (steps_of runner) kept_before
+          (record { here = _; exists = stands.at }) in
           let there = runs.exists in
           let at_kept = kept.at in
-          let same : runs.here ≡ record { state = state_of records.kept; head = position_of records.kept; tape = saved.content } = cc in
+          let same : runs.here ≡ stood records.kept saved.content = cc in
           λ halts. runs.runs (ap (λ (c : Configuration). c.state) same ∙ halts)
 
       pub agreeing : IsKeptInStateOf records runner → HasSameCells records saved.content run.content
@@ -185,7 +207,8 @@ module _ (table : Table) (runner : Runner) (run saved : Strip) (records : Record
         second_number = made.0;
         first_record = subst (IsRecord table records.side followed.number) at_kept kept.made;
         second_record = made.1;
-        agree = subst (λ a. Agree table records.side a (steps_of runner)) at_kept (agree_of_cells kept_there.1 same);
+        agree = subst (λ a. Agree table records.side a (steps_of runner)) at_kept
+            (agree_of_cells kept_there.1 same);
       }
 
       cells_of_agree : Agree table records.side (steps_of records.kept) (steps_of runner)
@@ -195,11 +218,12 @@ module _ (table : Table) (runner : Runner) (run saved : Strip) (records : Record
           let second_is = agree.at_second in
           let kept_at = kept.at in
           let at_here = stands.at in
-          let one : agree.first ≡ record { state = state_of records.kept; head = position_of records.kept; tape = saved.content } = cc in
-          let two : agree.second ≡ record { state = state_of runner; head = position_of runner; tape = run.content } = cc in (
+          let one : agree.first ≡ stood records.kept saved.content = cc in
+          let two : agree.second ≡ stood runner run.content = cc in (
             (
               no_zero followed.number records.number followed.number_is some,
-              sym (ap (λ (c : Configuration). c.state) one) ∙ agree.same_state ∙ ap (λ (c : Configuration). c.state) two,
+              sym (ap (λ (c : Configuration). c.state) one) ∙ agree.same_state
+                  ∙ ap (λ (c : Configuration). c.state) two,
               kept_runs,
             ),
             λ x low high.
@@ -216,4 +240,5 @@ module _ (table : Table) (runner : Runner) (run saved : Strip) (records : Record
 
       pub cells_of_agreeing : AgreeingRecords table records.side first (steps_of runner)
           → IsKeptInStateOf records runner × HasSameCells records saved.content run.content
-      cells_of_agreeing pair = cells_of_agree (subst (λ a. Agree table records.side a (steps_of runner)) (sym at_kept) pair.agree)
+      cells_of_agreeing pair = cells_of_agree
+          (subst (λ a. Agree table records.side a (steps_of runner)) (sym at_kept) pair.agree)

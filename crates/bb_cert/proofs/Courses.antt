@@ -20,7 +20,8 @@ use Rattle.bb_cert.proofs.Positions.{climbs, head_at-is}
 use Rattle.bb_cert.proofs.Records.{record_takes_steps, short_of_record, stands_on}
 
 -- at the start there is no record
-pub followed_at_first : (table : Table) (records : Records) (saved : Strip) → records.top ≡ pos 0 → records.number ≡ pos 0
+pub followed_at_first : (table : Table) (records : Records) (saved : Strip) → records.top ≡ pos 0
+    → records.number ≡ pos 0
     → IsFollowed table 0 records saved
 followed_at_first table records saved top number = record {
   count = 0;
@@ -65,7 +66,8 @@ kept-next table side number n kept far_out saved is = record {
 
 -- what is known after a step
 abbrev pub taken : Records → ℤ → Records
-taken records far_out = record records { top = int_max records.top far_out; far = int_min records.far far_out }
+taken records far_out =
+    record records { top = int_max records.top far_out; far = int_min records.far far_out }
 
 same_max : (p q : ℤ) → q ≤ℤ p → int_max p q ≡ p
 same_max p q h = omega (arith, ints, clamps, h)
@@ -102,23 +104,28 @@ module _ (table : Table) (n : ℕ) (records : Records) (there : Exists table (n 
         (top-next table records.side n records.top followed.top)
 
     kept_is : 0 < followed.number
-        → IsKeptRecord table records.side followed.number (n + 1) records.kept (int_min records.far far_out) saved
-    kept_is some = subst (λ f. IsKeptRecord table records.side followed.number (n + 1) records.kept (int_min records.far f) saved)
-        (sym at) (kept-next table records.side followed.number n records.kept records.far saved (followed.kept some))
+        → IsKeptRecord table records.side followed.number (n + 1) records.kept
+        (int_min records.far far_out) saved
+    kept_is some = subst (λ f. IsKeptRecord table records.side followed.number (n + 1) records.kept
+        (int_min records.far f) saved)
+        (sym at) (kept-next table records.side followed.number n records.kept records.far saved
+        (followed.kept some))
 
     -- where it is farther out, it makes the next one
     number_next : records.top <ℤ far_out → far_out ≡ pos (followed.count + 1)
     number_next high =
         let step : out records.side (head_at table (n + 1)) ≤ℤ (out records.side (head_at table n) +ℤ pos 1) =
         rw add-one (climbs table records.side n (rw add-one at there)) in
-        next_up records.top far_out _ followed.count followed.count_is (rw at step) (followed.top.bounds n (omega arith)) high
+        next_up records.top far_out _ followed.count followed.count_is (rw at step)
+        (followed.top.bounds n (omega arith)) high
 
     pub made_next : records.top <ℤ far_out → IsRecord table records.side (followed.count + 1) (n + 1)
     made_next high = record {
       positive = omega arith;
       here = there.here;
       exists = there.exists;
-      on_position = ap (out records.side) (sym (head_at-is table (n + 1) there.here there.exists)) ∙ sym at ∙ number_next high;
+      on_position = ap (out records.side) (sym (head_at-is table (n + 1) there.here there.exists)) ∙ sym at
+          ∙ number_next high;
       is_first = λ m less. subst (λ q. out records.side (head_at table m) ≢ q) (number_next high)
           (apart _ records.top far_out (followed.top.bounds m (omega (arith, less))) high);
     }
@@ -147,11 +154,13 @@ module _ (table : Table) (n : ℕ) (records : Records) (there : Exists table (n 
         → IsTrue told ↔ MakesRecord table records.side (n + 1)
     told-next told is = (
       λ yes. (followed.count + 1, made_next (is.0 yes)),
-      λ made. by_lt_z records.top far_out (λ high. is.1 high) (λ low. absurd (no_record followed.top low made)),
+      λ made. by_lt_z records.top far_out (λ high. is.1 high)
+          (λ low. absurd (no_record followed.top low made)),
     )
 
 -- a course goes on by a step, told of its next position
-pub course-next : (table : Table) (n : ℕ) (old new : Course) (saved : Strip) (position : ℤ) → Exists table (n + 1)
+pub course-next : (table : Table) (n : ℕ) (old new : Course) (saved : Strip) (position : ℤ)
+    → Exists table (n + 1)
     → position ≡ head_at table (n + 1) → new.records ≡ taken old.records (out old.records.side position)
     → IsTrue new.is_record ↔ (old.records.top <ℤ out old.records.side position)
     → IsCourse table n old saved → IsCourse table (n + 1) new saved
@@ -179,13 +188,16 @@ goes_nowhere table n course = record {
   same = record { side = refl; number = refl; kept = refl };
 }
 
-pub goes-next : (table : Table) (from n m : ℕ) (first old new : Course) (position : ℤ) → GoesOn table from n first old
+pub goes-next : (table : Table) (from n m : ℕ) (first old new : Course) (position : ℤ)
+    → GoesOn table from n first old
     → m ≡ n + 1 → Exists table m → position ≡ head_at table m
     → new.records ≡ taken old.records (out old.records.side position)
-    → IsTrue new.is_record ↔ (old.records.top <ℤ out old.records.side position) → GoesOn table from m first new
+    → IsTrue new.is_record ↔ (old.records.top <ℤ out old.records.side position)
+    → GoesOn table from m first new
 goes-next table from n m first old new position goes next there at is told = record {
   course = λ saved begun. subst (λ k. IsCourse table k new saved) (sym next)
-      (course-next table n old new saved position (subst (Exists table) next there) (at ∙ ap (head_at table) next) is told
+      (course-next table n old new saved position (subst (Exists table) next there)
+      (at ∙ ap (head_at table) next) is told
       (goes.course saved begun));
   same = record {
     side = ap (λ (r : Records). r.side) is ∙ goes.same.side;

@@ -46,10 +46,12 @@ pub head_in_window : (table : Table) (m b : ℕ) → m ≤ b → IsRunningAt tab
     → (least (counted_head table) b ≤ℤ head_at table m) × (head_at table m ≤ℤ greatest (counted_head table) b)
 head_in_window table m b few runs = (span_is_reached table b).between m (head_at table m) few runs
 
-pub runs_up_to : (table : Table) (m b : ℕ) → m ≤ b → IsRunningAt table b (head_at table b) → IsRunningAt table m (head_at table m)
+pub runs_up_to : (table : Table) (m b : ℕ) → m ≤ b → IsRunningAt table b (head_at table b)
+    → IsRunningAt table m (head_at table m)
 runs_up_to table m b few runs = elim (cases_lt m b) [
   | inl less ↦ runs_before table m b less (record { here = runs.here; exists = runs.exists })
-  | inr more ↦ let same : b ≡ m = omega (arith, few, more) in subst (λ k. IsRunningAt table k (head_at table k)) same runs
+  | inr more ↦ let same : b ≡ m = omega (arith, few, more) in subst
+      (λ k. IsRunningAt table k (head_at table k)) same runs
 ]
 
 -- the window doesn't shrink
@@ -80,9 +82,11 @@ far-next table side a n few =
     let there : ((n - a) + 1) + a ≡ n + 1 = omega (arith, few) in
     ap (λ d. least (λ u. out side (head_at table (u + a))) d) one
     ∙ least-next (λ u. out side (head_at table (u + a))) (n - a)
-    ∙ ap (λ k. int_min (least (λ u. out side (head_at table (u + a))) (n - a)) (out side (head_at table k))) there
+    ∙ ap (λ k. int_min (least (λ u. out side (head_at table (u + a))) (n - a))
+    (out side (head_at table k))) there
 
-pub far_bounds : (table : Table) (side : Side) (a n : ℕ) → a ≤ n → far table side a n ≤ℤ out side (head_at table a)
+pub far_bounds : (table : Table) (side : Side) (a n : ℕ) → a ≤ n
+    → far table side a n ≤ℤ out side (head_at table a)
 far_bounds table side a n few =
     let here : 0 + a ≡ a = omega arith in
     subst (λ k. far table side a n ≤ℤ out side (head_at table k)) here
@@ -167,7 +171,8 @@ top-next table side n top is =
       reached = is.reached ∙ sym (greatest_left top (out side (head_at table (n + 1))) more);
       bounds = bounds;
     }) where
-      bounds : (m : ℕ) → m ≤ n + 1 → out side (head_at table m) ≤ℤ int_max top (out side (head_at table (n + 1)))
+      bounds : (m : ℕ) → m ≤ n + 1 → out side (head_at table m) ≤ℤ int_max top
+          (out side (head_at table (n + 1)))
       bounds m few = elim (cases_lt n m) [
         | inl past ↦ let same : n + 1 ≡ m = omega (arith, few, past) in
             subst (λ k. out side (head_at table k) ≤ℤ int_max top (out side (head_at table (n + 1)))) same

@@ -39,23 +39,28 @@ pub narrow_fits : (z : ℤ) → IsNarrow z → FitsSigned w64 z
 narrow_fits z n = wide_fits z (omega (arith, ints, n.low)) (omega (arith, ints, n.high))
 
 pub difference_fits : (x y : ℤ) → IsNarrow x → IsNarrow y → FitsSigned w64 (x -ℤ y)
-difference_fits x y n m = wide_fits (x -ℤ y) (omega (arith, ints, n.low, m.high)) (omega (arith, ints, n.high, m.low))
+difference_fits x y n m = wide_fits (x -ℤ y) (omega (arith, ints, n.low, m.high))
+    (omega (arith, ints, n.high, m.low))
 
 pub doubled_fits : (z : ℤ) → IsNarrow z → FitsSigned w64 (pos 2 *ℤ z)
 doubled_fits z n = wide_fits (pos 2 *ℤ z) (omega (arith, ints, n.low)) (omega (arith, ints, n.high))
 
 pub shifted_fits : (x y z : ℤ) → IsNarrow x → IsNarrow y → IsNarrow z → FitsSigned w64 (x +ℤ (y -ℤ z))
 shifted_fits x y z n m k =
-    wide_fits (x +ℤ (y -ℤ z)) (omega (arith, ints, n.low, m.low, k.high)) (omega (arith, ints, n.high, m.high, k.low))
+    wide_fits (x +ℤ (y -ℤ z)) (omega (arith, ints, n.low, m.low, k.high))
+    (omega (arith, ints, n.high, m.high, k.low))
 
 -- a stretch whose ends are inside is inside
-pub stretch_inside : (side : Side) (s : Strip) (near far_out from : ℤ) (len : ℕ) → from ≡ lesser_of side near far_out
+pub stretch_inside : (side : Side) (s : Strip) (near far_out from : ℤ) (len : ℕ)
+    → from ≡ lesser_of side near far_out
     → pos len ≡ (far_out -ℤ near) +ℤ pos 1 → IsInside s (out side near) → IsInside s (out side far_out)
     → IsStretch s from len
 stretch_inside L s near far_out from len is long first last k less =
-    let a = first.1 in let b = last.0 in (omega (arith, ints, is, long, a, b, less), omega (arith, ints, is, long, a, b, less))
+    let a = first.1 in let b = last.0 in
+    (omega (arith, ints, is, long, a, b, less), omega (arith, ints, is, long, a, b, less))
 stretch_inside R s near far_out from len is long first last k less =
-    let a = first.0 in let b = last.1 in (omega (arith, ints, is, long, a, b, less), omega (arith, ints, is, long, a, b, less))
+    let a = first.0 in let b = last.1 in
+    (omega (arith, ints, is, long, a, b, less), omega (arith, ints, is, long, a, b, less))
 
 -- what lies between two positions that are inside is inside
 pub between_inside : (side : Side) (s : Strip) (near x far_out : ℤ) → near ≤ℤ x → x ≤ℤ far_out
@@ -78,24 +83,30 @@ pub record IsOffset (from x : ℤ) (len : ℕ) : Type 0 where
   pub less : offset < len
 
 by_difference : (from x d : ℤ) (len : ℕ) → d ≡ x -ℤ from → pos 0 ≤ℤ d → d <ℤ pos len → IsOffset from x len
-by_difference from x (pos k) len is low high = record { offset = k; is = omega (arith, ints, is); less = omega (arith, ints, high) }
+by_difference from x (pos k) len is low high =
+    record { offset = k; is = omega (arith, ints, is); less = omega (arith, ints, high) }
 by_difference from x (negsuc k) len is low high = absurd (omega (arith, ints, low))
 
 offset_of : (side : Side) (near far_out from x : ℤ) (len : ℕ) → from ≡ lesser_of side near far_out
     → pos len ≡ (far_out -ℤ near) +ℤ pos 1 → near ≤ℤ out side x → out side x ≤ℤ far_out → IsOffset from x len
 offset_of L near far_out from x len is long a b =
-    by_difference from x (x -ℤ from) len refl (omega (arith, ints, is, long, a, b)) (omega (arith, ints, is, long, a, b))
+    by_difference from x (x -ℤ from) len refl (omega (arith, ints, is, long, a, b))
+    (omega (arith, ints, is, long, a, b))
 offset_of R near far_out from x len is long a b =
-    by_difference from x (x -ℤ from) len refl (omega (arith, ints, is, long, a, b)) (omega (arith, ints, is, long, a, b))
+    by_difference from x (x -ℤ from) len refl (omega (arith, ints, is, long, a, b))
+    (omega (arith, ints, is, long, a, b))
 
 reaches : (side : Side) (near far_out from : ℤ) (len k : ℕ) → from ≡ lesser_of side near far_out
     → pos len ≡ (far_out -ℤ near) +ℤ pos 1 → k < len
     → (near ≤ℤ out side (from +ℤ pos k)) × (out side (from +ℤ pos k) ≤ℤ far_out)
-reaches L near far_out from len k is long less = (omega (arith, ints, is, long, less), omega (arith, ints, is, long, less))
-reaches R near far_out from len k is long less = (omega (arith, ints, is, long, less), omega (arith, ints, is, long, less))
+reaches L near far_out from len k is long less =
+    (omega (arith, ints, is, long, less), omega (arith, ints, is, long, less))
+reaches R near far_out from len k is long less =
+    (omega (arith, ints, is, long, less), omega (arith, ints, is, long, less))
 
 -- the cells of a stretch, counted from its lesser end, or told by how far out they are
-module _ (side : Side) (near far_out d from other : ℤ) (len : ℕ) (a b : Content) (is : from ≡ lesser_of side near far_out)
+module _ (side : Side) (near far_out d from other : ℤ) (len : ℕ) (a b : Content)
+    (is : from ≡ lesser_of side near far_out)
     (long : pos len ≡ (far_out -ℤ near) +ℤ pos 1) (shifted : other ≡ from +ℤ out side d) where
   turned : (k : ℕ) → other +ℤ pos k ≡ (from +ℤ pos k) +ℤ out side d
   turned k = omega (arith, ints, shifted)
@@ -107,7 +118,8 @@ module _ (side : Side) (near far_out d from other : ℤ) (len : ℕ) (a b : Cont
       ap (cell a) at.is ∙ agree at.offset at.less ∙ ap (cell b) (turned at.offset)
       ∙ ap (λ y. cell b (y +ℤ out side d)) (sym at.is)
 
-  pub told_by_offset : ((x : ℤ) → near ≤ℤ out side x → out side x ≤ℤ far_out → cell a x ≡ cell b (x +ℤ out side d))
+  pub told_by_offset : ((x : ℤ) → near ≤ℤ out side x → out side x ≤ℤ far_out
+      → cell a x ≡ cell b (x +ℤ out side d))
       → AgreesFrom a from b other len
   told_by_offset same k less =
       let at = reaches side near far_out from len k is long less in
@@ -156,7 +168,8 @@ room_for saved run p sound limit low high inside =
 
 pub seen_wider : (saved : Strip) (p q : ℤ) → IsInside saved q → IsInside (visited saved p) q
 seen_wider saved p q inside =
-    let a = inside.0 in let b = inside.1 in (omega (arith, ints, clamps, a, b), omega (arith, ints, clamps, a, b))
+    let a = inside.0 in let b = inside.1 in
+    (omega (arith, ints, clamps, a, b), omega (arith, ints, clamps, a, b))
 
 pub seen_at : (saved : Strip) (p : ℤ) → IsInside (visited saved p) p
 seen_at saved p = (omega (arith, ints, clamps), omega (arith, ints, clamps))
@@ -164,7 +177,8 @@ seen_at saved p = (omega (arith, ints, clamps), omega (arith, ints, clamps))
 pub low_wider : (low p : ℤ) (saved : Strip) → low ≤ℤ saved.low → low ≤ℤ p → low ≤ℤ (visited saved p).low
 low_wider low p saved a b = omega (arith, ints, clamps, a, b)
 
-pub high_wider : (high p : ℤ) (saved : Strip) → saved.high ≤ℤ high → p ≤ℤ high → (visited saved p).high ≤ℤ high
+pub high_wider : (high p : ℤ) (saved : Strip) → saved.high ≤ℤ high → p ≤ℤ high
+    → (visited saved p).high ≤ℤ high
 high_wider high p saved a b = omega (arith, ints, clamps, a, b)
 
 pub comparable_wider : (records : Records) (saved run : Strip) → IsComparable records saved run

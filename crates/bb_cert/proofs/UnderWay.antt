@@ -21,7 +21,13 @@ pub begins : (table : Table) (bounds : Bounds) (runner : Runner) (strip : Strip)
 begins table bounds runner strip old new stands zeroth limit some first is = record {
   under_way = record {
     stands = stands;
-    inside = record { here = _; exists = stands.at; within_steps = rw zeroth (omega arith); within_cells = fits };
+    inside = record {
+      here = _;
+      exists = stands.at;
+      within_steps = rw zeroth
+          (omega arith);
+      within_cells = fits;
+    };
     limit = limit;
     counts = subst (λ n. CountsTo table n zero_meter new) (sym zeroth)
         (subst (λ m. CountsTo table 0 m new) first (counts_start table old new is));
@@ -41,10 +47,12 @@ under_way_within table bounds runner strip meter is =
     count_is_within table bounds (steps_of runner) zero_meter meter is.inside is.counts
 
 -- a run that halts before the limit of steps can't come there
-pub cut_by_halt : (table : Table) (bounds : Bounds) (n : ℕ) → Inside table bounds n → HaltsAt table n → n < bounds.steps
+pub cut_by_halt : (table : Table) (bounds : Bounds) (n : ℕ) → Inside table bounds n → HaltsAt table n
+    → n < bounds.steps
     → IsCut table bounds answer.Bad
 cut_by_halt table bounds n inside halts before = (
-  λ there. let few = halt_is_last table n bounds.steps there.here halts there.exists in omega (arith, few, before),
+  λ there. let few = halt_is_last table n bounds.steps there.here halts there.exists in omega
+      (arith, few, before),
   fits_at_halt table bounds n inside halts,
 )
 

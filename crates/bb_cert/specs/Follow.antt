@@ -22,7 +22,8 @@ pub record IsTop (table : Table) (side : Side) (n : ℕ) (top : ℤ) : Type 0 wh
 
 -- the record that is kept, its configuration, and how far out the head is at least from there to step n; what was
 -- saved of it lies in the window of the run, and its own head in what was saved
-pub record IsKeptRecord (table : Table) (side : Side) (number n : ℕ) (kept : Runner) (far_out : ℤ) (saved : Strip)
+pub record IsKeptRecord (table : Table) (side : Side) (number n : ℕ) (kept : Runner) (far_out : ℤ)
+    (saved : Strip)
     : Type 0 where
   pub made : IsRecord table side number (steps_of kept)
   pub before : steps_of kept ≤ n
@@ -59,7 +60,8 @@ pub record IsComparable (records : Records) (saved run : Strip) : Type 0 where
 
 -- its cells are those that the last record has as far before its head
 abbrev pub HasSameCells : Records → Content → Content → Type 0
-HasSameCells records saved run = (x : ℤ) → records.far ≤ℤ out records.side x → out records.side x ≤ℤ records.number
+HasSameCells records saved run = (x : ℤ) → records.far ≤ℤ out records.side x
+    → out records.side x ≤ℤ records.number
     → cell saved x ≡ cell run (x +ℤ out records.side (records.top -ℤ records.number))
 
 -- a record is kept, in the state in which a runner is, which is not Z

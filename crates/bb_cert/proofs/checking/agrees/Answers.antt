@@ -15,7 +15,8 @@ returns-clause-agree g c =
     let made = c.requires.course.told.0 c.if-not-course.false in
     λ first less keeps. (
       λ yes. let both = c.agrees.ensures.agree.0 yes in
-          agreeing _ _ _ _ _ c.requires.stands followed made (some_number followed.number _ followed.number_is both.0.0)
+          agreeing _ _ _ _ _ c.requires.stands followed made
+          (some_number followed.number _ followed.number_is both.0.0)
           first (keeps.at both.0.0) less both.0 both.1,
       λ pair. let apart = keeps.made (pair.first_number, pair.first_record) in
           c.agrees.ensures.agree.1 (cells_of_agreeing _ _ _ _ _ c.requires.stands followed made

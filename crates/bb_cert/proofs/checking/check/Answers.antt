@@ -5,16 +5,22 @@ use Rattle.bb_cert.specs.declared.answer.Answer.TheVariants as answer
 use Rattle.bb_cert.specs.Answer.{IsAnswer}
 use Rattle.bb_cert.specs.Checks.{Checks}
 use Rattle.bb_cert.specs.Claim.{SaysNever}
-use Rattle.bb_cert.proofs.AnswerRules.{checked_answer, where_ok}
+use Rattle.bb_cert.proofs.AnswerRules.{checked_answer, settled_answer, where_ok}
 use Rattle.bb_cert.proofs.Claims.{claims_never_halt}
 use Rattle.bb_cert.proofs.checking.check.Goals as goal
+
+pub returns-in-Some-clause-answer : goal.returns-in-Some-clause-answer
+returns-in-Some-clause-answer g c =
+    let settled = rw c.in-Some.is at c.settle.ensures in
+    settled_answer c.args.machine.now c.args.limits.now c.args.verdict.now c.in-Some.answer settled
 
 pub returns-in-None-clause-answer : goal.returns-in-None-clause-answer
 returns-in-None-clause-answer g c =
     let unsettled = rw c.in-None.is at c.settle.ensures in
     where_ok (Checks c.args.machine.now c.args.limits.now c.args.verdict.now)
     (IsAnswer c.args.machine.now c.args.limits.now c.args.verdict.now) _
-    (checked_answer c.args.machine.now c.args.limits.now c.args.verdict.now unsettled) c.check_claim.ensures.checks
+    (checked_answer c.args.machine.now c.args.limits.now c.args.verdict.now unsettled)
+    c.check_claim.ensures.checks
 
 pub returns-in-None-clause-never : goal.returns-in-None-clause-never
 returns-in-None-clause-never g c =

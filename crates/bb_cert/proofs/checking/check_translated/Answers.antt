@@ -38,9 +38,11 @@ returns-then-agrees-clause-checks g c =
     let begun = rw c.in-None.is at c.in_ok-answer.ensures.follows in
     let second = rw (c.in-None-2.is, c.with_steps-limits.ensures) at c.in_ok-answer-2.ensures.runs in
     let goes = rw c.in-None-2.is at c.in_ok-answer-2.ensures.follows in
-    let side = goes.same.side ∙ c.keep.ensures.side ∙ begun.same.side ∙ ap (λ (r : Records). r.side) c.new.ensures in
+    let side = goes.same.side ∙ c.keep.ensures.side ∙ begun.same.side
+    ∙ ap (λ (r : Records). r.side) c.new.ensures in
     let keeps = keeps_on _ _ _ _ goes.same (rw first.at at c.keep.ensures.keeps) in
-    let agree = rw (side, second.at) at (c.agrees.ensures.agree c.args.first (rw second.at c.requires.order) keeps) in
+    let agree = rw (side, second.at) at
+    (c.agrees.ensures.agree c.args.first (rw second.at c.requires.order) keeps) in
     (fits_there _ c.args.limits.now _ _ _ _ second, agree.0 c.if-agrees.true)
 
 pub returns-clause-checks : goal.returns-clause-checks
@@ -49,9 +51,11 @@ returns-clause-checks g c =
     let begun = rw c.in-None.is at c.in_ok-answer.ensures.follows in
     let second = rw (c.in-None-2.is, c.with_steps-limits.ensures) at c.in_ok-answer-2.ensures.runs in
     let goes = rw c.in-None-2.is at c.in_ok-answer-2.ensures.follows in
-    let side = goes.same.side ∙ c.keep.ensures.side ∙ begun.same.side ∙ ap (λ (r : Records). r.side) c.new.ensures in
+    let side = goes.same.side ∙ c.keep.ensures.side ∙ begun.same.side
+    ∙ ap (λ (r : Records). r.side) c.new.ensures in
     let keeps = keeps_on _ _ _ _ goes.same (rw first.at at c.keep.ensures.keeps) in
-    let agree = rw (side, second.at) at (c.agrees.ensures.agree c.args.first (rw second.at c.requires.order) keeps) in (
+    let agree = rw (side, second.at) at
+    (c.agrees.ensures.agree c.args.first (rw second.at c.requires.order) keeps) in (
       fits_there _ c.args.limits.now _ _ _ _ second,
       λ claim. let yes = agree.1 claim in let no = c.if-agrees.false in cc,
     )

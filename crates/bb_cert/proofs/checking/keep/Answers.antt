@@ -12,7 +12,8 @@ returns-then-course-clause-course g c =
     record {
       followed = keeps _ _ _ _ _ c.requires.stands course.followed made _ c.keep.ensures;
       told = subst (λ (r : Records). IsTrue c.args.course.now.is_record
-          ↔ MakesRecord c.args._machine.now r.side (steps_of c.args.runner.now)) (sym c.keep.ensures) course.told;
+          ↔ MakesRecord c.args._machine.now r.side (steps_of c.args.runner.now))
+          (sym c.keep.ensures) course.told;
     }
 
 pub returns-then-course-clause-keeps : goal.returns-then-course-clause-keeps

@@ -66,7 +66,8 @@ pub returns-clause-follows : goal.returns-clause-follows
 returns-clause-follows g c =
     let here = c.loop-runner.invariant in
     let at = (returns-clause-runs g c).at in
-    subst (λ n. GoesOn c.args.machine.now (steps_of c.args.runner.now) n c.args.course.now c.loop-runner.course) at here.goes_on
+    subst (λ n. GoesOn c.args.machine.now
+    (steps_of c.args.runner.now) n c.args.course.now c.loop-runner.course) at here.goes_on
 
 pub returns-clause-within : goal.returns-clause-within
 returns-clause-within g c = under_way_within _ _ _ _ _ c.loop-runner.invariant.under_way

@@ -6,7 +6,8 @@ use Rattle.bb_cert.proofs.side_records.Records.has_same_cells.Goals as goal
 pub overflow_sub-shift : goal.overflow_sub-shift
 overflow_sub-shift g c =
     let r = c.args.self.now in
-    let n = are_narrow _ _ _ (g.met.T.Tape.sound c.args.saved.now) (g.met.T.Tape.sound c.args.run.now) c.requires.comparable in
+    let n = are_narrow _ _ _ (g.met.T.Tape.sound c.args.saved.now)
+    (g.met.T.Tape.sound c.args.run.now) c.requires.comparable in
     let far_fits : FitsSigned w64 r.far = narrow_fits _ n.far in
     let number_fits : FitsSigned w64 r.number = narrow_fits _ n.number in
     let top_fits : FitsSigned w64 r.top = narrow_fits _ n.top in
@@ -18,7 +19,8 @@ overflow_sub-shift g c =
 pub lesser_end-from-requires-clause-low : goal.lesser_end-from-requires-clause-low
 lesser_end-from-requires-clause-low g c =
     let r = c.args.self.now in
-    let n = are_narrow _ _ _ (g.met.T.Tape.sound c.args.saved.now) (g.met.T.Tape.sound c.args.run.now) c.requires.comparable in
+    let n = are_narrow _ _ _ (g.met.T.Tape.sound c.args.saved.now)
+    (g.met.T.Tape.sound c.args.run.now) c.requires.comparable in
     let far_fits : FitsSigned w64 r.far = narrow_fits _ n.far in
     let number_fits : FitsSigned w64 r.number = narrow_fits _ n.number in
     let top_fits : FitsSigned w64 r.top = narrow_fits _ n.top in
@@ -30,7 +32,8 @@ lesser_end-from-requires-clause-low g c =
 pub lesser_end-from-requires-clause-high : goal.lesser_end-from-requires-clause-high
 lesser_end-from-requires-clause-high g c =
     let r = c.args.self.now in
-    let n = are_narrow _ _ _ (g.met.T.Tape.sound c.args.saved.now) (g.met.T.Tape.sound c.args.run.now) c.requires.comparable in
+    let n = are_narrow _ _ _ (g.met.T.Tape.sound c.args.saved.now)
+    (g.met.T.Tape.sound c.args.run.now) c.requires.comparable in
     let far_fits : FitsSigned w64 r.far = narrow_fits _ n.far in
     let number_fits : FitsSigned w64 r.number = narrow_fits _ n.number in
     let top_fits : FitsSigned w64 r.top = narrow_fits _ n.top in
@@ -42,7 +45,8 @@ lesser_end-from-requires-clause-high g c =
 pub overflow_add-self : goal.overflow_add-self
 overflow_add-self g c =
     let r = c.args.self.now in
-    let n = are_narrow _ _ _ (g.met.T.Tape.sound c.args.saved.now) (g.met.T.Tape.sound c.args.run.now) c.requires.comparable in
+    let n = are_narrow _ _ _ (g.met.T.Tape.sound c.args.saved.now)
+    (g.met.T.Tape.sound c.args.run.now) c.requires.comparable in
     let far_fits : FitsSigned w64 r.far = narrow_fits _ n.far in
     let number_fits : FitsSigned w64 r.number = narrow_fits _ n.number in
     let top_fits : FitsSigned w64 r.top = narrow_fits _ n.top in
@@ -54,7 +58,8 @@ overflow_add-self g c =
 pub lesser_end-run_from-requires-clause-low : goal.lesser_end-run_from-requires-clause-low
 lesser_end-run_from-requires-clause-low g c =
     let r = c.args.self.now in
-    let n = are_narrow _ _ _ (g.met.T.Tape.sound c.args.saved.now) (g.met.T.Tape.sound c.args.run.now) c.requires.comparable in
+    let n = are_narrow _ _ _ (g.met.T.Tape.sound c.args.saved.now)
+    (g.met.T.Tape.sound c.args.run.now) c.requires.comparable in
     let far_fits : FitsSigned w64 r.far = narrow_fits _ n.far in
     let number_fits : FitsSigned w64 r.number = narrow_fits _ n.number in
     let top_fits : FitsSigned w64 r.top = narrow_fits _ n.top in
@@ -66,7 +71,8 @@ lesser_end-run_from-requires-clause-low g c =
 pub lesser_end-run_from-requires-clause-high : goal.lesser_end-run_from-requires-clause-high
 lesser_end-run_from-requires-clause-high g c =
     let r = c.args.self.now in
-    let n = are_narrow _ _ _ (g.met.T.Tape.sound c.args.saved.now) (g.met.T.Tape.sound c.args.run.now) c.requires.comparable in
+    let n = are_narrow _ _ _ (g.met.T.Tape.sound c.args.saved.now)
+    (g.met.T.Tape.sound c.args.run.now) c.requires.comparable in
     let far_fits : FitsSigned w64 r.far = narrow_fits _ n.far in
     let number_fits : FitsSigned w64 r.number = narrow_fits _ n.number in
     let top_fits : FitsSigned w64 r.top = narrow_fits _ n.top in
@@ -78,7 +84,8 @@ lesser_end-run_from-requires-clause-high g c =
 pub length_of-length-requires : goal.length_of-length-requires
 length_of-length-requires g c =
     let r = c.args.self.now in
-    let n = are_narrow _ _ _ (g.met.T.Tape.sound c.args.saved.now) (g.met.T.Tape.sound c.args.run.now) c.requires.comparable in
+    let n = are_narrow _ _ _ (g.met.T.Tape.sound c.args.saved.now)
+    (g.met.T.Tape.sound c.args.run.now) c.requires.comparable in
     let far_fits : FitsSigned w64 r.far = narrow_fits _ n.far in
     let number_fits : FitsSigned w64 r.number = narrow_fits _ n.number in
     let top_fits : FitsSigned w64 r.top = narrow_fits _ n.top in
@@ -90,7 +97,8 @@ length_of-length-requires g c =
 pub agrees-requires-clause-here : goal.agrees-requires-clause-here
 agrees-requires-clause-here g c =
     let r = c.args.self.now in
-    let n = are_narrow _ _ _ (g.met.T.Tape.sound c.args.saved.now) (g.met.T.Tape.sound c.args.run.now) c.requires.comparable in
+    let n = are_narrow _ _ _ (g.met.T.Tape.sound c.args.saved.now)
+    (g.met.T.Tape.sound c.args.run.now) c.requires.comparable in
     let far_fits : FitsSigned w64 r.far = narrow_fits _ n.far in
     let number_fits : FitsSigned w64 r.number = narrow_fits _ n.number in
     let top_fits : FitsSigned w64 r.top = narrow_fits _ n.top in
@@ -102,12 +110,14 @@ agrees-requires-clause-here g c =
     let from = simp to_z-of_z at c.lesser_end-from.ensures in
     let run_from = simp to_z-of_z at c.lesser_end-run_from.ensures in
     let long = simp to_z-of_z at c.length_of-length.ensures in
-    simp to_z-of_z (stretch_inside r.side (g.T.Tape.strip c.args.saved.now) r.far r.number _ _ from long c.requires.far c.requires.comparable.number_saved)
+    simp to_z-of_z (stretch_inside r.side
+    (g.T.Tape.strip c.args.saved.now) r.far r.number _ _ from long c.requires.far c.requires.comparable.number_saved)
 
 pub agrees-requires-clause-there : goal.agrees-requires-clause-there
 agrees-requires-clause-there g c =
     let r = c.args.self.now in
-    let n = are_narrow _ _ _ (g.met.T.Tape.sound c.args.saved.now) (g.met.T.Tape.sound c.args.run.now) c.requires.comparable in
+    let n = are_narrow _ _ _ (g.met.T.Tape.sound c.args.saved.now)
+    (g.met.T.Tape.sound c.args.run.now) c.requires.comparable in
     let far_fits : FitsSigned w64 r.far = narrow_fits _ n.far in
     let number_fits : FitsSigned w64 r.number = narrow_fits _ n.number in
     let top_fits : FitsSigned w64 r.top = narrow_fits _ n.top in
@@ -120,13 +130,17 @@ agrees-requires-clause-there g c =
     let run_from = simp to_z-of_z at c.lesser_end-run_from.ensures in
     let long = simp to_z-of_z at c.length_of-length.ensures in
     let order = moved_order r.far r.number r.top c.requires.comparable.order c.requires.comparable.later in
-    let seen = between_inside r.side (g.T.Tape.strip c.args.run.now) r.far (r.far +ℤ (r.top -ℤ r.number)) r.top order.0 order.1 c.requires.comparable.far_seen c.requires.comparable.top_seen in
-    simp to_z-of_z (stretch_inside r.side (g.T.Tape.strip c.args.run.now) (r.far +ℤ (r.top -ℤ r.number)) r.top _ _ run_from (moved_length r.far r.number r.top _ long) seen c.requires.comparable.top_seen)
+    let seen = between_inside r.side (g.T.Tape.strip c.args.run.now) r.far
+    (r.far +ℤ (r.top -ℤ r.number)) r.top order.0 order.1 c.requires.comparable.far_seen c.requires.comparable.top_seen in
+    simp to_z-of_z (stretch_inside r.side (g.T.Tape.strip c.args.run.now)
+    (r.far +ℤ (r.top -ℤ r.number)) r.top _ _ run_from
+    (moved_length r.far r.number r.top _ long) seen c.requires.comparable.top_seen)
 
 pub returns : goal.returns
 returns g c =
     let r = c.args.self.now in
-    let n = are_narrow _ _ _ (g.met.T.Tape.sound c.args.saved.now) (g.met.T.Tape.sound c.args.run.now) c.requires.comparable in
+    let n = are_narrow _ _ _ (g.met.T.Tape.sound c.args.saved.now)
+    (g.met.T.Tape.sound c.args.run.now) c.requires.comparable in
     let far_fits : FitsSigned w64 r.far = narrow_fits _ n.far in
     let number_fits : FitsSigned w64 r.number = narrow_fits _ n.number in
     let top_fits : FitsSigned w64 r.top = narrow_fits _ n.top in
@@ -141,5 +155,6 @@ returns g c =
     let moved = moved_from r.side r.far r.number r.top _ _ from run_from in
     let agree = simp to_z-of_z at c.agrees.ensures in (
       λ yes. told_by_out r.side r.far r.number (r.top -ℤ r.number) _ _ _ _ _ from long moved (agree.0 yes),
-      λ same. agree.1 (told_by_offset r.side r.far r.number (r.top -ℤ r.number) _ _ _ _ _ from long moved same),
+      λ same. agree.1 (told_by_offset r.side r.far r.number
+          (r.top -ℤ r.number) _ _ _ _ _ from long moved same),
     )
