@@ -1,5 +1,5 @@
 -- Why a machine has one verdict, and costs as many steps each time.
-use Rattle.std.proofs.Common.{◌≡◌, ℕ, ◌<◌, ℤ, pos, neg_ℤ, inl, inr, refl, sym, subst, ◌∙◌, arith}
+use Rattle.std.proofs.Common.{◌≡◌, ℕ, ◌≤◌, ◌<◌, ℤ, pos, neg_ℤ, inl, inr, refl, sym, subst, ◌∙◌, arith}
 use Rattle.std.proofs.lemmas.Int.{ints}
 use Rattle.bb_machine.specs.Limits.{Bounds}
 use Rattle.bb_machine.specs.Machine.{Table}
@@ -14,7 +14,7 @@ use Rattle.bb_cert.proofs.Facts.{record_has_one_step, stands_on, tree_has_one_en
 use Rattle.bb_decide.specs.Cycle.{IsFirstCycle}
 use Rattle.bb_decide.specs.Partner.{IsPartner}
 use Rattle.bb_decide.specs.Translation.{IsFirstTranslation}
-use Rattle.bb_decide.specs.Laws.{VerdictIsUnique, WorkIsUnique}
+use Rattle.bb_decide.specs.Laws.{VerdictIsUnique, WorkIsBounded, WorkIsUnique}
 use Rattle.bb_decide.specs.Work.{CycleSteps, MakesCycleSearch, MakesTranslationSearch, StepsIfMade, TranslationSteps}
 use Rattle.bb_decide.proofs.Partners.{partner_is_unique}
 
@@ -183,3 +183,26 @@ work_is_unique table bounds plan a b first second =
     let one = first.sum in
     let other = second.sum in
     omega arith
+
+few_if_made : (Made : Type 0) (Cost : ℕ → Type 0) (most : ℕ) → ((n : ℕ) → Cost n → n ≤ most) → (n : ℕ)
+    → StepsIfMade Made Cost n → n ≤ most
+few_if_made Made Cost most few n (inl made) = few n made.1
+few_if_made Made Cost most few n (inr not_made) = let none = not_made.1 in omega (arith, none)
+
+pub work_is_bounded : WorkIsBounded
+work_is_bounded table bounds plan work is =
+    let run = is.is_run.inside.within_steps in
+    let cycles = few_if_made (MakesCycleSearch table bounds plan) (CycleSteps table bounds) bounds.steps few_cycle_steps
+    is.cycles is.is_cycles in
+    let translations = few_if_made (MakesTranslationSearch table bounds plan) (TranslationSteps table bounds)
+    bounds.steps few_translation_steps is.translations is.is_translations in
+    let sum = is.sum in
+    omega (arith, run, cycles, translations, sum)
+  where
+    few_cycle_steps : (n : ℕ) → CycleSteps table bounds n → n ≤ bounds.steps
+    few_cycle_steps n (inl found) = found.1.cycle.inside.within_steps
+    few_cycle_steps n (inr none) = none.1.inside.within_steps
+
+    few_translation_steps : (n : ℕ) → TranslationSteps table bounds n → n ≤ bounds.steps
+    few_translation_steps n (inl found) = found.2.translation.inside.within_steps
+    few_translation_steps n (inr none) = none.1.inside.within_steps

@@ -1,5 +1,5 @@
 -- Laws of verdicts.
-use Rattle.std.specs.Prelude.{◌≡◌, ℕ}
+use Rattle.std.specs.Prelude.{◌≡◌, ℕ, ◌*◌, ◌≤◌}
 use Rattle.bb_machine.specs.Limits.{Bounds}
 use Rattle.bb_machine.specs.Machine.{Table}
 use Rattle.bb_cert.specs.declared.answer.Answer.TheVariants.{Ok}
@@ -19,6 +19,11 @@ VerdictIsUnique = (table : Table) (bounds : Bounds) (plan : Plan) (a b : Verdict
 abbrev pub WorkIsUnique : Type 0
 WorkIsUnique = (table : Table) (bounds : Bounds) (plan : Plan) (a b : ℕ)
     → IsWork table bounds plan a → IsWork table bounds plan b → a ≡ b
+
+-- no more than three runs' steps
+abbrev pub WorkIsBounded : Type 0
+WorkIsBounded = (table : Table) (bounds : Bounds) (plan : Plan) (work : ℕ) → IsWork table bounds plan work
+    → work ≤ 3 * bounds.steps
 
 -- what a verdict claims holds
 abbrev pub VerdictsHold : Type 0

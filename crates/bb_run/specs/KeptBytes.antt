@@ -64,10 +64,11 @@ module _ (line : List ℕ) (kept : ℕ) (enough : PrefixIsEnough line kept) wher
   ]
 
 -- a reply stays one where limits and plan do
-pub reply_kept : (old new : Bounds) (old_plan new_plan : Plan) (line reply : List ℕ) → old ≡ new → old_plan ≡ new_plan
-    → IsReply old old_plan line reply → IsReply new new_plan line reply
+pub reply_kept : (old new : Bounds) (old_plan new_plan : Plan) (line reply : List ℕ) → old ≡ new
+    → old_plan ≡ new_plan → IsReply old old_plan line reply → IsReply new new_plan line reply
 reply_kept old new old_plan new_plan line reply bounds plan is =
-    subst (λ (p : Plan). IsReply new p line reply) plan (subst (λ (l : Bounds). IsReply l old_plan line reply) bounds is)
+    subst (λ (p : Plan). IsReply new p line reply) plan
+    (subst (λ (l : Bounds). IsReply l old_plan line reply) bounds is)
 
 -- a reply to the kept bytes of a line is one to the line
 pub reply_of_kept : (bounds : Bounds) (plan : Plan) (line reply : List ℕ)

@@ -9,8 +9,8 @@ use Rattle.bb_decide.specs.Work.{CountsWork}
 use Rattle.bb_run.specs.declared.summary.Summary.{Summary}
 
 -- a machine was read: the peak takes in what deciding it counts
-pub record SawMachine (bounds : Bounds) (plan : Plan) (old : Summary) (line : List ℕ) (new : Summary) (effort : ℕ)
-    : Type 0 where
+pub record SawMachine (bounds : Bounds) (plan : Plan) (old : Summary) (line : List ℕ) (new : Summary)
+    (effort : ℕ) : Type 0 where
   pub table : Table
   pub of : IsTextOf table line
   pub cost : Meter

@@ -3,6 +3,7 @@ ghost use Rattle.std.specs.Prelude.{◌≡◌, ◌↔◌, false, true, IsTrue};
 ghost use Rattle.bb_cert.specs.Path.{depth_of};
 ghost use Rattle.bb_decide.specs.Bench.{HasCells};
 ghost use Rattle.bb_lines.specs.Watched.{is_marked, watched_inner};
+ghost use Rattle.bb_run.specs.BorneOut.{VerdictsAreBorneOut};
 ghost use Rattle.bb_run.specs.Ends.{DecideEnds};
 
 use crate::summary::Summary;
@@ -44,13 +45,16 @@ impl<T: Tape> Responder for Decider<'_, T> {
 
     ghost replies_with = { λ d line reply. IsReply d.limits d.plan line reply };
 
-    ghost saw = { λ a line b. (b.limits ≡ a.limits) × (b.plan ≡ a.plan) × Saw a.limits a.plan a.summary line b.summary b.last_effort };
+    ghost saw = { λ a line b. (b.limits ≡ a.limits) × (b.plan ≡ a.plan)
+        × Saw a.limits a.plan a.summary line b.summary b.last_effort };
 
     ghost work = { λ d. d.last_effort };
 
-    ghost keeps = { λ a b. (b.limits ≡ a.limits) × (b.plan ≡ a.plan) × (b.bench.ghost_name ≡ a.bench.ghost_name) };
+    ghost keeps = { λ a b. (b.limits ≡ a.limits) × (b.plan ≡ a.plan)
+        × (b.bench.ghost_name ≡ a.bench.ghost_name) };
 
-    ghost is_ready = { λ d. HasCells T.strip d.limits.cells d.bench.now × (depth_of d.bench.now.path ≡ d.limits.depth) };
+    ghost is_ready = { λ d. HasCells T.strip d.limits.cells d.bench.now
+        × (depth_of d.bench.now.path ≡ d.limits.depth) };
 
     ghost GROWS = { T.GROWS };
 
@@ -60,7 +64,8 @@ impl<T: Tape> Responder for Decider<'_, T> {
 
     ghost keeps_on = { Prim.search rules };
 
-    ghost keeps_reply = { λ a b keeps line text reply. reply_kept b.limits a.limits b.plan a.plan line text keeps.0 keeps.1 reply };
+    ghost keeps_reply = { λ a b keeps line text reply.
+        reply_kept b.limits a.limits b.plan a.plan line text keeps.0 keeps.1 reply };
 
     ghost keeps_some = { Prim.search rules };
 
@@ -68,7 +73,8 @@ impl<T: Tape> Responder for Decider<'_, T> {
 
     ghost reply_by_kept = { λ a line text reply. reply_of_kept a.limits a.plan line text reply };
 
-    ghost saw_by_kept = { λ a line b saw. (saw.0, saw.1, saw_of_kept a.limits a.plan line a.summary b.summary b.last_effort saw.2) };
+    ghost saw_by_kept = { λ a line b saw.
+        (saw.0, saw.1, saw_of_kept a.limits a.plan line a.summary b.summary b.last_effort saw.2) };
 
     fn keep(&self) -> usize {
         LINE + 1
@@ -117,6 +123,9 @@ pub fn run_decide<R: Read, W: Write, T: Tape>(
     ensures ends { DecideEnds limits.now plan
         (R.remaining (watched_inner reader.old)) (R.remaining (watched_inner reader.new))
         (W.contents (watched_inner writer.old)) (W.contents (watched_inner writer.new)) result }
+
+    // What stands behind each verdict that is written.
+    ensures borne_out { VerdictsAreBorneOut limits.now plan }
 
     // When each fault comes.
     ensures memory { result ≡ Err Fault.Memory → IsTrue T.GROWS }
