@@ -11,6 +11,7 @@ A whole run counts, from the list to the verdicts. Nothing here proves anything.
 import argparse
 import os
 import random
+import resource
 import subprocess
 import sys
 import tempfile
@@ -76,6 +77,15 @@ def timed(command, file):
         return time.perf_counter() - begin
 
 
+def spent(command, file):
+    """The seconds of a processor that a command takes with the file as its input. Other work on the machine
+    disturbs them less than it does the time on the clock."""
+    before = resource.getrusage(resource.RUSAGE_CHILDREN)
+    timed(command, file)
+    after = resource.getrusage(resource.RUSAGE_CHILDREN)
+    return after.ru_utime + after.ru_stime - before.ru_utime - before.ru_stime
+
+
 def ending(command, file):
     with open(file, "rb") as given:
         ran = subprocess.run(command, stdin=given, stdout=subprocess.PIPE, check=False)
@@ -128,12 +138,13 @@ def searches(program, draw):
 
 
 def measure_search(program, name, options, switch, file, runs):
-    """Prints what the search costs beside the simulation of the same lines: what it adds, as a ratio."""
+    """Prints what the search costs beside the simulation of the same lines, in processor time: what it adds,
+    as a ratio."""
     commands = [[program, "decide", *options, switch], [program, "decide", *options]]
     best = [float("inf"), float("inf")]
     for _ in range(runs):
         for which, command in enumerate(commands):
-            best[which] = min(best[which], timed(command, file))
+            best[which] = min(best[which], spent(command, file))
     added = best[1] - best[0]
     ratio = added / best[0]
     print(f"{name}: simulation {best[0]:.3f} s, the search adds {added:.3f} s, ratio {ratio:.2f}", flush=True)
