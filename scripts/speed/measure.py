@@ -25,6 +25,7 @@ LIST = 100_000
 DRAWN = 800_000
 HALTING_LIST = 1_000_000
 REFUSED_BYTES = 50_000_000
+TREES = 4_000
 
 
 def machine(draw, states):
@@ -67,6 +68,14 @@ def cases(draw):
         (f"{HALTING_LIST} machines that halt at once, 67108864 cells", ["--cells", "67108864"], halting),
         (f"{REFUSED_BYTES} bytes of refused lines", [], refused_lines(draw)),
     ]
+
+
+def trees(draw):
+    """The name, the options and the list of each measurement of backward reasoning: no machine makes a step,
+    so nearly all time goes into the walks, of which most end at the limit of nodes or at the start."""
+    drawn = "".join(machine(draw, 5) for _ in range(TREES))
+    options = ["--no-cyclers", "--no-translated", "--steps", "0", "--cells", "2000", "--depth", "1000"]
+    return [(f"backward reasoning over {TREES} machines of five states", options, drawn)]
 
 
 def timed(command, file):
@@ -164,6 +173,11 @@ def main():
             with open(file, "w", encoding="ascii") as written:
                 written.write(text)
             options = ["decide", *SWITCHES, *options]
+            agreed &= measure(name, [[asked.program, *options], [peer, *options]], file, asked.runs)
+        for name, options, text in trees(random.Random(asked.seed)):
+            with open(file, "w", encoding="ascii") as written:
+                written.write(text)
+            options = ["decide", *options]
             agreed &= measure(name, [[asked.program, *options], [peer, *options]], file, asked.runs)
         for name, options, switch, text in searches(asked.program, random.Random(asked.seed)):
             with open(file, "w", encoding="ascii") as written:

@@ -243,7 +243,8 @@ impl Rules {
     }
 }
 
-/// A node on the way down.
+/// A node on the way down, with the fields that the program's frames have.
+#[allow(dead_code)]
 #[derive(Clone, Copy)]
 struct Frame {
     position: i64,
