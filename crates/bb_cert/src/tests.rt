@@ -8,6 +8,7 @@ use std::process::Abort;
 use std::test::Fail;
 
 mod check;
+mod counting;
 mod walk;
 
 /// The longest line: a machine of seven states, and the greatest numbers.
