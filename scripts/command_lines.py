@@ -13,9 +13,9 @@ import subprocess
 import sys
 import tempfile
 
-SWITCHES = ["--no-backward"]
 MACHINES = b"1RB1LB_1LA1RZ\n0RB---_0LA---\n1RA1RA\n"
 VERDICTS = b"1RB1LB_1LA1RZ halt 6 4\n0RB---_0LA--- cycler 2 4\n1RA1RA translated R 1 2\n"
+BY_TREES = b"1RB1LB_1LA1RZ halt 6 4\n0RB---_0LA--- backward 2 4\n1RA1RA backward 0 0\n"
 
 
 def cases(folder):
@@ -25,13 +25,13 @@ def cases(folder):
         file.write(MACHINES)
     missing = os.path.join(folder, "missing.txt")
     return [
-        ("a file is read", ["decide", *SWITCHES, listed], b"------\n", 0, VERDICTS, b""),
-        ("standard input is read", ["decide", *SWITCHES], MACHINES, 0, VERDICTS, b""),
-        ("an empty input", ["decide", *SWITCHES], b"", 0, b"", b""),
-        ("a refused line", ["decide", *SWITCHES], b"1rB1LB\n", 1, b"refused 2\n", b""),
-        ("a missing file", ["decide", *SWITCHES, missing], b"------\n", 3, b"", b"bb: read failed\n"),
-        ("a folder", ["decide", *SWITCHES, folder], b"", 3, b"", b"bb: read failed\n"),
-        ("a decider that isn't built", ["decide"], MACHINES, 2, b"", b"bb: backward not built\n"),
+        ("a file is read", ["decide", listed], b"------\n", 0, VERDICTS, b""),
+        ("standard input is read", ["decide"], MACHINES, 0, VERDICTS, b""),
+        ("an empty input", ["decide"], b"", 0, b"", b""),
+        ("a refused line", ["decide"], b"1rB1LB\n", 1, b"refused 2\n", b""),
+        ("a missing file", ["decide", missing], b"------\n", 3, b"", b"bb: read failed\n"),
+        ("a folder", ["decide", folder], b"", 3, b"", b"bb: read failed\n"),
+        ("no search", ["decide", "--no-cyclers", "--no-translated"], MACHINES, 0, BY_TREES, b""),
         (
             "refused limits",
             ["decide", "--cells", "4", "--depth", "3", missing],
@@ -61,7 +61,7 @@ def full_output(program):
     """A write that fails is told on standard error."""
     with open("/dev/full", "wb") as full:
         ended = subprocess.run(
-            [program, "decide", *SWITCHES], input=MACHINES, stdout=full, stderr=subprocess.PIPE
+            [program, "decide"], input=MACHINES, stdout=full, stderr=subprocess.PIPE
         )
     return ended.returncode == 3 and ended.stderr == b"bb: write failed\n"
 

@@ -34,6 +34,10 @@ void *malloc(size_t n) {
     if (!next) next = dlsym(RTLD_NEXT, "malloc");
     return refused() ? 0 : next(n);
 }
+void *__libc_calloc(size_t n, size_t size);
+void *calloc(size_t n, size_t size) {
+    return refused() ? 0 : __libc_calloc(n, size);
+}
 void *realloc(void *p, size_t n) {
     static void *(*next)(void *, size_t);
     if (!next) next = dlsym(RTLD_NEXT, "realloc");
@@ -51,7 +55,6 @@ int posix_memalign(void **p, size_t a, size_t n) {
 }
 """
 
-SWITCHES = ["--no-backward"]
 LIMITS = ["--steps=1000", "--cells=64", "--depth=10", "--nodes=100"]
 LINES = b"1RB1LB_1LA1RZ\n1RB0RA_1LA---\n0RB---_0LA---\n"
 
@@ -95,16 +98,16 @@ def main():
         subprocess.run(["cc", "-shared", "-fPIC", "-O1", "-o", library, source, "-ldl"], check=True)
         failed = 0
         for words in (
-            ["decide", *SWITCHES],
-            ["decide", *SWITCHES, *LIMITS],
-            ["decide", *SWITCHES, *LIMITS, listed],
-            ["decide", *SWITCHES, "--cells=4"],
+            ["decide"],
+            ["decide", *LIMITS],
+            ["decide", *LIMITS, listed],
+            ["decide", "--cells=4"],
             ["trace", "--upto=10", "1RB1LB_1LA1RZ"],
             ["trace", "--upto=10", "--cells=2", "1RA1RA"],
             ["trace", "--upto=10", "1RB1LB_1LA1RC"],
             ["trace", "--upto=10"],
             ["decide", "--steps=x"],
-            ["decide"],
+            ["decide", "--no-cyclers", "--no-translated", *LIMITS],
             ["--help"],
         ):
             count, wrong = tried(program, words, library, folder)

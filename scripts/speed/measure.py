@@ -11,6 +11,7 @@ A whole run counts, from the list to the verdicts. Nothing here proves anything.
 import argparse
 import os
 import random
+import resource
 import subprocess
 import sys
 import tempfile
@@ -21,22 +22,24 @@ PROGRAM = os.path.join(HERE, "..", "..", "crates", "bb", "out", "bb")
 CHAMPION = "1RB1LC_1RC1RB_1RD0LE_1LA1LD_1RZ0LA\n"
 SWITCHES = ["--no-cyclers", "--no-translated", "--no-backward"]
 LIST = 100_000
+DRAWN = 800_000
 HALTING_LIST = 1_000_000
 REFUSED_BYTES = 50_000_000
 
 
-def four_state_machine(draw):
-    """A random machine of four states, with one entry that halts, which isn't the first."""
-    entries = [draw.choice("01") + draw.choice("LR") + draw.choice("ABCD") for _ in range(8)]
-    entries[draw.randrange(1, 8)] = "1RZ"
-    return "_".join(entries[at] + entries[at + 1] for at in range(0, 8, 2)) + "\n"
+def machine(draw, states):
+    """A random machine of so many states, with one entry that halts, which isn't the first."""
+    letters = "ABCDEFG"[:states]
+    entries = [draw.choice("01") + draw.choice("LR") + draw.choice(letters) for _ in range(2 * states)]
+    entries[draw.randrange(1, 2 * states)] = "1RZ"
+    return "_".join(entries[at] + entries[at + 1] for at in range(0, 2 * states, 2)) + "\n"
 
 
 def refused_lines(draw):
     """Lines that are no machines, of 1 to 60 bytes: of any letters, or machines cut short or spoilt."""
     lines, size = [], 0
     while size < REFUSED_BYTES:
-        line = four_state_machine(draw)[:-1]
+        line = machine(draw, 4)[:-1]
         kind = draw.randrange(3)
         if kind == 0:
             line = line[: draw.randrange(1, 27)]
@@ -53,7 +56,7 @@ def refused_lines(draw):
 
 def cases(draw):
     """The name, the options and the list of each measurement."""
-    four = "".join(four_state_machine(draw) for _ in range(LIST))
+    four = "".join(machine(draw, 4) for _ in range(LIST))
     halting = "------\n" * HALTING_LIST
     limits = ["--steps", "1000", "--cells", "200", "--depth", "60"]
     return [
@@ -72,6 +75,15 @@ def timed(command, file):
         begin = time.perf_counter()
         subprocess.run(command, stdin=given, stdout=subprocess.DEVNULL, check=False)
         return time.perf_counter() - begin
+
+
+def spent(command, file):
+    """The seconds of a processor that a command takes with the file as its input. Other work on the machine
+    disturbs them less than it does the time on the clock."""
+    before = resource.getrusage(resource.RUSAGE_CHILDREN)
+    timed(command, file)
+    after = resource.getrusage(resource.RUSAGE_CHILDREN)
+    return after.ru_utime + after.ru_stime - before.ru_utime - before.ru_stime
 
 
 def ending(command, file):
@@ -93,26 +105,49 @@ def measure(name, commands, file, runs):
     return True
 
 
-def searches(draw):
-    """The name, the options without the limits of the search, and the list of each measurement of a search."""
-    four = "".join(four_state_machine(draw) for _ in range(LIST))
-    limits = ["--steps", "1000", "--cells", "200", "--depth", "60", "--no-translated", "--no-backward"]
-    long = ["--steps", "40000000", "--no-translated", "--no-backward"]
-    return [
-        ("cyclers over the champion's first 40,000,000 steps", long, CHAMPION),
-        (f"cyclers over {LIST} machines of four states", limits, four),
+def undecided(program, options, lines):
+    """Those of the lines on whose machines the program finds nothing. Over such a machine the simulation
+    and a search that is on make the same steps, up to the limits, so that their times can be compared."""
+    command = [program, "decide", *options]
+    ran = subprocess.run(command, input=lines.encode(), stdout=subprocess.PIPE, check=False)
+    replies = ran.stdout.decode().splitlines()
+    return "".join(reply.split()[0] + "\n" for reply in replies if " undecided " in reply)
+
+
+def searches(program, draw):
+    """The name, the options with one search on, the switch that turns it off, and the list of each
+    measurement of a search. The champion doesn't halt within its first 40,000,000 steps, nor does a search
+    end in them. Of the list of all machines a search makes fewer steps than the simulation, since it ends
+    at its pair."""
+    limits = ["--steps", "1000", "--cells", "200", "--depth", "60"]
+    long = ["--steps", "40000000"]
+    cycles = ["--no-translated", "--no-backward"]
+    records = ["--no-cyclers", "--no-backward"]
+    four = "".join(machine(draw, 4) for _ in range(LIST))
+    cases = [
+        ("cyclers over the champion's first 40,000,000 steps", [*long, *cycles], "--no-cyclers", CHAMPION),
+        (f"cyclers over {LIST} machines of four states", [*limits, *cycles], "--no-cyclers", four),
+        ("translated over the same steps", [*long, *records], "--no-translated", CHAMPION),
     ]
+    for states in (4, 5):
+        drawn = "".join(machine(draw, states) for _ in range(DRAWN))
+        kept = undecided(program, [*limits, *records], drawn)
+        name = f"translated over {kept.count(chr(10))} machines of {states} states that it doesn't find"
+        cases.append((name, [*limits, *records], "--no-translated", kept))
+    return cases
 
 
-def measure_search(program, name, options, file, runs):
-    """Prints what the search costs beside the simulation of the same lines: what it adds, as a ratio."""
-    commands = [[program, "decide", *options, "--no-cyclers"], [program, "decide", *options]]
+def measure_search(program, name, options, switch, file, runs):
+    """Prints what the search costs beside the simulation of the same lines, in processor time: what it adds,
+    as a ratio."""
+    commands = [[program, "decide", *options, switch], [program, "decide", *options]]
     best = [float("inf"), float("inf")]
     for _ in range(runs):
         for which, command in enumerate(commands):
-            best[which] = min(best[which], timed(command, file))
+            best[which] = min(best[which], spent(command, file))
     added = best[1] - best[0]
-    print(f"{name}: simulation {best[0]:.3f} s, the search adds {added:.3f} s, ratio {added / best[0]:.2f}", flush=True)
+    ratio = added / best[0]
+    print(f"{name}: simulation {best[0]:.3f} s, the search adds {added:.3f} s, ratio {ratio:.2f}", flush=True)
 
 
 def main():
@@ -130,10 +165,10 @@ def main():
                 written.write(text)
             options = ["decide", *SWITCHES, *options]
             agreed &= measure(name, [[asked.program, *options], [peer, *options]], file, asked.runs)
-        for name, options, text in searches(random.Random(asked.seed)):
+        for name, options, switch, text in searches(asked.program, random.Random(asked.seed)):
             with open(file, "w", encoding="ascii") as written:
                 written.write(text)
-            measure_search(asked.program, name, options, file, asked.runs)
+            measure_search(asked.program, name, options, switch, file, asked.runs)
     return 0 if agreed else 1
 
 

@@ -1,9 +1,9 @@
 //! The yardstick of `measure.py`: what one would write by hand in plain Rust to do the work of
 //!
-//!     bb decide --no-cyclers --no-translated --no-backward --steps T --cells S --depth D
+//!     bb decide --no-cyclers --no-translated [--no-backward] --steps T --cells S --depth D --nodes N
 //!
 //! It reads a list of machines from standard input and writes a line for each: the same bytes, and
-//! the same exit status. The tape is a flat array of bytes, and each access is checked against its
+//! the same exit status. The tapes are flat arrays of bytes, and each access is checked against its
 //! bounds. It proves nothing, and is no part of the program. Build it by `rustc -O peer.rs`.
 
 use std::env;
@@ -33,6 +33,7 @@ struct Entry {
 
 struct Machine {
     entries: [[Entry; SYMBOLS]; MOST_STATES],
+    states: usize,
 }
 
 /// What is known of a line so far: how many of its first bytes begin some machine's text.
@@ -114,7 +115,10 @@ impl Machine {
         if filled < SYMBOLS || most_state > group {
             return Err(Refused { front: line.len() });
         }
-        Ok(Machine { entries })
+        Ok(Machine {
+            entries,
+            states: group + 1,
+        })
     }
 }
 
@@ -197,6 +201,192 @@ impl Tape {
     }
 }
 
+/// A rule: an entry with the state and the symbol for which it stands.
+#[derive(Clone, Copy)]
+struct Rule {
+    state: u8,
+    symbol: u8,
+    entry: Entry,
+}
+
+/// The rules of a machine, those that lead to each state together, and the halting ones last.
+struct Rules {
+    list: Vec<Rule>,
+    starts: Vec<u16>,
+}
+
+impl Rules {
+    fn new(machine: &Machine) -> Rules {
+        let mut list = Vec::with_capacity(machine.states * SYMBOLS);
+        let mut starts = Vec::with_capacity(machine.states + 2);
+        for target in 0..=machine.states {
+            starts.push(list.len() as u16);
+            for state in 0..machine.states {
+                for symbol in 0..SYMBOLS {
+                    let entry = machine.entries[state][symbol];
+                    let leads = match entry.next {
+                        Next::State => entry.state as usize,
+                        _ => machine.states,
+                    };
+                    if leads == target {
+                        list.push(Rule {
+                            state: state as u8,
+                            symbol: symbol as u8,
+                            entry,
+                        });
+                    }
+                }
+            }
+        }
+        starts.push(list.len() as u16);
+        Rules { list, starts }
+    }
+}
+
+/// A node on the way down.
+#[derive(Clone, Copy)]
+struct Frame {
+    position: i64,
+    state: u8,
+    before: u8,
+    others: u16,
+    next: u16,
+    end: u16,
+}
+
+/// What could come before a node.
+#[derive(Clone, Copy)]
+struct Branch {
+    position: i64,
+    state: u8,
+    symbol: u8,
+    held: u8,
+    others: u16,
+}
+
+/// A walk through the tree of what could come before a halt. A cell shows a known symbol as one more, an unknown one as 0.
+struct Walk<'a> {
+    rules: &'a Rules,
+    cells: &'a mut [u8],
+    frames: &'a mut Vec<Frame>,
+    most_levels: usize,
+    most_nodes: u64,
+    levels: usize,
+    nodes: u64,
+}
+
+impl Walk<'_> {
+    fn place(&self, position: i64) -> usize {
+        (position + self.most_levels as i64) as usize
+    }
+
+    #[inline]
+    fn enter(&mut self, branch: Branch, level: usize) -> Option<Frame> {
+        if self.most_levels <= level || self.most_nodes <= self.nodes {
+            return None;
+        }
+        let place = self.place(branch.position);
+        self.cells[place] = branch.symbol + 1;
+        self.nodes += 1;
+        self.levels = self.levels.max(level + 1);
+        let others = branch.others + (branch.symbol != 0) as u16 - (branch.held > 1) as u16;
+        if branch.state == 0 && others == 0 {
+            return None;
+        }
+        let state = branch.state as usize;
+        Some(Frame {
+            position: branch.position,
+            state: branch.state,
+            before: branch.held,
+            others,
+            next: self.rules.starts[state],
+            end: self.rules.starts[state + 1],
+        })
+    }
+
+    #[inline]
+    fn next_branch(&self, frame: Frame) -> Option<(Branch, u16)> {
+        for index in frame.next..frame.end {
+            let rule = self.rules.list[index as usize];
+            let position = frame.position - rule.entry.step as i64;
+            let held = self.cells[self.place(position)];
+            if held == 0 || held == rule.entry.write + 1 {
+                let branch = Branch {
+                    position,
+                    state: rule.state,
+                    symbol: rule.symbol,
+                    held,
+                    others: frame.others,
+                };
+                return Some((branch, index + 1));
+            }
+        }
+        None
+    }
+
+    #[inline(never)]
+    fn explore(&mut self, root: Branch) -> bool {
+        self.frames.clear();
+        let Some(mut top) = self.enter(root, 0) else {
+            return false;
+        };
+        loop {
+            match self.next_branch(top) {
+                Some((branch, next)) => {
+                    let Some(child) = self.enter(branch, self.frames.len() + 1) else {
+                        return false;
+                    };
+                    top.next = next;
+                    self.frames.push(top);
+                    top = child;
+                }
+                None => {
+                    let place = self.place(top.position);
+                    self.cells[place] = top.before;
+                    match self.frames.pop() {
+                        Some(parent) => top = parent,
+                        None => return true,
+                    }
+                }
+            }
+        }
+    }
+}
+
+/// The levels and the nodes of the tree, where it ends within the limits and the start matches none of its nodes.
+fn backward(
+    machine: &Machine,
+    limits: &Limits,
+    cells: &mut [u8],
+    frames: &mut Vec<Frame>,
+) -> Option<(usize, u64)> {
+    let rules = Rules::new(machine);
+    let mut walk = Walk {
+        rules: &rules,
+        cells,
+        frames,
+        most_levels: limits.depth,
+        most_nodes: limits.nodes,
+        levels: 0,
+        nodes: 0,
+    };
+    let halting = rules.starts[machine.states] as usize..rules.starts[machine.states + 1] as usize;
+    let ends = rules.list[halting].iter().all(|rule| {
+        walk.explore(Branch {
+            position: 0,
+            state: rule.state,
+            symbol: rule.symbol,
+            held: 0,
+            others: 0,
+        })
+    });
+    let end = (walk.levels, walk.nodes);
+    let reached = walk.levels as usize;
+    let middle = limits.depth;
+    cells[middle - reached.min(middle)..=middle + reached].fill(0);
+    ends.then_some(end)
+}
+
 /// Reads a line without its newline, of which no more is kept than a refusal needs.
 fn read_line(reader: &mut impl BufRead, line: &mut Vec<u8>) -> io::Result<bool> {
     line.clear();
@@ -221,21 +411,28 @@ fn read_line(reader: &mut impl BufRead, line: &mut Vec<u8>) -> io::Result<bool> 
 struct Limits {
     steps: u64,
     cells: usize,
+    depth: usize,
+    nodes: u64,
+    backward: bool,
 }
 
 fn limits() -> Option<Limits> {
     let mut limits = Limits {
         steps: 1_000_000,
         cells: 65_536,
+        depth: 300,
+        nodes: 1_000_000,
+        backward: true,
     };
     let mut words = env::args().skip(1);
     while let Some(word) = words.next() {
         match word.as_str() {
             "--steps" => limits.steps = words.next()?.parse().ok()?,
             "--cells" => limits.cells = words.next()?.parse().ok()?,
-            // a run doesn't look at the limits of the backward tree
-            "--depth" | "--nodes" => drop(words.next()?),
-            "decide" | "--no-cyclers" | "--no-translated" | "--no-backward" => {}
+            "--depth" => limits.depth = words.next()?.parse().ok()?,
+            "--nodes" => limits.nodes = words.next()?.parse().ok()?,
+            "--no-backward" => limits.backward = false,
+            "decide" | "--no-cyclers" | "--no-translated" => {}
             _ => return None,
         }
     }
@@ -247,6 +444,8 @@ fn decide(reader: impl Read, writer: impl Write, limits: &Limits) -> io::Result<
     let mut reader = BufReader::with_capacity(1 << 16, reader);
     let mut writer = BufWriter::with_capacity(1 << 16, writer);
     let mut tape = Tape::new(limits.cells);
+    let mut known = vec![0; 2 * limits.depth + 1];
+    let mut frames = Vec::with_capacity(limits.depth);
     let mut counts = Counts::default();
     let mut line = Vec::with_capacity(LONGEST_LINE + 1);
     let mut clean = true;
@@ -260,10 +459,20 @@ fn decide(reader: impl Read, writer: impl Write, limits: &Limits) -> io::Result<
             }
         };
         writer.write_all(&line)?;
-        match tape.run(&machine, limits.steps, &mut counts) {
-            Outcome::Halt { steps, score } => writeln!(writer, " halt {steps} {score}")?,
-            Outcome::NoSteps => writer.write_all(b" undecided steps\n")?,
+        let outcome = tape.run(&machine, limits.steps, &mut counts);
+        if let Outcome::Halt { steps, score } = outcome {
+            writeln!(writer, " halt {steps} {score}")?;
+            continue;
+        }
+        if limits.backward {
+            if let Some((levels, nodes)) = backward(&machine, limits, &mut known, &mut frames) {
+                writeln!(writer, " backward {levels} {nodes}")?;
+                continue;
+            }
+        }
+        match outcome {
             Outcome::NoCells => writer.write_all(b" undecided cells\n")?,
+            _ => writer.write_all(b" undecided steps\n")?,
         }
     }
     writer.flush()?;

@@ -13,8 +13,8 @@ use Rattle.clap.specs.declared.parser.matches.ArgMatches.{ArgMatches}
 use Rattle.clap.specs.declared.parser.matches.ArgMatches.TheViews.{out-ArgMatches, out-SubCommand}
 use Rattle.clap.proofs.OnLiterals.{clap_on_literals}
 use Rattle.bb.specs.declared.command.Stop.{Stop}
-use Rattle.bb.specs.declared.command.Stop.TheVariants.{Help, Words, Limits, NotBuilt, Memory}
-use Rattle.bb.specs.Command.{Gives, IsFirstStop, IsKindStop, IsStopOf, IsTraceStop, decide_bounds, decide_plan, trace_bounds}
+use Rattle.bb.specs.declared.command.Stop.TheVariants.{Help, Words, Limits, Memory}
+use Rattle.bb.specs.Command.{Gives, IsKindStop, IsLimitsStop, IsStopOf, decide_bounds, trace_bounds}
 use Rattle.bb.specs.CommandLine.{command_line, decide_shape, trace_shape}
 
 simple_and_free : is_simple_and_free command_line ≡ true
@@ -87,27 +87,23 @@ names_decide words name rows given not_trace = elim (named (stop_after (built co
 ]
 
 pub stops_deciding : (words : List Text) (rows : List Row) → Gives words (codes "decide") rows → (stop : Stop)
-    → (stop ≡ Memory) ⊎ IsFirstStop (decide_bounds rows) (decide_plan rows) stop → IsStopOf words stop
+    → (stop ≡ Memory) ⊎ IsLimitsStop (decide_bounds rows) stop → IsStopOf words stop
 stops_deciding words rows given (Help text) (inl h) = cc
 stops_deciding words rows given (Help text) (inr h) = absurd h
 stops_deciding words rows given (Words text) (inl h) = cc
 stops_deciding words rows given (Words text) (inr h) = absurd h
 stops_deciding words rows given (Limits fault) (inl h) = cc
 stops_deciding words rows given (Limits fault) (inr h) = record { rows = rows; refused = inl (given, h) }
-stops_deciding words rows given (NotBuilt text) (inl h) = cc
-stops_deciding words rows given (NotBuilt text) (inr h) = record { rows = rows; refused = inl (given, h) }
 stops_deciding words rows given Memory h = tt
 
 pub stops_a_trace : (words : List Text) (rows : List Row) → Gives words (codes "trace") rows → (stop : Stop)
-    → (stop ≡ Memory) ⊎ IsTraceStop (trace_bounds rows) stop → IsStopOf words stop
+    → (stop ≡ Memory) ⊎ IsLimitsStop (trace_bounds rows) stop → IsStopOf words stop
 stops_a_trace words rows given (Help text) (inl h) = cc
 stops_a_trace words rows given (Help text) (inr h) = absurd h
 stops_a_trace words rows given (Words text) (inl h) = cc
 stops_a_trace words rows given (Words text) (inr h) = absurd h
 stops_a_trace words rows given (Limits fault) (inl h) = cc
 stops_a_trace words rows given (Limits fault) (inr h) = record { rows = rows; refused = inr (given, h) }
-stops_a_trace words rows given (NotBuilt text) (inl h) = cc
-stops_a_trace words rows given (NotBuilt text) (inr h) = absurd h
 stops_a_trace words rows given Memory h = tt
 
 -- an error of a parse, as a stop
@@ -123,5 +119,4 @@ stops_by_kind app is words error kinds stop kind =
     by_kind (Words text) is_other (inl memory) = absurd (is_other.1 memory)
     by_kind (Words text) is_other (inr among) = (kind_of error, among, is_other.0)
     by_kind (Limits fault) never h = absurd never
-    by_kind (NotBuilt text) never h = absurd never
     by_kind Memory is_memory h = tt

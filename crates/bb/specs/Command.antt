@@ -8,20 +8,14 @@ use Rattle.clap.specs.Words.{IsAmong, Row, Text, fault_of, first_of, one_of, sub
 use Rattle.clap.specs.ValueTests.{is_unsigned_in}
 use Rattle.clap.specs.declared.error.kind.ErrorKind.{ErrorKind}
 use Rattle.clap.specs.declared.error.kind.ErrorKind.TheVariants.{DisplayHelp, OutOfMemory}
-use Rattle.bb_machine.specs.Limits.{Bounds, IsAccepted, IsFirstFault}
+use Rattle.bb_machine.specs.Limits.{Bounds, IsFirstFault}
 use Rattle.bb_decide.specs.declared.plan.Plan.{Plan}
 use Rattle.bb.specs.declared.command.Asked.{Asked}
 use Rattle.bb.specs.declared.command.Stop.{Stop}
-use Rattle.bb.specs.declared.command.Stop.TheVariants.{Help, Words, Limits, NotBuilt, Memory}
+use Rattle.bb.specs.declared.command.Stop.TheVariants.{Help, Words, Limits, Memory}
 use Rattle.bb.specs.declared.command.Work.{Work}
 use Rattle.bb.specs.declared.command.Work.TheVariants.{Decide, Trace}
-use Rattle.bb_decide.specs.Plan.{IsBuilt}
 use Rattle.bb.specs.CommandLine.{command_line}
-
--- a trace, or verdicts by deciders that are built
-abbrev pub CanServe : Work → Type 0
-CanServe (Decide plan) = IsBuilt plan
-CanServe (Trace text) = Unit {0}
 
 -- ---- what the words say
 
@@ -32,7 +26,8 @@ pub record Gives (words : List Text) (command : Text) (rows : List Row) : Type 0
 
 -- the number that a text says: digits, a `+` may stand in front. 0 for any other text, which no command line has there
 abbrev pub number_in : Text → ℕ
-number_in text = if is_unsigned_in 0 18446744073709551615 text then digits_value 10 (without_leading_plus text) else 0
+number_in text =
+    if is_unsigned_in 0 18446744073709551615 text then digits_value 10 (without_leading_plus text) else 0
 
 -- the number that is given for an option
 abbrev pub number_of : Text → List Row → ℕ
@@ -90,46 +85,31 @@ pub record AsksToTrace (rows : List Row) (asked : Asked) : Type 0 where
 -- this is what the words ask for
 abbrev pub IsAskedBy : List Text → Asked → Type 0
 IsAskedBy words asked = (rows : List Row)
-    × ((Gives words (codes "decide") rows × AsksToDecide rows asked) ⊎ (Gives words (codes "trace") rows × AsksToTrace rows asked))
+    × ((Gives words (codes "decide") rows × AsksToDecide rows asked)
+      ⊎ (Gives words (codes "trace") rows × AsksToTrace rows asked))
 
 -- ---- why there is no work
 
--- the text that refuses a plan, by the first decider that is on; none where it switches on none
-abbrev pub not_built : Plan → Option (List ℕ)
-not_built plan =
-    if plan.backward then Some (codes "bb: backward not built")
-    else None
-
--- why deciding under these limits by this plan is refused: the first fault of the limits; where they are accepted, the
--- first decider that isn't built
-abbrev pub IsFirstStop : Bounds → Plan → Stop → Type 0
-IsFirstStop bounds plan (Limits fault) = IsFirstFault bounds fault
-IsFirstStop bounds plan (NotBuilt text) = IsAccepted bounds × (not_built plan ≡ Some text.now)
-IsFirstStop bounds plan (Help text) = ⊥
-IsFirstStop bounds plan (Words text) = ⊥
-IsFirstStop bounds plan Memory = ⊥
-
--- why a trace under these limits is refused: their first fault
-abbrev pub IsTraceStop : Bounds → Stop → Type 0
-IsTraceStop bounds (Limits fault) = IsFirstFault bounds fault
-IsTraceStop bounds (NotBuilt text) = ⊥
-IsTraceStop bounds (Help text) = ⊥
-IsTraceStop bounds (Words text) = ⊥
-IsTraceStop bounds Memory = ⊥
+-- why work under these limits is refused: their first fault
+abbrev pub IsLimitsStop : Bounds → Stop → Type 0
+IsLimitsStop bounds (Limits fault) = IsFirstFault bounds fault
+IsLimitsStop bounds (Help text) = ⊥
+IsLimitsStop bounds (Words text) = ⊥
+IsLimitsStop bounds Memory = ⊥
 
 -- the words are a command line, and what they ask for is refused
 pub record IsRefused (words : List Text) (stop : Stop) : Type 0 where
   pub rows : List Row
-  pub refused : (Gives words (codes "decide") rows × IsFirstStop (decide_bounds rows) (decide_plan rows) stop)
-      ⊎ (Gives words (codes "trace") rows × IsTraceStop (trace_bounds rows) stop)
+  pub refused : (Gives words (codes "decide") rows × IsLimitsStop (decide_bounds rows) stop)
+      ⊎ (Gives words (codes "trace") rows × IsLimitsStop (trace_bounds rows) stop)
 
 -- why the words lead to no work: help is asked for, or they are no command line, or what they ask for is refused, or a
 -- growth was refused
 abbrev pub IsStopOf : List Text → Stop → Type 0
 IsStopOf words (Help text) = IsAmong DisplayHelp (fault_of command_line words)
-IsStopOf words (Words text) = (kind : ErrorKind) × IsAmong kind (fault_of command_line words) × (kind ≢ DisplayHelp)
+IsStopOf words (Words text) =
+    (kind : ErrorKind) × IsAmong kind (fault_of command_line words) × (kind ≢ DisplayHelp)
 IsStopOf words (Limits fault) = IsRefused words (Limits fault)
-IsStopOf words (NotBuilt text) = IsRefused words (NotBuilt text)
 IsStopOf words Memory = Unit {0}
 
 -- the stop that an error of this kind is
@@ -137,7 +117,6 @@ abbrev pub IsKindStop : ErrorKind → Stop → Type 0
 IsKindStop kind (Help text) = kind ≡ DisplayHelp
 IsKindStop kind (Words text) = (kind ≢ DisplayHelp) × (kind ≢ OutOfMemory)
 IsKindStop kind (Limits fault) = ⊥
-IsKindStop kind (NotBuilt text) = ⊥
 IsKindStop kind Memory = kind ≡ OutOfMemory
 
 -- the exit status of a command line that leads to no work
@@ -145,5 +124,4 @@ abbrev pub stop_status : Stop → ℕ
 stop_status (Help text) = 0
 stop_status (Words text) = 2
 stop_status (Limits fault) = 2
-stop_status (NotBuilt text) = 2
 stop_status Memory = 3

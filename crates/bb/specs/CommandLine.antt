@@ -1,6 +1,6 @@
--- The program's command line, as the command-line crate sees a command: a rule for each option and argument, and a shape
--- for each command. How words are read by it is that crate's `fault_of` and `subcommand_of`. The commands, their options
--- and the defaults are this project's own.
+-- The program's command line, as the command-line crate sees a command: a rule for each option and argument, and a
+-- shape for each command. How words are read by it is that crate's `fault_of` and `subcommand_of`. The commands, their
+-- options and the defaults are this project's own.
 use Rattle.std.specs.Prelude.{[], ◌∷◌, Some, true, false, codes}
 use Rattle.clap.specs.Words.{App, Rule, Shape, Text, new_rule}
 use Rattle.clap.specs.Simple.{new_shape}
@@ -58,6 +58,10 @@ trace_shape = record (new_shape (codes "trace")) {
 -- bb, with one of the two commands
 abbrev pub command_line : App
 command_line = record {
-  top = record (new_shape (codes "bb")) { is_leaf = false; disable_help_subcommand = true; subcommand_required = true };
+  top = record (new_shape (codes "bb")) {
+    is_leaf = false;
+    disable_help_subcommand = true;
+    subcommand_required = true;
+  };
   subs = decide_shape ∷ trace_shape ∷ [];
 }

@@ -9,8 +9,9 @@ use Rattle.bb_run.specs.Ends.{DecideEnds, TraceEnds}
 use Rattle.bb.specs.declared.command.Work.{Work}
 use Rattle.bb.specs.declared.command.Work.TheVariants.{Decide, Trace}
 
--- the tapes could not be made: nothing is read and nothing written
-pub record IsNotBegun (left left_then held held_then : Option (List ℕ)) (end : Result Summary Fault) : Type 0 where
+-- the tapes, or the path, could not be made: nothing is read and nothing written
+pub record IsNotBegun (left left_then held held_then : Option (List ℕ)) (end : Result Summary Fault)
+    : Type 0 where
   pub fault : end ≡ Err Memory
   pub unread : left_then ≡ left
   pub unwritten : held_then ≡ held

@@ -4,9 +4,30 @@ ghost use Rattle.clap.specs.declared.builder.command.Command.TheViews.{out-Comma
 ghost use Rattle.clap.specs.Words.{app_of, found_of, kind_of, rows_of, rule_of, shape_of};
 ghost use Rattle.clap.specs.Simple.{new_shape};
 ghost use Rattle.clap.specs.declared.builder.texts.Texts.TheVariants.{One};
-ghost use Rattle.bb_decide.specs.Plan.{IsBuilt};
-ghost use Rattle.bb.specs.Command.{CanServe, IsAskedBy, AsksToDecide, IsFirstStop, IsKindStop, IsStopOf, AsksToTrace, IsTraceStop, decide_bounds, decide_plan, is_given, number_of, stop_status, trace_bounds};
-ghost use Rattle.bb.specs.CommandLine.{by_default, cells_rule, command_line, decide_shape, number_rule, positional_rule, switch_rule, trace_shape};
+ghost use Rattle.bb.specs.Command.{
+  AsksToDecide,
+  AsksToTrace,
+  IsAskedBy,
+  IsKindStop,
+  IsLimitsStop,
+  IsStopOf,
+  decide_bounds,
+  decide_plan,
+  is_given,
+  number_of,
+  stop_status,
+  trace_bounds,
+};
+ghost use Rattle.bb.specs.CommandLine.{
+  by_default,
+  cells_rule,
+  command_line,
+  decide_shape,
+  number_rule,
+  positional_rule,
+  switch_rule,
+  trace_shape,
+};
 
 use bb_decide::Plan;
 use bb_machine::{LimitFault, Limits};
@@ -41,8 +62,6 @@ pub enum Stop {
     Words(String),
     /// The limits are refused.
     Limits(LimitFault),
-    /// A decider is left on that isn't built.
-    NotBuilt(&'static str),
     /// A growth was refused.
     Memory,
 }
@@ -54,7 +73,7 @@ impl Stop {
     {
         match self {
             Stop::Help(_) => 0,
-            Stop::Words(_) | Stop::Limits(_) | Stop::NotBuilt(_) => 2,
+            Stop::Words(_) | Stop::Limits(_) => 2,
             Stop::Memory => 3,
         }
     }
@@ -73,10 +92,9 @@ impl From<AllocError> for Stop {
 
 /// Reads a command line. The first word is the program's name.
 ///
-/// The words are read first, then the limits are tested, then which deciders are on.
+/// The words are read first, then the limits are tested.
 pub fn ask(alloc: Global, words: &[&str]) -> Result<Asked, Stop>
     ensures asked { IfOk result (IsAskedBy (map (λ word. word.now) words.now)) }
-    ensures served { IfOk result (λ asked. CanServe asked.work) }
     ensures stop { IfErr result (IsStopOf (map (λ word. word.now) words.now)) }
 {
     let matches = match program(alloc)?.try_get_matches_from(words) {
@@ -223,9 +241,8 @@ fn stop_of(alloc: Global, error: &Error) -> Result<Stop, AllocError>
 
 fn decide_of(alloc: Global, matches: &ArgMatches<'_>) -> Result<Asked, Stop>
     ensures asked { IfOk result (AsksToDecide (rows_of (found_of matches.now))) }
-    ensures served { IfOk result (λ asked. CanServe asked.work) }
     ensures stop { IfErr result (λ stop. (stop ≡ Stop.Memory)
-        ⊎ IsFirstStop (decide_bounds (rows_of (found_of matches.now))) (decide_plan (rows_of (found_of matches.now))) stop) }
+        ⊎ IsLimitsStop (decide_bounds (rows_of (found_of matches.now))) stop) }
 {
     let plan = Plan {
         cyclers: !given(matches, "no-cyclers"),
@@ -237,7 +254,6 @@ fn decide_of(alloc: Global, matches: &ArgMatches<'_>) -> Result<Asked, Stop>
         value(matches, "cells"),
         value(matches, "depth"),
         value(matches, "nodes"),
-        plan,
     )?;
     let file = match matches.get_str("file") {
         Some(file) => Some(String::from_str(alloc, file)?),
@@ -250,32 +266,30 @@ fn decide_of(alloc: Global, matches: &ArgMatches<'_>) -> Result<Asked, Stop>
     })
 }
 
-/// The limits of deciding a list, if they are accepted and the plan has only deciders that are built.
-fn accepted(steps: u64, cells: u64, depth: u64, nodes: u64, plan: Plan) -> Result<Limits, Stop>
-    ensures ok { IfOk result (λ limits. (limits ≡ record { steps = steps; cells = cells; depth = depth; nodes = nodes }) × IsBuilt plan) }
-    ensures first_stop { IfErr result (IsFirstStop (record { steps = steps; cells = cells; depth = depth; nodes = nodes }) plan) }
+/// The limits, if they are accepted.
+fn accepted(steps: u64, cells: u64, depth: u64, nodes: u64) -> Result<Limits, Stop>
+    ensures ok { IfOk result (λ limits. limits ≡ record {
+      steps = steps;
+      cells = cells;
+      depth = depth;
+      nodes = nodes;
+    }) }
+    ensures stop { IfErr result (IsLimitsStop (record {
+      steps = steps;
+      cells = cells;
+      depth = depth;
+      nodes = nodes;
+    })) }
 {
-    let limits = Limits::new(steps, cells, depth, nodes).map_err(Stop::Limits)?;
-    if plan.backward {
-        return Err(Stop::NotBuilt("bb: backward not built"));
-    }
-    Ok(limits)
-}
-
-/// The limits of a trace up to a step, if they are accepted.
-fn accepted_trace(upto: u64, cells: u64) -> Result<Limits, Stop>
-    ensures ok { IfOk result (λ limits. limits ≡ record { steps = upto; cells = cells; depth = 0; nodes = 0 }) }
-    ensures first_stop { IfErr result (IsTraceStop (record { steps = upto; cells = cells; depth = 0; nodes = 0 })) }
-{
-    Limits::new(upto, cells, 0, 0).map_err(Stop::Limits)
+    Limits::new(steps, cells, depth, nodes).map_err(Stop::Limits)
 }
 
 fn trace_of(alloc: Global, matches: &ArgMatches<'_>) -> Result<Asked, Stop>
     ensures asked { IfOk result (AsksToTrace (rows_of (found_of matches.now))) }
     ensures stop { IfErr result (λ stop. (stop ≡ Stop.Memory)
-        ⊎ IsTraceStop (trace_bounds (rows_of (found_of matches.now))) stop) }
+        ⊎ IsLimitsStop (trace_bounds (rows_of (found_of matches.now))) stop) }
 {
-    let limits = accepted_trace(value(matches, "upto"), value(matches, "cells"))?;
+    let limits = accepted(value(matches, "upto"), value(matches, "cells"), 0, 0)?;
     let text = matches.get_str("machine").unwrap_or("");
     Ok(Asked {
         work: Work::Trace(String::from_str(alloc, text)?),

@@ -3,7 +3,7 @@
 
 ghost use Rattle.std.specs.Prelude.{IfErr, IfOk, map};
 ghost use Rattle.std.specs.String.{string_bytes};
-ghost use Rattle.bb.specs.Command.{CanServe, IsAskedBy, IsStopOf};
+ghost use Rattle.bb.specs.Command.{IsAskedBy, IsStopOf};
 
 mod command;
 mod serve;
@@ -55,7 +55,6 @@ fn arguments(rt: &HostRuntime) -> Result<Vec<String>, Stop> {
 /// What the arguments ask for.
 fn asked(alloc: Global, arguments: &[String]) -> Result<Asked, Stop>
     ensures asked { IfOk result (IsAskedBy (map string_bytes arguments.now)) }
-    ensures served { IfOk result (λ asked. CanServe asked.work) }
     ensures stop { IfErr result (IsStopOf (map string_bytes arguments.now)) }
 {
     let words: Vec<&str> = arguments.iter().map(|word| word.as_str()).collect(alloc)?;
@@ -63,9 +62,7 @@ fn asked(alloc: Global, arguments: &[String]) -> Result<Asked, Stop>
 }
 
 /// Opens the input and does the work. A file that can't be opened is a failed read.
-fn served(rt: &HostRuntime, asked: &Asked) -> Result<Summary, Fault>
-    requires { CanServe asked.now.work }
-{
+fn served(rt: &HostRuntime, asked: &Asked) -> Result<Summary, Fault> {
     let mut writer = Watched::new(rt.stdout());
     match &asked.file {
         Some(file) => match fs::open(rt, file) {
@@ -87,7 +84,6 @@ fn tell(rt: &HostRuntime, stop: &Stop) -> io::Result<()> {
         Stop::Help(text) => rt.print(text),
         Stop::Words(text) => rt.eprint(text),
         Stop::Limits(fault) => rt.eprintln(fault),
-        Stop::NotBuilt(text) => rt.eprintln(text),
         Stop::Memory => rt.eprintln(Fault::Memory),
     }
 }

@@ -1,8 +1,8 @@
 //! Does what was asked for, and says how it ended.
 ghost use Rattle.std.specs.Prelude.{◌≡◌, ◌↔◌, false, true, IfOk};
+ghost use Rattle.bb_cert.specs.Path.{depth_of};
 ghost use Rattle.bb_decide.specs.Bench.{HasCells};
 ghost use Rattle.bb_lines.specs.Watched.{is_marked, watched_inner};
-ghost use Rattle.bb.specs.Command.{CanServe};
 ghost use Rattle.bb.specs.Ends.{IsNotBegun, ServeEnds, end_status};
 
 use crate::command::{Asked, Work};
@@ -15,7 +15,7 @@ use bb_tape::{Memory, RingTape, Tape};
 use std::alloc::Global;
 use std::io::{Read, Write};
 
-/// Does the work on rings of its own, which take no memory once they are made. For a trace nothing is read.
+/// Does the work on rings and a path of its own, which take no memory once they are made. For a trace nothing is read.
 pub fn serve<R: Read, W: Write>(
     alloc: Global,
     asked: &Asked,
@@ -24,14 +24,13 @@ pub fn serve<R: Read, W: Write>(
 ) -> Result<Summary, Fault>
     requires reader { is_marked reader.old ≡ false }
     requires writer { is_marked writer.old ≡ false }
-    requires work { CanServe asked.now.work }
 
-    // How the work ends, and what is read and written then; or the tapes could not be made.
+    // How the work ends, and what is read and written then; or the tapes or the path could not be made.
     ensures ends { ServeEnds asked.now.work asked.now.limits
         (R.remaining (watched_inner reader.old)) (R.remaining (watched_inner reader.new))
         (W.contents (watched_inner writer.old)) (W.contents (watched_inner writer.new)) result }
 
-    // Want of memory comes only where the tapes could not be made.
+    // Want of memory comes only where the tapes or the path could not be made.
     ensures memory { result ≡ Err Fault.Memory → IsNotBegun
         (R.remaining (watched_inner reader.old)) (R.remaining (watched_inner reader.new))
         (W.contents (watched_inner writer.old)) (W.contents (watched_inner writer.new)) result }
@@ -54,7 +53,8 @@ pub fn serve<R: Read, W: Write>(
 
 /// A bench of three rings for machines under these limits.
 fn bench_of(alloc: Global, limits: &Limits) -> Result<Bench<RingTape>, Memory>
-    ensures { IfOk result (HasCells ⟦<RingTape as Tape>⟧.strip limits.now.cells) }
+    ensures tapes { IfOk result (HasCells ⟦<RingTape as Tape>⟧.strip limits.now.cells) }
+    ensures path { IfOk result (λ bench. depth_of bench.path ≡ limits.now.depth) }
 {
     let cells = limits.cells();
     let run = RingTape::new(alloc, cells)?;

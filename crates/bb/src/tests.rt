@@ -1,7 +1,5 @@
 //! Command lines from end to end, over bytes in memory, with answers that were worked out by hand.
 
-ghost use Rattle.bb.specs.Command.{CanServe};
-
 use crate::command::{Asked, Stop, ask};
 use crate::serve::{serve, status};
 use bb_lines::fault::Fault;
@@ -19,9 +17,7 @@ const SIMULATION: [&str; 5] = [
 ];
 
 /// What these options ask for, with all deciders off.
-fn asked(rt: &(impl Abort + AllocGlobal), options: &[&'static str]) -> Asked
-    ensures { CanServe result.work }
-{
+fn asked(rt: &(impl Abort + AllocGlobal), options: &[&'static str]) -> Asked {
     let mut words: Vec<&str> = SIMULATION.to_vec(rt.alloc()).expect(rt, "memory");
     words.extend_from_slice(options).expect(rt, "memory");
     ask(rt.alloc(), words.as_slice()).expect(rt, "a command line")
@@ -69,6 +65,21 @@ fn sums_up(rt: HostRuntime) {
     assert!(rt; !summary.clean);
     assert_eq!(rt; summary.peak.steps, 65_535);
     assert_eq!(rt; summary.peak.most_cells, 65_536);
+}
+
+#[test]
+fn asks_all_deciders(rt: HostRuntime) {
+    let words = ["bb", "decide", "--steps=1000", "--cells=599"];
+    let asked = ask(rt.alloc(), words.as_slice()).expect(&rt, "a command line");
+    let input = b"1RB1LB_1LA1RZ\n0RB---_0LA---\n1RA1RA\n".as_slice();
+    let mut reader = Watched::new(input);
+    let mut writer = Watched::new(Vec::new(rt.alloc()));
+    let end = serve(rt.alloc(), &asked, &mut reader, &mut writer);
+    assert_eq!(rt;
+        writer.into_inner().as_slice(),
+        b"1RB1LB_1LA1RZ halt 6 4\n0RB---_0LA--- cycler 2 4\n1RA1RA translated R 1 2\n".as_slice()
+    );
+    assert_eq!(rt; status(&end), 0);
 }
 
 #[test]
@@ -146,22 +157,6 @@ fn refuses_limits(rt: HostRuntime) {
                 let told = fault.to_string(rt.alloc()).expect(&rt, "memory");
                 assert_eq!(rt; told.as_str(), text);
             }
-            other => panic!(rt; "{other:?}"),
-        }
-    }
-}
-
-#[test]
-fn refuses_deciders_that_are_not_built(rt: HostRuntime) {
-    for (words, text) in [
-        (["decide"].as_slice(), "bb: backward not built"),
-        (
-            ["decide", "--no-cyclers", "--no-translated"].as_slice(),
-            "bb: backward not built",
-        ),
-    ] {
-        match stop(&rt, words) {
-            Stop::NotBuilt(told) => assert_eq!(rt; told, text),
             other => panic!(rt; "{other:?}"),
         }
     }

@@ -100,8 +100,8 @@ AgreeingRecordsNeverRepeat = (table : Table) (side : Side) (a b c d : ℕ) → A
 
 -- where a claim says that a machine never halts, it never does
 abbrev pub ClaimsNeverHalt : Type 0
-ClaimsNeverHalt = (table : Table) (verdict : Verdict) → IsMachine table → SaysNever verdict → Claim table verdict
-    → Never table
+ClaimsNeverHalt = (table : Table) (verdict : Verdict) → IsMachine table → SaysNever verdict
+    → Claim table verdict → Never table
 
 -- i steps after a configuration, whatever it is, there is one at a halting entry just where it matches a node
 -- of level i

@@ -44,5 +44,6 @@ refusal_text column = codes "refused " ++ decimal column
 
 -- the bytes are the line of this machine and this verdict, or of this column
 abbrev pub IsLineOf : Line → List ℕ → Type 0
-IsLineOf (Claim table verdict) bytes = IsMachine table × HasNumbers verdict × (line_text table verdict ≡ bytes)
+IsLineOf (Claim table verdict) bytes =
+    IsMachine table × HasNumbers verdict × (line_text table verdict ≡ bytes)
 IsLineOf (Refusal column) bytes = (0 < column) × (column ≤ LINE + 1) × (refusal_text column ≡ bytes)

@@ -13,5 +13,14 @@ pub fn is_same<T: Tape>(runner: &Runner, tape: &T, other: &Runner, other_tape: &
         × (position_of runner.now ≡ position_of other.now)
         × ((T.strip tape.now).content ≡ (T.strip other_tape.now).content)) }
 {
-    runner.is_like(other) && tape.same(other_tape)
+    runner.is_like(other) && has_same_cells(tape, other_tape)
+}
+
+/// Whether two tapes have the same cells. It is out of line, so that a caller's loop keeps its registers.
+#[cold]
+#[inline(never)]
+fn has_same_cells<T: Tape>(tape: &T, other: &T) -> bool
+    ensures { IsTrue result ↔ ((T.strip tape.now).content ≡ (T.strip other.now).content) }
+{
+    tape.same(other)
 }

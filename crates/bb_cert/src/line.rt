@@ -29,8 +29,8 @@ pub fn line_into(machine: &Machine, verdict: &Verdict, out: &mut ArrayVec<u8, LI
 
 /// No verdict line is longer than `LONGEST`, where the machine's text isn't longer than `LINE`.
 pub fn lines_are_short()
-    ensures { (table : List (List Entry)) (verdict : Verdict) → length (text table) ≤ LINE → HasNumbers verdict
-        → length (line_text table verdict) ≤ LONGEST }
+    ensures { (table : List (List Entry)) (verdict : Verdict) → length (text table) ≤ LINE
+        → HasNumbers verdict → length (line_text table verdict) ≤ LONGEST }
 {}
 
 /// Puts the line that refuses a line at a column into a text, which is empty, without a newline.

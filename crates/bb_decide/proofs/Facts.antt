@@ -1,2 +1,3 @@
 -- What the proofs of other crates may cite of verdicts.
-pub use Rattle.bb_decide.proofs.Verdicts.{verdict_is_unique, work_is_unique}
+pub use Rattle.bb_decide.proofs.Claims.{verdicts_are_confirmed, verdicts_hold}
+pub use Rattle.bb_decide.proofs.Verdicts.{verdict_is_unique, work_is_bounded, work_is_unique}

@@ -56,6 +56,12 @@ taken records far_out = record records { top = int_max records.top far_out; far 
 same_max : (p q : ℤ) → q ≤ℤ p → int_max p q ≡ p
 same_max p q h = omega (arith, ints, clamps, h)
 
+-- where the head is no farther out than before
+pub taken_below : (records : Records) (far_out least : ℤ) → far_out ≤ℤ records.top → least ≡ int_min records.far far_out
+    → record records { far = least } ≡ taken records far_out
+taken_below records far_out least low is =
+    λ i. record records { top = sym (same_max records.top far_out low) i; far = is i }
+
 new_max : (p q : ℤ) → p <ℤ q → int_max p q ≡ q
 new_max p q h = omega (arith, ints, clamps, h)
 
@@ -159,3 +165,8 @@ module _ (table : Table) (runner : Runner) (run saved : Strip) (records : Record
       → IsAtRecord table (steps_of runner) (taken records (out records.side (position_of runner))) saved
   record_here high = subst (λ b. IsAtRecord table b (taken records (out records.side (position_of runner))) saved) (sym before.next)
       (at_record table before.before records saved before.followed there (out records.side (position_of runner)) at high)
+
+-- records that were looked at, where the side and their number stay
+pub same_records : (old new : Records) → new.side ≡ old.side → new.top ≡ old.top
+    → new ≡ record old { number = new.number; kept = new.kept; far = new.far }
+same_records old new side top = λ i. record new { side = side i; top = top i }

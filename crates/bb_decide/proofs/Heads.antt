@@ -1,15 +1,19 @@
 -- Where the head stands on a side, step by step.
-use Rattle.std.proofs.Common.{◌≡◌, ◌≢◌, ℕ, zero, suc, ◌+◌, ◌-◌, ◌<◌, ◌≤◌, inl, inr, Some, None, ℤ, pos, ◌≤ℤ◌, refl, ap, sym, subst, ◌∙◌, arith}
-use Rattle.std.specs.Prelude.{◌<ℤ◌}
+use Rattle.std.proofs.Common.{◌≡◌, ◌≢◌, ℕ, zero, suc, ◌+◌, ◌-◌, ◌<◌, ◌≤◌, inl, inr, Option, Some, None, ℤ, pos, ◌≤ℤ◌, refl, ap, sym, subst, ◌∙◌, arith}
+use Rattle.std.specs.Prelude.{◌<ℤ◌, MatchOption}
 use Rattle.std.specs.Int.{int_min, int_max}
 use Rattle.std.proofs.lemmas.Bool.{cases_lt}
 use Rattle.std.proofs.lemmas.Int.{ints, clamps, by_lt_z}
-use Rattle.bb_machine.specs.declared.entry.Next.TheVariants.{Halt}
+use Rattle.bb_machine.specs.declared.entry.Next.{Next}
+use Rattle.bb_machine.specs.declared.entry.Next.TheVariants.{Halt, State}
 use Rattle.bb_machine.specs.Machine.{Table}
 use Rattle.bb_tape.specs.Content.{cell}
+use Rattle.bb_tape.specs.Strip.{Strip}
 use Rattle.bb_sim.specs.Configuration.{Configuration, entry_at, followed, next}
 use Rattle.bb_sim.specs.Laws.{IsRunningAt}
-use Rattle.bb_sim.specs.Run.{Exists}
+use Rattle.bb_sim.specs.declared.runner.Runner.{Runner}
+use Rattle.bb_sim.specs.Run.{conf, Exists, HaltsAt}
+use Rattle.bb_sim.specs.Runner.{Stands, position_of, state_of, steps_of}
 use Rattle.bb_sim.specs.Span.{counted_head, least, greatest}
 use Rattle.bb_sim.proofs.Facts.{least-next, greatest-next, least_bounds, span_is_reached}
 use Rattle.bb_cert.specs.declared.verdict.Side.{Side}
@@ -39,6 +43,33 @@ runs_before table m b less there =
       runs = no_halt table moved.before moved.then_here moved.is_next;
       at = sym (head_at-is table m moved.before moved.at_before);
     }
+
+-- a runner that tells no state is in Z
+pub in_no_state : (found : Option ℕ) (state : Next) → MatchOption found (state ≡ Halt) (λ n. state ≡ State n)
+    → ((n : ℕ) → found ≢ Some n) → state ≡ Halt
+in_no_state None state told apart = told
+in_no_state (Some n) state told apart = absurd (apart n refl)
+
+-- a runner in Z stands where the machine halts, and nothing before is in the same state
+module _ (table : Table) (runner : Runner) (run : Strip) (stands : Stands table runner run) (halts : state_of runner ≡ Halt) where
+  pub halts_in_Z : HaltsAt table (steps_of runner)
+  unfolding next
+  halts_in_Z = record {
+    last = _;
+    exists = stands.at;
+    no_next = let c : Configuration = record { state = state_of runner; head = position_of runner; tape = run.content } in
+        ap (λ s. followed (entry_at table s (cell c.tape c.head)) c) halts;
+  }
+
+  pub no_pair_in_Z : (a : ℕ) (c d : Configuration) → a < steps_of runner → conf table a ≡ Some c
+      → conf table (steps_of runner) ≡ Some d → c.state ≡ d.state → ⊥
+  no_pair_in_Z a c d less at_first at_second same =
+      let runs = runs_before table a (steps_of runner) less (record { here = d; exists = at_second }) in
+      let there = runs.exists in
+      let at = stands.at in
+      let one : runs.here ≡ c = cc in
+      let two : d ≡ record { state = state_of runner; head = position_of runner; tape = run.content } = cc in
+      runs.runs (ap (λ (e : Configuration). e.state) one ∙ same ∙ ap (λ (e : Configuration). e.state) two ∙ halts)
 
 -- so it is in the window of the run, as is the head at this step where it isn't in Z
 pub head_in_window : (table : Table) (m b : ℕ) → m ≤ b → IsRunningAt table m (head_at table m)

@@ -1,3 +1,4 @@
+pub mod Claims
 pub mod Cycles
 pub mod Facts
 pub mod Following

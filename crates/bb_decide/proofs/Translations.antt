@@ -1,13 +1,18 @@
 -- What the search for records that agree has found, step by step.
 use Rattle.std.proofs.Common.{◌≡◌, ℕ, ◌+◌, ◌≤◌, inl, inr, subst, arith}
 use Rattle.std.proofs.lemmas.Bool.{cases_lt}
+use Rattle.bb_machine.specs.declared.entry.Next.TheVariants.{Halt}
 use Rattle.bb_machine.specs.Limits.{Bounds}
 use Rattle.bb_machine.specs.Machine.{Table}
+use Rattle.bb_tape.specs.Strip.{Strip}
+use Rattle.bb_sim.specs.declared.runner.Runner.{Runner}
+use Rattle.bb_sim.specs.Runner.{Stands, state_of, steps_of}
 use Rattle.bb_sim.specs.Span.{Inside}
 use Rattle.bb_cert.specs.declared.verdict.Side.{Side}
 use Rattle.bb_cert.specs.declared.verdict.Side.TheVariants.{L, R}
 use Rattle.bb_cert.specs.Agree.{AgreeingRecords}
 use Rattle.bb_cert.proofs.Facts.{record_takes_steps, records_in_order}
+use Rattle.bb_decide.proofs.Heads.{no_pair_in_Z}
 use Rattle.bb_decide.specs.Translation.{AgreesWithPartner, IsTranslation, IsFirstTranslation}
 
 -- step 0 makes no record
@@ -29,6 +34,15 @@ pair_agrees table side a b pair = record {
   second_record = pair.second_record;
   agree = pair.agree;
 }
+
+-- in Z no record agrees with an earlier one
+pub no_pair_at_end : (table : Table) (runner : Runner) (run : Strip) → Stands table runner run → state_of runner ≡ Halt
+    → (side : Side) (a : ℕ) → AgreesWithPartner table side a (steps_of runner) → ⊥
+no_pair_at_end table runner run stands halts side a pair =
+    let agreeing = pair_agrees table side a (steps_of runner) pair in
+    let agree = agreeing.agree in
+    no_pair_in_Z table runner run stands halts a agree.first agree.second agreeing.in_order agree.at_first agree.at_second
+    agree.same_state
 
 module _ (table : Table) (bounds : Bounds) (n : ℕ)
     (none : (side : Side) (a b : ℕ) → b ≤ n → IsTranslation table bounds side a b → ⊥) where

@@ -1,5 +1,5 @@
 -- Why a machine has one verdict, and costs as many steps each time.
-use Rattle.std.proofs.Common.{◌≡◌, ℕ, ◌<◌, ℤ, pos, neg_ℤ, inl, inr, refl, sym, subst, ◌∙◌, arith}
+use Rattle.std.proofs.Common.{◌≡◌, ℕ, ◌≤◌, ◌<◌, ℤ, pos, neg_ℤ, inl, inr, refl, sym, subst, ◌∙◌, arith}
 use Rattle.std.proofs.lemmas.Int.{ints}
 use Rattle.bb_machine.specs.Limits.{Bounds}
 use Rattle.bb_machine.specs.Machine.{Table}
@@ -10,11 +10,11 @@ use Rattle.bb_cert.specs.declared.verdict.Verdict.TheVariants.{Halt, Cycler, Tra
 use Rattle.bb_cert.specs.declared.verdict.Side.{Side}
 use Rattle.bb_cert.specs.declared.verdict.Side.TheVariants.{L, R}
 use Rattle.bb_cert.specs.Record.{IsRecord}
-use Rattle.bb_cert.proofs.Facts.{record_has_one_step, stands_on}
+use Rattle.bb_cert.proofs.Facts.{record_has_one_step, stands_on, tree_has_one_end}
 use Rattle.bb_decide.specs.Cycle.{IsFirstCycle}
 use Rattle.bb_decide.specs.Partner.{IsPartner}
 use Rattle.bb_decide.specs.Translation.{IsFirstTranslation}
-use Rattle.bb_decide.specs.Laws.{VerdictIsUnique, WorkIsUnique}
+use Rattle.bb_decide.specs.Laws.{VerdictIsUnique, WorkIsBounded, WorkIsUnique}
 use Rattle.bb_decide.specs.Work.{CycleSteps, MakesCycleSearch, MakesTranslationSearch, StepsIfMade, TranslationSteps}
 use Rattle.bb_decide.proofs.Partners.{partner_is_unique}
 
@@ -93,14 +93,18 @@ verdict_is_unique table bounds plan (Cycler first second) (Cycler third fourth) 
     let firsts = partner_of_cycle_is_one table bounds first second third fourth a.2 b.2 in
     let seconds = first_cycle_is_one table bounds first second third fourth a.2 b.2 in
     cc
-verdict_is_unique table bounds plan (Cycler first second) (Undecided Steps) a b = absurd (b.1 a.1 first second a.2.cycle)
-verdict_is_unique table bounds plan (Cycler first second) (Undecided Cells) a b = absurd (b.1 a.1 first second a.2.cycle)
+verdict_is_unique table bounds plan (Cycler first second) (Undecided Steps) a b =
+    absurd (b.1.0 a.1 first second a.2.cycle)
+verdict_is_unique table bounds plan (Cycler first second) (Undecided Cells) a b =
+    absurd (b.1.0 a.1 first second a.2.cycle)
 verdict_is_unique table bounds plan (Undecided Steps) (Halt m twos) a b =
     let same = outcome_is_unique table bounds NoSteps (Halts m twos) a.0 b in cc
 verdict_is_unique table bounds plan (Undecided Cells) (Halt m twos) a b =
     let same = outcome_is_unique table bounds NoCells (Halts m twos) a.0 b in cc
-verdict_is_unique table bounds plan (Undecided Steps) (Cycler first second) a b = absurd (a.1 b.1 first second b.2.cycle)
-verdict_is_unique table bounds plan (Undecided Cells) (Cycler first second) a b = absurd (a.1 b.1 first second b.2.cycle)
+verdict_is_unique table bounds plan (Undecided Steps) (Cycler first second) a b =
+    absurd (a.1.0 b.1 first second b.2.cycle)
+verdict_is_unique table bounds plan (Undecided Cells) (Cycler first second) a b =
+    absurd (a.1.0 b.1 first second b.2.cycle)
 verdict_is_unique table bounds plan (Undecided Steps) (Undecided Steps) a b = refl
 verdict_is_unique table bounds plan (Undecided Cells) (Undecided Cells) a b = refl
 verdict_is_unique table bounds plan (Undecided Steps) (Undecided Cells) a b =
@@ -113,18 +117,39 @@ verdict_is_unique table bounds plan (Translated side first second) (Cycler third
 verdict_is_unique table bounds plan (Translated side first second) (Translated other third fourth) a b =
     translations_are_one table bounds side other first second third fourth a.3 b.3
 verdict_is_unique table bounds plan (Translated side first second) (Undecided Steps) a b =
-    absurd (b.2 a.2 side first second a.3.translation)
+    absurd (b.1.1 a.2 side first second a.3.translation)
 verdict_is_unique table bounds plan (Translated side first second) (Undecided Cells) a b =
-    absurd (b.2 a.2 side first second a.3.translation)
+    absurd (b.1.1 a.2 side first second a.3.translation)
 verdict_is_unique table bounds plan (Halt n ones) (Translated side third fourth) a b = absurd (b.0 n a.0)
 verdict_is_unique table bounds plan (Cycler first second) (Translated side third fourth) a b =
     absurd (b.1 a.1 first second a.2.cycle)
 verdict_is_unique table bounds plan (Undecided Steps) (Translated side third fourth) a b =
-    absurd (a.2 b.2 side third fourth b.3.translation)
+    absurd (a.1.1 b.2 side third fourth b.3.translation)
 verdict_is_unique table bounds plan (Undecided Cells) (Translated side third fourth) a b =
+    absurd (a.1.1 b.2 side third fourth b.3.translation)
+verdict_is_unique table bounds plan (Backward levels nodes) (Halt m twos) a b = absurd (a.0 m b.0)
+verdict_is_unique table bounds plan (Backward levels nodes) (Cycler third fourth) a b =
+    absurd (a.1 b.1 third fourth b.2.cycle)
+verdict_is_unique table bounds plan (Backward levels nodes) (Translated side third fourth) a b =
     absurd (a.2 b.2 side third fourth b.3.translation)
-verdict_is_unique table bounds plan (Backward levels nodes) other a b = elim a [ ]
-verdict_is_unique table bounds plan other (Backward levels nodes) a b = elim b [ ]
+verdict_is_unique table bounds plan (Backward levels nodes) (Backward h k) a b =
+    let same = tree_has_one_end table levels nodes h k a.4.ends b.4.ends in
+    let levels_same = same.0 in
+    let nodes_same = same.1 in
+    cc
+verdict_is_unique table bounds plan (Backward levels nodes) (Undecided Steps) a b =
+    absurd ((b.1.2 a.3).nowhere levels nodes a.4)
+verdict_is_unique table bounds plan (Backward levels nodes) (Undecided Cells) a b =
+    absurd ((b.1.2 a.3).nowhere levels nodes a.4)
+verdict_is_unique table bounds plan (Halt n ones) (Backward levels nodes) a b = absurd (b.0 n a.0)
+verdict_is_unique table bounds plan (Cycler first second) (Backward levels nodes) a b =
+    absurd (b.1 a.1 first second a.2.cycle)
+verdict_is_unique table bounds plan (Translated side first second) (Backward levels nodes) a b =
+    absurd (b.2 a.2 side first second a.3.translation)
+verdict_is_unique table bounds plan (Undecided Steps) (Backward levels nodes) a b =
+    absurd ((a.1.2 b.3).nowhere levels nodes b.4)
+verdict_is_unique table bounds plan (Undecided Cells) (Backward levels nodes) a b =
+    absurd ((a.1.2 b.3).nowhere levels nodes b.4)
 
 module _ (table : Table) (bounds : Bounds) where
   cycle_steps_are_one : (n m : ℕ) → CycleSteps table bounds n → CycleSteps table bounds m → n ≡ m
@@ -158,3 +183,26 @@ work_is_unique table bounds plan a b first second =
     let one = first.sum in
     let other = second.sum in
     omega arith
+
+few_if_made : (Made : Type 0) (Cost : ℕ → Type 0) (most : ℕ) → ((n : ℕ) → Cost n → n ≤ most) → (n : ℕ)
+    → StepsIfMade Made Cost n → n ≤ most
+few_if_made Made Cost most few n (inl made) = few n made.1
+few_if_made Made Cost most few n (inr not_made) = let none = not_made.1 in omega (arith, none)
+
+pub work_is_bounded : WorkIsBounded
+work_is_bounded table bounds plan work is =
+    let run = is.is_run.inside.within_steps in
+    let cycles = few_if_made (MakesCycleSearch table bounds plan) (CycleSteps table bounds) bounds.steps few_cycle_steps
+    is.cycles is.is_cycles in
+    let translations = few_if_made (MakesTranslationSearch table bounds plan) (TranslationSteps table bounds)
+    bounds.steps few_translation_steps is.translations is.is_translations in
+    let sum = is.sum in
+    omega (arith, run, cycles, translations, sum)
+  where
+    few_cycle_steps : (n : ℕ) → CycleSteps table bounds n → n ≤ bounds.steps
+    few_cycle_steps n (inl found) = found.1.cycle.inside.within_steps
+    few_cycle_steps n (inr none) = none.1.inside.within_steps
+
+    few_translation_steps : (n : ℕ) → TranslationSteps table bounds n → n ≤ bounds.steps
+    few_translation_steps n (inl found) = found.2.translation.inside.within_steps
+    few_translation_steps n (inr none) = none.1.inside.within_steps

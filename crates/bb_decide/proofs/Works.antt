@@ -10,12 +10,16 @@ use Rattle.bb_sim.specs.Span.{span, IsLastInside}
 use Rattle.bb_sim.proofs.Facts.{span_grows}
 use Rattle.bb_cert.specs.declared.verdict.Verdict.{Verdict}
 use Rattle.bb_cert.specs.declared.verdict.Verdict.TheVariants.{Halt, Cycler, Translated, Backward, Undecided}
+use Rattle.bb_cert.specs.Tree.{Back}
+use Rattle.bb_cert.specs.WalkMeter.{IsWithinWalk, walked}
+use Rattle.bb_cert.proofs.Facts.{tree_has_one_end}
 use Rattle.bb_decide.specs.declared.plan.Plan.{Plan}
 use Rattle.bb_decide.specs.Cycle.{CountsSearch, FindsCycle}
 use Rattle.bb_decide.specs.Translation.{FindsTranslation}
-use Rattle.bb_decide.specs.Verdict.{IsVerdict, PassesCycles}
-use Rattle.bb_decide.specs.Search.{Adds, CyclersCount, SearchesCount, SearchesFind, TranslatedCount, TranslatedFind}
-use Rattle.bb_decide.specs.Work.{CountsWork, CycleSteps, StepsIfMade, TranslationSteps}
+use Rattle.bb_decide.specs.Backward.{HasNoTree, without_nodes}
+use Rattle.bb_decide.specs.Verdict.{IsVerdict, PassesCycles, PassesTranslations}
+use Rattle.bb_decide.specs.Search.{Adds, BackwardCounts, BackwardFinds, CyclersCount, DecidersCount, DecidersFind, ReachesWalk, SearchesCount, SearchesFind, TranslatedCount, TranslatedFind}
+use Rattle.bb_decide.specs.Work.{CountsWalk, CountsWork, CycleSteps, MakesWalk, StepsIfMade, TranslationSteps}
 
 -- what the simulation has counted, from a meter that was begun at 0
 record Simulated (table : Table) (bounds : Bounds) (meter : Meter) : Type 0 where
@@ -25,6 +29,16 @@ record Simulated (table : Table) (bounds : Bounds) (meter : Meter) : Type 0 wher
   most_cells : meter.most_cells ≡ span table last
   nodes : meter.nodes ≡ 0
   most_levels : meter.most_levels ≡ 0
+
+-- no walk was made, and none was counted
+pub no_walk_counted : (Made : Type 0) (table : Table) (bounds : Bounds) (meter : Meter) → meter.most_levels ≡ 0
+    → meter.nodes ≡ 0 → (Made → ⊥) → CountsWalk Made table bounds meter
+no_walk_counted Made table bounds meter levels nodes never = record {
+  of_tree = λ made h k tree. absurd (never made);
+  within_levels = omega (arith, levels);
+  within_nodes = omega (arith, nodes);
+  not_made = λ not_made. (levels, nodes);
+}
 
 module _ (table : Table) (bounds : Bounds) (plan : Plan) (begin mid : Meter) (zero : begin ≡ zero_meter) (run : CountsRun table bounds begin mid) where
   simulated : Simulated table bounds mid
@@ -55,17 +69,26 @@ module _ (table : Table) (bounds : Bounds) (plan : Plan) (begin mid : Meter) (ze
     last = s.last;
     is_last = s.is_last;
     most_cells = s.most_cells;
-    nodes = s.nodes;
-    most_levels = s.most_levels;
+    walk = no_walk_counted (MakesWalk table bounds plan) table bounds mid s.most_levels s.nodes (λ made. made.0 n halts);
   }
 
-  -- else the two searches are
-  pub work_of_searches : HaltsNowhere table bounds → (meter : Meter) → SearchesCount table bounds plan mid meter
+  -- no node is counted by then
+  pub no_nodes : mid.nodes ≡ 0
+  no_nodes = simulated.nodes
+
+  pub no_levels : mid.most_levels ≡ 0
+  no_levels = simulated.most_levels
+
+  -- else the deciders that are on are asked
+  pub work_of_deciders : HaltsNowhere table bounds → (meter : Meter) → DecidersCount table bounds plan mid meter
       → CountsWork table bounds plan meter
-  work_of_searches nowhere meter counts =
+  work_of_deciders nowhere meter deciders =
       let s = simulated in
+      let counts = deciders.searches in
       let ran = s.steps in
       let seen = s.most_cells in
+      let same_steps = deciders.steps in
+      let same_cells = deciders.most_cells in
       let steps = counts.adds.steps in
       let above = counts.adds.cells_kept in
       let below = counts.adds.cells s.last s.is_last in
@@ -80,13 +103,17 @@ module _ (table : Table) (bounds : Bounds) (plan : Plan) (begin mid : Meter) (ze
             | inl made ↦ inl ((nowhere, made.0.0, made.0.1), made.1)
             | inr not_made ↦ inr (λ made. not_made.0 (made.1, made.2), not_made.1)
           ];
-          sum = omega (arith, ran, steps);
+          sum = omega (arith, ran, steps, same_steps);
         };
         last = s.last;
         is_last = s.is_last;
-        most_cells = omega (arith, seen, above, below);
-        nodes = counts.adds.nodes ∙ s.nodes;
-        most_levels = counts.adds.most_levels ∙ s.most_levels;
+        most_cells = omega (arith, seen, above, below, same_cells);
+        walk = record {
+          of_tree = λ made levels nodes tree. deciders.walk.of_tree (made.1, made.2, made.3) levels nodes tree;
+          within_levels = deciders.walk.within_levels;
+          within_nodes = deciders.walk.within_nodes;
+          not_made = λ not_made. deciders.walk.not_made (λ made. not_made (nowhere, made.0, made.1, made.2));
+        };
       } where
         where_nowhere : (On : Type 0) (Cost : ℕ → Type 0) (n : ℕ) → StepsIfMade On Cost n
             → StepsIfMade (HaltsNowhere table bounds × On) Cost n
@@ -252,6 +279,122 @@ module _ (table : Table) (bounds : Bounds) where
     found_by_searches (Some (Backward levels nodes)) passes found = absurd found.1
     found_by_searches (Some (Undecided why)) passes found = absurd found.1
 
+-- ---- what the walk finds and counts
+
+-- the meter's parts after a walk that found its end
+walk_of_tree : (Made : Type 0) (table : Table) (bounds : Bounds) (old new : Meter) (h k : ℕ)
+    → new ≡ walked (without_nodes old) h k → Back table bounds h k → Made → CountsWalk Made table bounds new
+walk_of_tree Made table bounds old new h k counts tree made =
+    let levels : new.most_levels ≡ h = ap (λ (m : Meter). m.most_levels) counts ∙ omega arith in
+    let nodes : new.nodes ≡ k = ap (λ (m : Meter). m.nodes) counts ∙ omega arith in
+    let levels_within = tree.within_levels in
+    let nodes_within = tree.within_nodes in
+    record {
+      of_tree = λ _ i j other.
+          let same = tree_has_one_end table h k i j tree.ends other.ends in (levels ∙ same.0, nodes ∙ same.1);
+      within_levels = omega (arith, levels, levels_within);
+      within_nodes = omega (arith, nodes, nodes_within);
+      not_made = λ not_made. absurd (not_made made);
+    }
+
+-- the meter's parts after a walk that found none
+walk_of_none : (Made : Type 0) (table : Table) (bounds : Bounds) (old new : Meter)
+    → IsWithinWalk bounds.depth bounds.nodes (without_nodes old) new → HasNoTree table bounds → Made
+    → CountsWalk Made table bounds new
+walk_of_none Made table bounds old new within none made =
+    let levels = within.most_levels_to in
+    let nodes = within.nodes_to in
+    record {
+      of_tree = λ _ i j other. absurd (none.nowhere i j other);
+      within_levels = omega (arith, levels);
+      within_nodes = omega (arith, nodes);
+      not_made = λ not_made. absurd (not_made made);
+    }
+
+module _ (table : Table) (bounds : Bounds) (plan : Plan) (passes : PassesCycles table bounds plan × PassesTranslations table bounds plan) where
+  reached : IsTrue plan.backward → ReachesWalk table bounds plan
+  reached on = (passes.0, passes.1, on)
+
+  counts_walk : (found : Option Verdict) (old new : Meter) → old.most_levels ≡ 0 → old.nodes ≡ 0
+      → BackwardCounts table bounds plan old new found → CountsWalk (ReachesWalk table bounds plan) table bounds new
+  counts_walk None old new levels nodes (inl made) =
+      walk_of_none (ReachesWalk table bounds plan) table bounds old new made.1 made.2 (reached made.0)
+  counts_walk (Some (Backward h k)) old new levels nodes (inl made) =
+      walk_of_tree (ReachesWalk table bounds plan) table bounds old new h k made.1 made.2 (reached made.0)
+  counts_walk (Some (Halt steps score)) old new levels nodes (inl made) = absurd made.2
+  counts_walk (Some (Cycler first second)) old new levels nodes (inl made) = absurd made.2
+  counts_walk (Some (Translated side first second)) old new levels nodes (inl made) = absurd made.2
+  counts_walk (Some (Undecided why)) old new levels nodes (inl made) = absurd made.2
+  counts_walk found old new levels nodes (inr off) =
+      no_walk_counted (ReachesWalk table bounds plan) table bounds new (ap (λ (m : Meter). m.most_levels) off.1 ∙ levels)
+      (ap (λ (m : Meter). m.nodes) off.1 ∙ nodes) (λ made. let on = made.2 in let no = off.0 in cc)
+
+  -- neither steps nor cells
+  walk_keeps : (found : Option Verdict) (old new : Meter) → BackwardCounts table bounds plan old new found
+      → (new.steps ≡ old.steps) × (new.most_cells ≡ old.most_cells)
+  walk_keeps None old new (inl made) = (made.1.steps, made.1.most_cells)
+  walk_keeps (Some (Backward h k)) old new (inl made) =
+      (ap (λ (m : Meter). m.steps) made.1, ap (λ (m : Meter). m.most_cells) made.1)
+  walk_keeps (Some (Halt steps score)) old new (inl made) = absurd made.2
+  walk_keeps (Some (Cycler first second)) old new (inl made) = absurd made.2
+  walk_keeps (Some (Translated side first second)) old new (inl made) = absurd made.2
+  walk_keeps (Some (Undecided why)) old new (inl made) = absurd made.2
+  walk_keeps found old new (inr off) = (ap (λ (m : Meter). m.steps) off.1, ap (λ (m : Meter). m.most_cells) off.1)
+
+  -- where the searches found nothing, the walk may have been made
+  pub counts_all : (found : Option Verdict) (begin old new : Meter) → begin.most_levels ≡ 0 → begin.nodes ≡ 0
+      → SearchesCount table bounds plan begin old → BackwardCounts table bounds plan old new found
+      → DecidersCount table bounds plan begin new
+  counts_all found begin old new levels nodes searches walk =
+      let kept = walk_keeps found old new walk in
+      record {
+        searched = old;
+        searches = searches;
+        steps = kept.0;
+        most_cells = kept.1;
+        walk = counts_walk found old new (searches.adds.most_levels ∙ levels) (searches.adds.nodes ∙ nodes) walk;
+      }
+
+  pub found_by_all : (found : Option Verdict) → BackwardFinds table bounds plan found → DecidersFind table bounds plan found
+  found_by_all None none = (passes.0, passes.1, none)
+  found_by_all (Some (Backward levels nodes)) found = (passes.0, passes.1, found.0, found.1)
+  found_by_all (Some (Halt steps score)) found = absurd found.1
+  found_by_all (Some (Cycler first second)) found = absurd found.1
+  found_by_all (Some (Translated side first second)) found = absurd found.1
+  found_by_all (Some (Undecided why)) found = absurd found.1
+
+module _ (table : Table) (bounds : Bounds) (plan : Plan) where
+  -- where a search has found something, no walk is reached
+  not_reached : (verdict : Verdict) → SearchesFind table bounds plan (Some verdict)
+      → PassesCycles table bounds plan → PassesTranslations table bounds plan → ⊥
+  not_reached (Cycler first second) found cycles translations = cycles found.0 first second found.1.cycle
+  not_reached (Translated side first second) found cycles translations =
+      translations found.1 side first second found.2.translation
+  not_reached (Halt steps score) found cycles translations = absurd found
+  not_reached (Backward levels nodes) found cycles translations = absurd found
+  not_reached (Undecided why) found cycles translations = absurd found
+
+  pub counts_searches : (verdict : Verdict) (begin new : Meter) → begin.most_levels ≡ 0 → begin.nodes ≡ 0
+      → SearchesFind table bounds plan (Some verdict) → SearchesCount table bounds plan begin new
+      → DecidersCount table bounds plan begin new
+  counts_searches verdict begin new levels nodes found searches = record {
+    searched = new;
+    searches = searches;
+    steps = refl;
+    most_cells = refl;
+    walk = no_walk_counted (ReachesWalk table bounds plan) table bounds new
+        (searches.adds.most_levels ∙ levels) (searches.adds.nodes ∙ nodes)
+        (λ made. not_reached verdict found made.0 made.1);
+  }
+
+  pub search_of_all : (verdict : Verdict) → SearchesFind table bounds plan (Some verdict)
+      → DecidersFind table bounds plan (Some verdict)
+  search_of_all (Cycler first second) found = found
+  search_of_all (Translated side first second) found = found
+  search_of_all (Halt steps score) found = absurd found
+  search_of_all (Backward levels nodes) found = absurd found
+  search_of_all (Undecided why) found = absurd found
+
 -- what holds of an answer, from what else holds of it
 pub if_ok_map : {A E : Type 0} (r : Result A E) (P Q : A → Type 0) → ((x : A) → P x → Q x) → IfOk r P → IfOk r Q
 if_ok_map (Ok x) P Q f holds = f x holds
@@ -261,11 +404,13 @@ pub if_ok_on : {A E : Type 0} (r : Result A E) (P : A → Type 0) (Q : Type 0) �
 if_ok_on (Ok x) P Q f holds = f x holds
 if_ok_on (Err e) P Q f holds = tt
 
--- the verdict, where the machine doesn't halt inside the bounds and a search has found it
-pub verdict_of_searches : (table : Table) (bounds : Bounds) (plan : Plan) (verdict : Verdict) → HaltsNowhere table bounds
-    → SearchesFind table bounds plan (Some verdict) → IsVerdict table bounds plan verdict
-verdict_of_searches table bounds plan (Cycler first second) nowhere found = (nowhere, found.0, found.1)
-verdict_of_searches table bounds plan (Translated side first second) nowhere found = (nowhere, found.0, found.1, found.2)
-verdict_of_searches table bounds plan (Halt steps score) nowhere found = absurd found
-verdict_of_searches table bounds plan (Backward levels nodes) nowhere found = absurd found
-verdict_of_searches table bounds plan (Undecided why) nowhere found = absurd found
+-- the verdict, where the machine doesn't halt inside the bounds and a decider has found it
+pub verdict_of_deciders : (table : Table) (bounds : Bounds) (plan : Plan) (verdict : Verdict) → HaltsNowhere table bounds
+    → DecidersFind table bounds plan (Some verdict) → IsVerdict table bounds plan verdict
+verdict_of_deciders table bounds plan (Cycler first second) nowhere found = (nowhere, found.0, found.1)
+verdict_of_deciders table bounds plan (Translated side first second) nowhere found =
+    (nowhere, found.0, found.1, found.2)
+verdict_of_deciders table bounds plan (Backward levels nodes) nowhere found =
+    (nowhere, found.0, found.1, found.2, found.3)
+verdict_of_deciders table bounds plan (Halt steps score) nowhere found = absurd found
+verdict_of_deciders table bounds plan (Undecided why) nowhere found = absurd found

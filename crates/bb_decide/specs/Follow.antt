@@ -1,6 +1,7 @@
 -- What the search for records that agree knows of one side, as its functions tell one another; no public contract
 -- cites it.
-use Rattle.std.specs.Prelude.{◌≡◌, ◌≢◌, ℕ, ◌+◌, ◌<◌, ◌≤◌, ◌⊎◌, Option, Some, None, ℤ, pos, neg_ℤ, ◌+ℤ◌, ◌-ℤ◌, ◌≤ℤ◌}
+use Rattle.std.specs.Prelude.{◌≡◌, ◌≢◌, ℕ, ◌+◌, ◌<◌, ◌≤◌, ◌⊎◌, Option, Some, None}
+use Rattle.std.specs.Prelude.{ℤ, pos, neg_ℤ, ◌+ℤ◌, ◌-ℤ◌, ◌≤ℤ◌}
 use Rattle.bb_machine.specs.declared.entry.Next.TheVariants.{Halt}
 use Rattle.bb_machine.specs.Machine.{Table}
 use Rattle.bb_tape.specs.Content.{Content, cell}
@@ -25,8 +26,8 @@ pub record IsTop (table : Table) (side : Side) (n : ℕ) (top : ℤ) : Type 0 wh
 
 -- the record that is kept, its configuration, and how far out the head is at least from there to step n; what was
 -- saved of it lies in the window of the run, and its own head in what was saved
-pub record IsKeptRecord (table : Table) (side : Side) (number n : ℕ) (kept : Runner) (far_out : ℤ) (saved : Strip)
-    : Type 0 where
+pub record IsKeptRecord (table : Table) (side : Side) (number n : ℕ) (kept : Runner) (far_out : ℤ)
+    (saved : Strip) : Type 0 where
   pub made : IsRecord table side number (steps_of kept)
   pub before : steps_of kept ≤ n
   pub at : conf table (steps_of kept)
@@ -90,7 +91,8 @@ pub record IsComparable (records : Records) (saved run : Strip) : Type 0 where
 
 -- its cells are those that the last record has as far before its head
 abbrev pub HasSameCells : Records → Content → Content → Type 0
-HasSameCells records saved run = (x : ℤ) → records.far ≤ℤ out records.side x → out records.side x ≤ℤ records.number
+HasSameCells records saved run = (x : ℤ) → records.far ≤ℤ out records.side x
+    → out records.side x ≤ℤ records.number
     → cell saved x ≡ cell run (x +ℤ out records.side (records.top -ℤ records.number))
 
 -- a record is kept, in the state in which a runner is, which is not Z

@@ -1,9 +1,9 @@
+pub mod Backward
 pub mod Bench
 pub mod Cycle
 pub mod Follow
 pub mod Laws
 pub mod Partner
-pub mod Plan
 pub mod Search
 pub mod Translation
 pub mod Verdict

@@ -6,11 +6,13 @@ use Rattle.bb_sim.specs.declared.meter.Meter.{Meter}
 use Rattle.bb_sim.specs.Span.{span, IsLastInside}
 use Rattle.bb_cert.specs.declared.verdict.Verdict.{Verdict}
 use Rattle.bb_cert.specs.declared.verdict.Verdict.TheVariants.{Halt, Cycler, Translated, Backward, Undecided}
+use Rattle.bb_cert.specs.Tree.{Back}
 use Rattle.bb_decide.specs.declared.plan.Plan.{Plan}
+use Rattle.bb_decide.specs.Backward.{CountsTree, FindsTree}
 use Rattle.bb_decide.specs.Cycle.{CountsSearch, FindsCycle, IsFirstCycle}
 use Rattle.bb_decide.specs.Translation.{FindsTranslation, IsFirstTranslation}
-use Rattle.bb_decide.specs.Verdict.{PassesCycles, PassesTranslations}
-use Rattle.bb_decide.specs.Work.{CycleSteps, StepsIfMade, TranslationSteps}
+use Rattle.bb_decide.specs.Verdict.{PassesAll, PassesCycles, PassesTranslations, PassesTrees}
+use Rattle.bb_decide.specs.Work.{CountsWalk, CycleSteps, StepsIfMade, TranslationSteps}
 
 -- the cyclers find a pair, where they are on; none where they are off, or there is none
 abbrev pub CyclersFind : Table → Bounds → Plan → Option Verdict → Type 0
@@ -26,7 +28,8 @@ CyclersCount table bounds plan old new found =
 -- a record that agrees with its partner is found, where that search is on; none where it is off, or there is none
 abbrev pub TranslatedFind : Table → Bounds → Plan → Option Verdict → Type 0
 TranslatedFind table bounds plan None = PassesTranslations table bounds plan
-TranslatedFind table bounds plan (Some verdict) = IsTrue plan.translated × FindsTranslation table bounds (Some verdict)
+TranslatedFind table bounds plan (Some verdict) =
+    IsTrue plan.translated × FindsTranslation table bounds (Some verdict)
 
 -- this search was counted, or nothing where it is off
 abbrev pub TranslatedCount : Table → Bounds → Plan → Meter → Meter → Option Verdict → Type 0
@@ -34,13 +37,25 @@ TranslatedCount table bounds plan old new found =
     (IsTrue plan.translated × CountsSearch table bounds old new found × FindsTranslation table bounds found)
     ⊎ ((plan.translated ≡ false) × (new ≡ old))
 
+-- the tree's levels and nodes are found, where backward reasoning is on; none where it is off, or there are none
+abbrev pub BackwardFinds : Table → Bounds → Plan → Option Verdict → Type 0
+BackwardFinds table bounds plan None = PassesTrees table bounds plan
+BackwardFinds table bounds plan (Some verdict) = IsTrue plan.backward × FindsTree table bounds (Some verdict)
+
+-- the walk was counted, or nothing where backward reasoning is off
+abbrev pub BackwardCounts : Table → Bounds → Plan → Meter → Meter → Option Verdict → Type 0
+BackwardCounts table bounds plan old new found =
+    (IsTrue plan.backward × CountsTree bounds old new found × FindsTree table bounds found)
+    ⊎ ((plan.backward ≡ false) × (new ≡ old))
+
 -- what the two searches find, that for cycles first
 abbrev pub SearchesFind : Table → Bounds → Plan → Option Verdict → Type 0
 SearchesFind table bounds plan None = PassesCycles table bounds plan × PassesTranslations table bounds plan
 SearchesFind table bounds plan (Some (Cycler first second)) =
     IsTrue plan.cyclers × IsFirstCycle table bounds first second
 SearchesFind table bounds plan (Some (Translated side first second)) =
-    PassesCycles table bounds plan × IsTrue plan.translated × IsFirstTranslation table bounds side first second
+    PassesCycles table bounds plan × IsTrue plan.translated
+    × IsFirstTranslation table bounds side first second
 SearchesFind table bounds plan (Some (Halt steps score)) = ⊥
 SearchesFind table bounds plan (Some (Backward levels nodes)) = ⊥
 SearchesFind table bounds plan (Some (Undecided why)) = ⊥
@@ -49,7 +64,8 @@ SearchesFind table bounds plan (Some (Undecided why)) = ⊥
 pub record Adds (table : Table) (bounds : Bounds) (count : ℕ) (old new : Meter) : Type 0 where
   pub steps : new.steps ≡ old.steps + count
   pub cells_kept : old.most_cells ≤ new.most_cells
-  pub cells : (last : ℕ) → IsLastInside table bounds last → new.most_cells ≤ max old.most_cells (span table last)
+  pub cells : (last : ℕ) → IsLastInside table bounds last
+      → new.most_cells ≤ max old.most_cells (span table last)
   pub nodes : new.nodes ≡ old.nodes
   pub most_levels : new.most_levels ≡ old.most_levels
 
@@ -68,3 +84,36 @@ pub record IsWithinSearches (bounds : Bounds) (old new : Meter) : Type 0 where
   pub most_cells : new.most_cells ≤ max old.most_cells bounds.cells
   pub nodes : new.nodes ≡ old.nodes
   pub most_levels : new.most_levels ≡ old.most_levels
+
+-- what the deciders that are on find, in their order
+abbrev pub DecidersFind : Table → Bounds → Plan → Option Verdict → Type 0
+DecidersFind table bounds plan None = PassesAll table bounds plan
+DecidersFind table bounds plan (Some (Cycler first second)) =
+    SearchesFind table bounds plan (Some (Cycler first second))
+DecidersFind table bounds plan (Some (Translated side first second)) =
+    SearchesFind table bounds plan (Some (Translated side first second))
+DecidersFind table bounds plan (Some (Backward levels nodes)) =
+    PassesCycles table bounds plan × PassesTranslations table bounds plan × IsTrue plan.backward
+    × Back table bounds levels nodes
+DecidersFind table bounds plan (Some (Halt steps score)) = ⊥
+DecidersFind table bounds plan (Some (Undecided why)) = ⊥
+
+-- backward reasoning is on, and the searches that are on found nothing
+abbrev pub ReachesWalk : Table → Bounds → Plan → Type 0
+ReachesWalk table bounds plan =
+    PassesCycles table bounds plan × PassesTranslations table bounds plan × IsTrue plan.backward
+
+-- what they count: the two searches first, then the walk
+pub record DecidersCount (table : Table) (bounds : Bounds) (plan : Plan) (old new : Meter) : Type 0 where
+  pub searched : Meter
+  pub searches : SearchesCount table bounds plan old searched
+  pub steps : new.steps ≡ searched.steps
+  pub most_cells : new.most_cells ≡ searched.most_cells
+  pub walk : CountsWalk (ReachesWalk table bounds plan) table bounds new
+
+-- and no more than two runs and a walk within bounds
+pub record IsWithinDeciders (bounds : Bounds) (old new : Meter) : Type 0 where
+  pub steps : new.steps ≤ old.steps + 2 * bounds.steps
+  pub most_cells : new.most_cells ≤ max old.most_cells bounds.cells
+  pub nodes : new.nodes ≤ max old.nodes bounds.nodes
+  pub most_levels : new.most_levels ≤ max old.most_levels bounds.depth

@@ -38,7 +38,8 @@ pub record IsFirstTranslation (table : Table) (bounds : Bounds) (side : Side) (a
 -- the side and the pair of the first; none just where there is none
 abbrev pub FindsTranslation : Table → Bounds → Option Verdict → Type 0
 FindsTranslation table bounds None = HasNoTranslation table bounds
-FindsTranslation table bounds (Some (Translated side first second)) = IsFirstTranslation table bounds side first second
+FindsTranslation table bounds (Some (Translated side first second)) =
+    IsFirstTranslation table bounds side first second
 FindsTranslation table bounds (Some (Halt steps score)) = ⊥
 FindsTranslation table bounds (Some (Cycler first second)) = ⊥
 FindsTranslation table bounds (Some (Backward levels nodes)) = ⊥

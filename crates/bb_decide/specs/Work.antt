@@ -5,11 +5,12 @@ use Rattle.bb_machine.specs.Machine.{Table}
 use Rattle.bb_sim.specs.declared.meter.Meter.{Meter}
 use Rattle.bb_sim.specs.Outcome.{HaltsNowhere}
 use Rattle.bb_sim.specs.Span.{span, IsLastInside}
-use Rattle.bb_decide.specs.declared.plan.Plan.{Plan}
 use Rattle.bb_cert.specs.declared.verdict.Side.{Side}
+use Rattle.bb_cert.specs.Tree.{Back}
+use Rattle.bb_decide.specs.declared.plan.Plan.{Plan}
 use Rattle.bb_decide.specs.Cycle.{HasNoCycle, IsFirstCycle}
 use Rattle.bb_decide.specs.Translation.{HasNoTranslation, IsFirstTranslation}
-use Rattle.bb_decide.specs.Verdict.{PassesCycles}
+use Rattle.bb_decide.specs.Verdict.{PassesCycles, PassesTranslations}
 
 -- a search makes the steps up to what it finds first, or a whole run where there is nothing to find
 abbrev pub SearchSteps : Table → Bounds → (ℕ → Type 0) → Type 0 → ℕ → Type 0
@@ -36,7 +37,8 @@ MakesTranslationSearch table bounds plan =
 -- its steps
 abbrev pub TranslationSteps : Table → Bounds → ℕ → Type 0
 TranslationSteps table bounds n = SearchSteps table bounds
-    (λ b. (side : Side) × (a : ℕ) × IsFirstTranslation table bounds side a b) (HasNoTranslation table bounds) n
+    (λ b. (side : Side) × (a : ℕ) × IsFirstTranslation table bounds side a b)
+    (HasNoTranslation table bounds) n
 
 -- the steps that deciding a machine makes: those of the simulation, up to the last step inside, and those of the two
 -- searches
@@ -46,17 +48,32 @@ pub record IsWork (table : Table) (bounds : Bounds) (plan : Plan) (work : ℕ) :
   pub cycles : ℕ
   pub is_cycles : StepsIfMade (MakesCycleSearch table bounds plan) (CycleSteps table bounds) cycles
   pub translations : ℕ
-  pub is_translations : StepsIfMade (MakesTranslationSearch table bounds plan) (TranslationSteps table bounds) translations
+  pub is_translations :
+      StepsIfMade (MakesTranslationSearch table bounds plan) (TranslationSteps table bounds) translations
   pub sum : work ≡ run + (cycles + translations)
 
--- deciding a machine has counted its steps, and the span at the last step inside as its widest window
+-- backward reasoning is reached where, besides, no record agreed with its partner
+abbrev pub MakesWalk : Table → Bounds → Plan → Type 0
+MakesWalk table bounds plan = HaltsNowhere table bounds × PassesCycles table bounds plan
+    × PassesTranslations table bounds plan × IsTrue plan.backward
+
+-- the nodes and levels counted where a walk is made: those of the tree if it ends within the bounds, else no more than
+-- the bounds; none where it isn't made
+pub record CountsWalk (Made : Type 0) (table : Table) (bounds : Bounds) (meter : Meter) : Type 0 where
+  pub of_tree : Made → (levels nodes : ℕ) → Back table bounds levels nodes
+      → (meter.most_levels ≡ levels) × (meter.nodes ≡ nodes)
+  pub within_levels : meter.most_levels ≤ bounds.depth
+  pub within_nodes : meter.nodes ≤ bounds.nodes
+  pub not_made : (Made → ⊥) → (meter.most_levels ≡ 0) × (meter.nodes ≡ 0)
+
+-- deciding a machine has counted its steps, the span at the last step inside as its widest window, and the nodes and
+-- levels of its walk
 pub record CountsWork (table : Table) (bounds : Bounds) (plan : Plan) (meter : Meter) : Type 0 where
   pub steps : IsWork table bounds plan meter.steps
   pub last : ℕ
   pub is_last : IsLastInside table bounds last
   pub most_cells : meter.most_cells ≡ span table last
-  pub nodes : meter.nodes ≡ 0
-  pub most_levels : meter.most_levels ≡ 0
+  pub walk : CountsWalk (MakesWalk table bounds plan) table bounds meter
 
 -- deciding a machine has counted no more than it may
 pub record IsWithinWork (bounds : Bounds) (meter : Meter) : Type 0 where

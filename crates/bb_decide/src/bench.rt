@@ -1,23 +1,27 @@
-//! The tapes with which a machine is decided.
-ghost use Rattle.std.specs.Prelude.{◌≡◌, IsOkAnd};
-ghost use Rattle.bb_decide.specs.Bench.{HasCells};
+//! What a machine is decided with.
+ghost use Rattle.std.specs.Prelude.{◌≡◌, IfOk};
+ghost use Rattle.bb_cert.specs.Path.{depth_of};
+ghost use Rattle.bb_decide.specs.Bench.{HasCells, HasTapes};
 
+use bb_cert::Path;
 use bb_machine::Limits;
 use bb_tape::{Memory, Tape};
 use std::alloc::Global;
 
-/// The tapes that deciding a machine uses. Each call resets what it uses.
+/// The tapes that deciding a machine uses, and the room for its walk. Each call resets what it uses.
 #[derive(Drop)]
 pub struct Bench<T> {
     pub run: T,
     pub right: T,
     pub left: T,
+    pub path: Path,
 }
 
 impl<T: Tape> Bench<T> {
-    /// A bench of three tapes for machines under these limits. It takes no memory.
+    /// A bench of three tapes for machines under these limits, with a path as deep as they allow, for which it takes
+    /// memory once.
     pub fn new(
-        _alloc: Global,
+        alloc: Global,
         run: T,
         right: T,
         left: T,
@@ -26,9 +30,16 @@ impl<T: Tape> Bench<T> {
         requires run { (T.strip run).limit ≡ limits.now.cells }
         requires right { (T.strip right).limit ≡ limits.now.cells }
         requires left { (T.strip left).limit ≡ limits.now.cells }
-        ensures given { IsOkAnd result (λ bench. bench ≡ record { run = run; right = right; left = left }) }
-        ensures room { IsOkAnd result (HasCells T.strip limits.now.cells) }
+        ensures given { IfOk result (HasTapes run right left) }
+        ensures room { IfOk result (HasCells T.strip limits.now.cells) }
+        ensures path { IfOk result (λ bench. depth_of bench.path ≡ limits.now.depth) }
     {
-        Ok(Bench { run, right, left })
+        let path = Path::new(alloc, limits.depth())?;
+        Ok(Bench {
+            run,
+            right,
+            left,
+            path,
+        })
     }
 }

@@ -1,5 +1,5 @@
 //! The search for a configuration that comes again.
-ghost use Rattle.std.specs.Prelude.{◌*◌, ◌≤◌, IfOk, IfSome, IsTrue, OnErr};
+ghost use Rattle.std.specs.Prelude.{◌≡◌, ◌*◌, ◌≤◌, IfOk, IfSome, IsTrue, OnErr, OnOk};
 ghost use Rattle.bb_sim.specs.Meter.{IsWithinRun};
 ghost use Rattle.bb_sim.specs.Run.{Never};
 ghost use Rattle.bb_cert.specs.Claim.{Claim};
@@ -11,7 +11,7 @@ use crate::bench::Bench;
 use bb_cert::{Verdict, is_same};
 use bb_machine::{Limits, Machine};
 use bb_sim::{Meter, Moved, Runner};
-use bb_tape::{Memory, Tape};
+use bb_tape::{Memory, Tape, TapeFault};
 
 /// The pair of the first step, from step 2 on, whose configuration is that of its partner, the greatest power of two
 /// below it. None where there is none inside the limits.
@@ -33,28 +33,74 @@ pub fn cyclers<T: Tape>(
     ensures claim { IfOk result (λ found. IfSome found (Claim machine.now)) }
     ensures numbers { IfOk result (λ found. IfSome found HasNumbers) }
     ensures tapes { HasCells T.strip limits.now.cells bench.new }
+    ensures path { bench.new.path ≡ bench.old.path }
+    ensures memory { OnErr result (IsTrue T.GROWS) }
+{
+    let limits = *limits;
+    let mut spent = *meter;
+    let found = run(machine, &limits, bench, &mut spent);
+    *meter = spent;
+    found
+}
+
+/// `cyclers`, inlined there, so that the limits and the meter, which are its locals, stay in registers.
+#[inline(always)]
+fn run<T: Tape>(
+    machine: &Machine,
+    limits: &Limits,
+    bench: &mut Bench<T>,
+    meter: &mut Meter,
+) -> Result<Option<Verdict>, Memory>
+    requires tapes { HasCells T.strip limits.now.cells bench.old }
+    requires room { meter.old.steps ≤ 2 * limits.now.steps }
+    ensures found { IfOk result (FindsCycle machine.now limits.now) }
+    ensures counted { IfOk result (CountsSearch machine.now limits.now meter.old meter.new) }
+    ensures within { IsWithinRun limits.now meter.old meter.new }
+    ensures never { IfOk result (λ found. IfSome found (λ verdict. Never machine.now)) }
+    ensures claim { IfOk result (λ found. IfSome found (Claim machine.now)) }
+    ensures numbers { IfOk result (λ found. IfSome found HasNumbers) }
+    ensures tapes { HasCells T.strip limits.now.cells bench.new }
+    ensures path { bench.new.path ≡ bench.old.path }
     ensures memory { OnErr result (IsTrue T.GROWS) }
 {
     let _accepted = limits.steps();
     let mut runner = Runner::start(machine, &mut bench.run);
     let mut kept = Runner::start(machine, &mut bench.right);
+    let mut next_kept = 0;
     meter.most_cells = meter.most_cells.max(1);
     loop {
         match runner.advance(machine, &mut bench.run, limits, meter)? {
             Moved::Stepped => {}
             _ => return Ok(None),
         }
+        // In Z the run ends, in a state in which it wasn't before.
+        let Some(_) = runner.state() else {
+            return Ok(None);
+        };
         if is_same(&runner, &bench.run, &kept, &bench.right) {
             return Ok(Some(Verdict::Cycler {
                 first: kept.steps(),
                 second: runner.steps(),
             }));
         }
-        if runner.steps() >= 2 * kept.steps() {
-            let Ok(()) = bench.right.copy_from(&bench.run) else {
+        if runner.steps() >= next_kept {
+            let Ok(()) = save(&mut bench.right, &bench.run) else {
                 return Err(Memory);
             };
             kept = runner;
+            next_kept = 2 * kept.steps();
         }
     }
+}
+
+/// Takes over the cells and the window of another tape. It is out of line, so that the search keeps its registers.
+#[cold]
+#[inline(never)]
+fn save<T: Tape>(saved: &mut T, run: &T) -> Result<(), TapeFault>
+    requires { (T.strip saved.old).limit ≡ (T.strip run.now).limit }
+    ensures ok { OnOk result (T.strip saved.new ≡ T.strip run.now) }
+    ensures limit { (T.strip saved.new).limit ≡ (T.strip saved.old).limit }
+    ensures memory { OnErr result (IsTrue T.GROWS) }
+{
+    saved.copy_from(run)
 }

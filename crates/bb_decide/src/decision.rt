@@ -2,17 +2,37 @@
 ghost use Rattle.std.specs.Prelude.{◌≡◌, ◌*◌, ◌≤◌, IfOk, IfSome, IsTrue, OnErr, OnOk};
 ghost use Rattle.bb_sim.specs.Meter.{IsWithinRun};
 ghost use Rattle.bb_sim.specs.Run.{Never};
+ghost use Rattle.bb_cert.specs.declared.answer.Answer.{Answer};
+ghost use Rattle.bb_cert.specs.declared.reader.Line.{Line};
+ghost use Rattle.bb_cert.specs.Answer.{IsAnswer, IsUndecided};
 ghost use Rattle.bb_cert.specs.Claim.{Claim, SaysNever};
+ghost use Rattle.bb_cert.specs.Line.{IsLineOf, line_text};
+ghost use Rattle.bb_cert.specs.Path.{depth_of};
 ghost use Rattle.bb_cert.specs.Verdict.{HasNumbers};
+ghost use Rattle.bb_cert.specs.WalkMeter.{IsWithinWalk};
+ghost use Rattle.bb_decide.specs.Backward.{without_nodes};
 ghost use Rattle.bb_decide.specs.Bench.{HasCells};
-ghost use Rattle.bb_decide.specs.Plan.{IsBuilt};
-ghost use Rattle.bb_decide.specs.Search.{CyclersCount, CyclersFind, IsWithinSearches, SearchesCount, SearchesFind, TranslatedCount, TranslatedFind};
+ghost use Rattle.bb_decide.specs.Search.{
+  BackwardCounts,
+  BackwardFinds,
+  CyclersCount,
+  CyclersFind,
+  DecidersCount,
+  DecidersFind,
+  IsWithinDeciders,
+  IsWithinSearches,
+  SearchesCount,
+  SearchesFind,
+  TranslatedCount,
+  TranslatedFind,
+};
 ghost use Rattle.bb_decide.specs.Verdict.{IsVerdict};
 ghost use Rattle.bb_decide.specs.Work.{CountsWork, IsWithinWork};
 
 use crate::bench::Bench;
 use crate::cycle::cyclers;
 use crate::plan::Plan;
+use crate::reasoning::backward;
 use crate::translation::translated;
 use bb_cert::{Verdict, Why};
 use bb_machine::{Limits, Machine};
@@ -21,8 +41,7 @@ use bb_tape::{Memory, Tape};
 
 /// The verdict on a machine, and under the meter what it cost: the meter is begun at 0.
 ///
-/// Backward reasoning isn't built yet, so the plan may not switch it on. After an error nothing is said of what the
-/// tapes hold; the next call resets them.
+/// After an error nothing is said of what the tapes hold; the next call resets them.
 pub fn decide<T: Tape>(
     machine: &Machine,
     limits: &Limits,
@@ -31,30 +50,65 @@ pub fn decide<T: Tape>(
     meter: &mut Meter,
 ) -> Result<Verdict, Memory>
     requires tapes { HasCells T.strip limits.now.cells bench.old }
-    requires plan { IsBuilt plan }
+    requires path { depth_of bench.old.path ≡ limits.now.depth }
     ensures verdict { IfOk result (IsVerdict machine.now limits.now plan) }
     ensures numbers { IfOk result HasNumbers }
     ensures claim { IfOk result (Claim machine.now) }
     ensures never { IfOk result (λ verdict. SaysNever verdict → Never machine.now) }
+    ensures confirmed { IfOk result (λ verdict. (IsUndecided verdict → ⊥)
+        → IsAnswer machine.now limits.now verdict Answer.Ok) }
+    ensures line { IfOk result (λ verdict.
+        IsLineOf (Line.Claim machine.now verdict) (line_text machine.now verdict)) }
     ensures counted { OnOk result (CountsWork machine.now limits.now plan meter.new) }
     ensures within { IsWithinWork limits.now meter.new }
     ensures tapes { HasCells T.strip limits.now.cells bench.new }
+    ensures path { depth_of bench.new.path ≡ depth_of bench.old.path }
     ensures memory { OnErr result (IsTrue T.GROWS) }
 {
     *meter = Meter::new();
     let _accepted = limits.steps();
+    let _read = machine.states();
     let why = match simulate(machine, &mut bench.run, limits, meter)? {
         Outcome::Halt { steps, score } => return Ok(Verdict::Halt { steps, score }),
         Outcome::NoSteps => Why::Steps,
         Outcome::NoCells => Why::Cells,
     };
-    match search(machine, limits, plan, bench, meter)? {
+    match find(machine, limits, plan, bench, meter)? {
         Some(verdict) => Ok(verdict),
         None => Ok(Verdict::Undecided(why)),
     }
 }
 
-/// What the searches that are on find, those for cycles first.
+/// What the deciders that are on find, in their order.
+fn find<T: Tape>(
+    machine: &Machine,
+    limits: &Limits,
+    plan: Plan,
+    bench: &mut Bench<T>,
+    meter: &mut Meter,
+) -> Result<Option<Verdict>, Memory>
+    requires tapes { HasCells T.strip limits.now.cells bench.old }
+    requires path { depth_of bench.old.path ≡ limits.now.depth }
+    requires room { meter.old.steps ≤ limits.now.steps }
+    requires nodes { meter.old.nodes ≡ 0 }
+    requires most_levels { meter.old.most_levels ≡ 0 }
+    ensures found { IfOk result (DecidersFind machine.now limits.now plan) }
+    ensures counted { OnOk result (DecidersCount machine.now limits.now plan meter.old meter.new) }
+    ensures within { IsWithinDeciders limits.now meter.old meter.new }
+    ensures claim { IfOk result (λ found. IfSome found (Claim machine.now)) }
+    ensures numbers { IfOk result (λ found. IfSome found HasNumbers) }
+    ensures tapes { HasCells T.strip limits.now.cells bench.new }
+    ensures path { depth_of bench.new.path ≡ depth_of bench.old.path }
+    ensures memory { OnErr result (IsTrue T.GROWS) }
+{
+    match search(machine, limits, plan, bench, meter)? {
+        Some(verdict) => return Ok(Some(verdict)),
+        None => {}
+    }
+    backward_if_on(machine, limits, plan, bench, meter)
+}
+
+/// What the two searches that are on find, that for cycles first.
 fn search<T: Tape>(
     machine: &Machine,
     limits: &Limits,
@@ -70,6 +124,7 @@ fn search<T: Tape>(
     ensures claim { IfOk result (λ found. IfSome found (Claim machine.now)) }
     ensures numbers { IfOk result (λ found. IfSome found HasNumbers) }
     ensures tapes { HasCells T.strip limits.now.cells bench.new }
+    ensures path { bench.new.path ≡ bench.old.path }
     ensures memory { OnErr result (IsTrue T.GROWS) }
 {
     match cyclers_if_on(machine, limits, plan, bench, meter)? {
@@ -95,6 +150,7 @@ fn cyclers_if_on<T: Tape>(
     ensures claim { IfOk result (λ found. IfSome found (Claim machine.now)) }
     ensures numbers { IfOk result (λ found. IfSome found HasNumbers) }
     ensures tapes { HasCells T.strip limits.now.cells bench.new }
+    ensures path { bench.new.path ≡ bench.old.path }
     ensures memory { OnErr result (IsTrue T.GROWS) }
 {
     if !plan.cyclers {
@@ -119,10 +175,38 @@ fn translated_if_on<T: Tape>(
     ensures claim { IfOk result (λ found. IfSome found (Claim machine.now)) }
     ensures numbers { IfOk result (λ found. IfSome found HasNumbers) }
     ensures tapes { HasCells T.strip limits.now.cells bench.new }
+    ensures path { bench.new.path ≡ bench.old.path }
     ensures memory { OnErr result (IsTrue T.GROWS) }
 {
     if !plan.translated {
         return Ok(None);
     }
     translated(machine, limits, bench, meter)
+}
+
+/// What backward reasoning finds, where it is on.
+fn backward_if_on<T: Tape>(
+    machine: &Machine,
+    limits: &Limits,
+    plan: Plan,
+    bench: &mut Bench<T>,
+    meter: &mut Meter,
+) -> Result<Option<Verdict>, Memory>
+    requires tapes { HasCells T.strip limits.now.cells bench.old }
+    requires path { depth_of bench.old.path ≡ limits.now.depth }
+    requires nodes { meter.old.nodes ≡ 0 }
+    requires most_levels { meter.old.most_levels ≡ 0 }
+    ensures found { IfOk result (BackwardFinds machine.now limits.now plan) }
+    ensures counted { IfOk result (BackwardCounts machine.now limits.now plan meter.old meter.new) }
+    ensures within { IsWithinWalk limits.now.depth limits.now.nodes meter.old meter.new }
+    ensures claim { IfOk result (λ found. IfSome found (Claim machine.now)) }
+    ensures numbers { IfOk result (λ found. IfSome found HasNumbers) }
+    ensures tapes { HasCells T.strip limits.now.cells bench.new }
+    ensures path { depth_of bench.new.path ≡ depth_of bench.old.path }
+    ensures memory { OnErr result (IsTrue T.GROWS) }
+{
+    if !plan.backward {
+        return Ok(None);
+    }
+    backward(machine, limits, bench, meter)
 }

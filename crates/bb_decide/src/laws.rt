@@ -1,12 +1,19 @@
 //! Laws of verdicts, as contracts: a call of each does nothing.
-ghost use Rattle.bb_decide.specs.Laws.{VerdictIsUnique, WorkIsUnique};
+ghost use Rattle.bb_decide.specs.Laws.{VerdictIsUnique, VerdictsAreConfirmed, VerdictsHold, WorkIsBounded, WorkIsUnique};
 
 /// A machine has one verdict under one set of limits and one plan.
 pub fn verdict_is_unique()
     ensures { VerdictIsUnique }
 {}
 
-/// Deciding it costs as many steps each time.
+/// Deciding it costs as many steps each time, no more than three times the limit.
 pub fn work_is_unique()
-    ensures { WorkIsUnique }
+    ensures unique { WorkIsUnique }
+    ensures bounded { WorkIsBounded }
+{}
+
+/// What a verdict claims holds, so the checker confirms it under the same limits.
+pub fn verdicts_hold()
+    ensures claim { VerdictsHold }
+    ensures confirmed { VerdictsAreConfirmed }
 {}

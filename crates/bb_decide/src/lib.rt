@@ -6,7 +6,7 @@ pub mod cycle;
 pub mod decision;
 pub mod laws;
 pub mod plan;
-mod reach;
+pub mod reasoning;
 mod records;
 #[cfg(test)]
 mod tests;
@@ -16,4 +16,5 @@ pub use bench::Bench;
 pub use cycle::cyclers;
 pub use decision::decide;
 pub use plan::Plan;
+pub use reasoning::backward;
 pub use translation::translated;

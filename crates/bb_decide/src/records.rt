@@ -1,20 +1,22 @@
 //! The records of one side of a run, and the one with which later ones are compared.
-ghost use Rattle.std.specs.Prelude.{◌≡◌, ◌≢◌, ◌*◌, ◌↔◌, ◌+ℤ◌, ◌-ℤ◌, ◌<ℤ◌, ◌≤ℤ◌, neg_ℤ, pos, IfOk, IsTrue, OnErr};
+ghost use Rattle.std.specs.Prelude.{◌≡◌, ◌≢◌, ◌*◌, ◌↔◌, ◌+ℤ◌, ◌-ℤ◌, ◌<ℤ◌, ◌≤ℤ◌, neg_ℤ, pos};
+ghost use Rattle.std.specs.Prelude.{IfOk, IsTrue, OnErr};
 ghost use Rattle.std.specs.Int.{int_max, int_min};
 ghost use Rattle.bb_tape.specs.Strip.{IsBeside, IsInside};
 ghost use Rattle.bb_sim.specs.Runner.{Stands, position_of, state_of, steps_of};
 ghost use Rattle.bb_cert.specs.Record.{out};
-ghost use Rattle.bb_decide.specs.Follow.{FindsPartner, GoesOn, HasSameCells, IsAtRecord, IsComparable, IsFollowedBefore, IsKeptInStateOf, IsWidened, lesser_of};
+ghost use Rattle.bb_decide.specs.Follow.{FindsPartner, GoesOn, HasSameCells, IsAtRecord, IsComparable};
+ghost use Rattle.bb_decide.specs.Follow.{IsFollowedBefore, IsKeptInStateOf, IsWidened, lesser_of};
 
-use crate::reach::reach;
 use bb_cert::Side;
 use bb_machine::{Machine, Next};
 use bb_sim::Runner;
+use bb_tape::reach::reach;
 use bb_tape::{MOST_CELLS, Memory, Tape};
 
 /// How many records of a side there were, and the one that is kept. Everything is told in how far out a position is on
 /// the side.
-#[derive(Drop)]
+#[derive(Clone, Copy)]
 pub struct Records {
     side: Side,
     /// How far out the head was at most: the number of the last record.
@@ -58,7 +60,8 @@ impl Records {
         requires limit { (T.strip saved.old).limit ≡ (T.strip run.now).limit }
         requires followed { IsFollowedBefore machine.now (steps_of runner.now) self.old (T.strip saved.old) }
         ensures found { IfOk result (FindsPartner machine.now self.old.side (steps_of runner.now)) }
-        ensures followed { IfOk result (GoesOn machine.now (steps_of runner.now) self.new (T.strip saved.new)) }
+        ensures followed { IfOk result
+            (GoesOn machine.now (steps_of runner.now) self.new (T.strip saved.new)) }
         ensures side { self.new.side ≡ self.old.side }
         ensures limit { (T.strip saved.new).limit ≡ (T.strip saved.old).limit }
         ensures memory { OnErr result (IsTrue T.GROWS) }
@@ -81,31 +84,64 @@ impl Records {
         } }
     {
         let far_out = how_far_out(self.side, position);
-        let is_record = self.top < far_out;
-        self.top = self.top.max(far_out);
         self.far = self.far.min(far_out);
-        is_record
+        if far_out <= self.top {
+            return false;
+        }
+        self.top = far_out;
+        true
     }
 
-    /// Compares the record that was just made with the kept one, and keeps it if its number is at least twice the other.
-    #[inline(never)]
+    /// Compares the record that was just made with the kept one, and keeps it if it is its turn. The records and the
+    /// runner are locals of a loop: they stay in registers, since what is out of line gets copies of them.
+    #[inline(always)]
     fn look<T: Tape>(
         &mut self,
-        _machine: &Machine,
+        machine: &Machine,
         runner: &Runner,
         run: &T,
         saved: &mut T,
     ) -> Result<Option<u64>, Memory>
-        requires stands { Stands _machine.now runner.now (T.strip run.now) }
+        requires stands { Stands machine.now runner.now (T.strip run.now) }
         requires limit { (T.strip saved.old).limit ≡ (T.strip run.now).limit }
-        requires at { IsAtRecord _machine.now (steps_of runner.now) self.old (T.strip saved.old) }
-        ensures found { IfOk result (FindsPartner _machine.now self.old.side (steps_of runner.now)) }
-        ensures followed { IfOk result (GoesOn _machine.now (steps_of runner.now) self.new (T.strip saved.new)) }
+        requires at { IsAtRecord machine.now (steps_of runner.now) self.old (T.strip saved.old) }
+        ensures found { IfOk result (FindsPartner machine.now self.old.side (steps_of runner.now)) }
+        ensures followed { IfOk result
+            (GoesOn machine.now (steps_of runner.now) self.new (T.strip saved.new)) }
         ensures side { self.new.side ≡ self.old.side }
         ensures limit { (T.strip saved.new).limit ≡ (T.strip saved.old).limit }
         ensures memory { OnErr result (IsTrue T.GROWS) }
     {
-        if self.agrees(runner, run, saved) {
+        let mut looked = *self;
+        let found = looked.compare_and_keep(machine, *runner, run, saved)?;
+        self.number = looked.number;
+        self.kept = looked.kept;
+        self.far = looked.far;
+        Ok(found)
+    }
+
+    /// Compares the record that was just made with the kept one, and keeps it if its number is at least twice the
+    /// other.
+    #[cold]
+    #[inline(never)]
+    fn compare_and_keep<T: Tape>(
+        &mut self,
+        _machine: &Machine,
+        runner: Runner,
+        run: &T,
+        saved: &mut T,
+    ) -> Result<Option<u64>, Memory>
+        requires stands { Stands _machine.now runner (T.strip run.now) }
+        requires limit { (T.strip saved.old).limit ≡ (T.strip run.now).limit }
+        requires at { IsAtRecord _machine.now (steps_of runner) self.old (T.strip saved.old) }
+        ensures found { IfOk result (FindsPartner _machine.now self.old.side (steps_of runner)) }
+        ensures followed { IfOk result (GoesOn _machine.now (steps_of runner) self.new (T.strip saved.new)) }
+        ensures side { self.new.side ≡ self.old.side }
+        ensures top { self.new.top ≡ self.old.top }
+        ensures limit { (T.strip saved.new).limit ≡ (T.strip saved.old).limit }
+        ensures memory { OnErr result (IsTrue T.GROWS) }
+    {
+        if self.agrees(&runner, run, saved) {
             return Ok(Some(self.kept.steps()));
         }
         if self.top < 2 * self.number {
@@ -114,7 +150,7 @@ impl Records {
         let Ok(()) = saved.copy_from(run) else {
             return Err(Memory);
         };
-        self.kept = *runner;
+        self.kept = runner;
         self.number = self.top;
         self.far = self.top;
         Ok(None)
@@ -135,7 +171,9 @@ impl Records {
         if !is_in_same_state(&self.kept, runner) {
             return false;
         }
-        reach(saved, how_far_out(self.side, self.far));
+        let Ok(()) = reach(saved, how_far_out(self.side, self.far)) else {
+            unreachable!();
+        };
         self.has_same_cells(run, saved)
     }
 
@@ -143,7 +181,8 @@ impl Records {
     fn has_same_cells<T: Tape>(&self, run: &T, saved: &T) -> bool
         requires comparable { IsComparable self.now (T.strip saved.now) (T.strip run.now) }
         requires far { IsInside (T.strip saved.now) (out self.now.side self.now.far) }
-        ensures { IsTrue result ↔ HasSameCells self.now (T.strip saved.now).content (T.strip run.now).content }
+        ensures { IsTrue result
+            ↔ HasSameCells self.now (T.strip saved.now).content (T.strip run.now).content }
     {
         let shift = self.top - self.number;
         let from = lesser_end(self.side, self.far, self.number);

@@ -1,6 +1,9 @@
 //! Verdicts over both tapes, with answers that were worked out by hand.
 ghost use Rattle.std.specs.Prelude.{◌≡◌};
+ghost use Rattle.bb_cert.specs.Path.{depth_of};
 ghost use Rattle.bb_decide.specs.Bench.{HasCells};
+
+mod trees;
 
 use crate::{Bench, Plan, cyclers, decide};
 use bb_cert::{Side, Verdict, Why};
@@ -203,8 +206,10 @@ fn are_decided<T: Tape>(
     translated: bool,
     rows: &[Row],
 ) -> Result<(), Fail>
-    requires { HasCells T.strip CELLS bench.old }
-    ensures { HasCells T.strip CELLS bench.new }
+    requires tapes { HasCells T.strip CELLS bench.old }
+    requires path { depth_of bench.old.path ≡ 0 }
+    ensures tapes { HasCells T.strip CELLS bench.new }
+    ensures path { depth_of bench.new.path ≡ 0 }
 {
     let plan = Plan {
         cyclers: true,
@@ -224,8 +229,10 @@ fn are_decided<T: Tape>(
 
 /// Searches one machine for a cycle, and holds what is found and counted against what was worked out.
 fn is_searched<T: Tape>(rt: &impl Abort, bench: &mut Bench<T>) -> Result<(), Fail>
-    requires { HasCells T.strip CELLS bench.old }
-    ensures { HasCells T.strip CELLS bench.new }
+    requires tapes { HasCells T.strip CELLS bench.old }
+    requires path { depth_of bench.old.path ≡ 0 }
+    ensures tapes { HasCells T.strip CELLS bench.new }
+    ensures path { depth_of bench.new.path ≡ 0 }
 {
     let limits = Limits::new(100, CELLS, 0, 0)?;
     let machine = Machine::read(b"1RB0RB_1LA1LA")?;

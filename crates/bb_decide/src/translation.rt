@@ -1,5 +1,5 @@
 //! The search for records that agree.
-ghost use Rattle.std.specs.Prelude.{◌*◌, ◌≤◌, IfOk, IfSome, IsTrue, OnErr};
+ghost use Rattle.std.specs.Prelude.{◌≡◌, ◌*◌, ◌≤◌, IfOk, IfSome, IsTrue, OnErr};
 ghost use Rattle.bb_sim.specs.Meter.{IsWithinRun};
 ghost use Rattle.bb_sim.specs.Run.{Never};
 ghost use Rattle.bb_cert.specs.Claim.{Claim};
@@ -15,8 +15,8 @@ use bb_machine::{Limits, Machine};
 use bb_sim::{Meter, Moved, Runner};
 use bb_tape::{Memory, Tape};
 
-/// The first record of either side, from record 2 on, that agrees with its partner, the record of that side whose number
-/// is the greatest power of two below its own. None where there is none inside the limits.
+/// The first record of either side, from record 2 on, that agrees with its partner, the record of that side whose
+/// number is the greatest power of two below its own. None where there is none inside the limits.
 ///
 /// After an error nothing is said of what the tapes hold; the next call resets them.
 #[inline(never)]
@@ -35,6 +35,34 @@ pub fn translated<T: Tape>(
     ensures claim { IfOk result (λ found. IfSome found (Claim machine.now)) }
     ensures numbers { IfOk result (λ found. IfSome found HasNumbers) }
     ensures tapes { HasCells T.strip limits.now.cells bench.new }
+    ensures path { bench.new.path ≡ bench.old.path }
+    ensures memory { OnErr result (IsTrue T.GROWS) }
+{
+    let limits = *limits;
+    let mut spent = *meter;
+    let found = run(machine, &limits, bench, &mut spent);
+    *meter = spent;
+    found
+}
+
+/// `translated`, inlined there, so that the limits and the meter, which are its locals, stay in registers.
+#[inline(always)]
+fn run<T: Tape>(
+    machine: &Machine,
+    limits: &Limits,
+    bench: &mut Bench<T>,
+    meter: &mut Meter,
+) -> Result<Option<Verdict>, Memory>
+    requires tapes { HasCells T.strip limits.now.cells bench.old }
+    requires room { meter.old.steps ≤ 2 * limits.now.steps }
+    ensures found { IfOk result (FindsTranslation machine.now limits.now) }
+    ensures counted { IfOk result (CountsSearch machine.now limits.now meter.old meter.new) }
+    ensures within { IsWithinRun limits.now meter.old meter.new }
+    ensures never { IfOk result (λ found. IfSome found (λ verdict. Never machine.now)) }
+    ensures claim { IfOk result (λ found. IfSome found (Claim machine.now)) }
+    ensures numbers { IfOk result (λ found. IfSome found HasNumbers) }
+    ensures tapes { HasCells T.strip limits.now.cells bench.new }
+    ensures path { bench.new.path ≡ bench.old.path }
     ensures memory { OnErr result (IsTrue T.GROWS) }
 {
     let _accepted = limits.steps();
@@ -47,6 +75,10 @@ pub fn translated<T: Tape>(
             Moved::Stepped => {}
             _ => return Ok(None),
         }
+        // In Z the run ends, in a state in which it wasn't before.
+        let Some(_) = runner.state() else {
+            return Ok(None);
+        };
         match right.take_in(machine, &runner, &bench.run, &mut bench.right)? {
             Some(first) => {
                 return Ok(Some(Verdict::Translated {

@@ -13,46 +13,54 @@ add_to_last byte [] = (byte ∷ []) ∷ []
 add_to_last byte (part ∷ []) = (part ++ byte ∷ []) ∷ []
 add_to_last byte (part ∷ next ∷ parts) = part ∷ add_to_last byte (next ∷ parts)
 
-add_to_last-append : (byte : ℕ) (parts : List (List ℕ)) (part : List ℕ) → add_to_last byte (parts ++ part ∷ []) ≡ parts ++ (part ++ byte ∷ []) ∷ []
+add_to_last-append : (byte : ℕ) (parts : List (List ℕ)) (part : List ℕ)
+    → add_to_last byte (parts ++ part ∷ []) ≡ parts ++ (part ++ byte ∷ []) ∷ []
 unfolding add_to_last
 add_to_last-append byte [] part = refl
 add_to_last-append byte (first ∷ []) part = refl
-add_to_last-append byte (first ∷ next ∷ parts) part = ap (λ ps. first ∷ ps) (add_to_last-append byte (next ∷ parts) part)
+add_to_last-append byte (first ∷ next ∷ parts) part =
+    ap (λ ps. first ∷ ps) (add_to_last-append byte (next ∷ parts) part)
 
-add_to_last-onto_first : (byte x : ℕ) (parts : List (List ℕ)) → add_to_last byte (onto_first x parts) ≡ onto_first x (add_to_last byte parts)
+add_to_last-onto_first : (byte x : ℕ) (parts : List (List ℕ))
+    → add_to_last byte (onto_first x parts) ≡ onto_first x (add_to_last byte parts)
 unfolding add_to_last
 add_to_last-onto_first byte x [] = refl
 add_to_last-onto_first byte x (part ∷ []) = refl
 add_to_last-onto_first byte x (part ∷ next ∷ parts) = refl
-
-onto_first-append : (x : ℕ) (parts : List (List ℕ)) (first part : List ℕ) → onto_first x ((first ∷ parts) ++ part ∷ []) ≡ onto_first x (first ∷ parts) ++ part ∷ []
-onto_first-append x parts first part = refl
 
 module _ (p : ℕ → Bool) where
   -- some part is there
   split_some : (xs : List ℕ) → (first : List ℕ) × (rest : List (List ℕ)) × (slice_split p xs ≡ first ∷ rest)
   split_some [] = ([], [], refl)
   split_some (x ∷ xs) =
-      elim (p x) as (λ b. (first : List ℕ) × (rest : List (List ℕ)) × (cond b ([] ∷ slice_split p xs) (onto_first x (slice_split p xs)) ≡ first ∷ rest)) [
+      elim (p x) as
+      (λ b. (first : List ℕ) × (rest : List (List ℕ))
+      × (cond b ([] ∷ slice_split p xs) (onto_first x (slice_split p xs)) ≡ first ∷ rest)) [
         | true ↦ ([], slice_split p xs, refl)
         | false ↦ (let h = split_some xs in (x ∷ h.0, h.1, ap (onto_first x) h.2))
       ]
 
   -- one more separator ends the last part, and begins an empty one
-  split_separator : (xs : List ℕ) (byte : ℕ) → p byte ≡ true → slice_split p (xs ++ byte ∷ []) ≡ slice_split p xs ++ [] ∷ []
+  split_separator : (xs : List ℕ) (byte : ℕ) → p byte ≡ true
+      → slice_split p (xs ++ byte ∷ []) ≡ slice_split p xs ++ [] ∷ []
   split_separator [] byte is = ap (λ b. cond b ([] ∷ [] ∷ []) (onto_first byte ([] ∷ []))) is
   split_separator (x ∷ xs) byte is =
-      elim (p x) as (λ b. cond b ([] ∷ slice_split p (xs ++ byte ∷ [])) (onto_first x (slice_split p (xs ++ byte ∷ []))) ≡ cond b ([] ∷ slice_split p xs) (onto_first x (slice_split p xs)) ++ [] ∷ []) [
+      elim (p x) as
+      (λ b. cond b ([] ∷ slice_split p (xs ++ byte ∷ [])) (onto_first x (slice_split p (xs ++ byte ∷ [])))
+      ≡ cond b ([] ∷ slice_split p xs) (onto_first x (slice_split p xs)) ++ [] ∷ []) [
         | true ↦ ap (λ parts. [] ∷ parts) (split_separator xs byte is)
         | false ↦ (let h = split_some xs in rw (split_separator xs byte is, h.2) refl)
       ]
 
   -- one more byte of another kind goes to the last part
-  split_other : (xs : List ℕ) (byte : ℕ) → p byte ≡ false → slice_split p (xs ++ byte ∷ []) ≡ add_to_last byte (slice_split p xs)
+  split_other : (xs : List ℕ) (byte : ℕ) → p byte ≡ false
+      → slice_split p (xs ++ byte ∷ []) ≡ add_to_last byte (slice_split p xs)
   unfolding add_to_last
   split_other [] byte is = ap (λ b. cond b ([] ∷ [] ∷ []) (onto_first byte ([] ∷ []))) is
   split_other (x ∷ xs) byte is =
-      elim (p x) as (λ b. cond b ([] ∷ slice_split p (xs ++ byte ∷ [])) (onto_first x (slice_split p (xs ++ byte ∷ []))) ≡ add_to_last byte (cond b ([] ∷ slice_split p xs) (onto_first x (slice_split p xs)))) [
+      elim (p x) as
+      (λ b. cond b ([] ∷ slice_split p (xs ++ byte ∷ [])) (onto_first x (slice_split p (xs ++ byte ∷ [])))
+      ≡ add_to_last byte (cond b ([] ∷ slice_split p xs) (onto_first x (slice_split p xs)))) [
         | true ↦ (let h = split_some xs in rw (split_other xs byte is, h.2) refl)
         | false ↦ rw (split_other xs byte is) (sym (add_to_last-onto_first byte x (slice_split p xs)))
       ]
@@ -63,14 +71,19 @@ pub record LinesAre (bytes : List ℕ) (before : List (List ℕ)) (rest : List �
   pub is_unfinished : unfinished bytes ≡ rest
 
 -- the parts but the last, and the last
-parts_end : (first : List ℕ) (rest : List (List ℕ)) → (before : List (List ℕ)) × (last : List ℕ) × (first ∷ rest ≡ before ++ last ∷ [])
+parts_end : (first : List ℕ) (rest : List (List ℕ))
+    → (before : List (List ℕ)) × (last : List ℕ) × (first ∷ rest ≡ before ++ last ∷ [])
 parts_end first [] = ([], first, refl)
-parts_end first (next ∷ rest) = let h = parts_end next rest in (first ∷ h.0, h.1, ap (λ parts. first ∷ parts) h.2)
+parts_end first (next ∷ rest) =
+    let h = parts_end next rest in (first ∷ h.0, h.1, ap (λ parts. first ∷ parts) h.2)
 
-LinesAre-from_pieces : (bytes : List ℕ) (before : List (List ℕ)) (rest : List ℕ) → pieces bytes ≡ before ++ rest ∷ [] → LinesAre bytes before rest
+LinesAre-from_pieces : (bytes : List ℕ) (before : List (List ℕ)) (rest : List ℕ)
+    → pieces bytes ≡ before ++ rest ∷ [] → LinesAre bytes before rest
 unfolding complete unfinished
 LinesAre-from_pieces bytes before rest are =
-    let count : length (pieces bytes) - 1 ≡ length before = rw are (omega (arith, length-append before (rest ∷ []))) in record {
+    let count : length (pieces bytes) - 1 ≡ length before =
+    rw are (omega (arith, length-append before (rest ∷ []))) in
+    record {
       is_complete = rw (count, are) (take-append_seam before (rest ∷ []));
       is_unfinished = rw (count, are) (get_or-append_seam before rest [] []);
     }
@@ -84,19 +97,25 @@ pieces_are bytes =
     rw (are.is_complete, are.is_unfinished) (some.2 ∙ end.2)
 
 -- one more newline
-pub LinesAre-newline : (bytes : List ℕ) (byte : ℕ) → (byte == 10) ≡ true → LinesAre (bytes ++ byte ∷ []) (complete bytes ++ unfinished bytes ∷ []) []
+pub LinesAre-newline : (bytes : List ℕ) (byte : ℕ) → (byte == 10) ≡ true
+    → LinesAre (bytes ++ byte ∷ []) (complete bytes ++ unfinished bytes ∷ []) []
 unfolding pieces
-LinesAre-newline bytes byte is = LinesAre-from_pieces (bytes ++ byte ∷ []) (complete bytes ++ unfinished bytes ∷ []) []
+LinesAre-newline bytes byte is =
+    LinesAre-from_pieces (bytes ++ byte ∷ []) (complete bytes ++ unfinished bytes ∷ []) []
     (split_separator (λ b. b == 10) bytes byte is ∙ ap (λ parts. parts ++ [] ∷ []) (pieces_are bytes))
 
 -- one more byte that is no newline
-pub LinesAre-other : (bytes : List ℕ) (byte : ℕ) → (byte == 10) ≡ false → LinesAre (bytes ++ byte ∷ []) (complete bytes) (unfinished bytes ++ byte ∷ [])
+pub LinesAre-other : (bytes : List ℕ) (byte : ℕ) → (byte == 10) ≡ false
+    → LinesAre (bytes ++ byte ∷ []) (complete bytes) (unfinished bytes ++ byte ∷ [])
 unfolding pieces
-LinesAre-other bytes byte is = LinesAre-from_pieces (bytes ++ byte ∷ []) (complete bytes) (unfinished bytes ++ byte ∷ [])
-    (split_other (λ b. b == 10) bytes byte is ∙ ap (add_to_last byte) (pieces_are bytes) ∙ add_to_last-append byte (complete bytes) (unfinished bytes))
+LinesAre-other bytes byte is =
+    LinesAre-from_pieces (bytes ++ byte ∷ []) (complete bytes) (unfinished bytes ++ byte ∷ [])
+    (split_other (λ b. b == 10) bytes byte is ∙ ap (add_to_last byte) (pieces_are bytes)
+    ∙ add_to_last-append byte (complete bytes) (unfinished bytes))
 
 -- more bytes, none of them a newline
-pub LinesAre-more : (bytes : List ℕ) {more : List ℕ} → HasNoNewline more → LinesAre (bytes ++ more) (complete bytes) (unfinished bytes ++ more)
+pub LinesAre-more : (bytes : List ℕ) {more : List ℕ} → HasNoNewline more
+    → LinesAre (bytes ++ more) (complete bytes) (unfinished bytes ++ more)
 LinesAre-more bytes none = record {
   is_complete = ap complete (append-nil bytes);
   is_unfinished = ap unfinished (append-nil bytes) ∙ sym (append-nil (unfinished bytes));
@@ -104,18 +123,25 @@ LinesAre-more bytes none = record {
 LinesAre-more bytes (other {byte} {bytes = more} is others) =
     let one = LinesAre-other bytes byte is in
     let rest = LinesAre-more (bytes ++ byte ∷ []) others in
-    let same : bytes ++ (byte ∷ more) ≡ (bytes ++ byte ∷ []) ++ more = sym (append_assoc bytes (byte ∷ []) more) in record {
+    let same : bytes ++ (byte ∷ more) ≡ (bytes ++ byte ∷ []) ++ more =
+    sym (append_assoc bytes (byte ∷ []) more) in
+    record {
       is_complete = ap complete same ∙ rest.is_complete ∙ one.is_complete;
-      is_unfinished = ap unfinished same ∙ rest.is_unfinished ∙ ap (λ b. b ++ more) one.is_unfinished ∙ append_assoc (unfinished bytes) (byte ∷ []) more;
+      is_unfinished = ap unfinished same ∙ rest.is_unfinished ∙ ap (λ b. b ++ more) one.is_unfinished
+          ∙ append_assoc (unfinished bytes) (byte ∷ []) more;
     }
 
 -- a line comes to its end
-pub LinesAre-line : (bytes : List ℕ) (more : List ℕ) → HasNoNewline more → LinesAre (bytes ++ (more ++ 10 ∷ [])) (complete bytes ++ (unfinished bytes ++ more) ∷ []) []
+pub LinesAre-line : (bytes : List ℕ) (more : List ℕ) → HasNoNewline more
+    → LinesAre (bytes ++ (more ++ 10 ∷ [])) (complete bytes ++ (unfinished bytes ++ more) ∷ []) []
 LinesAre-line bytes more others =
     let before = LinesAre-more bytes others in
     let newline = LinesAre-newline (bytes ++ more) 10 refl in
-    let same : bytes ++ (more ++ 10 ∷ []) ≡ (bytes ++ more) ++ 10 ∷ [] = sym (append_assoc bytes more (10 ∷ [])) in record {
-      is_complete = ap complete same ∙ newline.is_complete ∙ rw (before.is_complete, before.is_unfinished) refl;
+    let same : bytes ++ (more ++ 10 ∷ []) ≡ (bytes ++ more) ++ 10 ∷ [] =
+    sym (append_assoc bytes more (10 ∷ [])) in
+    record {
+      is_complete = ap complete same ∙ newline.is_complete
+          ∙ rw (before.is_complete, before.is_unfinished) refl;
       is_unfinished = ap unfinished same ∙ newline.is_unfinished;
     }
 

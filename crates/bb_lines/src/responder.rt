@@ -1,5 +1,6 @@
 //! What replies to a line.
-ghost use Rattle.std.specs.Prelude.{◌≡◌, ℕ, ◌<◌, ◌≤◌, Bool, List, [], length, take, IsTrue, IfOk, OnOk, OnErr};
+ghost use Rattle.std.specs.Prelude.{◌≡◌, ℕ, ◌<◌, ◌≤◌, Bool, List, []};
+ghost use Rattle.std.specs.Prelude.{length, take, IsTrue, IfOk, OnOk, OnErr};
 ghost use Rattle.bb_lines.specs.declared.responder.TheConstants.{MOST_KEPT};
 
 use arrayvec::ArrayVec;

@@ -13,73 +13,136 @@ use Rattle.bb_machine.specs.Column.{BeginsWith}
 use Rattle.bb_machine.specs.Draft.{IsEntryStop}
 
 -- a prefix of a list has its elements
-reads : (whole bytes : List ℕ) (n i : ℕ) → BeginsWith whole (take (n + 1) bytes) → n < length bytes → i ≤ n → get_or whole i 0 ≡ get_or bytes i 0
+reads : (whole bytes : List ℕ) (n i : ℕ) → BeginsWith whole (take (n + 1) bytes) → n < length bytes → i ≤ n
+    → get_or whole i 0 ≡ get_or bytes i 0
 reads whole bytes n i begins inside low =
     let long : length (take (n + 1) bytes) ≡ n + 1 = length-take-le (n + 1) bytes (omega arith) in
-    front_reads 0 whole (take (n + 1) bytes) begins.0 begins.1 i (omega arith) ∙ get_or-take (n + 1) bytes i 0 (omega arith)
+    front_reads 0 whole (take (n + 1) bytes) begins.0 begins.1 i (omega arith)
+    ∙ get_or-take (n + 1) bytes i 0 (omega arith)
 
 one : (bytes : List ℕ) → get_or bytes 0 0 ≢ 0 → (take 1 bytes ≡ get_or bytes 0 0 ∷ []) × (1 ≤ length bytes)
 one [] some = absurd (some refl)
 one (x ∷ bytes) some = (refl, omega arith)
 
-two : (bytes : List ℕ) → get_or bytes 1 0 ≢ 0 → (take 2 bytes ≡ get_or bytes 0 0 ∷ get_or bytes 1 0 ∷ []) × (2 ≤ length bytes)
+two : (bytes : List ℕ) → get_or bytes 1 0 ≢ 0 → (take 2 bytes ≡ get_or bytes 0 0 ∷ get_or bytes 1 0 ∷ [])
+    × (2 ≤ length bytes)
 two [] some = absurd (some refl)
 two (x ∷ []) some = absurd (some refl)
 two (x ∷ y ∷ bytes) some = (refl, omega arith)
 
 module _ (s k : ℕ) (bytes : List ℕ) where
   -- neither `-` nor a symbol
-  pub stop_first : get_or bytes 0 0 ≢ 45 → ((w : ℕ) → w < k → 48 + w ≢ get_or bytes 0 0) → IsEntryStop s k bytes 0
+  pub stop_first : get_or bytes 0 0 ≢ 45 → ((w : ℕ) → w < k → 48 + w ≢ get_or bytes 0 0)
+      → IsEntryStop s k bytes 0
   stop_first no_dash no_digit =
-      record { within = omega arith; part = omega arith; holds = (Undefined, tt, (entry_text Undefined, refl)); longest = λ inside more. next more.0 more.1 more.2 inside }
+      record {
+        within = omega arith;
+        part = omega arith;
+        holds = (Undefined, tt, (entry_text Undefined, refl));
+        longest = λ inside more. next more.0 more.1 more.2 inside;
+      }
     where
-      next : (e : Entry) → IsEntryOf s k e → BeginsWith (entry_text e) (take (0 + 1) bytes) → 0 < length bytes → ⊥
-      next Undefined is begins inside = no_dash (sym (reads (entry_text Undefined) bytes 0 0 begins inside (omega arith)))
-      next (Go w d n) is begins inside = no_digit w is.0 (reads (entry_text (Go w d n)) bytes 0 0 begins inside (omega arith))
+      next : (e : Entry) → IsEntryOf s k e → BeginsWith (entry_text e) (take (0 + 1) bytes)
+          → 0 < length bytes → ⊥
+      next Undefined is begins inside =
+          no_dash (sym (reads (entry_text Undefined) bytes 0 0 begins inside (omega arith)))
+      next (Go w d n) is begins inside =
+          no_digit w is.0 (reads (entry_text (Go w d n)) bytes 0 0 begins inside (omega arith))
 
   -- a `-` with no other after it
   pub stop_dash : get_or bytes 0 0 ≡ 45 → get_or bytes 1 0 ≢ 45 → IsEntryStop s k bytes 1
   stop_dash dash no_dash =
       let prefix = one bytes (λ none. omega arith) in
-      record { within = prefix.1; part = omega arith; holds = (Undefined, tt, (45 ∷ 45 ∷ [], ap (λ x. x ++ 45 ∷ 45 ∷ []) (sym (prefix.0 ∙ ap (λ x. x ∷ []) dash)))); longest = λ inside more. next more.0 more.1 more.2 inside }
+      record {
+        within = prefix.1;
+        part = omega arith;
+        holds = (
+          Undefined,
+          tt,
+          (45 ∷ 45 ∷ [], ap (λ x. x ++ 45 ∷ 45 ∷ []) (sym (prefix.0 ∙ ap (λ x. x ∷ []) dash))),
+        );
+        longest = λ inside more. next more.0 more.1 more.2 inside;
+      }
     where
-      next : (e : Entry) → IsEntryOf s k e → BeginsWith (entry_text e) (take (1 + 1) bytes) → 1 < length bytes → ⊥
-      next Undefined is begins inside = no_dash (sym (reads (entry_text Undefined) bytes 1 1 begins inside (omega arith)))
-      next (Go w d n) is begins inside = let first : 48 + w ≡ get_or bytes 0 0 = reads (entry_text (Go w d n)) bytes 1 0 begins inside (omega arith) in omega arith
+      next : (e : Entry) → IsEntryOf s k e → BeginsWith (entry_text e) (take (1 + 1) bytes)
+          → 1 < length bytes → ⊥
+      next Undefined is begins inside =
+          no_dash (sym (reads (entry_text Undefined) bytes 1 1 begins inside (omega arith)))
+      next (Go w d n) is begins inside =
+          let first : 48 + w ≡ get_or bytes 0 0 =
+          reads (entry_text (Go w d n)) bytes 1 0 begins inside (omega arith) in
+          omega arith
 
   -- two `-` with no third
-  pub stop_dashes : get_or bytes 0 0 ≡ 45 → get_or bytes 1 0 ≡ 45 → get_or bytes 2 0 ≢ 45 → IsEntryStop s k bytes 2
+  pub stop_dashes : get_or bytes 0 0 ≡ 45 → get_or bytes 1 0 ≡ 45 → get_or bytes 2 0 ≢ 45
+      → IsEntryStop s k bytes 2
   stop_dashes dash dashes no_dash =
       let prefix = two bytes (λ none. omega arith) in
       let is : take 2 bytes ≡ 45 ∷ 45 ∷ [] = cc in
-      record { within = prefix.1; part = omega arith; holds = (Undefined, tt, (45 ∷ [], ap (λ x. x ++ 45 ∷ []) (sym is))); longest = λ inside more. next more.0 more.1 more.2 inside }
+      record {
+        within = prefix.1;
+        part = omega arith;
+        holds = (Undefined, tt, (45 ∷ [], ap (λ x. x ++ 45 ∷ []) (sym is)));
+        longest = λ inside more. next more.0 more.1 more.2 inside;
+      }
     where
-      next : (e : Entry) → IsEntryOf s k e → BeginsWith (entry_text e) (take (2 + 1) bytes) → 2 < length bytes → ⊥
-      next Undefined is begins inside = no_dash (sym (reads (entry_text Undefined) bytes 2 2 begins inside (omega arith)))
-      next (Go w d n) is begins inside = let first : 48 + w ≡ get_or bytes 0 0 = reads (entry_text (Go w d n)) bytes 2 0 begins inside (omega arith) in omega arith
+      next : (e : Entry) → IsEntryOf s k e → BeginsWith (entry_text e) (take (2 + 1) bytes)
+          → 2 < length bytes → ⊥
+      next Undefined is begins inside =
+          no_dash (sym (reads (entry_text Undefined) bytes 2 2 begins inside (omega arith)))
+      next (Go w d n) is begins inside =
+          let first : 48 + w ≡ get_or bytes 0 0 =
+          reads (entry_text (Go w d n)) bytes 2 0 begins inside (omega arith) in
+          omega arith
 
   -- a symbol with no direction
-  pub stop_second : (w : ℕ) → w < k → 48 + w ≡ get_or bytes 0 0 → ((d : Dir) → dir_letter d ≢ get_or bytes 1 0) → IsEntryStop s k bytes 1
+  pub stop_second : (w : ℕ) → w < k → 48 + w ≡ get_or bytes 0 0
+      → ((d : Dir) → dir_letter d ≢ get_or bytes 1 0) → IsEntryStop s k bytes 1
   stop_second w below digit no_dir =
       let prefix = one bytes (λ none. omega arith) in
-      record { within = prefix.1; part = omega arith; holds = (Go w L Halt, (below, tt), (76 ∷ 90 ∷ [], ap (λ x. x ++ 76 ∷ 90 ∷ []) (sym (prefix.0 ∙ ap (λ x. x ∷ []) (sym digit))))); longest = λ inside more. next more.0 more.1 more.2 inside }
+      record {
+        within = prefix.1;
+        part = omega arith;
+        holds = (
+          Go w L Halt,
+          (below, tt),
+          (76 ∷ 90 ∷ [], ap (λ x. x ++ 76 ∷ 90 ∷ []) (sym (prefix.0 ∙ ap (λ x. x ∷ []) (sym digit)))),
+        );
+        longest = λ inside more. next more.0 more.1 more.2 inside;
+      }
     where
-      next : (e : Entry) → IsEntryOf s k e → BeginsWith (entry_text e) (take (1 + 1) bytes) → 1 < length bytes → ⊥
-      next Undefined is begins inside = let first : 45 ≡ get_or bytes 0 0 = reads (entry_text Undefined) bytes 1 0 begins inside (omega arith) in omega arith
-      next (Go v d n) is begins inside = no_dir d (reads (entry_text (Go v d n)) bytes 1 1 begins inside (omega arith))
+      next : (e : Entry) → IsEntryOf s k e → BeginsWith (entry_text e) (take (1 + 1) bytes)
+          → 1 < length bytes → ⊥
+      next Undefined is begins inside =
+          let first : 45 ≡ get_or bytes 0 0 =
+          reads (entry_text Undefined) bytes 1 0 begins inside (omega arith) in
+          omega arith
+      next (Go v d n) is begins inside =
+          no_dir d (reads (entry_text (Go v d n)) bytes 1 1 begins inside (omega arith))
 
   -- a symbol and a direction with no state
-  pub stop_third : (w : ℕ) (d : Dir) → w < k → 48 + w ≡ get_or bytes 0 0 → dir_letter d ≡ get_or bytes 1 0 → ((n : Next) → IsNextOf s n → next_letter n ≢ get_or bytes 2 0) → IsEntryStop s k bytes 2
+  pub stop_third : (w : ℕ) (d : Dir) → w < k → 48 + w ≡ get_or bytes 0 0 → dir_letter d ≡ get_or bytes 1 0
+      → ((n : Next) → IsNextOf s n → next_letter n ≢ get_or bytes 2 0) → IsEntryStop s k bytes 2
   stop_third w d below digit dir no_next =
       let some : get_or bytes 1 0 ≢ 0 = λ none. dir_some d (dir ∙ none) in
       let prefix = two bytes some in
       let is : take 2 bytes ≡ (48 + w) ∷ dir_letter d ∷ [] = cc in
-      record { within = prefix.1; part = omega arith; holds = (Go w d Halt, (below, tt), (90 ∷ [], ap (λ x. x ++ 90 ∷ []) (sym is))); longest = λ inside more. next more.0 more.1 more.2 inside }
+      record {
+        within = prefix.1;
+        part = omega arith;
+        holds = (Go w d Halt, (below, tt), (90 ∷ [], ap (λ x. x ++ 90 ∷ []) (sym is)));
+        longest = λ inside more. next more.0 more.1 more.2 inside;
+      }
     where
       dir_some : (a : Dir) → dir_letter a ≡ 0 → ⊥
       dir_some L none = omega arith
       dir_some R none = omega arith
 
-      next : (e : Entry) → IsEntryOf s k e → BeginsWith (entry_text e) (take (2 + 1) bytes) → 2 < length bytes → ⊥
-      next Undefined is begins inside = let first : 45 ≡ get_or bytes 0 0 = reads (entry_text Undefined) bytes 2 0 begins inside (omega arith) in omega arith
-      next (Go v a n) is begins inside = no_next n is.1 (reads (entry_text (Go v a n)) bytes 2 2 begins inside (omega arith))
+      next : (e : Entry) → IsEntryOf s k e → BeginsWith (entry_text e) (take (2 + 1) bytes)
+          → 2 < length bytes → ⊥
+      next Undefined is begins inside =
+          let first : 45 ≡ get_or bytes 0 0 =
+          reads (entry_text Undefined) bytes 2 0 begins inside (omega arith) in
+          omega arith
+      next (Go v a n) is begins inside =
+          no_next n is.1 (reads (entry_text (Go v a n)) bytes 2 2 begins inside (omega arith))

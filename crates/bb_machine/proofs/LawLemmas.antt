@@ -16,17 +16,20 @@ use Rattle.bb_machine.proofs.Prefixes.{prefix_bounded, viable_bounded, text-tabl
 use Rattle.bb_machine.proofs.Stops.{whole_text_by}
 
 -- of two longest prefixes neither is longer
-pub longest_unique : (P : List ℕ → Type 0) (line : List ℕ) (a b : ℕ) → IsLongestPrefix P line a → IsLongestPrefix P line b → a ≡ b
+pub longest_unique : (P : List ℕ → Type 0) (line : List ℕ) (a b : ℕ) → IsLongestPrefix P line a
+    → IsLongestPrefix P line b → a ≡ b
 longest_unique P line a b p q =
     let below : a ≤ b = q.longest a p.within p.holds in
     let above : b ≤ a = p.longest b q.within q.holds in
     omega arith
 
 pub column_unique : (line : List ℕ) (a b : ℕ) → IsColumn line a → IsColumn line b → a ≡ b
-column_unique line a b p q = let same : p.0 ≡ q.0 = longest_unique IsViable line p.0 q.0 p.2 q.2 in omega (arith, p.1, q.1)
+column_unique line a b p q =
+    let same : p.0 ≡ q.0 = longest_unique IsViable line p.0 q.0 p.2 q.2 in omega (arith, p.1, q.1)
 
 module _ (line : List ℕ) (kept : ℕ) (many : LINE < kept) where
-  short_text : (gs : List (List Entry)) → IsMachine gs → (bytes : List ℕ) → text gs ≡ bytes → length bytes ≤ LINE
+  short_text : (gs : List (List Entry)) → IsMachine gs → (bytes : List ℕ) → text gs ≡ bytes
+      → length bytes ≤ LINE
   short_text gs machine bytes is = omega (arith, text_short MAX_STATES MAX_SYMBOLS gs machine, ap length is)
 
   same_when_short : length line ≤ LINE → take kept line ≡ line
@@ -39,7 +42,8 @@ module _ (line : List ℕ) (kept : ℕ) (many : LINE < kept) where
         | inr fits ↦ fits
       ]
 
-  pub same_text : (gs : List (List Entry)) → IsMachine gs → (text gs ≡ take kept line → text gs ≡ line) × (text gs ≡ line → text gs ≡ take kept line)
+  pub same_text : (gs : List (List Entry)) → IsMachine gs
+      → (text gs ≡ take kept line → text gs ≡ line) × (text gs ≡ line → text gs ≡ take kept line)
   same_text gs machine = (
     λ is. is ∙ same_when_short (kept_short (short_text gs machine (take kept line) is)),
     λ is. is ∙ sym (same_when_short (short_text gs machine line is)),
@@ -57,7 +61,8 @@ module _ (line : List ℕ) (kept : ℕ) (many : LINE < kept) where
       longest : (m : ℕ) → m ≤ length line → IsViable (take m line) → m ≤ n
       longest m fits viable =
           let bound : m ≤ LINE = viable_bounded line m fits viable in
-          prefix.longest m (omega (arith, length-take kept line)) (subst IsViable (sym (take-take m kept line (omega arith))) viable)
+          prefix.longest m (omega (arith, length-take kept line))
+          (subst IsViable (sym (take-take m kept line (omega arith))) viable)
 
   to_kept : (n : ℕ) → IsLongestPrefix IsViable line n → IsLongestPrefix IsViable (take kept line) n
   to_kept n prefix =
@@ -88,15 +93,23 @@ unfolding before_last
 table_of-before_last g [] = refl
 table_of-before_last g (h ∷ gs) = ap (λ z. g ∷ z) (table_of-before_last h gs)
 
-text_unique_of : (b : Begun) (gs hs : List (List Entry)) → table_of b ≡ hs → IsMachine gs → IsMachine hs → text gs ≡ text hs → gs ≡ hs
+text_unique_of : (b : Begun) (gs hs : List (List Entry)) → table_of b ≡ hs → IsMachine gs → IsMachine hs
+    → text gs ≡ text hs → gs ≡ hs
 text_unique_of b gs hs is p q same =
-    let plain : AllByRecursion ArePlain (table_of b) = subst (λ z. AllByRecursion ArePlain z) (sym is) (machine_plain MAX_STATES MAX_SYMBOLS (omega arith) (omega arith) hs q) in
-    let plain_gs : AllByRecursion ArePlain gs = machine_plain MAX_STATES MAX_SYMBOLS (omega arith) (omega arith) gs p in
-    let text_is : text gs ≡ begun_text b ++ [] = same ∙ (ap text (sym is) ∙ (text-table_of b ∙ sym (append-nil (begun_text b)))) in
-    let on : GoesOn b gs [] = text_peel b gs [] (every-prefix ArePlain b.groups (b.group ∷ []) plain) (every-at ArePlain b.groups b.group [] plain) plain_gs p.some_state text_is in
+    let plain : AllByRecursion ArePlain (table_of b) =
+    subst (λ z. AllByRecursion ArePlain z) (sym is)
+    (machine_plain MAX_STATES MAX_SYMBOLS (omega arith) (omega arith) hs q) in
+    let plain_gs : AllByRecursion ArePlain gs =
+    machine_plain MAX_STATES MAX_SYMBOLS (omega arith) (omega arith) gs p in
+    let text_is : text gs ≡ begun_text b ++ [] =
+    same ∙ (ap text (sym is) ∙ (text-table_of b ∙ sym (append-nil (begun_text b)))) in
+    let on : GoesOn b gs [] =
+    text_peel b gs [] (every-prefix ArePlain b.groups (b.group ∷ []) plain)
+    (every-at ArePlain b.groups b.group [] plain) plain_gs p.some_state text_is in
     whole_text_by b gs on.entries on.rest on.is on.text_is ∙ is
 
 -- different machines have different texts
 pub text_unique : (gs hs : List (List Entry)) → IsMachine gs → IsMachine hs → text gs ≡ text hs → gs ≡ hs
 text_unique gs [] p q same = absurd (omega (arith, q.some_state))
-text_unique gs (h ∷ hs) p q same = text_unique_of (before_last h hs) gs (h ∷ hs) (table_of-before_last h hs) p q same
+text_unique gs (h ∷ hs) p q same =
+    text_unique_of (before_last h hs) gs (h ∷ hs) (table_of-before_last h hs) p q same

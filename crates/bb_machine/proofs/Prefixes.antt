@@ -14,7 +14,8 @@ use Rattle.bb_machine.proofs.Stops.{whole_text}
 use Rattle.bb_machine.proofs.Lengths.{text_short}
 
 -- where the rest of a line stops, the line does
-pub stop_joined : (s k : ℕ) (line : List ℕ) (at n : ℕ) → at ≤ length line → IsStopWithin s k (take at line) (drop at line) n → IsStopWithin s k [] line (at + n)
+pub stop_joined : (s k : ℕ) (line : List ℕ) (at n : ℕ) → at ≤ length line
+    → IsStopWithin s k (take at line) (drop at line) n → IsStopWithin s k [] line (at + n)
 stop_joined s k line at n here stop =
     record {
       within = omega (arith, length-drop at line, stop.within);
@@ -28,8 +29,11 @@ stop_joined s k line at n here stop =
         elim (cases_lt at m) [
           | inl above ↦
               (let split : m ≡ at + (m - at) = omega arith in
-              let parts : take m line ≡ take at line ++ take (m - at) (drop at line) = ap (λ z. take z line) split ∙ take-add at (m - at) line in
-              let more : m - at ≤ n = stop.longest (m - at) (omega (arith, length-drop at line)) (subst (λ z. IsViableWithin s k z) parts viable) in
+              let parts : take m line ≡ take at line ++ take (m - at) (drop at line) =
+              ap (λ z. take z line) split ∙ take-add at (m - at) line in
+              let more : m - at ≤ n =
+              stop.longest (m - at) (omega (arith, length-drop at line))
+              (subst (λ z. IsViableWithin s k z) parts viable) in
               omega arith)
           | inr below ↦ omega arith
         ]
@@ -40,13 +44,20 @@ longest_prefix line n stop = record { within = stop.within; holds = stop.holds; 
 -- no viable prefix is longer than the longest text
 pub viable_bounded : (line : List ℕ) (n : ℕ) → n ≤ length line → IsViable (take n line) → n ≤ LINE
 viable_bounded line n within viable =
-    omega (arith, text_short MAX_STATES MAX_SYMBOLS viable.0 viable.1, ap length viable.2.1, length-append (take n line) viable.2.0, length-take-le n line within)
+    omega (
+      arith,
+      text_short MAX_STATES MAX_SYMBOLS viable.0 viable.1,
+      ap length viable.2.1,
+      length-append (take n line) viable.2.0,
+      length-take-le n line within,
+    )
 
 pub prefix_bounded : (line : List ℕ) (n : ℕ) → IsLongestPrefix IsViable line n → n ≤ LINE
 prefix_bounded line n prefix = viable_bounded line n prefix.within prefix.holds
 
 -- a line that was read whole is its own longest prefix
-pub whole_prefix : (line : List ℕ) (b : Begun) → IsBegun b → begun_text b ≡ line → IsLongestPrefix IsViable line (length line)
+pub whole_prefix : (line : List ℕ) (b : Begun) → IsBegun b → begun_text b ≡ line
+    → IsLongestPrefix IsViable line (length line)
 whole_prefix line b begun is =
     let all : take (length line) line ≡ line = take_all (length line) line (omega arith) in
     record {
@@ -56,11 +67,13 @@ whole_prefix line b begun is =
     }
 
 -- of a line that was read whole only one table has the text
-pub whole_table : (line : List ℕ) (b : Begun) (gs : List (List Entry)) → IsBegun b → begun_text b ≡ line → IsMachine gs → text gs ≡ line → gs ≡ table_of b
+pub whole_table : (line : List ℕ) (b : Begun) (gs : List (List Entry)) → IsBegun b → begun_text b ≡ line
+    → IsMachine gs → text gs ≡ line → gs ≡ table_of b
 whole_table line b gs begun is machine same =
     whole_text MAX_STATES MAX_SYMBOLS (omega arith) (omega arith) b begun gs machine (same ∙ sym is)
 
 -- the text of the table of what was read
 pub text-table_of : (b : Begun) → text (table_of b) ≡ begun_text b
 text-table_of b =
-    ap (λ z. text (b.groups ++ z ∷ [])) (sym (append-nil b.group)) ∙ (text_on b [] [] ∙ append-nil (begun_text b))
+    ap (λ z. text (b.groups ++ z ∷ [])) (sym (append-nil b.group))
+    ∙ (text_on b [] [] ∙ append-nil (begun_text b))

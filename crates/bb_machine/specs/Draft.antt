@@ -44,7 +44,8 @@ pub record IsDraft (d : Draft) (b : Begun) : Type 0 where
   pub states_is : length b.groups + 1 ≡ d.states
   pub symbols_is : symbols_limit MAX_SYMBOLS b.groups ≡ d.symbols
   pub filled_is : length b.group ≡ d.filled
-  pub named : (states symbols : ℕ) → AllByRecursion (IsEntryOf states symbols) (begun_entries b) ↔ ((d.named_states ≤ states) × (d.named_symbols ≤ symbols))
+  pub named : (states symbols : ℕ) → AllByRecursion (IsEntryOf states symbols) (begun_entries b)
+      ↔ ((d.named_states ≤ states) × (d.named_symbols ≤ symbols))
 
 -- the group can be closed: it is as long as the groups before it, and the first one has two or
 -- more entries, which write only as many symbols
@@ -65,8 +66,10 @@ table_of b = b.groups ++ b.group ∷ []
 pub record IsStopWithin (most_states most_symbols : ℕ) (before bytes : List ℕ) (n : ℕ) : Type 0 where
   pub within : n ≤ length bytes
   pub holds : IsViableWithin most_states most_symbols (before ++ take n bytes)
-  pub longest : (m : ℕ) → m ≤ length bytes → IsViableWithin most_states most_symbols (before ++ take m bytes) → m ≤ n
-  pub none : (gs : List (List Entry)) → IsMachineWithin most_states most_symbols gs → text gs ≡ before ++ bytes → ⊥
+  pub longest : (m : ℕ) → m ≤ length bytes
+      → IsViableWithin most_states most_symbols (before ++ take m bytes) → m ≤ n
+  pub none : (gs : List (List Entry)) → IsMachineWithin most_states most_symbols gs
+      → text gs ≡ before ++ bytes → ⊥
 
 abbrev pub IsStop : List ℕ → List ℕ → ℕ → Type 0
 IsStop before bytes n = IsStopWithin MAX_STATES MAX_SYMBOLS before bytes n

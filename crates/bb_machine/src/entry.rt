@@ -122,7 +122,8 @@ impl Entry {
 
     /// The fewest states and symbols of a machine that may have the entry.
     pub(crate) fn named(self) -> (usize, usize)
-        ensures { (states symbols : ℕ) → IsEntryOf states symbols self ↔ ((result.0 ≤ states) × (result.1 ≤ symbols)) }
+        ensures { (states symbols : ℕ) → IsEntryOf states symbols self
+            ↔ ((result.0 ≤ states) × (result.1 ≤ symbols)) }
     {
         match self {
             Entry::Undefined => (0, 0),
@@ -142,7 +143,8 @@ impl Entry {
     /// The entry whose text the first bytes are.
     pub(crate) fn at_first(bytes: &[u8]) -> Entry
         requires { (e : Entry) × IsEntryOf MAX_STATES MAX_SYMBOLS e × BeginsWith bytes.now (entry_text e) }
-        ensures { (e : Entry) → IsEntryOf MAX_STATES MAX_SYMBOLS e → BeginsWith bytes.now (entry_text e) → result ≡ e }
+        ensures { (e : Entry) → IsEntryOf MAX_STATES MAX_SYMBOLS e → BeginsWith bytes.now (entry_text e)
+            → result ≡ e }
     {
         let digit = bytes[0];
         if digit == b'-' {

@@ -61,7 +61,8 @@ impl Model for Limits {
 
     ghost view = { λ l. record { steps = l.steps; cells = l.cells; depth = l.depth; nodes = l.nodes } };
 
-    ghost invariant = { λ l. IsAccepted (record { steps = l.steps; cells = l.cells; depth = l.depth; nodes = l.nodes }) };
+    ghost invariant = { λ l. IsAccepted
+        (record { steps = l.steps; cells = l.cells; depth = l.depth; nodes = l.nodes }) };
 
     ghost inverse = { λ b. record { steps = b.steps; cells = b.cells; depth = b.depth; nodes = b.nodes } };
 }
@@ -73,8 +74,10 @@ impl Limits {
     /// them, in the order of the variants.
     pub fn new(t: u64, s: u64, d: u64, n: u64) -> Result<Limits, LimitFault>
         ensures accepted { IfOk result (λ limits. IsAccepted limits) }
-        ensures given { IfOk result (λ limits. limits ≡ record { steps = t; cells = s; depth = d; nodes = n }) }
-        ensures first_fault { IfErr result (IsFirstFault (record { steps = t; cells = s; depth = d; nodes = n })) }
+        ensures given { IfOk result
+            (λ limits. limits ≡ record { steps = t; cells = s; depth = d; nodes = n }) }
+        ensures first_fault { IfErr result
+            (IsFirstFault (record { steps = t; cells = s; depth = d; nodes = n })) }
     {
         if t > MOST_STEPS {
             Err(LimitFault::Steps)

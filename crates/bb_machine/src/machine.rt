@@ -152,7 +152,8 @@ impl Model for Machine {
 
     ghost view = { λ m. table_in m.state_count m.symbol_count m.slots };
 
-    ghost invariant = { λ m. IsTable m.state_count m.symbol_count (table_in m.state_count m.symbol_count m.slots) };
+    ghost invariant = { λ m. IsTable m.state_count m.symbol_count
+        (table_in m.state_count m.symbol_count m.slots) };
 }
 
 impl Machine {

@@ -1,4 +1,4 @@
--- Why a line has one reply.
+-- Why a line has one reply, and what stands behind it.
 use Rattle.std.proofs.Common.{◌≡◌, ℕ, List, inl, inr, sym, subst, ap, ◌∙◌}
 use Rattle.bb_machine.specs.Machine.{Table, text}
 use Rattle.bb_machine.specs.Limits.{Bounds}
@@ -7,7 +7,9 @@ use Rattle.bb_cert.specs.declared.verdict.Verdict.{Verdict}
 use Rattle.bb_cert.specs.Line.{line_text, refusal_text}
 use Rattle.bb_decide.specs.declared.plan.Plan.{Plan}
 use Rattle.bb_decide.specs.Verdict.{IsVerdict}
-use Rattle.bb_decide.proofs.Facts.{verdict_is_unique}
+use Rattle.bb_decide.proofs.Facts.{verdict_is_unique, verdicts_are_confirmed, verdicts_hold, work_is_bounded}
+use Rattle.bb_cert.proofs.Facts.{claims_never_halt}
+use Rattle.bb_run.specs.BorneOut.{VerdictsAreBorneOut}
 use Rattle.bb_run.specs.Laws.{ReplyIsUnique}
 use Rattle.bb_run.specs.Reply.{IsVerdictReply, IsRefusal}
 
@@ -17,8 +19,8 @@ module _ (bounds : Bounds) (plan : Plan) (line a b : List ℕ) where
       let table = text_unique first.table second.table first.of.machine second.of.machine (first.of.is_text ∙ sym second.of.is_text) in
       let verdict = verdict_is_unique second.table bounds plan first.verdict second.verdict
       (subst (λ t. IsVerdict t bounds plan first.verdict) table first.is_verdict) second.is_verdict in
-      first.is_reply ∙ ap (λ t. line_text t first.verdict) table ∙ ap (λ v. line_text second.table v) verdict
-      ∙ sym second.is_reply
+      sym first.is_reply.2 ∙ ap (λ t. line_text t first.verdict) table ∙ ap (λ v. line_text second.table v) verdict
+      ∙ second.is_reply.2
 
   refusals : IsRefusal line a → IsRefusal line b → a ≡ b
   refusals first second =
@@ -30,3 +32,12 @@ reply_is_unique bounds plan line a b (inl first) (inl second) = verdict_replies 
 reply_is_unique bounds plan line a b (inl first) (inr second) = absurd (second.no_machine (first.table, first.of))
 reply_is_unique bounds plan line a b (inr first) (inl second) = absurd (first.no_machine (second.table, second.of))
 reply_is_unique bounds plan line a b (inr first) (inr second) = refusals bounds plan line a b first second
+
+pub verdicts_are_borne_out : (bounds : Bounds) (plan : Plan) → VerdictsAreBorneOut bounds plan
+verdicts_are_borne_out bounds plan = record {
+  verdicts = λ table verdict machine is. record {
+    never = λ says. claims_never_halt table verdict machine says (verdicts_hold table bounds plan verdict is);
+    confirmed = verdicts_are_confirmed table bounds plan verdict is;
+  };
+  work = λ table n is. work_is_bounded table bounds plan n is;
+}

@@ -43,9 +43,9 @@ module _ (line : List ℕ) (kept : ℕ) (enough : PrefixIsEnough line kept) wher
     })
   ]
 
-  saw_of_prefix : (bounds : Bounds) (plan : Plan) (old new : Summary) (work : ℕ)
-      → Saw bounds plan old (take kept line) new work → Saw bounds plan old line new work
-  saw_of_prefix bounds plan old new work is = elim is [
+  saw_of_prefix : (bounds : Bounds) (plan : Plan) (old new : Summary) (effort : ℕ)
+      → Saw bounds plan old (take kept line) new effort → Saw bounds plan old line new effort
+  saw_of_prefix bounds plan old new effort is = elim is [
     | inl m ↦ inl (record {
       table = m.table;
       of = text_of_prefix m.table m.of;
@@ -53,21 +53,22 @@ module _ (line : List ℕ) (kept : ℕ) (enough : PrefixIsEnough line kept) wher
       counts = m.counts;
       clean = m.clean;
       peak = m.peak;
-      is_work = m.is_work;
+      is_effort = m.is_effort;
     })
     | inr r ↦ inr (record {
       no_machine = no_machine_of_prefix r.no_machine;
       clean = r.clean;
       peak = r.peak;
-      no_work = r.no_work;
+      no_effort = r.no_effort;
     })
   ]
 
 -- a reply stays one where limits and plan do
-pub reply_kept : (old new : Bounds) (old_plan new_plan : Plan) (line reply : List ℕ) → old ≡ new → old_plan ≡ new_plan
-    → IsReply old old_plan line reply → IsReply new new_plan line reply
+pub reply_kept : (old new : Bounds) (old_plan new_plan : Plan) (line reply : List ℕ) → old ≡ new
+    → old_plan ≡ new_plan → IsReply old old_plan line reply → IsReply new new_plan line reply
 reply_kept old new old_plan new_plan line reply bounds plan is =
-    subst (λ (p : Plan). IsReply new p line reply) plan (subst (λ (l : Bounds). IsReply l old_plan line reply) bounds is)
+    subst (λ (p : Plan). IsReply new p line reply) plan
+    (subst (λ (l : Bounds). IsReply l old_plan line reply) bounds is)
 
 -- a reply to the kept bytes of a line is one to the line
 pub reply_of_kept : (bounds : Bounds) (plan : Plan) (line reply : List ℕ)
@@ -75,8 +76,8 @@ pub reply_of_kept : (bounds : Bounds) (plan : Plan) (line reply : List ℕ)
 reply_of_kept bounds plan line reply is =
     reply_of_prefix line (LINE + 1) (prefix_enough line (LINE + 1) (omega arith)) bounds plan reply is
 
--- what the kept bytes of a line do to the summary, the line does, and it is the same work
-pub saw_of_kept : (bounds : Bounds) (plan : Plan) (line : List ℕ) (old new : Summary) (work : ℕ)
-    → Saw bounds plan old (take (LINE + 1) line) new work → Saw bounds plan old line new work
-saw_of_kept bounds plan line old new work saw =
-    saw_of_prefix line (LINE + 1) (prefix_enough line (LINE + 1) (omega arith)) bounds plan old new work saw
+-- what the kept bytes of a line do to the summary, the line does, and it is the same effort
+pub saw_of_kept : (bounds : Bounds) (plan : Plan) (line : List ℕ) (old new : Summary) (effort : ℕ)
+    → Saw bounds plan old (take (LINE + 1) line) new effort → Saw bounds plan old line new effort
+saw_of_kept bounds plan line old new effort saw =
+    saw_of_prefix line (LINE + 1) (prefix_enough line (LINE + 1) (omega arith)) bounds plan old new effort saw

@@ -1,3 +1,4 @@
+pub mod BorneOut
 pub mod Ends
 pub mod KeptBytes
 pub mod Laws

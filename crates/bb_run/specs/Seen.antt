@@ -1,5 +1,5 @@
--- What one line does to the summary so far, and how much work it was: the steps that deciding it made.
-use Rattle.std.specs.Prelude.{◌≡◌, ℕ, ◌⊎◌, false, List}
+-- What one line does to the summary so far, and how much effort it was: the steps and the nodes that deciding it made.
+use Rattle.std.specs.Prelude.{◌≡◌, ℕ, ◌+◌, ◌⊎◌, false, List}
 use Rattle.bb_machine.specs.Limits.{Bounds}
 use Rattle.bb_machine.specs.Machine.{Table, IsMachineLine, IsTextOf}
 use Rattle.bb_sim.specs.declared.meter.Meter.{Meter}
@@ -9,22 +9,24 @@ use Rattle.bb_decide.specs.Work.{CountsWork}
 use Rattle.bb_run.specs.declared.summary.Summary.{Summary}
 
 -- a machine was read: the peak takes in what deciding it counts
-pub record SawMachine (bounds : Bounds) (plan : Plan) (old : Summary) (line : List ℕ) (new : Summary) (work : ℕ) : Type 0 where
+pub record SawMachine (bounds : Bounds) (plan : Plan) (old : Summary) (line : List ℕ) (new : Summary)
+    (effort : ℕ) : Type 0 where
   pub table : Table
   pub of : IsTextOf table line
   pub cost : Meter
   pub counts : CountsWork table bounds plan cost
   pub clean : new.clean ≡ old.clean
   pub peak : new.peak ≡ greatest_of old.peak cost
-  pub is_work : work ≡ cost.steps
+  pub is_effort : effort ≡ cost.steps + cost.nodes
 
--- a line was refused: that is no work
-pub record SawRefusal (old : Summary) (line : List ℕ) (new : Summary) (work : ℕ) : Type 0 where
+-- a line was refused: that is no effort
+pub record SawRefusal (old : Summary) (line : List ℕ) (new : Summary) (effort : ℕ) : Type 0 where
   pub no_machine : IsMachineLine line → ⊥
   pub clean : new.clean ≡ false
   pub peak : new.peak ≡ old.peak
-  pub no_work : work ≡ 0
+  pub no_effort : effort ≡ 0
 
 -- one line was answered: a machine's or another
 abbrev pub Saw : Bounds → Plan → Summary → List ℕ → Summary → ℕ → Type 0
-Saw bounds plan old line new work = SawMachine bounds plan old line new work ⊎ SawRefusal old line new work
+Saw bounds plan old line new effort =
+    SawMachine bounds plan old line new effort ⊎ SawRefusal old line new effort

@@ -4,7 +4,9 @@ use Rattle.std.specs.List.{AllByRecursion}
 use Rattle.bb_machine.specs.Limits.{Bounds}
 use Rattle.bb_machine.specs.Machine.{Table, IsMachineLine, IsTextOf}
 use Rattle.bb_sim.specs.Span.{span, IsLastInside}
+use Rattle.bb_cert.specs.declared.verdict.Verdict.TheVariants.{Backward}
 use Rattle.bb_decide.specs.declared.plan.Plan.{Plan}
+use Rattle.bb_decide.specs.Verdict.{IsVerdict}
 use Rattle.bb_decide.specs.Work.{IsWork}
 use Rattle.bb_run.specs.declared.summary.Summary.{Summary}
 
@@ -22,6 +24,17 @@ pub record IsSpanOf (bounds : Bounds) (line : List ℕ) (width : ℕ) : Type 0 w
   pub is_last : IsLastInside table bounds last
   pub is_span : width ≡ span table last
 
+-- the line is the text of a machine whose verdict is a tree of so many levels and nodes
+pub record IsTreeOf (bounds : Bounds) (plan : Plan) (line : List ℕ) (levels nodes : ℕ) : Type 0 where
+  pub table : Table
+  pub of : IsTextOf table line
+  pub is_verdict : IsVerdict table bounds plan (Backward levels nodes)
+
+-- no tree that is a line's verdict has more levels or nodes
+abbrev pub AreTreesWithin : Bounds → Plan → List (List ℕ) → ℕ → ℕ → Type 0
+AreTreesWithin bounds plan lines most_levels most_nodes = AllByRecursion (λ line. (levels nodes : ℕ)
+    → IsTreeOf bounds plan line levels nodes → (levels ≤ most_levels) × (nodes ≤ most_nodes)) lines
+
 -- some line has this count
 abbrev pub SomeHas : (List ℕ → ℕ → Type 0) → List (List ℕ) → ℕ → Type 0
 SomeHas Count [] n = ⊥
@@ -32,10 +45,13 @@ pub record IsPeak (Count : List ℕ → ℕ → Type 0) (lines : List (List ℕ)
   pub bound : AllByRecursion (λ line. (n : ℕ) → Count line n → n ≤ peak) lines
   pub reached : (peak ≡ 0) ⊎ SomeHas Count lines peak
 
--- `clean` says that each line is a machine's text; the peaks are those of the machines' steps and spans
-pub record IsSummary (bounds : Bounds) (plan : Plan) (lines : List (List ℕ)) (summary : Summary) : Type 0 where
+-- `clean` says that each line is a machine's text; the peaks are those of the machines' steps and spans; those of
+-- levels and nodes are within the bounds, and no less than those of each tree that is a verdict
+pub record IsSummary (bounds : Bounds) (plan : Plan) (lines : List (List ℕ)) (summary : Summary)
+    : Type 0 where
   pub clean : IsTrue summary.clean ↔ AllByRecursion IsMachineLine lines
   pub peak_steps : IsPeak (IsWorkOf bounds plan) lines summary.peak.steps
   pub peak_cells : IsPeak (IsSpanOf bounds) lines summary.peak.most_cells
-  pub no_nodes : summary.peak.nodes ≡ 0
-  pub no_levels : summary.peak.most_levels ≡ 0
+  pub trees : AreTreesWithin bounds plan lines summary.peak.most_levels summary.peak.nodes
+  pub within_levels : summary.peak.most_levels ≤ bounds.depth
+  pub within_nodes : summary.peak.nodes ≤ bounds.nodes

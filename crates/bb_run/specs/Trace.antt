@@ -26,7 +26,8 @@ head_text n state head = decimal n ++ (32 ∷ next_letter state ∷ 32 ∷ []) +
 
 abbrev pub text_at : Table → ℕ → Option Configuration → List ℕ
 text_at table n None = []
-text_at table n (Some c) = head_text n c.state c.head ++ cells_text c.tape (least (counted_head table) n) (span table n)
+text_at table n (Some c) =
+    head_text n c.state c.head ++ cells_text c.tape (least (counted_head table) n) (span table n)
 
 -- the line of a step: its number, and the state, the position of the head and the cells of that configuration, over the
 -- positions of the span up to there

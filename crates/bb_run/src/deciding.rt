@@ -1,8 +1,9 @@
 //! Verdicts on the machines of a list, a line each.
 ghost use Rattle.std.specs.Prelude.{◌≡◌, ◌↔◌, false, true, IsTrue};
+ghost use Rattle.bb_cert.specs.Path.{depth_of};
 ghost use Rattle.bb_decide.specs.Bench.{HasCells};
-ghost use Rattle.bb_decide.specs.Plan.{IsBuilt};
 ghost use Rattle.bb_lines.specs.Watched.{is_marked, watched_inner};
+ghost use Rattle.bb_run.specs.BorneOut.{VerdictsAreBorneOut};
 ghost use Rattle.bb_run.specs.Ends.{DecideEnds};
 
 use crate::summary::Summary;
@@ -27,8 +28,8 @@ struct Decider<'a, T> {
     plan: Plan,
     bench: &'a mut Bench<T>,
     summary: Summary,
-    // The steps that the last line's run counted; 0 where it was refused, and before the first line.
-    last_steps: u64,
+    // The steps and the nodes that the last line cost; 0 where it was refused, and before the first line.
+    last_effort: u64,
 }
 
 impl<T: Tape> Responder for Decider<'_, T> {
@@ -36,21 +37,24 @@ impl<T: Tape> Responder for Decider<'_, T> {
     ghost use Rattle.std.proofs.Common.{rules, subst};
     ghost use Rattle.bb_machine.specs.Limits.{Bounds};
     ghost use Rattle.bb_machine.specs.declared.machine.TheConstants.{LINE};
+    ghost use Rattle.bb_cert.specs.Path.{depth_of};
     ghost use Rattle.bb_decide.specs.Bench.{HasCells};
-    ghost use Rattle.bb_decide.specs.Plan.{IsBuilt};
     ghost use Rattle.bb_run.specs.Reply.{IsReply};
     ghost use Rattle.bb_run.specs.Seen.{Saw};
     ghost use Rattle.bb_run.specs.KeptBytes.{reply_kept, reply_of_kept, saw_of_kept};
 
     ghost replies_with = { λ d line reply. IsReply d.limits d.plan line reply };
 
-    ghost saw = { λ a line b. (b.limits ≡ a.limits) × (b.plan ≡ a.plan) × Saw a.limits a.plan a.summary line b.summary b.last_steps };
+    ghost saw = { λ a line b. (b.limits ≡ a.limits) × (b.plan ≡ a.plan)
+        × Saw a.limits a.plan a.summary line b.summary b.last_effort };
 
-    ghost work = { λ d. d.last_steps };
+    ghost work = { λ d. d.last_effort };
 
-    ghost keeps = { λ a b. (b.limits ≡ a.limits) × (b.plan ≡ a.plan) × (b.bench.ghost_name ≡ a.bench.ghost_name) };
+    ghost keeps = { λ a b. (b.limits ≡ a.limits) × (b.plan ≡ a.plan)
+        × (b.bench.ghost_name ≡ a.bench.ghost_name) };
 
-    ghost is_ready = { λ d. HasCells T.strip d.limits.cells d.bench.now × IsBuilt d.plan };
+    ghost is_ready = { λ d. HasCells T.strip d.limits.cells d.bench.now
+        × (depth_of d.bench.now.path ≡ d.limits.depth) };
 
     ghost GROWS = { T.GROWS };
 
@@ -60,7 +64,8 @@ impl<T: Tape> Responder for Decider<'_, T> {
 
     ghost keeps_on = { Prim.search rules };
 
-    ghost keeps_reply = { λ a b keeps line text reply. reply_kept b.limits a.limits b.plan a.plan line text keeps.0 keeps.1 reply };
+    ghost keeps_reply = { λ a b keeps line text reply.
+        reply_kept b.limits a.limits b.plan a.plan line text keeps.0 keeps.1 reply };
 
     ghost keeps_some = { Prim.search rules };
 
@@ -68,7 +73,8 @@ impl<T: Tape> Responder for Decider<'_, T> {
 
     ghost reply_by_kept = { λ a line text reply. reply_of_kept a.limits a.plan line text reply };
 
-    ghost saw_by_kept = { λ a line b saw. (saw.0, saw.1, saw_of_kept a.limits a.plan line a.summary b.summary b.last_steps saw.2) };
+    ghost saw_by_kept = { λ a line b saw.
+        (saw.0, saw.1, saw_of_kept a.limits a.plan line a.summary b.summary b.last_effort saw.2) };
 
     fn keep(&self) -> usize {
         LINE + 1
@@ -79,11 +85,12 @@ impl<T: Tape> Responder for Decider<'_, T> {
             Ok(machine) => machine,
             Err(refused) => {
                 self.summary.clean = false;
-                self.last_steps = 0;
+                self.last_effort = 0;
                 refusal_into(refused.column, text);
                 return Ok(0);
             }
         };
+        let _accepted = self.limits.steps();
         let mut meter = Meter::new();
         let Ok(verdict) = decide(&machine, &self.limits, self.plan, self.bench, &mut meter) else {
             return Err(AllocError);
@@ -91,8 +98,8 @@ impl<T: Tape> Responder for Decider<'_, T> {
         lines_are_short();
         line_into(&machine, &verdict, text);
         self.summary.peak = self.summary.peak.greatest(meter);
-        self.last_steps = meter.steps;
-        Ok(meter.steps)
+        self.last_effort = meter.steps + meter.nodes;
+        Ok(self.last_effort)
     }
 }
 
@@ -110,12 +117,15 @@ pub fn run_decide<R: Read, W: Write, T: Tape>(
     requires reader { is_marked reader.old ≡ false }
     requires writer { is_marked writer.old ≡ false }
     requires tapes { HasCells T.strip limits.now.cells bench.old }
-    requires plan { IsBuilt plan }
+    requires path { depth_of bench.old.path ≡ limits.now.depth }
 
     // How the run ends, and what is written then.
     ensures ends { DecideEnds limits.now plan
         (R.remaining (watched_inner reader.old)) (R.remaining (watched_inner reader.new))
         (W.contents (watched_inner writer.old)) (W.contents (watched_inner writer.new)) result }
+
+    // What stands behind each verdict that is written.
+    ensures borne_out { VerdictsAreBorneOut limits.now plan }
 
     // When each fault comes.
     ensures memory { result ≡ Err Fault.Memory → IsTrue T.GROWS }
@@ -123,6 +133,7 @@ pub fn run_decide<R: Read, W: Write, T: Tape>(
     ensures write { (result ≡ Err Fault.Write) ↔ (is_marked writer.new ≡ true) }
 
     ensures tapes { HasCells T.strip limits.now.cells bench.new }
+    ensures path { depth_of bench.new.path ≡ depth_of bench.old.path }
 {
     let mut decider = Decider {
         limits: *limits,
@@ -132,7 +143,7 @@ pub fn run_decide<R: Read, W: Write, T: Tape>(
             clean: true,
             peak: Meter::new(),
         },
-        last_steps: 0,
+        last_effort: 0,
     };
     run(reader, writer, &mut decider)?;
     texts_differ();

@@ -1,7 +1,5 @@
 //! Engines over bytes in memory, with answers that were worked out by hand.
 
-ghost use Rattle.bb_decide.specs.Plan.{IsBuilt};
-
 mod broken;
 mod streams;
 mod trace;
@@ -313,15 +311,152 @@ static RECORDS: [Row; 9] = [
     ),
 ];
 
+/// Backward reasoning alone.
+const TREES: Plan = Plan {
+    cyclers: false,
+    translated: false,
+    backward: true,
+};
+
+static BY_TREES: [Row; 12] = [
+    (
+        [1_000, 599, 300, 1_000],
+        b"0RB---_0LA---\n",
+        b"0RB---_0LA--- backward 2 4\n",
+        true,
+    ),
+    (
+        [1_000, 3, 2, 1_000],
+        b"0RB---_0LA---\n",
+        b"0RB---_0LA--- backward 2 4\n",
+        true,
+    ),
+    (
+        [1_000, 599, 1, 1_000],
+        b"0RB---_0LA---\n",
+        b"0RB---_0LA--- undecided steps\n",
+        true,
+    ),
+    (
+        [1_000, 599, 300, 4],
+        b"0RB---_0LA---\n",
+        b"0RB---_0LA--- backward 2 4\n",
+        true,
+    ),
+    (
+        [1_000, 599, 300, 3],
+        b"0RB---_0LA---\n",
+        b"0RB---_0LA--- undecided steps\n",
+        true,
+    ),
+    (
+        [1_000, 599, 300, 1_000],
+        b"1RA1RA\n",
+        b"1RA1RA backward 0 0\n",
+        true,
+    ),
+    (
+        [1, 599, 0, 0],
+        b"1RA1RA\n",
+        b"1RA1RA backward 0 0\n",
+        true,
+    ),
+    (
+        [1, 599, 300, 1_000],
+        b"1RB---_1LA---\n",
+        b"1RB---_1LA--- undecided steps\n",
+        true,
+    ),
+    (
+        [0, 599, 300, 1_000],
+        b"1RZ---\n",
+        b"1RZ--- undecided steps\n",
+        true,
+    ),
+    (
+        [1_000, 64, 30, 1_000],
+        b"1RB0RA_1LA---\n",
+        b"1RB0RA_1LA--- undecided cells\n",
+        true,
+    ),
+    (
+        [1_000, 599, 300, 1_000],
+        b"1RB0RB_1LA1LA\n",
+        b"1RB0RB_1LA1LA backward 0 0\n",
+        true,
+    ),
+    (
+        [1_000, 599, 300, 1_000],
+        b"1RB1LB_1LA1RZ\n",
+        b"1RB1LB_1LA1RZ halt 6 4\n",
+        true,
+    ),
+];
+
+const ALL: Plan = Plan {
+    cyclers: true,
+    translated: true,
+    backward: true,
+};
+
+static BY_ALL: [Row; 8] = [
+    (
+        [1_000, 599, 300, 1_000],
+        b"0RB---_0LA---\n",
+        b"0RB---_0LA--- cycler 2 4\n",
+        true,
+    ),
+    (
+        [3, 599, 300, 1_000],
+        b"0RB---_0LA---\n",
+        b"0RB---_0LA--- backward 2 4\n",
+        true,
+    ),
+    (
+        [3, 599, 1, 1_000],
+        b"0RB---_0LA---\n",
+        b"0RB---_0LA--- undecided steps\n",
+        true,
+    ),
+    (
+        [3, 599, 300, 3],
+        b"0RB---_0LA---\n",
+        b"0RB---_0LA--- undecided steps\n",
+        true,
+    ),
+    (
+        [1, 599, 300, 1_000],
+        b"1RA1RA\n",
+        b"1RA1RA backward 0 0\n",
+        true,
+    ),
+    (
+        [1_000, 599, 300, 1_000],
+        b"1RA1RA\n",
+        b"1RA1RA translated R 1 2\n",
+        true,
+    ),
+    (
+        [1_000, 599, 300, 1_000],
+        b"1RB0RA_1LA---\n",
+        b"1RB0RA_1LA--- translated R 4 8\n",
+        true,
+    ),
+    (
+        [1_000, 599, 300, 1_000],
+        b"1RB1LB_1LA1RZ\n",
+        b"1RB1LB_1LA1RZ halt 6 4\n",
+        true,
+    ),
+];
+
 /// Decides a list on maps.
 fn decided_on_maps(
     rt: &(impl Abort + AllocGlobal),
     limits: &Limits,
     plan: Plan,
     input: &[u8],
-) -> (Result<Summary, Fault>, Vec<u8>)
-    requires { IsBuilt plan }
-{
+) -> (Result<Summary, Fault>, Vec<u8>) {
     let run = MapTape::new(rt.alloc(), limits.cells());
     let right = MapTape::new(rt.alloc(), limits.cells());
     let left = MapTape::new(rt.alloc(), limits.cells());
@@ -338,9 +473,7 @@ fn decided_on_rings(
     limits: &Limits,
     plan: Plan,
     input: &[u8],
-) -> (Result<Summary, Fault>, Vec<u8>)
-    requires { IsBuilt plan }
-{
+) -> (Result<Summary, Fault>, Vec<u8>) {
     let run = RingTape::new(rt.alloc(), limits.cells()).expect(rt, "memory");
     let right = RingTape::new(rt.alloc(), limits.cells()).expect(rt, "memory");
     let left = RingTape::new(rt.alloc(), limits.cells()).expect(rt, "memory");
@@ -351,9 +484,7 @@ fn decided_on_rings(
     (end, writer.into_inner())
 }
 
-fn answers(rt: &(impl Abort + AllocGlobal), plan: Plan, rows: &[Row])
-    requires { IsBuilt plan }
-{
+fn answers(rt: &(impl Abort + AllocGlobal), plan: Plan, rows: &[Row]) {
     for (four, input, output, clean) in rows {
         let limits = Limits::new(four[0], four[1], four[2], four[3]).expect(rt, "limits");
         let (end, written) = decided_on_maps(rt, &limits, plan, input);
@@ -404,36 +535,44 @@ fn finds_records_that_agree(rt: HostRuntime) {
 }
 
 #[test]
+fn finds_trees(rt: HostRuntime) {
+    answers(&rt, TREES, BY_TREES.as_slice());
+    answers(&rt, ALL, BY_ALL.as_slice());
+    let input = b"0RB---_0LA---".as_slice();
+    for (steps, plan, counted) in [(1_000_000, TREES, 1_000_000), (3, ALL, 9)] {
+        let limits = Limits::new(steps, 65_536, 300, 1_000_000).expect(&rt, "limits");
+        let (end, _) = decided_on_rings(&rt, &limits, plan, input);
+        let peak = end.expect(&rt, "no fault").peak;
+        assert_eq!(rt; peak.steps, counted);
+        assert_eq!(rt; peak.nodes, 4);
+        assert_eq!(rt; peak.most_levels, 2);
+    }
+}
+
+#[test]
 fn refuses_lines(rt: HostRuntime) {
     answers(&rt, SIMULATION, REFUSED.as_slice());
 }
 
-/// How much of a heap is left for the tapes, in turn. Where a growth is refused, the replies to the
-/// first lines are written; the same bench answers all lines once there is memory.
-#[test]
-fn each_growth_of_a_run_refused(rt: HostRuntime) -> Result<(), Fail> {
-    let input = b"1RB1LB_1LA1RZ\n1RB0RA_1LA---\n0RB---_0LA---\n".as_slice();
-    let output =
-        b"1RB1LB_1LA1RZ halt 6 4\n1RB0RA_1LA--- translated R 4 8\n0RB---_0LA--- cycler 2 4\n".as_slice();
-    let limits = Limits::new(1000, 64, 10, 100).expect(&rt, "limits");
+/// How much of a heap is left for the tapes, in turn. Where a growth is refused, the replies to the first lines are
+/// written; the same bench answers all lines once there is memory.
+fn each_growth_refused(
+    rt: &(impl Abort + AllocGlobal),
+    plan: Plan,
+    input: &[u8],
+    output: &[u8],
+) -> Result<(), Fail> {
+    let limits = Limits::new(1000, 64, 10, 100).expect(rt, "limits");
     let heap = LocalHeap::new(rt.alloc(), 1 << 13)?;
     let (mut refused, mut fitted) = (0, 0);
     for left in 0..1024usize {
         let run = MapTape::new_in(&heap, limits.cells());
         let right = MapTape::new_in(&heap, limits.cells());
         let left_tape = MapTape::new_in(&heap, limits.cells());
-        let mut bench = Bench::new(rt.alloc(), run, right, left_tape, &limits).expect(
-            &rt, "a bench",
-        );
+        let mut bench = Bench::new(rt.alloc(), run, right, left_tape, &limits).expect(rt, "a bench");
         let rest: Vec<u8, &LocalHeap> = Vec::with_capacity(&heap, (1 << 13) - left)?;
         let mut writer = Watched::new(Vec::new(rt.alloc()));
-        let end = run_decide(
-            &mut Watched::new(input),
-            &mut writer,
-            &limits,
-            PAIRS,
-            &mut bench,
-        );
+        let end = run_decide(&mut Watched::new(input), &mut writer, &limits, plan, &mut bench);
         drop(rest);
         let written = writer.into_inner();
         if end == Err(Fault::Memory) {
@@ -447,13 +586,7 @@ fn each_growth_of_a_run_refused(rt: HostRuntime) -> Result<(), Fail> {
             fitted |= 1;
         }
         let mut writer = Watched::new(Vec::new(rt.alloc()));
-        let end = run_decide(
-            &mut Watched::new(input),
-            &mut writer,
-            &limits,
-            PAIRS,
-            &mut bench,
-        );
+        let end = run_decide(&mut Watched::new(input), &mut writer, &limits, plan, &mut bench);
         assert!(rt;
             end.is_ok() && writer.into_inner().as_slice() == output,
             "again"
@@ -461,4 +594,15 @@ fn each_growth_of_a_run_refused(rt: HostRuntime) -> Result<(), Fail> {
     }
     assert!(rt; refused == 1 && fitted == 1);
     Ok(())
+}
+
+#[test]
+fn each_growth_of_a_run_refused(rt: HostRuntime) -> Result<(), Fail> {
+    let input = b"1RB1LB_1LA1RZ\n1RB0RA_1LA---\n0RB---_0LA---\n".as_slice();
+    let by_pairs =
+        b"1RB1LB_1LA1RZ halt 6 4\n1RB0RA_1LA--- translated R 4 8\n0RB---_0LA--- cycler 2 4\n".as_slice();
+    let by_trees =
+        b"1RB1LB_1LA1RZ halt 6 4\n1RB0RA_1LA--- undecided cells\n0RB---_0LA--- backward 2 4\n".as_slice();
+    each_growth_refused(&rt, PAIRS, input, by_pairs)?;
+    each_growth_refused(&rt, TREES, input, by_trees)
 }

@@ -105,8 +105,9 @@ fn add_refusal<W: Write>(
     waiting: &mut Waiting,
 ) -> Result<(), Fault>
     requires writer { is_marked writer.old ≡ false }
-    ensures sent { OnOk result (Sends (W.contents (watched_inner writer.old)) (W.contents (watched_inner writer.new))
-        waiting.old.items waiting.new.items (refusal_text column ++ 10 ∷ [])) }
+    ensures sent { OnOk result (Sends (W.contents (watched_inner writer.old))
+        (W.contents (watched_inner writer.new)) waiting.old.items waiting.new.items
+        (refusal_text column ++ 10 ∷ [])) }
     ensures err { OnErr result (AppendsPrefix (W.contents (watched_inner writer.old))
         (W.contents (watched_inner writer.new)) waiting.old.items) }
     ensures only_write { IsOkUnless result Fault.Write }
@@ -169,8 +170,9 @@ fn add_step<W: Write, T: Tape>(
 ) -> Result<(), Fault>
     requires stands { Stands machine.now runner.now (T.strip tape.now) }
     requires writer { is_marked writer.old ≡ false }
-    ensures sent { OnOk result (Sends (W.contents (watched_inner writer.old)) (W.contents (watched_inner writer.new))
-        waiting.old.items waiting.new.items (step_text machine.now (steps_of runner.now) ++ 10 ∷ [])) }
+    ensures sent { OnOk result (Sends (W.contents (watched_inner writer.old))
+        (W.contents (watched_inner writer.new)) waiting.old.items waiting.new.items
+        (step_text machine.now (steps_of runner.now) ++ 10 ∷ [])) }
     ensures err { OnErr result (AppendsPrefix (W.contents (watched_inner writer.old))
         (W.contents (watched_inner writer.new))
         (waiting.old.items ++ (step_text machine.now (steps_of runner.now) ++ 10 ∷ []))) }
@@ -186,7 +188,8 @@ fn add_step<W: Write, T: Tape>(
 /// The number of steps, the state and the position of the head, each with a space behind it.
 fn front_of(runner: &Runner) -> ArrayVec<u8, 64>
     requires { IsNextOf MAX_STATES (state_of runner.now) }
-    ensures text { result.items ≡ head_text (steps_of runner.now) (state_of runner.now) (position_of runner.now) }
+    ensures text { result.items
+        ≡ head_text (steps_of runner.now) (state_of runner.now) (position_of runner.now) }
     ensures short { length result.items ≤ 64 }
 {
     let mut digits = Buffer::new();
@@ -220,8 +223,9 @@ fn add_cells<W: Write, T: Tape>(
     requires small { cells_between (low_of runner.now) (high_of runner.now) ≤ MOST_CELLS }
     requires zero { (low_of runner.now) ≤ℤ pos 0 }
     requires writer { is_marked writer.old ≡ false }
-    ensures sent { OnOk result (Sends (W.contents (watched_inner writer.old)) (W.contents (watched_inner writer.new))
-        waiting.old.items waiting.new.items (cells_text (T.strip tape.now).content (low_of runner.now)
+    ensures sent { OnOk result (Sends (W.contents (watched_inner writer.old))
+        (W.contents (watched_inner writer.new)) waiting.old.items waiting.new.items
+        (cells_text (T.strip tape.now).content (low_of runner.now)
         (cells_between (low_of runner.now) (high_of runner.now)))) }
     ensures err { OnErr result (AppendsPrefix (W.contents (watched_inner writer.old))
         (W.contents (watched_inner writer.new))

@@ -30,7 +30,8 @@ pub record Stopped (table : Table) (bounds : Bounds) (old new : Runner) (strip_o
   pub last : IsLastInside table bounds (steps_of new)
   pub stays : Stays old new strip_old strip_new meter_old meter_new
 
-module _ (table : Table) (bounds : Bounds) (old new : Runner) (strip_old strip_new : Strip) (meter_old meter_new : Meter) where
+module _ (table : Table) (bounds : Bounds) (old new : Runner) (strip_old strip_new : Strip)
+    (meter_old meter_new : Meter) where
   pub stopped : (moved : Moved) → (moved ≡ Stepped → ⊥) → Reaches table bounds new strip_new moved
       → Moves table old new strip_old strip_new meter_old meter_new moved
       → Stopped table bounds old new strip_old strip_new meter_old meter_new
@@ -43,4 +44,5 @@ module _ (table : Table) (bounds : Bounds) (old new : Runner) (strip_old strip_n
   pub counts_stopped : (first : Meter) → Stopped table bounds old new strip_old strip_new meter_old meter_new
       → CountsTo table (steps_of old) first meter_old → CountsTo table (steps_of new) first meter_new
   counts_stopped first stop counts =
-      stop.stays.meter ∙ subst (λ r. CountsTo table (steps_of r) first meter_old) (sym stop.stays.runner) counts
+      stop.stays.meter
+      ∙ subst (λ r. CountsTo table (steps_of r) first meter_old) (sym stop.stays.runner) counts

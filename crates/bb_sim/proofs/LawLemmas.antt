@@ -16,15 +16,23 @@ record IsLastUpTo (table : Table) (bounds : Bounds) (most n : ℕ) : Type 0 wher
 
 module _ (table : Table) (bounds : Bounds) (some : 0 < bounds.cells) where
   start_inside : Inside table bounds 0
-  start_inside = record { here = _; exists = conf-start table; within_steps = omega arith; within_cells = let one = span-start table in omega (arith, one, some) }
+  start_inside =
+      record {
+        here = _;
+        exists = conf-start table;
+        within_steps = omega arith;
+        within_cells = let one = span-start table in omega (arith, one, some);
+      }
 
   fits_or_not : (a b : ℕ) → (a ≤ b) ⊎ (b < a)
   fits_or_not zero b = inl (omega arith)
   fits_or_not (suc a) zero = inr (omega arith)
-  fits_or_not (suc a) (suc b) = elim (fits_or_not a b) [ inl h ↦ inl (omega (arith, h)) | inr h ↦ inr (omega (arith, h)) ]
+  fits_or_not (suc a) (suc b) =
+      elim (fits_or_not a b) [ inl h ↦ inl (omega (arith, h)) | inr h ↦ inr (omega (arith, h)) ]
 
   -- a step is inside or not
-  inside_or_not : (n : ℕ) → n ≤ bounds.steps → (here : Option Configuration) → conf table n ≡ here → Inside table bounds n ⊎ (Inside table bounds n → ⊥)
+  inside_or_not : (n : ℕ) → n ≤ bounds.steps → (here : Option Configuration) → conf table n ≡ here
+      → Inside table bounds n ⊎ (Inside table bounds n → ⊥)
   inside_or_not n few None at = inr (λ inside. let exists = inside.exists in cc)
   inside_or_not n few (Some c) at = elim (fits_or_not (span table n) bounds.cells) [
     | inl fits ↦ inl (record { here = c; exists = at; within_steps = few; within_cells = fits })
@@ -32,14 +40,19 @@ module _ (table : Table) (bounds : Bounds) (some : 0 < bounds.cells) where
   ]
 
   -- the last one up to one step more
-  last_next : (most n : ℕ) → IsLastUpTo table bounds most n → (Inside table bounds (suc most) ⊎ (Inside table bounds (suc most) → ⊥)) → (k : ℕ) × IsLastUpTo table bounds (suc most) k
-  last_next most n last (inl inside) = (suc most, record { inside = inside; greatest = λ m h other. omega (arith, h) })
-  last_next most n last (inr never) = (n, record { inside = last.inside; greatest = λ m h other. below m h other }) where
-    at_most : (m : ℕ) → m ≤ suc most → (m ≡ suc most → ⊥) → m ≤ most
-    at_most m h apart = omega (arith, h, apart)
+  last_next : (most n : ℕ) → IsLastUpTo table bounds most n
+      → (Inside table bounds (suc most) ⊎ (Inside table bounds (suc most) → ⊥))
+      → (k : ℕ) × IsLastUpTo table bounds (suc most) k
+  last_next most n last (inl inside) =
+      (suc most, record { inside = inside; greatest = λ m h other. omega (arith, h) })
+  last_next most n last (inr never) =
+      (n, record { inside = last.inside; greatest = λ m h other. below m h other }) where
+        at_most : (m : ℕ) → m ≤ suc most → (m ≡ suc most → ⊥) → m ≤ most
+        at_most m h apart = omega (arith, h, apart)
 
-    below : (m : ℕ) → m ≤ suc most → Inside table bounds m → m ≤ n
-    below m h other = last.greatest m (at_most m h (λ e. never (subst (λ k. Inside table bounds k) e other))) other
+        below : (m : ℕ) → m ≤ suc most → Inside table bounds m → m ≤ n
+        below m h other =
+            last.greatest m (at_most m h (λ e. never (subst (λ k. Inside table bounds k) e other))) other
 
   last_up_to : (most : ℕ) → most ≤ bounds.steps → (n : ℕ) × IsLastUpTo table bounds most n
   last_up_to zero h = (0, record { inside = start_inside; greatest = λ m few other. omega (arith, few) })
@@ -49,5 +62,10 @@ module _ (table : Table) (bounds : Bounds) (some : 0 < bounds.cells) where
 
 pub last_step_exists : LastStepExists
 last_step_exists table bounds some =
-    let last = last_up_to table bounds some bounds.steps (omega arith) in
-    (last.0, record { inside = last.1.inside; greatest = λ m other. last.1.greatest m other.within_steps other })
+    let last = last_up_to table bounds some bounds.steps (omega arith) in (
+      last.0,
+      record {
+        inside = last.1.inside;
+        greatest = λ m other. last.1.greatest m other.within_steps other;
+      },
+    )

@@ -32,9 +32,11 @@ unfolding conf
 halt_next table n halts = ap (option_and_then (next table)) halts.exists ∙ halts.no_next
 
 -- a halt is at the last step that exists
-pub halt_is_last : (table : Table) (n m : ℕ) (c : Configuration) → HaltsAt table n → conf table m ≡ Some c → m ≤ n
+pub halt_is_last : (table : Table) (n m : ℕ) (c : Configuration) → HaltsAt table n
+    → conf table m ≡ Some c → m ≤ n
 halt_is_last table n m c halts exists = no_more (λ beyond.
-    let none : conf table ((m - suc n) + suc n) ≡ None = none_on table (suc n) (m - suc n) (halt_next table n halts) in
+    let none : conf table ((m - suc n) + suc n) ≡ None =
+    none_on table (suc n) (m - suc n) (halt_next table n halts) in
     let same : (m - suc n) + suc n ≡ m = omega (arith, beyond) in
     let at : conf table m ≡ None = subst (λ k. conf table k ≡ None) same none in
     cc) where
@@ -66,7 +68,8 @@ span_grows table m n h =
     let e : (n - m) + m ≡ n = omega arith in
     let low = least_falls (counted_head table) m (n - m) in
     let high = greatest_rises (counted_head table) m (n - m) in
-    subst (λ k. span table m ≤ span table k) e (cells_between_wider _ _ _ _ (ends_in_order (counted_head table) m) low high)
+    subst (λ k. span table m ≤ span table k) e
+    (cells_between_wider _ _ _ _ (ends_in_order (counted_head table) m) low high)
 
 pub span-start : (table : Table) → span table 0 ≡ 1
 span-start table = rw counted_head-start refl
@@ -76,22 +79,27 @@ unfolding counted_head
 counted_head-none table n e = ap counted_position_in e
 
 -- a halted machine's head takes in no more positions
-ends_halted : (table : Table) (n k : ℕ) → HaltsAt table n → (least (counted_head table) (k + n) ≡ least (counted_head table) n) × (greatest (counted_head table) (k + n) ≡ greatest (counted_head table) n)
+ends_halted : (table : Table) (n k : ℕ) → HaltsAt table n
+    → (least (counted_head table) (k + n) ≡ least (counted_head table) n)
+    × (greatest (counted_head table) (k + n) ≡ greatest (counted_head table) n)
 ends_halted table n zero halts = let e : zero + n ≡ n = omega arith in (rw e refl, rw e refl)
 ends_halted table n (suc k) halts =
     let before = ends_halted table n k halts in
     let none : conf table (k + suc n) ≡ None = none_on table (suc n) k (halt_next table n halts) in
     let e : suc k + n ≡ suc (k + n) = omega arith in
     let d : k + suc n ≡ suc (k + n) = omega arith in
-    let here : counted_head table (suc (k + n)) ≡ pos 0 = counted_head-none table (suc (k + n)) (subst (λ m. conf table m ≡ None) d none) in
+    let here : counted_head table (suc (k + n)) ≡ pos 0 =
+    counted_head-none table (suc (k + n)) (subst (λ m. conf table m ≡ None) d none) in
     let low = least_falls (counted_head table) 0 (k + n) in
     let high = greatest_rises (counted_head table) 0 (k + n) in
     let zeroth = counted_head-start table in
     let same : (k + n) + 0 ≡ k + n = omega arith in
     let low_here : least (counted_head table) (k + n) ≤ℤ pos 0 = rw (same, zeroth) at low in
     let high_here : pos 0 ≤ℤ greatest (counted_head table) (k + n) = rw (same, zeroth) at high in
-    let kept_low : int_min (least (counted_head table) (k + n)) (counted_head table (suc (k + n))) ≡ least (counted_head table) (k + n) = rw here (min-same _ _ low_here) in
-    let kept_high : int_max (greatest (counted_head table) (k + n)) (counted_head table (suc (k + n))) ≡ greatest (counted_head table) (k + n) = rw here (max-same _ _ high_here) in
+    let kept_low : int_min (least (counted_head table) (k + n)) (counted_head table (suc (k + n)))
+    ≡ least (counted_head table) (k + n) = rw here (min-same _ _ low_here) in
+    let kept_high : int_max (greatest (counted_head table) (k + n)) (counted_head table (suc (k + n)))
+    ≡ greatest (counted_head table) (k + n) = rw here (max-same _ _ high_here) in
     (rw e (kept_low ∙ before.0), rw e (kept_high ∙ before.1))
 
 -- the span of a halt stays
@@ -102,16 +110,20 @@ span_halted table n m halts h =
     subst (λ k. span table k ≡ span table n) e (rw (ends.0, ends.1) refl)
 
 -- a runner's tape has room for the span
-pub span_fits : (table : Table) (runner : Runner) (strip : Strip) → Stands table runner strip → IsSound strip → span table runner.steps ≤ strip.limit
+pub span_fits : (table : Table) (runner : Runner) (strip : Strip) → Stands table runner strip → IsSound strip
+    → span table runner.steps ≤ strip.limit
 span_fits table runner strip stands sound =
     let a = sound.from_zero in
     let b = sound.to_zero in
     let d = sound.within in
     let n = cells_between-is strip.low strip.high (omega (arith, ints)) in
-    let e : span table runner.steps ≡ cells_between strip.low strip.high = rw (stands.window_low ∙ stands.low, stands.window_high ∙ stands.high) refl in
+    let e : span table runner.steps ≡ cells_between strip.low strip.high =
+    rw (stands.window_low ∙ stands.low, stands.window_high ∙ stands.high) refl in
     omega (arith, ints, e)
 
-pub inside_here : (table : Table) (runner : Runner) (strip : Strip) (bounds : Bounds) → Stands table runner strip → IsSound strip → strip.limit ≡ bounds.cells → runner.steps ≤ bounds.steps → Inside table bounds runner.steps
+pub inside_here : (table : Table) (runner : Runner) (strip : Strip) (bounds : Bounds)
+    → Stands table runner strip → IsSound strip → strip.limit ≡ bounds.cells → runner.steps ≤ bounds.steps
+    → Inside table bounds runner.steps
 inside_here table runner strip bounds stands sound limit few = record {
   here = _;
   exists = stands.at;
@@ -120,66 +132,90 @@ inside_here table runner strip bounds stands sound limit few = record {
 }
 
 -- where the run doesn't halt, there is a next configuration
-next_exists : (table : Table) (n : ℕ) (c : Configuration) → conf table n ≡ Some c → (HaltsAt table n → ⊥) → (there : Option Configuration) → next table c ≡ there → (d : Configuration) × (conf table (n + 1) ≡ Some d)
+next_exists : (table : Table) (n : ℕ) (c : Configuration) → conf table n ≡ Some c → (HaltsAt table n → ⊥)
+    → (there : Option Configuration) → next table c ≡ there
+    → (d : Configuration) × (conf table (n + 1) ≡ Some d)
 unfolding conf
 next_exists table n c at goes None is = absurd (goes (record { last = c; exists = at; no_next = is }))
 next_exists table n c at goes (Some d) is = (d, rw add-one (ap (option_and_then (next table)) at ∙ is))
 
 module _ (table : Table) (bounds : Bounds) (n : ℕ) (inside : Inside table bounds n) where
   -- a step that is wanted is inside
-  pub next_inside : (HaltsAt table n → ⊥) → n ≢ bounds.steps → span table (n + 1) ≤ bounds.cells → Inside table bounds (n + 1)
+  pub next_inside : (HaltsAt table n → ⊥) → n ≢ bounds.steps → span table (n + 1) ≤ bounds.cells
+      → Inside table bounds (n + 1)
   next_inside goes apart fits =
       let there = next_exists table n inside.here inside.exists goes _ refl in
-      record { here = there.0; exists = there.1; within_steps = omega (arith, apart, inside.within_steps); within_cells = fits }
+      record {
+        here = there.0;
+        exists = there.1;
+        within_steps = omega (arith, apart, inside.within_steps);
+        within_cells = fits;
+      }
 
   -- a run that ends here, at the last step inside, stays within the cells up to the limit of steps
   pub fits_at_halt : HaltsAt table n → span table bounds.steps ≤ bounds.cells
-  fits_at_halt halts = let same = span_halted table n bounds.steps halts inside.within_steps in let fits = inside.within_cells in omega (arith, same, fits)
+  fits_at_halt halts =
+      let same = span_halted table n bounds.steps halts inside.within_steps in
+      let fits = inside.within_cells in omega (arith, same, fits)
 
   pub halts_last : HaltsAt table n → IsLastInside table bounds n
-  halts_last halts = record { inside = inside; greatest = λ m other. halt_is_last table n m other.here halts other.exists }
+  halts_last halts =
+      record { inside = inside; greatest = λ m other. halt_is_last table n m other.here halts other.exists }
 
   pub steps_last : n ≡ bounds.steps → IsLastInside table bounds n
   steps_last e = record { inside = inside; greatest = λ m other. omega (arith, e, other.within_steps) }
 
   below : (m : ℕ) → bounds.cells < span table (n + 1) → span table m ≤ bounds.cells → m ≤ n
-  below m wide narrow = not_above (λ beyond. let grows = span_grows table (n + 1) m (omega (arith, beyond)) in omega (arith, grows, wide, narrow)) where
-    not_above : (n < m → ⊥) → m ≤ n
-    not_above never = omega (arith, never)
+  below m wide narrow = not_above (λ beyond. let grows = span_grows table (n + 1) m (omega (arith, beyond)) in
+      omega (arith, grows, wide, narrow)) where
+        not_above : (n < m → ⊥) → m ≤ n
+        not_above never = omega (arith, never)
 
   pub cells_last : bounds.cells < span table (n + 1) → IsLastInside table bounds n
   cells_last wide = record { inside = inside; greatest = λ m other. below m wide other.within_cells }
 
   -- where the last step inside is no halt, no step inside is
-  pub no_halt_inside : IsLastInside table bounds n → (HaltsAt table n → ⊥) → (m : ℕ) → HaltsInside table bounds m → ⊥
+  pub no_halt_inside : IsLastInside table bounds n → (HaltsAt table n → ⊥) → (m : ℕ)
+      → HaltsInside table bounds m → ⊥
   no_halt_inside last goes m halts =
       let most = last.greatest m halts.inside in
       let least = halt_is_last table m n inside.here halts.halts inside.exists in
       let same : m ≡ n = omega arith in
       goes (subst (λ k. HaltsAt table k) same halts.halts)
 
-  pub wide_at_end : bounds.cells < span table (n + 1) → n ≢ bounds.steps → bounds.cells < span table bounds.steps
+  pub wide_at_end : bounds.cells < span table (n + 1) → n ≢ bounds.steps
+      → bounds.cells < span table bounds.steps
   wide_at_end wide apart =
       let grows = span_grows table (n + 1) bounds.steps (omega (arith, apart, inside.within_steps)) in
       omega (arith, grows, wide)
 
 -- the meter of a run that has not stepped
-pub counted-start : (meter : Meter) (table : Table) → record meter { most_cells = max meter.most_cells 1 } ≡ counted meter 0 (span table 0)
-counted-start meter table = rw span-start (ap (λ n. record meter { steps = n; most_cells = max meter.most_cells 1 }) (omega arith))
+pub counted-start : (meter : Meter) (table : Table)
+    → record meter { most_cells = max meter.most_cells 1 } ≡ counted meter 0 (span table 0)
+counted-start meter table =
+    rw span-start (ap (λ n. record meter { steps = n; most_cells = max meter.most_cells 1 }) (omega arith))
 
 -- one step more
-pub counted-next : (meter : Meter) (n a b : ℕ) → a ≤ b → stepped (counted meter n a) b ≡ counted meter (n + 1) b
+pub counted-next : (meter : Meter) (n a b : ℕ) → a ≤ b
+    → stepped (counted meter n a) b ≡ counted meter (n + 1) b
 counted-next meter n a b h = both _ _ _ _ (omega arith) (omega arith) where
-  both : (i j k l : ℕ) → i ≡ j → k ≡ l → record meter { steps = i; most_cells = k } ≡ record meter { steps = j; most_cells = l }
+  both : (i j k l : ℕ) → i ≡ j → k ≡ l
+      → record meter { steps = i; most_cells = k } ≡ record meter { steps = j; most_cells = l }
   both i j k l e d = cc
 
-module _ (table : Table) (runner : Runner) (strip : Strip) (bounds : Bounds) (stands : Stands table runner strip) (inside : Inside table bounds runner.steps) where
+module _ (table : Table) (runner : Runner) (strip : Strip) (bounds : Bounds)
+    (stands : Stands table runner strip) (inside : Inside table bounds runner.steps) where
   -- a runner that stands at a halt
-  pub halted_end : HaltsAt table runner.steps → (n ones : ℕ) → n ≡ runner.steps → ones ≡ score strip.content → HaltsInside table bounds n × IsScore table n ones
+  pub halted_end : HaltsAt table runner.steps → (n ones : ℕ) → n ≡ runner.steps → ones ≡ score strip.content
+      → HaltsInside table bounds n × IsScore table n ones
   halted_end halts n ones e counted_is =
       let P : ℕ → Type 0 = λ k. HaltsInside table bounds k × IsScore table k ones in
-      subst P (sym e) (record { halts = halts; inside = inside }, record { here = _; exists = stands.at; counted = counted_is })
+      subst P (sym e) (
+        record { halts = halts; inside = inside },
+        record { here = _; exists = stands.at; counted = counted_is },
+      )
 
   -- the run is counted where it ended
-  pub counts_end : (old new : Meter) → IsLastInside table bounds runner.steps → new ≡ counted old runner.steps (span table runner.steps) → CountsRun table bounds old new
+  pub counts_end : (old new : Meter) → IsLastInside table bounds runner.steps
+      → new ≡ counted old runner.steps (span table runner.steps) → CountsRun table bounds old new
   counts_end old new last meter = record { last = runner.steps; is_last = last; counts = meter }

@@ -1,5 +1,5 @@
 -- Facts on the least and greatest positions of a run, over the definitions alone.
-use Rattle.std.proofs.Common.{◌≡◌, ℕ, zero, suc, ◌+◌, ◌<◌, ◌≤◌, ℤ, pos, negsuc, ◌+ℤ◌, ◌-ℤ◌, ◌≤ℤ◌, refl, add-one, arith}
+use Rattle.std.proofs.Common.{◌≡◌, ℕ, zero, suc, ◌+◌, ◌≤◌, ℤ, pos, negsuc, ◌+ℤ◌, ◌-ℤ◌, ◌≤ℤ◌, refl, add-one, arith}
 use Rattle.std.specs.Int.{int_min, int_max}
 use Rattle.std.specs.Int.RustNames.{unsigned_abs}
 use Rattle.std.proofs.lemmas.Int.{ints, clamps}
@@ -15,14 +15,8 @@ greatest-next f n = rw add-one refl
 min_right : (a b : ℤ) → int_min a b ≤ℤ b
 min_right a b = omega (arith, ints, clamps)
 
-min_left : (a b : ℤ) → int_min a b ≤ℤ a
-min_left a b = omega (arith, ints, clamps)
-
 max_right : (a b : ℤ) → b ≤ℤ int_max a b
 max_right a b = omega (arith, ints, clamps)
-
-max_left : (a b : ℤ) → a ≤ℤ int_max a b
-max_left a b = omega (arith, ints, clamps)
 
 pub min-same : (a b : ℤ) → a ≤ℤ b → int_min a b ≡ a
 min-same a b h = omega (arith, ints, clamps)
@@ -46,12 +40,9 @@ cells_between-is low high h = difference (high -ℤ low) (omega (arith, ints)) w
   difference (pos n) h = refl
   difference (negsuc n) h = omega (arith, ints)
 
-pub cells_between_wider : (low high low' high' : ℤ) → low ≤ℤ high → low' ≤ℤ low → high ≤ℤ high' → cells_between low high ≤ cells_between low' high'
+pub cells_between_wider : (low high low' high' : ℤ) → low ≤ℤ high → low' ≤ℤ low → high ≤ℤ high'
+    → cells_between low high ≤ cells_between low' high'
 cells_between_wider low high low' high' h l g =
     let a = cells_between-is low high h in
     let b = cells_between-is low' high' (omega (arith, ints)) in
     omega (arith, ints)
-
--- a window that is told by its low end and its number of positions
-pub cells_between-count : (low : ℤ) (cells : ℕ) → 0 < cells → cells_between low ((low +ℤ pos cells) -ℤ pos 1) ≡ cells
-cells_between-count low cells some = let e = cells_between-is low ((low +ℤ pos cells) -ℤ pos 1) (omega (arith, ints)) in omega (arith, ints, e)

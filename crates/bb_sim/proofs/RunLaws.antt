@@ -52,15 +52,18 @@ score_is_unique table n a b first second =
 pub outcome_is_unique : OutcomeIsUnique
 outcome_is_unique table bounds (Halted n ones) (Halted m twos) first second =
     let steps = halt_is_unique table n m first.0.halts second.0.halts in
-    let scores = score_is_unique table m ones twos (subst (λ k. IsScore table k ones) steps first.1) second.1 in
+    let scores =
+    score_is_unique table m ones twos (subst (λ k. IsScore table k ones) steps first.1) second.1 in
     cc
 outcome_is_unique table bounds (Halted n ones) NoSteps first second = absurd (second.0 n first.0)
 outcome_is_unique table bounds (Halted n ones) NoCells first second = absurd (second.0 n first.0)
 outcome_is_unique table bounds NoSteps (Halted m twos) first second = absurd (first.0 m second.0)
 outcome_is_unique table bounds NoSteps NoSteps first second = refl
-outcome_is_unique table bounds NoSteps NoCells first second = let a = first.1 in let b = second.1 in absurd (omega arith)
+outcome_is_unique table bounds NoSteps NoCells first second =
+    let a = first.1 in let b = second.1 in absurd (omega arith)
 outcome_is_unique table bounds NoCells (Halted m twos) first second = absurd (first.0 m second.0)
-outcome_is_unique table bounds NoCells NoSteps first second = let a = first.1 in let b = second.1 in absurd (omega arith)
+outcome_is_unique table bounds NoCells NoSteps first second =
+    let a = first.1 in let b = second.1 in absurd (omega arith)
 outcome_is_unique table bounds NoCells NoCells first second = refl
 
 pub span_only_grows : SpanGrows
@@ -72,7 +75,12 @@ earlier_is_inside table bounds m n few inside =
     let grows = span_grows table m n few in
     let steps = inside.within_steps in
     let cells = inside.within_cells in
-    record { here = there.here; exists = there.exists; within_steps = omega arith; within_cells = omega arith }
+    record {
+      here = there.here;
+      exists = there.exists;
+      within_steps = omega arith;
+      within_cells = omega arith;
+    }
 
 pub count_is_within : CountIsWithin
 count_is_within table bounds n old new inside counts =
@@ -90,10 +98,12 @@ count_is_within table bounds n old new inside counts =
 -- ---- the ends of a span are reached
 
 le_or_gt : (a b : ℤ) → (a ≤ℤ b) ⊎ (b <ℤ a)
-le_or_gt (pos a) (pos b) = elim (cases_lt b a) [ inl h ↦ inr (omega (arith, ints, h)) | inr h ↦ inl (omega (arith, ints, h)) ]
+le_or_gt (pos a) (pos b) =
+    elim (cases_lt b a) [ inl h ↦ inr (omega (arith, ints, h)) | inr h ↦ inl (omega (arith, ints, h)) ]
 le_or_gt (pos a) (negsuc b) = inr (omega (arith, ints))
 le_or_gt (negsuc a) (pos b) = inl (omega (arith, ints))
-le_or_gt (negsuc a) (negsuc b) = elim (cases_lt a b) [ inl h ↦ inr (omega (arith, ints, h)) | inr h ↦ inl (omega (arith, ints, h)) ]
+le_or_gt (negsuc a) (negsuc b) =
+    elim (cases_lt a b) [ inl h ↦ inr (omega (arith, ints, h)) | inr h ↦ inl (omega (arith, ints, h)) ]
 
 -- a value of f up to n
 record IsReached (f : ℕ → ℤ) (n : ℕ) (value : ℤ) : Type 0 where
@@ -149,7 +159,12 @@ start_runs table = record { here = _; exists = conf-start table; runs = state_ru
 counted_runs : (table : Table) (n : ℕ) → IsRunningBy table n (counted_head table n)
 counted_runs table n = by_conf (conf table n) refl where
   at_start : counted_head table n ≡ pos 0 → IsRunningBy table n (counted_head table n)
-  at_start e = record { step = 0; before = omega arith; runs = subst (λ p. IsRunningAt table 0 p) (sym e) (start_runs table) }
+  at_start e =
+      record {
+        step = 0;
+        before = omega arith;
+        runs = subst (λ p. IsRunningAt table 0 p) (sym e) (start_runs table);
+      }
 
   by_conf : (at : Option Configuration) → conf table n ≡ at → IsRunningBy table n (counted_head table n)
   by_conf None is = at_start (counted_head-none table n is)
@@ -167,11 +182,14 @@ counted_runs table n = by_conf (conf table n) refl where
     }
     by_state Halt e = at_start (counted_head-at table n c is ∙ ap (λ s. counted_position s c.head) e)
 
-running_counts : (table : Table) (m : ℕ) (position : ℤ) → IsRunningAt table m position → counted_head table m ≡ position
-running_counts table m position there = counted_head-at table m there.here there.exists ∙ by_state there.here.state refl ∙ there.at where
-  by_state : (state : _) → there.here.state ≡ state → counted_position there.here.state there.here.head ≡ there.here.head
-  by_state (State q) e = ap (λ s. counted_position s there.here.head) e
-  by_state Halt e = absurd (there.runs e)
+running_counts : (table : Table) (m : ℕ) (position : ℤ) → IsRunningAt table m position
+    → counted_head table m ≡ position
+running_counts table m position there = counted_head-at table m there.here there.exists
+    ∙ by_state there.here.state refl ∙ there.at where
+      by_state : (state : _) → there.here.state ≡ state
+          → counted_position there.here.state there.here.head ≡ there.here.head
+      by_state (State q) e = ap (λ s. counted_position s there.here.head) e
+      by_state Halt e = absurd (there.runs e)
 
 pub span_is_reached : SpanIsReached
 span_is_reached table n =

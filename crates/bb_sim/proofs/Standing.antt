@@ -20,8 +20,10 @@ use Rattle.bb_sim.proofs.Positions.{least_last, greatest_last, cells_between-is,
 use Rattle.bb_sim.proofs.Steps.{conf-start, counted_head-start, counted_head-at}
 
 -- a fresh tape has a runner at its start
-pub at_start : (table : Table) (strip : Strip) (limit : ℕ) (runner : Runner) → IsMachine table → strip ≡ fresh limit
-    → state_of runner ≡ State 0 → position_of runner ≡ pos 0 → steps_of runner ≡ 0 → low_of runner ≡ pos 0 → high_of runner ≡ pos 0
+pub at_start : (table : Table) (strip : Strip) (limit : ℕ) (runner : Runner) → IsMachine table
+    → strip ≡ fresh limit
+    → state_of runner ≡ State 0 → position_of runner ≡ pos 0 → steps_of runner ≡ 0 → low_of runner ≡ pos 0
+    → high_of runner ≡ pos 0
     → Stands table runner strip
 at_start table strip limit runner machine is state head steps low high =
     let content = ap (λ (s : Strip). s.content) is in
@@ -32,7 +34,8 @@ at_start table strip limit runner machine is state head steps low high =
       window_low = ap (λ (s : Strip). s.low) is ∙ sym low;
       window_high = ap (λ (s : Strip). s.high) is ∙ sym high;
       state_named = rw state machine.some_state;
-      symbols_named = λ p. let none : cell strip.content p ≡ 0 = ap (λ (s : Strip). cell s.content p) is ∙ cell-blank p in omega (arith, machine.two_symbols, none);
+      symbols_named = λ p. let none : cell strip.content p ≡ 0 = ap (λ (s : Strip). cell s.content p) is
+          ∙ cell-blank p in omega (arith, machine.two_symbols, none);
     }
 
 counted_running : (state : Next) (head : ℤ) → state ≢ Halt → counted_position state head ≡ head
@@ -40,9 +43,11 @@ counted_running (State q) head running = refl
 counted_running Halt head running = absurd (running refl)
 
 -- where a running machine's head stands is in the window
-pub head_inside : (table : Table) (runner : Runner) (strip : Strip) → Stands table runner strip → runner.state ≢ Halt → IsInside strip runner.position
+pub head_inside : (table : Table) (runner : Runner) (strip : Strip) → Stands table runner strip
+    → runner.state ≢ Halt → IsInside strip runner.position
 head_inside table runner strip stands running =
-    let here : counted_head table runner.steps ≡ runner.position = counted_head-at table runner.steps _ stands.at ∙ counted_running runner.state runner.position running in
+    let here : counted_head table runner.steps ≡ runner.position =
+    counted_head-at table runner.steps _ stands.at ∙ counted_running runner.state runner.position running in
     let below = least_last (counted_head table) runner.steps in
     let above = greatest_last (counted_head table) runner.steps in
     let low = stands.low in
@@ -53,11 +58,14 @@ head_inside table runner strip stands running =
 
 -- the position beside one of the window is in it or next to it
 pub beside_inside : (strip : Strip) (p : ℤ) (dir : Dir) → IsInside strip p → IsBeside strip (beside dir p)
-beside_inside strip p L inside = (omega (arith, ints, inside.0, inside.1), omega (arith, ints, inside.0, inside.1))
-beside_inside strip p R inside = (omega (arith, ints, inside.0, inside.1), omega (arith, ints, inside.0, inside.1))
+beside_inside strip p L inside =
+    (omega (arith, ints, inside.0, inside.1), omega (arith, ints, inside.0, inside.1))
+beside_inside strip p R inside =
+    (omega (arith, ints, inside.0, inside.1), omega (arith, ints, inside.0, inside.1))
 
 -- a window's position is a small number
-pub small_position : (strip : Strip) (p : ℤ) → IsSound strip → IsInside strip p → (neg_ℤ (pos MOST_CELLS) ≤ℤ p) × (p ≤ℤ pos MOST_CELLS)
+pub small_position : (strip : Strip) (p : ℤ) → IsSound strip → IsInside strip p
+    → (neg_ℤ (pos MOST_CELLS) ≤ℤ p) × (p ≤ℤ pos MOST_CELLS)
 small_position strip p sound inside =
     let a = sound.from_zero in
     let b = sound.to_zero in
@@ -70,7 +78,8 @@ small_position strip p sound inside =
 -- a position of the window changes no end
 pub inside_stays : (strip : Strip) (p : ℤ) → IsInside strip p → visited strip p ≡ strip
 inside_stays strip p inside = same _ _ (min-same strip.low p inside.0) (max-same strip.high p inside.1) where
-  same : (low high : ℤ) → low ≡ strip.low → high ≡ strip.high → record strip { low = low; high = high } ≡ strip
+  same : (low high : ℤ) → low ≡ strip.low → high ≡ strip.high
+      → record strip { low = low; high = high } ≡ strip
   same low high l h = ap (λ (ends : ℤ × ℤ). record strip { low = ends.0; high = ends.1 }) (cc (l, h))
 
 -- what a running machine's head and the position beside it are for a tape
@@ -79,13 +88,19 @@ pub record Near (strip : Strip) (p : ℤ) (dir : Dir) : Type 0 where
   pub near : IsBeside strip (beside dir p)
   pub small : (neg_ℤ (pos MOST_CELLS) ≤ℤ p) × (p ≤ℤ pos MOST_CELLS)
 
-pub near_head : (table : Table) (runner : Runner) (strip : Strip) (dir : Dir) → Stands table runner strip → runner.state ≢ Halt → IsSound strip → Near strip runner.position dir
+pub near_head : (table : Table) (runner : Runner) (strip : Strip) (dir : Dir) → Stands table runner strip
+    → runner.state ≢ Halt → IsSound strip → Near strip runner.position dir
 near_head table runner strip dir stands running sound =
     let here = head_inside table runner strip stands running in
-    record { here = here; near = beside_inside strip runner.position dir here; small = small_position strip runner.position sound here }
+    record {
+      here = here;
+      near = beside_inside strip runner.position dir here;
+      small = small_position strip runner.position sound here;
+    }
 
 -- a position of the window needs no more cells
-pub inside_fits : (strip : Strip) (p : ℤ) → IsSound strip → IsInside strip p → cells_between (int_min strip.low p) (int_max strip.high p) ≤ strip.limit
+pub inside_fits : (strip : Strip) (p : ℤ) → IsSound strip → IsInside strip p
+    → cells_between (int_min strip.low p) (int_max strip.high p) ≤ strip.limit
 inside_fits strip p sound inside =
     let l = min-same strip.low p inside.0 in
     let h = max-same strip.high p inside.1 in
@@ -95,32 +110,16 @@ inside_fits strip p sound inside =
     let n = cells_between-is strip.low strip.high (omega (arith, ints)) in
     rw (l, h) (omega (arith, ints))
 
--- the tape's own width of a widened window
-pub width-cells_between : (strip : Strip) (p : ℤ) → IsSound strip → width (visited strip p) ≡ pos (cells_between (int_min strip.low p) (int_max strip.high p))
-width-cells_between strip p sound =
-    let a = sound.from_zero in
-    let b = sound.to_zero in
-    sym (cells_between-is (int_min strip.low p) (int_max strip.high p) (omega (arith, ints, clamps)))
-
 -- a window told by its low end and its number of cells, and a position in it or next to it
-module _ (runner : Runner) (strip : Strip) (p : ℤ) (sound : IsSound strip) (low : strip.low ≡ low_of runner) (high : strip.high ≡ high_of runner) where
-  above : (l m : ℕ) → (m ≤ l → ⊥) → l < m
-  above l m never = omega (arith, never)
-
-  -- with as many cells as the limit there is no room for a position outside it
-  pub full_window : ((low_of runner ≤ℤ p) × (p ≤ℤ high_of runner) → ⊥) → runner.cells ≡ strip.limit → strip.limit < cells_between (int_min strip.low p) (int_max strip.high p)
-  full_window outside same =
-      let a = sound.from_zero in
-      let b = sound.to_zero in
-      let e = cells_between-is (int_min strip.low p) (int_max strip.high p) (omega (arith, ints, clamps)) in
-      above _ _ (λ h. outside (omega (arith, ints, clamps, h, e, same), omega (arith, ints, clamps, h, e, same)))
-
-  -- with fewer there is
+module _ (runner : Runner) (strip : Strip) (p : ℤ) (sound : IsSound strip) (low : strip.low ≡ low_of runner)
+    (high : strip.high ≡ high_of runner) where
+  -- with fewer cells than the limit there is room for one more
   pub room_left : runner.cells ≢ strip.limit → width strip <ℤ pos strip.limit
   room_left apart = let d = sound.within in omega (arith, ints, apart)
 
   -- and so for a position next to it
-  pub fits_next : runner.cells ≢ strip.limit → IsBeside strip p → cells_between (int_min strip.low p) (int_max strip.high p) ≤ strip.limit
+  pub fits_next : runner.cells ≢ strip.limit → IsBeside strip p → cells_between (int_min strip.low p)
+      (int_max strip.high p) ≤ strip.limit
   fits_next apart near =
       let a = sound.from_zero in
       let b = sound.to_zero in
@@ -130,23 +129,9 @@ module _ (runner : Runner) (strip : Strip) (p : ℤ) (sound : IsSound strip) (lo
       let e = cells_between-is (int_min strip.low p) (int_max strip.high p) (omega (arith, ints, clamps)) in
       omega (arith, ints, clamps, e)
 
-  -- what the wider window's cells and its low end keep to
-  pub few_grown : runner.cells ≢ strip.limit → runner.cells + 1 ≤ MOST_CELLS
-  few_grown apart =
-      let d = room_left apart in
-      let e = sound.limited in
-      omega (arith, ints)
-
-  pub low_grown : runner.cells ≢ strip.limit → IsBeside strip p → neg_ℤ (pos MOST_CELLS) ≤ℤ p
-  low_grown apart near =
-      let b = sound.to_zero in
-      let d = room_left apart in
-      let e = sound.limited in
-      let near_low = near.0 in
-      omega (arith, ints)
-
   -- a position next to it that isn't below it is above it
-  pub next_above : ((low_of runner ≤ℤ p) × (p ≤ℤ high_of runner) → ⊥) → IsBeside strip p → low_of runner ≤ℤ p → p ≡ strip.high +ℤ pos 1
+  pub next_above : ((low_of runner ≤ℤ p) × (p ≤ℤ high_of runner) → ⊥) → IsBeside strip p → low_of runner ≤ℤ p
+      → p ≡ strip.high +ℤ pos 1
   next_above outside near at = let near_high = near.1 in not_inside (λ h. outside (at, h)) near_high where
     not_inside : (p ≤ℤ high_of runner → ⊥) → p ≤ℤ (strip.high +ℤ pos 1) → p ≡ strip.high +ℤ pos 1
     not_inside never most = grind (arith, ints, never)
@@ -155,23 +140,29 @@ module _ (runner : Runner) (strip : Strip) (p : ℤ) (sound : IsSound strip) (lo
 pub low_grows : (low p : ℤ) → p <ℤ low → p ≡ int_min low p
 low_grows low p below = omega (arith, ints, clamps)
 
-pub high_stays : (low p : ℤ) (cells : ℕ) → 0 < cells → p <ℤ low → low ≤ℤ (p +ℤ pos 1) → (p +ℤ pos (cells + 1)) -ℤ pos 1 ≡ int_max ((low +ℤ pos cells) -ℤ pos 1) p
+pub high_stays : (low p : ℤ) (cells : ℕ) → 0 < cells → p <ℤ low → low ≤ℤ (p +ℤ pos 1)
+    → (p +ℤ pos (cells + 1)) -ℤ pos 1 ≡ int_max ((low +ℤ pos cells) -ℤ pos 1) p
 high_stays low p cells some below near = omega (arith, ints, clamps)
 
 pub low_stays : (low p : ℤ) (cells : ℕ) → p ≡ ((low +ℤ pos cells) -ℤ pos 1) +ℤ pos 1 → low ≡ int_min low p
 low_stays low p cells next = omega (arith, ints, clamps)
 
-pub high_grows : (low p : ℤ) (cells : ℕ) → p ≡ ((low +ℤ pos cells) -ℤ pos 1) +ℤ pos 1 → (low +ℤ pos (cells + 1)) -ℤ pos 1 ≡ int_max ((low +ℤ pos cells) -ℤ pos 1) p
+pub high_grows : (low p : ℤ) (cells : ℕ) → p ≡ ((low +ℤ pos cells) -ℤ pos 1) +ℤ pos 1
+    → (low +ℤ pos (cells + 1)) -ℤ pos 1 ≡ int_max ((low +ℤ pos cells) -ℤ pos 1) p
 high_grows low p cells next = omega (arith, ints, clamps)
 
 -- one test without a sign tells whether a difference that is at least -1 is in a window
 unsigned_below : (d : ℤ) (cells : ℕ) → cells ≤ MOST_CELLS → neg_ℤ (pos 1) ≤ℤ d
-    → (of_z w64 d < cells → (pos 0 ≤ℤ d) × (d <ℤ pos cells)) × ((pos 0 ≤ℤ d) × (d <ℤ pos cells) → of_z w64 d < cells)
-unsigned_below (pos n) cells few least = (λ h. (omega (arith, ints), omega (arith, ints, h)), λ h. omega (arith, ints, h.1))
-unsigned_below (negsuc n) cells few least = (λ h. absurd (omega (arith, ints, few, least, h)), λ h. absurd (omega (arith, ints, h.0)))
+    → (of_z w64 d < cells → (pos 0 ≤ℤ d) × (d <ℤ pos cells))
+    × ((pos 0 ≤ℤ d) × (d <ℤ pos cells) → of_z w64 d < cells)
+unsigned_below (pos n) cells few least =
+    (λ h. (omega (arith, ints), omega (arith, ints, h)), λ h. omega (arith, ints, h.1))
+unsigned_below (negsuc n) cells few least =
+    (λ h. absurd (omega (arith, ints, few, least, h)), λ h. absurd (omega (arith, ints, h.0)))
 
 pub inside_test : (low p : ℤ) (cells : ℕ) → cells ≤ MOST_CELLS → low ≤ℤ (p +ℤ pos 1)
-    → (of_z w64 (p -ℤ low) < cells → (low ≤ℤ p) × (p ≤ℤ ((low +ℤ pos cells) -ℤ pos 1))) × ((low ≤ℤ p) × (p ≤ℤ ((low +ℤ pos cells) -ℤ pos 1)) → of_z w64 (p -ℤ low) < cells)
+    → (of_z w64 (p -ℤ low) < cells → (low ≤ℤ p) × (p ≤ℤ ((low +ℤ pos cells) -ℤ pos 1)))
+    × ((low ≤ℤ p) × (p ≤ℤ ((low +ℤ pos cells) -ℤ pos 1)) → of_z w64 (p -ℤ low) < cells)
 inside_test low p cells few near =
     let test = unsigned_below (p -ℤ low) cells few (omega (arith, ints, near)) in (
       λ h. let inside = test.0 h in (omega (arith, ints, inside.0), omega (arith, ints, inside.1)),

@@ -30,12 +30,14 @@ use Rattle.bb_sim.proofs.Steps.{counted_head-at, halts_here, conf-next, goes_on,
 use Rattle.bb_sim.proofs.Standing.{near_head, inside_fits, inside_stays}
 use Rattle.bb_sim.proofs.Outcomes.{inside_here, next_inside}
 
-no_entry_in_Z : (table : Table) (state : Next) (symbol : ℕ) (write : ℕ) (dir : Dir) (next : Next) → Go write dir next ≡ entry_at table state symbol → state ≢ Halt
+no_entry_in_Z : (table : Table) (state : Next) (symbol : ℕ) (write : ℕ) (dir : Dir) (next : Next)
+    → Go write dir next ≡ entry_at table state symbol → state ≢ Halt
 no_entry_in_Z table (State q) symbol write dir next here = λ e. cc
 no_entry_in_Z table Halt symbol write dir next here = cc
 
 -- a written cell has a symbol of the machine, and the others keep theirs
-symbols_stay : (content : Content) (head : ℤ) (write symbols : ℕ) → write < symbols → ((p : ℤ) → cell content p < symbols) → (p : ℤ) → cell (with_cell content head write) p < symbols
+symbols_stay : (content : Content) (head : ℤ) (write symbols : ℕ) → write < symbols
+    → ((p : ℤ) → cell content p < symbols) → (p : ℤ) → cell (with_cell content head write) p < symbols
 symbols_stay content head write symbols small all p =
     let least : (x : ℕ) → x ≡ write → x < symbols = λ x e. omega (arith, e, small) in
     by_position p head _
@@ -43,7 +45,8 @@ symbols_stay content head write symbols small all p =
     (λ ne. let same = cell-with_cell-other content head write p ne in omega (arith, same, all p))
 
 -- a wider window has the positions of the old one
-pub inside_visited : (strip wider : Strip) (position p : ℤ) → wider ≡ visited strip position → IsInside strip p → IsInside wider p
+pub inside_visited : (strip wider : Strip) (position p : ℤ) → wider ≡ visited strip position
+    → IsInside strip p → IsInside wider p
 inside_visited strip wider position p is inside =
     let low : wider.low ≡ int_min strip.low position = ap (λ (s : Strip). s.low) is in
     let high : wider.high ≡ int_max strip.high position = ap (λ (s : Strip). s.high) is in
@@ -53,12 +56,15 @@ inside_visited strip wider position p is inside =
 pub beside_visited : (strip wider new : Strip) (position at p : ℤ) (symbol : ℕ)
     → wider ≡ visited strip position → new ≡ written wider at symbol → IsBeside strip p → IsBeside new p
 beside_visited strip wider new position at p symbol is written_is near =
-    let low : new.low ≡ int_min strip.low position = ap (λ (s : Strip). s.low) written_is ∙ ap (λ (s : Strip). s.low) is in
-    let high : new.high ≡ int_max strip.high position = ap (λ (s : Strip). s.high) written_is ∙ ap (λ (s : Strip). s.high) is in
+    let low : new.low ≡ int_min strip.low position = ap (λ (s : Strip). s.low) written_is
+    ∙ ap (λ (s : Strip). s.low) is in
+    let high : new.high ≡ int_max strip.high position = ap (λ (s : Strip). s.high) written_is
+    ∙ ap (λ (s : Strip). s.high) is in
     (omega (arith, ints, clamps, low, near.0), omega (arith, ints, clamps, high, near.1))
 
 -- a runner's window is in order
-pub order : (table : Table) (runner : Runner) (strip : Strip) → Stands table runner strip → IsSound strip → low_of runner ≤ℤ high_of runner
+pub order : (table : Table) (runner : Runner) (strip : Strip) → Stands table runner strip → IsSound strip
+    → low_of runner ≤ℤ high_of runner
 order table runner strip stands sound =
     let a = sound.from_zero in
     let b = sound.to_zero in
@@ -67,10 +73,13 @@ order table runner strip stands sound =
     omega (arith, ints)
 
 module _ (table : Table) (old : Runner) (strip : Strip) (stands : Stands table old strip) where
-  pub halts_undefined : Undefined ≡ entry_at table old.state (cell strip.content old.position) → HaltsAt table old.steps
+  pub halts_undefined : Undefined ≡ entry_at table old.state (cell strip.content old.position)
+      → HaltsAt table old.steps
   halts_undefined here = halts_here table old.steps _ stands.at (sym here)
 
-module _ (table : Table) (old : Runner) (strip : Strip) (write : ℕ) (dir : Dir) (next : Next) (stands : Stands table old strip) (here : Go write dir next ≡ entry_at table old.state (cell strip.content old.position)) where
+module _ (table : Table) (old : Runner) (strip : Strip) (write : ℕ) (dir : Dir) (next : Next)
+    (stands : Stands table old strip)
+    (here : Go write dir next ≡ entry_at table old.state (cell strip.content old.position)) where
   pub running : old.state ≢ Halt
   running = no_entry_in_Z table old.state _ write dir next here
 
@@ -78,10 +87,15 @@ module _ (table : Table) (old : Runner) (strip : Strip) (write : ℕ) (dir : Dir
   moves_on = goes_on table old.steps _ stands.at write dir next (sym here)
 
   pub next-counted_head : counted_head table (old.steps + 1) ≡ counted_position next (beside dir old.position)
-  next-counted_head = counted_head-at table (old.steps + 1) _ (conf-next table old.steps _ stands.at write dir next (sym here))
+  next-counted_head =
+      counted_head-at table
+      (old.steps + 1) _ (conf-next table old.steps _ stands.at write dir next (sym here))
 
-  pub next-span : span table (old.steps + 1) ≡ cells_between (int_min strip.low (counted_position next (beside dir old.position))) (int_max strip.high (counted_position next (beside dir old.position)))
-  next-span = span-next table old.steps ∙ rw (next-counted_head, stands.window_low ∙ stands.low, stands.window_high ∙ stands.high) refl
+  pub next-span : span table (old.steps + 1)
+      ≡ cells_between (int_min strip.low (counted_position next (beside dir old.position)))
+      (int_max strip.high (counted_position next (beside dir old.position)))
+  next-span = span-next table old.steps
+      ∙ rw (next-counted_head, stands.window_low ∙ stands.low, stands.window_high ∙ stands.high) refl
 
   -- the position that the step's end counts for
   abbrev pub counts_for : ℤ
@@ -96,51 +110,83 @@ module _ (table : Table) (old : Runner) (strip : Strip) (write : ℕ) (dir : Dir
     pub high : high_of new ≡ int_max (high_of old) counts_for
     pub tape : strip_new ≡ written (visited strip counts_for) old.position write
 
-  pub stands_next : (new : Runner) (strip_new : Strip) → IsEntryOf (length table) (symbols_of table) (Go write dir next) → Stepped new strip_new → Stands table new strip_new
+  pub stands_next : (new : Runner) (strip_new : Strip) → IsEntryOf (length table) (symbols_of table)
+      (Go write dir next) → Stepped new strip_new → Stands table new strip_new
   stands_next new strip_new named is =
-      let content : strip_new.content ≡ with_cell strip.content old.position write = ap (λ (s : Strip). s.content) is.tape in
+      let content : strip_new.content ≡ with_cell strip.content old.position write =
+      ap (λ (s : Strip). s.content) is.tape in
       let at = conf-next table old.steps _ stands.at write dir next (sym here) in
       record {
         at = rw (is.steps, is.state, is.head, content) at;
-        low = rw (is.steps, least-next, next-counted_head) (is.low ∙ ap (λ l. int_min l counts_for) stands.low);
-        high = rw (is.steps, greatest-next, next-counted_head) (is.high ∙ ap (λ h. int_max h counts_for) stands.high);
-        window_low = ap (λ (s : Strip). s.low) is.tape ∙ ap (λ l. int_min l counts_for) stands.window_low ∙ sym is.low;
-        window_high = ap (λ (s : Strip). s.high) is.tape ∙ ap (λ h. int_max h counts_for) stands.window_high ∙ sym is.high;
+        low = rw (is.steps, least-next, next-counted_head) (is.low
+            ∙ ap (λ l. int_min l counts_for) stands.low);
+        high = rw (is.steps, greatest-next, next-counted_head) (is.high
+            ∙ ap (λ h. int_max h counts_for) stands.high);
+        window_low = ap (λ (s : Strip). s.low) is.tape ∙ ap (λ l. int_min l counts_for) stands.window_low
+            ∙ sym is.low;
+        window_high = ap (λ (s : Strip). s.high) is.tape ∙ ap (λ h. int_max h counts_for) stands.window_high
+            ∙ sym is.high;
         state_named = rw is.state named.1;
-        symbols_named = λ p. rw content (symbols_stay strip.content old.position write (symbols_of table) named.0 stands.symbols_named p);
+        symbols_named =
+            λ p.
+            rw content
+            (symbols_stay strip.content old.position write (symbols_of table) named.0 stands.symbols_named p);
       }
 
   -- what is to be shown of a call that made the step
-  pub record Made (bounds : Bounds) (new : Runner) (strip_new : Strip) (meter_old meter_new : Meter) : Type 0 where
+  pub record Made
+      (bounds : Bounds) (new : Runner) (strip_new : Strip) (meter_old meter_new : Meter) : Type 0 where
     pub answers : Answers table bounds old.steps moved.Stepped
     pub moves : Moves table old new strip strip_new meter_old meter_new moved.Stepped
     pub reaches : Reaches table bounds new strip_new moved.Stepped
     pub end : Stands table new strip_new
 
-  pub wanted : (bounds : Bounds) → old.steps ≢ bounds.steps → strip.limit ≡ bounds.cells → cells_between (int_min strip.low counts_for) (int_max strip.high counts_for) ≤ strip.limit → Answers table bounds old.steps moved.Stepped
-  wanted bounds apart limit fits = (moves_on, apart, let spans = next-span in omega (arith, spans, fits, limit))
+  pub wanted : (bounds : Bounds) → old.steps ≢ bounds.steps → strip.limit ≡ bounds.cells
+      → cells_between (int_min strip.low counts_for) (int_max strip.high counts_for) ≤ strip.limit
+      → Answers table bounds old.steps moved.Stepped
+  wanted bounds apart limit fits = (
+    moves_on,
+    apart,
+    let spans = next-span in
+        omega (arith, spans, fits, limit),
+  )
 
-  pub made : (bounds : Bounds) (new : Runner) (strip_new : Strip) (meter_old meter_new : Meter) → IsSound strip → IsEntryOf (length table) (symbols_of table) (Go write dir next)
-      → strip.limit ≡ bounds.cells → old.steps ≤ bounds.steps → old.steps ≢ bounds.steps → cells_between (int_min strip.low counts_for) (int_max strip.high counts_for) ≤ strip.limit
-      → Stepped new strip_new → meter_new ≡ stepped meter_old (cells_between (low_of new) (high_of new)) → Made bounds new strip_new meter_old meter_new
+  pub made : (bounds : Bounds) (new : Runner) (strip_new : Strip) (meter_old meter_new : Meter)
+      → IsSound strip → IsEntryOf (length table) (symbols_of table) (Go write dir next)
+      → strip.limit ≡ bounds.cells → old.steps ≤ bounds.steps → old.steps ≢ bounds.steps
+      → cells_between (int_min strip.low counts_for) (int_max strip.high counts_for) ≤ strip.limit
+      → Stepped new strip_new → meter_new ≡ stepped meter_old (cells_between (low_of new) (high_of new))
+      → Made bounds new strip_new meter_old meter_new
   made bounds new strip_new meter_old meter_new sound named limit few apart fits is counts =
-      let low : low_of new ≡ int_min strip.low counts_for = is.low ∙ ap (λ l. int_min l counts_for) (sym stands.window_low) in
-      let high : high_of new ≡ int_max strip.high counts_for = is.high ∙ ap (λ h. int_max h counts_for) (sym stands.window_high) in
-      let cells : cells_between (low_of new) (high_of new) ≡ span table (old.steps + 1) = ap (λ l. cells_between l (high_of new)) low ∙ ap (cells_between (int_min strip.low counts_for)) high ∙ sym next-span in
+      let low : low_of new ≡ int_min strip.low counts_for = is.low
+      ∙ ap (λ l. int_min l counts_for) (sym stands.window_low) in
+      let high : high_of new ≡ int_max strip.high counts_for = is.high
+      ∙ ap (λ h. int_max h counts_for) (sym stands.window_high) in
+      let cells : cells_between (low_of new) (high_of new) ≡ span table (old.steps + 1) =
+      ap (λ l. cells_between l (high_of new)) low ∙ ap (cells_between (int_min strip.low counts_for)) high
+      ∙ sym next-span in
       let answers = wanted bounds apart limit fits in
       let inside = inside_here table old strip bounds stands sound limit few in
       let near = near_head table old strip dir stands running sound in
-      let beside_is : IsBeside strip_new (beside dir old.position) = beside_visited strip (visited strip counts_for) strip_new counts_for old.position _ write refl is.tape near.near in
+      let beside_is : IsBeside strip_new (beside dir old.position) =
+      beside_visited strip (visited strip counts_for) strip_new counts_for old.position _ write refl is.tape
+      near.near in
       record {
         answers = answers;
         moves = (is.steps, counts ∙ ap (stepped meter_old) cells);
-        reaches = (rw is.steps (next_inside table bounds old.steps inside answers.0 answers.1 answers.2), rw is.head beside_is);
+        reaches = (
+          rw is.steps (next_inside table bounds old.steps inside answers.0 answers.1 answers.2),
+          rw is.head beside_is,
+        );
         end = stands_next new strip_new named is;
       }
 
 -- a step into Z, which leaves the window as it is
-pub into_Z : (table : Table) (old : Runner) (strip : Strip) (write : ℕ) (dir : Dir) (next : Next) (stands : Stands table old strip) (here : Go write dir next ≡ entry_at table old.state (cell strip.content old.position))
-    → IsSound strip → GoesNowhere table (Go write dir next) → (new : Runner) (strip_new : Strip) → StepsTo old new next (beside dir old.position) → strip_new ≡ written strip old.position write
+pub into_Z : (table : Table) (old : Runner) (strip : Strip) (write : ℕ) (dir : Dir) (next : Next)
+    (stands : Stands table old strip)
+    (here : Go write dir next ≡ entry_at table old.state (cell strip.content old.position))
+    → IsSound strip → GoesNowhere table (Go write dir next) → (new : Runner) (strip_new : Strip)
+    → StepsTo old new next (beside dir old.position) → strip_new ≡ written strip old.position write
     → Stepped table old strip write dir next stands here new strip_new
 into_Z table old strip write dir (State q) stands here sound nowhere new strip_new steps is = absurd nowhere
 into_Z table old strip write dir Halt stands here sound nowhere new strip_new steps is =
@@ -156,32 +202,44 @@ into_Z table old strip write dir Halt stands here sound nowhere new strip_new st
       tape = is ∙ ap (λ s. written s old.position write) (sym (inside_stays strip (pos 0) zero));
     }
 
-pub fits_Z : (strip : Strip) (write : ℕ) (dir : Dir) (next : Next) (table : Table) (p : ℤ) → IsSound strip → GoesNowhere table (Go write dir next)
-    → (cells_between (int_min strip.low (counted_position next p)) (int_max strip.high (counted_position next p)) ≤ strip.limit) × IsEntryOf (length table) (symbols_of table) (Go write dir next)
+pub fits_Z : (strip : Strip) (write : ℕ) (dir : Dir) (next : Next) (table : Table) (p : ℤ) → IsSound strip
+    → GoesNowhere table (Go write dir next)
+    → (cells_between (int_min strip.low (counted_position next p))
+    (int_max strip.high (counted_position next p)) ≤ strip.limit)
+    × IsEntryOf (length table) (symbols_of table) (Go write dir next)
 fits_Z strip write dir (State q) table p sound nowhere = absurd nowhere
-fits_Z strip write dir Halt table p sound nowhere = (inside_fits strip (pos 0) sound (sound.from_zero, sound.to_zero), (nowhere, tt))
+fits_Z strip write dir Halt table p sound nowhere =
+    (inside_fits strip (pos 0) sound (sound.from_zero, sound.to_zero), (nowhere, tt))
 
 -- a step to a state, after the window has taken in where it goes
-pub into_state : (table : Table) (old : Runner) (strip : Strip) (write : ℕ) (dir : Dir) (q : ℕ) (stands : Stands table old strip) (here : Go write dir (State q) ≡ entry_at table old.state (cell strip.content old.position))
-    → (mid new : Runner) (strip_mid strip_new : Strip) (p : ℤ) → p ≡ beside dir old.position → IsWidened old mid p → strip_mid ≡ visited strip p
+pub into_state : (table : Table) (old : Runner) (strip : Strip) (write : ℕ) (dir : Dir) (q : ℕ)
+    (stands : Stands table old strip)
+    (here : Go write dir (State q) ≡ entry_at table old.state (cell strip.content old.position))
+    → (mid new : Runner) (strip_mid strip_new : Strip) (p : ℤ) → p ≡ beside dir old.position
+    → IsWidened old mid p → strip_mid ≡ visited strip p
     → StepsTo mid new (State q) p → strip_new ≡ written strip_mid mid.position write
     → Stepped table old strip write dir (State q) stands here new strip_new
-into_state table old strip write dir q stands here mid new strip_mid strip_new p there wider visited_is steps is =
+into_state table old strip write dir q stands here mid new strip_mid strip_new p there wider
+    visited_is steps is =
     record {
       state = steps.state;
       head = steps.head ∙ there;
       steps = steps.steps ∙ ap (λ n. n + 1) wider.steps;
       low = steps.low ∙ wider.low ∙ ap (int_min (low_of old)) there;
       high = steps.high ∙ wider.high ∙ ap (int_max (high_of old)) there;
-      tape = is ∙ ap (λ q. written strip_mid q write) wider.head ∙ ap (λ (s : Strip). written s old.position write) (visited_is ∙ ap (visited strip) there);
+      tape = is ∙ ap (λ q. written strip_mid q write) wider.head
+          ∙ ap (λ (s : Strip). written s old.position write) (visited_is ∙ ap (visited strip) there);
     }
 
 -- the cells of a window that a step leaves as it is
-pub cells_stay : (mid new : Runner) (next : Next) (p : ℤ) → StepsTo mid new next p → cells_between (low_of mid) (high_of mid) ≡ cells_between (low_of new) (high_of new)
-cells_stay mid new next p steps = ap (λ l. cells_between l (high_of mid)) (sym steps.low) ∙ ap (cells_between (low_of new)) (sym steps.high)
+pub cells_stay : (mid new : Runner) (next : Next) (p : ℤ) → StepsTo mid new next p
+    → cells_between (low_of mid) (high_of mid) ≡ cells_between (low_of new) (high_of new)
+cells_stay mid new next p steps = ap (λ l. cells_between l (high_of mid)) (sym steps.low)
+    ∙ ap (cells_between (low_of new)) (sym steps.high)
 
 -- what a step says of the entry that it is made from
-pub record Goes (table : Table) (old : Runner) (strip : Strip) (write : ℕ) (offset : ℤ) (state : ℕ) : Type 0 where
+pub record Goes (table : Table) (old : Runner) (strip : Strip) (write : ℕ) (offset : ℤ)
+    (state : ℕ) : Type 0 where
   pub dir : Dir
   pub here : Go write dir (State state) ≡ entry_at table old.state (cell strip.content old.position)
   pub named : IsEntryOf (length table) (symbols_of table) (Go write dir (State state))
@@ -203,8 +261,16 @@ goes_by (Go write dir (State state)) step is =
     rw same (record { dir = dir; is = refl; position = offset_is dir })
 goes_by (Go write dir Halt) step is = absurd cc
 
-pub goes : (table : Table) (old : Runner) (strip : Strip) (q symbol : ℕ) (step : Step) → old.state ≡ State q → symbol ≡ cell strip.content old.position
-    → Some step ≡ step_of (entry_of table q symbol) → IsEntryOf (length table) (symbols_of table) (entry_of table q symbol) → Goes table old strip step.write step.offset step.state
+pub goes : (table : Table) (old : Runner) (strip : Strip) (q symbol : ℕ) (step : Step) → old.state ≡ State q
+    → symbol ≡ cell strip.content old.position
+    → Some step ≡ step_of (entry_of table q symbol)
+    → IsEntryOf (length table) (symbols_of table) (entry_of table q symbol)
+    → Goes table old strip step.write step.offset step.state
 goes table old strip q symbol step state read is named =
     let by = goes_by (entry_of table q symbol) step is in
-    record { dir = by.dir; here = rw (state, ← read) (sym by.is); named = rw by.is at named; position = by.position }
+    record {
+      dir = by.dir;
+      here = rw (state, ← read) (sym by.is);
+      named = rw by.is at named;
+      position = by.position;
+    }

@@ -14,7 +14,8 @@ use Rattle.bb_sim.proofs.Positions.{least-next, greatest-next}
 
 -- the configuration that an entry leads to
 abbrev pub led : Configuration → ℕ → Dir → Next → Configuration
-led c write dir state = record { state = state; head = beside dir c.head; tape = with_cell c.tape c.head write }
+led c write dir state =
+    record { state = state; head = beside dir c.head; tape = with_cell c.tape c.head write }
 
 module _ (table : Table) (n : ℕ) (c : Configuration) (at : conf table n ≡ Some c) where
   pub counted_head-at : counted_head table n ≡ counted_position c.state c.head
@@ -25,11 +26,15 @@ module _ (table : Table) (n : ℕ) (c : Configuration) (at : conf table n ≡ So
   unfolding next
   halts_here none = record { last = c; exists = at; no_next = ap (λ entry. followed entry c) none }
 
-  pub conf-next : (write : ℕ) (dir : Dir) (state : Next) → entry_at table c.state (cell c.tape c.head) ≡ Go write dir state → conf table (n + 1) ≡ Some (led c write dir state)
+  pub conf-next : (write : ℕ) (dir : Dir) (state : Next)
+      → entry_at table c.state (cell c.tape c.head) ≡ Go write dir state
+      → conf table (n + 1) ≡ Some (led c write dir state)
   unfolding next conf
-  conf-next write dir state here = rw add-one (ap (option_and_then (next table)) at ∙ ap (λ entry. followed entry c) here)
+  conf-next write dir state here =
+      rw add-one (ap (option_and_then (next table)) at ∙ ap (λ entry. followed entry c) here)
 
-  pub goes_on : (write : ℕ) (dir : Dir) (state : Next) → entry_at table c.state (cell c.tape c.head) ≡ Go write dir state → HaltsAt table n → ⊥
+  pub goes_on : (write : ℕ) (dir : Dir) (state : Next)
+      → entry_at table c.state (cell c.tape c.head) ≡ Go write dir state → HaltsAt table n → ⊥
   unfolding next
   goes_on write dir state here halts =
       let same : halts.last ≡ c = cc (at, halts.exists) in
@@ -45,5 +50,8 @@ pub counted_head-start : (table : Table) → counted_head table 0 ≡ pos 0
 unfolding counted_head conf
 counted_head-start table = refl
 
-pub span-next : (table : Table) (n : ℕ) → span table (n + 1) ≡ cells_between (int_min (least (counted_head table) n) (counted_head table (n + 1))) (int_max (greatest (counted_head table) n) (counted_head table (n + 1)))
+pub span-next : (table : Table) (n : ℕ)
+    → span table (n + 1)
+    ≡ cells_between (int_min (least (counted_head table) n) (counted_head table (n + 1)))
+    (int_max (greatest (counted_head table) n) (counted_head table (n + 1)))
 span-next table n = rw (least-next, greatest-next) refl

@@ -29,7 +29,8 @@ beside R p = p +ℤ pos 1
 -- what an entry leads to: it writes under the head, moves and changes state; an undefined one leads nowhere
 abbrev pub followed : Entry → Configuration → Option Configuration
 followed Undefined c = None
-followed (Go write dir next) c = Some (record { state = next; head = beside dir c.head; tape = with_cell c.tape c.head write })
+followed (Go write dir next) c =
+    Some (record { state = next; head = beside dir c.head; tape = with_cell c.tape c.head write })
 
 -- the entry that applies: none in Z, else that for the state and the symbol under the head
 abbrev pub entry_at : Table → Next → ℕ → Entry

@@ -47,7 +47,8 @@ SpanGrows = (table : Table) (m n : ℕ) → m ≤ n → span table m ≤ span ta
 
 -- a step before one inside is inside
 abbrev pub EarlierIsInside : Type 0
-EarlierIsInside = (table : Table) (bounds : Bounds) (m n : ℕ) → m ≤ n → Inside table bounds n → Inside table bounds m
+EarlierIsInside = (table : Table) (bounds : Bounds) (m n : ℕ)
+    → m ≤ n → Inside table bounds n → Inside table bounds m
 
 -- the head stands at a position at step n, and not in Z
 pub record IsRunningAt (table : Table) (n : ℕ) (position : ℤ) : Type 0 where

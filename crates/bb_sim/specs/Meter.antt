@@ -15,7 +15,8 @@ stepped meter cells = record meter { steps = meter.steps + 1; most_cells = max m
 
 -- so many steps more, and a window of so many cells seen
 abbrev pub counted : Meter → ℕ → ℕ → Meter
-counted meter steps cells = record meter { steps = meter.steps + steps; most_cells = max meter.most_cells cells }
+counted meter steps cells =
+    record meter { steps = meter.steps + steps; most_cells = max meter.most_cells cells }
 
 -- the run from its start to step n was counted: so many steps, and the cells of its span
 abbrev pub CountsTo : Table → ℕ → Meter → Meter → Type 0

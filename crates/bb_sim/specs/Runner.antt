@@ -56,8 +56,10 @@ pub record Stays (old new : Runner) (strip_old strip_new : Strip) (meter_old met
 abbrev pub Answers : Table → Bounds → ℕ → Moved → Type 0
 Answers table bounds n Halted = HaltsAt table n
 Answers table bounds n NoSteps = (HaltsAt table n → ⊥) × (n ≡ bounds.steps)
-Answers table bounds n NoCells = (HaltsAt table n → ⊥) × (n ≢ bounds.steps) × (bounds.cells < span table (n + 1))
-Answers table bounds n Stepped = (HaltsAt table n → ⊥) × (n ≢ bounds.steps) × (span table (n + 1) ≤ bounds.cells)
+Answers table bounds n NoCells =
+    (HaltsAt table n → ⊥) × (n ≢ bounds.steps) × (bounds.cells < span table (n + 1))
+Answers table bounds n Stepped =
+    (HaltsAt table n → ⊥) × (n ≢ bounds.steps) × (span table (n + 1) ≤ bounds.cells)
 
 -- only a step changes anything: it is one step more, and the widest window is kept
 abbrev pub Moves : Table → Runner → Runner → Strip → Strip → Meter → Meter → Moved → Type 0

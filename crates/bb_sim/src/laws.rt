@@ -1,5 +1,7 @@
 //! Laws of runs, with and without bounds, as contracts: a call of each does nothing.
-ghost use Rattle.bb_sim.specs.Laws.{CountIsWithin, EarlierExists, EarlierIsInside, HaltIsLast, HaltIsUnique, LastStepExists, LastStepIsUnique, OutcomeIsUnique, ScoreIsUnique, SpanGrows, SpanIsReached};
+ghost use Rattle.bb_sim.specs.Laws.{CountIsWithin, EarlierExists, EarlierIsInside, HaltIsLast};
+ghost use Rattle.bb_sim.specs.Laws.{HaltIsUnique, LastStepExists, LastStepIsUnique};
+ghost use Rattle.bb_sim.specs.Laws.{OutcomeIsUnique, ScoreIsUnique, SpanGrows, SpanIsReached};
 
 /// A run within bounds has a last step.
 pub fn last_step_exists()

@@ -1,4 +1,5 @@
-ghost use Rattle.std.specs.Prelude.{◌≡◌, ◌≢◌, ◌+◌, ◌<◌, ◌≤◌, ◌^◌, ◌↔◌, ◌≤ℤ◌, ◌+ℤ◌, neg_ℤ, pos, IfOk, IsTrue, MatchOption, OnErr, OnOk};
+ghost use Rattle.std.specs.Prelude.{◌≡◌, ◌≢◌, ◌+◌, ◌<◌, ◌≤◌, ◌^◌, ◌↔◌, ◌≤ℤ◌, ◌+ℤ◌};
+ghost use Rattle.std.specs.Prelude.{neg_ℤ, pos, IfOk, IsTrue, MatchOption, OnErr, OnOk};
 ghost use Rattle.bb_tape.specs.declared.tape.TheConstants.{MOST_CELLS};
 ghost use Rattle.bb_sim.specs.Configuration as configuration;
 
@@ -43,7 +44,8 @@ impl Runner {
     ghost use Rattle.bb_sim.specs.Configuration.{entry_at};
     ghost use Rattle.bb_sim.specs.CellsBetween.{cells_between};
     ghost use Rattle.bb_sim.specs.Meter.{stepped};
-    ghost use Rattle.bb_sim.specs.Runner.{Answers, Moves, Reaches, Stands, high_of, low_of, position_of, state_of, steps_of};
+    ghost use Rattle.bb_sim.specs.Runner.{Answers, Moves, Reaches, Stands, high_of};
+    ghost use Rattle.bb_sim.specs.Runner.{low_of, position_of, state_of, steps_of};
     ghost use Rattle.bb_sim.specs.Span.{Inside};
     ghost use Rattle.bb_sim.specs.Widening.{GoesNowhere, Widens, StepsTo};
     ghost use Rattle.bb_sim.specs.declared.runner.Moved.{Moved};
@@ -196,7 +198,8 @@ impl Runner {
         requires steps { steps_of self.old + 1 < 2 ^ 64 }
         requires room { meter.old.steps + 1 < 2 ^ 64 }
         ensures steps { OnOk result (StepsTo self.old self.new next position) }
-        ensures written { OnOk result (T.strip tape.new ≡ written (T.strip tape.old) (position_of self.old) write) }
+        ensures written { OnOk result (T.strip tape.new
+            ≡ written (T.strip tape.old) (position_of self.old) write) }
         ensures counted { OnOk result (meter.new
             ≡ stepped meter.old (cells_between (low_of self.old) (high_of self.old))) }
         ensures limit { (T.strip tape.new).limit ≡ (T.strip tape.old).limit }
@@ -236,7 +239,8 @@ impl Runner {
 
     /// The state, from 0 for A; none in Z.
     pub fn state(&self) -> Option<u8>
-        ensures { MatchOption result (state_of self.now ≡ Next.Halt) (λ state. state_of self.now ≡ Next.State state) }
+        ensures { MatchOption result (state_of self.now ≡ Next.Halt)
+            (λ state. state_of self.now ≡ Next.State state) }
     {
         match self.state {
             Next::State(state) => Some(state),

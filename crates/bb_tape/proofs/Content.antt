@@ -10,7 +10,8 @@ symbol-cond-none : (b : Bool) (o : Option ℕ) → symbol_of (cond b None o) ≡
 symbol-cond-none true o = refl
 symbol-cond-none false o = refl
 
-symbol-cond-some : (b : Bool) (k : ℕ) (o : Option ℕ) → symbol_of (cond b (Some k) o) ≡ cond b (suc k) (symbol_of o)
+symbol-cond-some : (b : Bool) (k : ℕ) (o : Option ℕ) → symbol_of (cond b (Some k) o) ≡ cond b (suc k)
+    (symbol_of o)
 symbol-cond-some true k o = omega arith
 symbol-cond-some false k o = refl
 
@@ -25,7 +26,8 @@ unfolding cell blank
 cell-blank p = ap symbol_of (get-empty int_cmp p)
 
 -- a write, at any position
-pub cell-with_cell : (c : Content) (p : ℤ) (v : ℕ) (q : ℤ) → cell (with_cell c p v) q ≡ cond (int_eq q p) v (cell c q)
+pub cell-with_cell : (c : Content) (p : ℤ) (v : ℕ) (q : ℤ)
+    → cell (with_cell c p v) q ≡ cond (int_eq q p) v (cell c q)
 unfolding cell with_cell
 cell-with_cell c p zero q = ap symbol_of (get-remove int_cmp_total c p q) ∙ symbol-cond-none _ _
 cell-with_cell c p (suc k) q = ap symbol_of (get-insert int_cmp_total c p k q) ∙ symbol-cond-some _ _ _
@@ -42,7 +44,8 @@ pub cell-with_cell-same : (c : Content) (p : ℤ) (v : ℕ) → cell (with_cell 
 cell-with_cell-same c p v = cell-with_cell c p v p ∙ chosen _ _ _ ((signed_Decides p p).1 refl)
 
 pub cell-with_cell-other : (c : Content) (p : ℤ) (v : ℕ) (q : ℤ) → q ≢ p → cell (with_cell c p v) q ≡ cell c q
-cell-with_cell-other c p v q apart = cell-with_cell c p v q ∙ passed _ _ _ (q ≡ p) (signed_Decides q p).0 apart
+cell-with_cell-other c p v q apart = cell-with_cell c p v q
+    ∙ passed _ _ _ (q ≡ p) (signed_Decides q p).0 apart
 
 -- equal cells make equal contents
 pub same_content : (a b : Content) → ((p : ℤ) → cell a p ≡ cell b p) → a ≡ b
@@ -62,20 +65,27 @@ pub with_cell-with_cell : (c : Content) (p : ℤ) (v w : ℕ) → with_cell (wit
 with_cell-with_cell c p v w = same_content _ _ (λ q.
     by_position q p _
     (λ e. rw e (cell-with_cell-same _ p w ∙ sym (cell-with_cell-same c p w)))
-    (λ ne. cell-with_cell-other _ p w q ne ∙ cell-with_cell-other c p v q ne ∙ sym (cell-with_cell-other c p w q ne)))
+    (λ ne. cell-with_cell-other _ p w q ne ∙ cell-with_cell-other c p v q ne
+    ∙ sym (cell-with_cell-other c p w q ne)))
 
 -- writes at two positions may come in any order
-pub with_cell-apart : (c : Content) (p : ℤ) (v : ℕ) (q : ℤ) (w : ℕ) → q ≢ p → with_cell (with_cell c p v) q w ≡ with_cell (with_cell c q w) p v
+pub with_cell-apart : (c : Content) (p : ℤ) (v : ℕ) (q : ℤ) (w : ℕ) → q ≢ p
+    → with_cell (with_cell c p v) q w ≡ with_cell (with_cell c q w) p v
 with_cell-apart c p v q w apart = same_content _ _ (λ x.
     by_position x q _
-    (λ e. rw e (cell-with_cell-same _ q w ∙ sym (cell-with_cell-other _ p v q apart ∙ cell-with_cell-same c q w)))
+    (λ e.
+    rw e (cell-with_cell-same _ q w ∙ sym (cell-with_cell-other _ p v q apart ∙ cell-with_cell-same c q w)))
     (λ ne. cell-with_cell-other _ q w x ne ∙ by_position x p _
     (λ e. rw e (cell-with_cell-same c p v ∙ sym (cell-with_cell-same _ p v)))
-    (λ other. cell-with_cell-other c p v x other ∙ sym (cell-with_cell-other _ p v x other ∙ cell-with_cell-other c q w x ne))))
+    (λ other. cell-with_cell-other c p v x other
+    ∙ sym (cell-with_cell-other _ p v x other ∙ cell-with_cell-other c q w x ne))))
 
 -- to write what is there changes nothing
 pub with_cell-cell : (c : Content) (p : ℤ) → with_cell c p (cell c p) ≡ c
-with_cell-cell c p = same_content _ _ (λ q. by_position q p _ (λ e. rw e (cell-with_cell-same c p _)) (λ ne. cell-with_cell-other c p _ q ne))
+with_cell-cell c p =
+    same_content
+    _ _ (λ q. by_position q p _ (λ e. rw e (cell-with_cell-same c p _))
+    (λ ne. cell-with_cell-other c p _ q ne))
 
 -- to put back what was there changes nothing
 pub put_back : (c : Content) (p : ℤ) (v : ℕ) → with_cell (with_cell c p v) p (cell c p) ≡ c
@@ -88,17 +98,20 @@ score-blank = len-empty int_cmp ℕ
 some_in : (c : Content) (p : ℤ) → len c ≡ 0 → get c p ≡ None
 some_in c p e = ap (λ d. get d p) (empty_of_len c e) ∙ get-empty int_cmp p
 
-score_less : (n m : ℕ) (o : Option ℕ) → (n ≡ 0 → o ≡ None) → m ≡ cond (is_some o) (n - 1) n → m + min 1 (symbol_of o) ≡ n
+score_less : (n m : ℕ) (o : Option ℕ) → (n ≡ 0 → o ≡ None) → m ≡ cond (is_some o) (n - 1) n
+    → m + min 1 (symbol_of o) ≡ n
 score_less n m None gone e = omega arith
 score_less zero m (Some k) gone e = let wrong = gone refl in cc
 score_less (suc n) m (Some k) gone e = omega arith
 
-score_more : (n m v : ℕ) (o : Option ℕ) → m ≡ cond (is_some o) n (n + 1) → m + min 1 (symbol_of o) ≡ n + min 1 (suc v)
+score_more : (n m v : ℕ) (o : Option ℕ) → m ≡ cond (is_some o) n (n + 1)
+    → m + min 1 (symbol_of o) ≡ n + min 1 (suc v)
 score_more n m v None e = omega arith
 score_more n m v (Some k) e = omega arith
 
 -- A write takes one from the score where the cell wasn't 0, and adds one where it isn't 0 then.
-pub score-with_cell : (c : Content) (p : ℤ) (v : ℕ) → score (with_cell c p v) + min 1 (cell c p) ≡ score c + min 1 v
+pub score-with_cell : (c : Content) (p : ℤ) (v : ℕ)
+    → score (with_cell c p v) + min 1 (cell c p) ≡ score c + min 1 v
 unfolding score cell with_cell
 score-with_cell c p zero = score_less _ _ (get c p) (some_in c p) (len-remove int_cmp_total c p) ∙ omega arith
 score-with_cell c p (suc k) = score_more _ _ k (get c p) (len-insert int_cmp_total c p k)

@@ -40,42 +40,58 @@ chosen true o w = refl
 chosen false o w = refl
 
 -- what is read at a position
-pub cell_read : (es : List (ℤ × ℕ)) (p p' : ℤ) (o : Option ℕ) → p' ≡ p → o ≡ entry_at es p' → symbol_of o ≡ cell (content_of es) p
+pub cell_read : (es : List (ℤ × ℕ)) (p p' : ℤ) (o : Option ℕ) → p' ≡ p → o ≡ entry_at es p'
+    → symbol_of o ≡ cell (content_of es) p
 cell_read es p p' o same e = ap symbol_of (e ∙ ap (entry_at es) same) ∙ sym (cell-content_of es p)
 
 -- entries that differ at one position make tapes that differ there
-pub content_of-updated : (es fs : List (ℤ × ℕ)) (p p' : ℤ) (o : Option ℕ) → p' ≡ p → ((q : ℤ) → entry_at fs q ≡ cond (is_at (int_cmp p') q) o (entry_at es q)) → content_of fs ≡ with_cell (content_of es) p (symbol_of o)
+pub content_of-updated : (es fs : List (ℤ × ℕ)) (p p' : ℤ) (o : Option ℕ) → p' ≡ p
+    → ((q : ℤ) → entry_at fs q ≡ cond (is_at (int_cmp p') q) o (entry_at es q))
+    → content_of fs ≡ with_cell (content_of es) p (symbol_of o)
 content_of-updated es fs p p' o same is = same_content _ _ (λ q.
-    cell-content_of fs q ∙ ap symbol_of (is q) ∙ ap (λ x. symbol_of (cond (is_at (int_cmp x) q) o (entry_at es q))) same ∙ chosen _ _ _
+    cell-content_of fs q ∙ ap symbol_of (is q)
+    ∙ ap (λ x. symbol_of (cond (is_at (int_cmp x) q) o (entry_at es q))) same ∙ chosen _ _ _
     ∙ ap (λ b. cond b (symbol_of o) (symbol_of (entry_at es q))) (int_eq_equiv.symm p q)
-    ∙ sym (cell-with_cell (content_of es) p (symbol_of o) q ∙ ap (cond (int_eq q p) (symbol_of o)) (cell-content_of es q)))
+    ∙ sym (cell-with_cell (content_of es) p (symbol_of o) q
+    ∙ ap (cond (int_eq q p) (symbol_of o)) (cell-content_of es q)))
 
 -- the same cells, the same entry at each position
-pub entry_at-same : (es fs : List (ℤ × ℕ)) → content_of es ≡ content_of fs → (p : ℤ) → entry_at es p ≡ entry_at fs p
+pub entry_at-same : (es fs : List (ℤ × ℕ)) → content_of es ≡ content_of fs → (p : ℤ)
+    → entry_at es p ≡ entry_at fs p
 entry_at-same es fs e p = sym (get-content_of es p) ∙ ap (λ c. get c p) e ∙ get-content_of fs p
 
-new_key : (e : ℤ × ℕ) (es : List (ℤ × ℕ)) → IsStrictlySortedBy int_cmp (keys_of (e ∷ es)) → entry_at es e.0 ≡ None
-new_key e es s = lookup-none (is_at (int_cmp e.0)) es (none_past_head int_eq_equiv e.0 e es (IsDistinct-from_sorted int_cmp _ s) (int_eq_equiv.refl e.0))
+new_key : (e : ℤ × ℕ) (es : List (ℤ × ℕ)) → IsStrictlySortedBy int_cmp (keys_of (e ∷ es))
+    → entry_at es e.0 ≡ None
+new_key e es s =
+    lookup-none (is_at (int_cmp e.0)) es
+    (none_past_head int_eq_equiv e.0 e es (IsDistinct-from_sorted int_cmp _ s) (int_eq_equiv.refl e.0))
 
 added : (o : Option ℕ) (n m : ℕ) → o ≡ None → m ≡ cond (is_some o) n (n + 1) → m ≡ suc n
 added None n m e is = omega arith
 added (Some k) n m e is = cc
 
 -- as many cells aren't 0 as there are entries
-pub score-content_of : (es : List (ℤ × ℕ)) → IsStrictlySortedBy int_cmp (keys_of es) → score (content_of es) ≡ length es
+pub score-content_of : (es : List (ℤ × ℕ)) → IsStrictlySortedBy int_cmp (keys_of es)
+    → score (content_of es) ≡ length es
 unfolding score content_of
 score-content_of [] s = len-empty int_cmp ℕ
-score-content_of (e ∷ es) s = added _ _ _ (get-content_of es e.0 ∙ new_key e es s) (len-insert int_cmp_total (from_entries es) e.0 e.1) ∙ ap suc (score-content_of es (sorted_tail int_cmp _ _ s))
+score-content_of (e ∷ es) s =
+    added _ _ _ (get-content_of es e.0 ∙ new_key e es s) (len-insert int_cmp_total (from_entries es) e.0 e.1)
+    ∙ ap suc (score-content_of es (sorted_tail int_cmp _ _ s))
 
 -- what a map is into which the entries of another were put in turn, where it had none
-pub copied_entries : (to from copy : BTreeMap ℤ ℕ) (es : List (ℤ × ℕ)) → to.entries ≡ [] → IsOrdered int_cmp from → es ≡ from.entries → InsertsAll int_cmp to es copy → copy.entries ≡ from.entries
+pub copied_entries : (to from copy : BTreeMap ℤ ℕ) (es : List (ℤ × ℕ)) → to.entries ≡ []
+    → IsOrdered int_cmp from → es ≡ from.entries → InsertsAll int_cmp to es copy → copy.entries ≡ from.entries
 copied_entries to from copy es none ordered all put =
     btree_map_from_get int_cmp_total copy from put.1 ordered (λ q.
     put.0 q
     ∙ ap (λ (fs : List (ℤ × ℕ)). update_all int_eq (λ k. entry_at fs k) es q) none
     ∙ ap (λ (fs : List (ℤ × ℕ)). update_all int_eq (λ _. None) fs q) all
-    ∙ update_all_none int_eq_equiv int_eq (λ _ _. refl) from.entries q (IsDistinct-from_sorted int_cmp _ ordered)) exact_signed
+    ∙ update_all_none int_eq_equiv int_eq (λ _ _. refl) from.entries q
+    (IsDistinct-from_sorted int_cmp _ ordered)) exact_signed
 
 -- two maps make the same tape exactly if their entries are the same
-pub same_entries : (m n : BTreeMap ℤ ℕ) → IsOrdered int_cmp m → IsOrdered int_cmp n → content_of m.entries ≡ content_of n.entries → m.entries ≡ n.entries
-same_entries m n s t e = btree_map_from_get int_cmp_total m n s t (entry_at-same m.entries n.entries e) exact_signed
+pub same_entries : (m n : BTreeMap ℤ ℕ) → IsOrdered int_cmp m → IsOrdered int_cmp n
+    → content_of m.entries ≡ content_of n.entries → m.entries ≡ n.entries
+same_entries m n s t e =
+    btree_map_from_get int_cmp_total m n s t (entry_at-same m.entries n.entries e) exact_signed

@@ -15,7 +15,8 @@ cell-laid-below from (x ∷ xs) p h =
     let next : p <ℤ (from +ℤ pos 1) = omega (arith, ints) in
     cell-with_cell-other (laid (from +ℤ pos 1) xs) from x p other ∙ cell-laid-below (from +ℤ pos 1) xs p next
 
-pub cell-laid : (from : ℤ) (xs : List ℕ) (k : ℕ) (p : ℤ) → p ≡ from +ℤ pos k → cell (laid from xs) p ≡ get_or xs k 0
+pub cell-laid : (from : ℤ) (xs : List ℕ) (k : ℕ) (p : ℤ) → p ≡ from +ℤ pos k
+    → cell (laid from xs) p ≡ get_or xs k 0
 cell-laid from [] k p e = cell-blank p
 cell-laid from (x ∷ xs) zero p e =
     let here : p ≡ from = e ∙ omega (arith, ints) in
@@ -40,5 +41,7 @@ score-laid from [] = score-blank
 score-laid from (x ∷ xs) =
     let rest = laid (from +ℤ pos 1) xs in
     let free : cell rest from ≡ 0 = cell-laid-below (from +ℤ pos 1) xs from (omega (arith, ints)) in
-    let more : score (with_cell rest from x) + 0 ≡ score rest + min 1 x = ap (λ n. score (with_cell rest from x) + min 1 n) (sym free) ∙ score-with_cell rest from x in
-    counted x (score rest) (score (with_cell rest from x)) (count_by nonzero xs) more (score-laid (from +ℤ pos 1) xs) ∙ sym (count_next x xs)
+    let more : score (with_cell rest from x) + 0 ≡ score rest + min 1 x =
+    ap (λ n. score (with_cell rest from x) + min 1 n) (sym free) ∙ score-with_cell rest from x in
+    counted x (score rest) (score (with_cell rest from x)) (count_by nonzero xs) more
+    (score-laid (from +ℤ pos 1) xs) ∙ sym (count_next x xs)

@@ -23,24 +23,31 @@ from_end : (size n : ℕ) → n < size → pos (size - suc n) ≡ negsuc n +ℤ 
 from_end size n h = omega (arith, ints)
 
 -- a cell stands at its own number, or as far below the ring's end as it is below 0
-pub index_cases : (size : ℕ) (p : ℤ) → (pos 0 -ℤ pos size) ≤ℤ p → p <ℤ pos size → ((pos 0 ≤ℤ p) × (pos (ring_index size p) ≡ p)) ⊎ ((p <ℤ pos 0) × (pos (ring_index size p) ≡ p +ℤ pos size))
+pub index_cases : (size : ℕ) (p : ℤ) → (pos 0 -ℤ pos size) ≤ℤ p → p <ℤ pos size
+    → ((pos 0 ≤ℤ p) × (pos (ring_index size p) ≡ p))
+    ⊎ ((p <ℤ pos 0) × (pos (ring_index size p) ≡ p +ℤ pos size))
 index_cases size (pos n) a b = inl (omega (arith, ints), ap pos (index_of_pos size n (omega (arith, ints))))
 index_cases size (negsuc n) a b =
     let small : n < size = omega (arith, ints) in
     inr (omega (arith, ints), ap pos (index_of_neg size n small) ∙ from_end size n small)
 
-module _ (low high : ℤ) (limit : ℕ) (w : IsWindow low high limit) (p : ℤ) (from : low ≤ℤ p) (to : p ≤ℤ high) where
-  pub index_in : ((pos 0 ≤ℤ p) × (pos (ring_index limit p) ≡ p)) ⊎ ((p <ℤ pos 0) × (pos (ring_index limit p) ≡ p +ℤ pos limit))
+module _ (low high : ℤ) (limit : ℕ) (w : IsWindow low high limit)
+    (p : ℤ) (from : low ≤ℤ p) (to : p ≤ℤ high) where
+  pub index_in : ((pos 0 ≤ℤ p) × (pos (ring_index limit p) ≡ p))
+      ⊎ ((p <ℤ pos 0) × (pos (ring_index limit p) ≡ p +ℤ pos limit))
   index_in = index_cases limit p (omega (arith, ints)) (omega (arith, ints))
 
   pub index_below : ring_index limit p < limit
-  index_below = elim index_in [ inl c ↦ omega (arith, ints, c.0, c.1) | inr c ↦ omega (arith, ints, c.0, c.1) ]
+  index_below =
+      elim index_in [ inl c ↦ omega (arith, ints, c.0, c.1) | inr c ↦ omega (arith, ints, c.0, c.1) ]
 
   pub index_from_zero : pos 0 ≤ℤ p → unsigned_abs p ≡ ring_index limit p
-  index_from_zero up = elim index_in [ inl c ↦ ap unsigned_abs (sym c.1) | inr c ↦ absurd (omega (arith, ints, c.0)) ]
+  index_from_zero up =
+      elim index_in [ inl c ↦ ap unsigned_abs (sym c.1) | inr c ↦ absurd (omega (arith, ints, c.0)) ]
 
   pub index_under_zero : p <ℤ pos 0 → unsigned_abs (p +ℤ pos limit) ≡ ring_index limit p
-  index_under_zero under = elim index_in [ inl c ↦ absurd (omega (arith, ints, c.0)) | inr c ↦ ap unsigned_abs (sym c.1) ]
+  index_under_zero under =
+      elim index_in [ inl c ↦ absurd (omega (arith, ints, c.0)) | inr c ↦ ap unsigned_abs (sym c.1) ]
 
   pub sum_fits : p <ℤ pos 0 → SFits w64 (p +ℤ pos limit)
   sum_fits under = narrow_fits (p +ℤ pos limit) (omega (arith, ints)) (omega (arith, ints))

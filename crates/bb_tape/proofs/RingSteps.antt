@@ -1,5 +1,5 @@
 -- What the calls on a ring do to its cells.
-use Rattle.std.proofs.Common.{◌≡◌, ◌≢◌, ◌⊎◌, inl, inr, ℕ, ◌<◌, ◌≤◌, ℤ, pos, ◌+ℤ◌, ◌≤ℤ◌, ◌<ℤ◌, List, Bool, true, false, get_or, set, length, sym, ap, ◌∙◌, arith, get_or-set_same, get_or-set_other}
+use Rattle.std.proofs.Common.{◌≡◌, ◌≢◌, ◌⊎◌, inl, inr, ℕ, ◌<◌, ◌≤◌, ℤ, pos, ◌+ℤ◌, ◌≤ℤ◌, ◌<ℤ◌, List, get_or, set, length, sym, ap, ◌∙◌, arith, get_or-set_same, get_or-set_other}
 use Rattle.std.proofs.lemmas.Int.{ints, clamps, by_lt_z}
 use Rattle.std.proofs.lemmas.Bool.{cases_lt}
 use Rattle.std.specs.Prelude.{unsigned_abs}
@@ -13,40 +13,52 @@ use Rattle.bb_tape.proofs.RingIndex.{index_in, index_below, index_from_zero, ind
 use Rattle.bb_tape.proofs.Rings.{by_window, cell-ring-inside, cell-ring-below, cell-ring-above}
 
 -- the window is the cell 0 alone, which is 0
-pub ring_blank : (cells : List ℕ) (w : Window) → w.low ≡ pos 0 → w.high ≡ pos 0 → get_or cells 0 0 ≡ 0 → ring_content cells w ≡ blank
+pub ring_blank : (cells : List ℕ) (w : Window) → w.low ≡ pos 0 → w.high ≡ pos 0 → get_or cells 0 0 ≡ 0
+    → ring_content cells w ≡ blank
 ring_blank cells w low high zeroed = same_content _ _ (λ q.
     by_window w q
     (λ a b.
     let up : pos 0 ≤ℤ q = omega (arith, ints, low) in
     let is : q ≡ pos 0 = omega (arith, ints, low, high) in
-    let at : ring_index w.limit q ≡ 0 = sym (index_from_zero w.low w.high w.limit w.valid q a b up) ∙ ap unsigned_abs is in
+    let at : ring_index w.limit q ≡ 0 = sym (index_from_zero w.low w.high w.limit w.valid q a b up)
+    ∙ ap unsigned_abs is in
     cell-ring-inside cells w q a b ∙ ap (λ k. get_or cells k 0) at ∙ zeroed ∙ sym (cell-blank q))
     (λ below. cell-ring-below cells w q below ∙ sym (cell-blank q))
     (λ above. cell-ring-above cells w q above ∙ sym (cell-blank q)))
 
 -- a write at a cell's index is a write to the cell
-pub ring_written : (cells : List ℕ) (w : Window) (p : ℤ) (v : ℕ) → length cells ≡ w.limit → w.low ≤ℤ p → p ≤ℤ w.high → ring_content (set cells (ring_index w.limit p) v) w ≡ with_cell (ring_content cells w) p v
+pub ring_written : (cells : List ℕ) (w : Window) (p : ℤ) (v : ℕ) → length cells ≡ w.limit → w.low ≤ℤ p
+    → p ≤ℤ w.high → ring_content (set cells (ring_index w.limit p) v) w ≡ with_cell (ring_content cells w) p v
 ring_written cells w p v whole low high = same_content _ _ (λ q.
     by_window w q
     (λ a b.
     cell-ring-inside (set cells (ring_index w.limit p) v) w q a b ∙
     by_position q p _
     (λ here.
-    let room : ring_index w.limit p < length cells = omega (arith, whole, index_below w.low w.high w.limit w.valid p low high) in
-    ap (λ x. get_or (set cells (ring_index w.limit p) v) (ring_index w.limit x) 0) here ∙ get_or-set_same cells (ring_index w.limit p) v 0 room
-    ∙ sym (ap (cell (with_cell (ring_content cells w) p v)) here ∙ cell-with_cell-same (ring_content cells w) p v))
+    let room : ring_index w.limit p < length cells =
+    omega (arith, whole, index_below w.low w.high w.limit w.valid p low high) in
+    ap (λ x. get_or (set cells (ring_index w.limit p) v) (ring_index w.limit x) 0) here
+    ∙ get_or-set_same cells (ring_index w.limit p) v 0 room
+    ∙ sym (ap (cell (with_cell (ring_content cells w) p v)) here
+    ∙ cell-with_cell-same (ring_content cells w) p v))
     (λ there.
-    get_or-set_other cells (ring_index w.limit p) (ring_index w.limit q) v 0 (index_apart w.low w.high w.limit w.valid p low high q a b there)
+    get_or-set_other cells (ring_index w.limit p) (ring_index w.limit q) v 0
+    (index_apart w.low w.high w.limit w.valid p low high q a b there)
     ∙ sym (cell-with_cell-other (ring_content cells w) p v q there ∙ cell-ring-inside cells w q a b)))
     (λ below.
     let other : q ≢ p = λ e. omega (arith, ints, e) in
-    cell-ring-below (set cells (ring_index w.limit p) v) w q below ∙ sym (cell-with_cell-other (ring_content cells w) p v q other ∙ cell-ring-below cells w q below))
+    cell-ring-below (set cells (ring_index w.limit p) v) w q below
+    ∙ sym (cell-with_cell-other (ring_content cells w) p v q other ∙ cell-ring-below cells w q below))
     (λ above.
     let other : q ≢ p = λ e. omega (arith, ints, e) in
-    cell-ring-above (set cells (ring_index w.limit p) v) w q above ∙ sym (cell-with_cell-other (ring_content cells w) p v q other ∙ cell-ring-above cells w q above)))
+    cell-ring-above (set cells (ring_index w.limit p) v) w q above
+    ∙ sym (cell-with_cell-other (ring_content cells w) p v q other ∙ cell-ring-above cells w q above)))
 
 -- the same cells in a window of the same positions
-pub ring_same : (cells dells : List ℕ) (w : Window) → ((q : ℤ) → w.low ≤ℤ q → q ≤ℤ w.high → get_or cells (ring_index w.limit q) 0 ≡ get_or dells (ring_index w.limit q) 0) → ring_content cells w ≡ ring_content dells w
+pub ring_same : (cells dells : List ℕ) (w : Window)
+    → ((q : ℤ) → w.low ≤ℤ q → q ≤ℤ w.high
+    → get_or cells (ring_index w.limit q) 0 ≡ get_or dells (ring_index w.limit q) 0)
+    → ring_content cells w ≡ ring_content dells w
 ring_same cells dells w alike = same_content _ _ (λ q.
     by_window w q
     (λ a b. cell-ring-inside cells w q a b ∙ alike q a b ∙ sym (cell-ring-inside dells w q a b))
@@ -54,7 +66,8 @@ ring_same cells dells w alike = same_content _ _ (λ q.
     (λ above. cell-ring-above cells w q above ∙ sym (cell-ring-above dells w q above)))
 
 -- the positions of a wider window other than the new one
-still_from : (w v : Window) (p : ℤ) → (p <ℤ w.low) ⊎ (w.high <ℤ p) → w.low ≤ℤ (p +ℤ pos 1) → v.low ≡ int_min w.low p → (q : ℤ) → v.low ≤ℤ q → q ≢ p → w.low ≤ℤ q
+still_from : (w v : Window) (p : ℤ) → (p <ℤ w.low) ⊎ (w.high <ℤ p) → w.low ≤ℤ (p +ℤ pos 1)
+    → v.low ≡ int_min w.low p → (q : ℤ) → v.low ≤ℤ q → q ≢ p → w.low ≤ℤ q
 still_from w v p outside from low q a other =
     by_lt_z q w.low
     (λ lt. elim outside [
@@ -63,7 +76,8 @@ still_from w v p outside from low q a other =
     ])
     (λ ge. ge)
 
-still_to : (w v : Window) (p : ℤ) → (p <ℤ w.low) ⊎ (w.high <ℤ p) → p ≤ℤ (w.high +ℤ pos 1) → v.high ≡ int_max w.high p → (q : ℤ) → q ≤ℤ v.high → q ≢ p → q ≤ℤ w.high
+still_to : (w v : Window) (p : ℤ) → (p <ℤ w.low) ⊎ (w.high <ℤ p) → p ≤ℤ (w.high +ℤ pos 1)
+    → v.high ≡ int_max w.high p → (q : ℤ) → q ≤ℤ v.high → q ≢ p → q ≤ℤ w.high
 still_to w v p outside to high q b other =
     by_lt_z w.high q
     (λ lt. elim outside [
@@ -73,7 +87,9 @@ still_to w v p outside to high q b other =
     (λ ge. ge)
 
 -- where nothing but the window's cells isn't 0, a position next to the window has a 0
-clear_beside : (cells : List ℕ) (w v : Window) (p : ℤ) → IsClear cells w → v.limit ≡ w.limit → (p <ℤ w.low) ⊎ (w.high <ℤ p) → v.low ≡ int_min w.low p → v.high ≡ int_max w.high p → get_or cells (ring_index v.limit p) 0 ≡ 0
+clear_beside : (cells : List ℕ) (w v : Window) (p : ℤ) → IsClear cells w → v.limit ≡ w.limit
+    → (p <ℤ w.low) ⊎ (w.high <ℤ p) → v.low ≡ int_min w.low p → v.high ≡ int_max w.high p
+    → get_or cells (ring_index v.limit p) 0 ≡ 0
 clear_beside cells w v p clear limit outside low high =
     let pfrom : v.low ≤ℤ p = omega (arith, ints, clamps) in
     let pto : p ≤ℤ v.high = omega (arith, ints, clamps) in
@@ -83,23 +99,32 @@ clear_beside cells w v p clear limit outside low high =
     elim (index_in v.low v.high v.limit v.valid p pfrom pto) [
       | inl up ↦ elim outside [
         | inl below ↦ absurd (omega (arith, ints, up.0, below, zero_low))
-        | inr above ↦ clear (ring_index v.limit p) (omega (arith, ints, up.1, above)) (omega (arith, ints, clamps, up.1, above, limit, low, high, valid))
+        | inr above ↦
+            clear (ring_index v.limit p)
+            (omega (arith, ints, up.1, above))
+            (omega (arith, ints, clamps, up.1, above, limit, low, high, valid))
       ]
       | inr under ↦ elim outside [
-        | inl below ↦ clear (ring_index v.limit p) (omega (arith, ints, clamps, under.1, below, limit, low, high, valid)) (omega (arith, ints, under.1, below, limit))
+        | inl below ↦
+            clear (ring_index v.limit p)
+            (omega (arith, ints, clamps, under.1, below, limit, low, high, valid))
+            (omega (arith, ints, under.1, below, limit))
         | inr above ↦ absurd (omega (arith, ints, under.0, above, zero_high))
       ]
     ]
 
 -- the window lets in one more cell, which is 0
-pub ring_wider : (cells : List ℕ) (w v : Window) (p : ℤ) → IsClear cells w → v.limit ≡ w.limit → (p <ℤ w.low) ⊎ (w.high <ℤ p) → w.low ≤ℤ (p +ℤ pos 1) → p ≤ℤ (w.high +ℤ pos 1) → v.low ≡ int_min w.low p → v.high ≡ int_max w.high p → ring_content cells v ≡ ring_content cells w
+pub ring_wider : (cells : List ℕ) (w v : Window) (p : ℤ) → IsClear cells w → v.limit ≡ w.limit
+    → (p <ℤ w.low) ⊎ (w.high <ℤ p) → w.low ≤ℤ (p +ℤ pos 1) → p ≤ℤ (w.high +ℤ pos 1) → v.low ≡ int_min w.low p
+    → v.high ≡ int_max w.high p → ring_content cells v ≡ ring_content cells w
 ring_wider cells w v p clear limit outside from to low high = same_content _ _ (λ q.
     by_window v q
     (λ a b.
     cell-ring-inside cells v q a b ∙
     by_position q p _
     (λ here.
-    ap (λ x. get_or cells (ring_index v.limit x) 0) here ∙ clear_beside cells w v p clear limit outside low high
+    ap (λ x. get_or cells (ring_index v.limit x) 0) here
+    ∙ clear_beside cells w v p clear limit outside low high
     ∙ sym (elim outside [
       | inl below ↦ cell-ring-below cells w q (omega (arith, ints, here, below))
       | inr above ↦ cell-ring-above cells w q (omega (arith, ints, here, above))
@@ -109,12 +134,16 @@ ring_wider cells w v p clear limit outside from to low high = same_content _ _ (
     let in_high : q ≤ℤ w.high = still_to w v p outside to high q b there in
     ap (λ n. get_or cells (ring_index n q) 0) limit ∙ sym (cell-ring-inside cells w q in_low in_high)))
     (λ below. cell-ring-below cells v q below ∙ sym (cell-ring-below cells w q (omega (arith, ints, clamps))))
-    (λ above. cell-ring-above cells v q above ∙ sym (cell-ring-above cells w q (omega (arith, ints, clamps)))))
+    (λ above. cell-ring-above cells v q above
+    ∙ sym (cell-ring-above cells w q (omega (arith, ints, clamps)))))
 
-pub clear_wider : (cells : List ℕ) (w v : Window) (p : ℤ) → IsClear cells w → v.limit ≡ w.limit → v.low ≡ int_min w.low p → v.high ≡ int_max w.high p → IsClear cells v
-clear_wider cells w v p clear limit low high k above below = clear k (omega (arith, ints, clamps, above, high)) (omega (arith, ints, clamps, below, low, limit))
+pub clear_wider : (cells : List ℕ) (w v : Window) (p : ℤ) → IsClear cells w → v.limit ≡ w.limit
+    → v.low ≡ int_min w.low p → v.high ≡ int_max w.high p → IsClear cells v
+clear_wider cells w v p clear limit low high k above below =
+    clear k (omega (arith, ints, clamps, above, high)) (omega (arith, ints, clamps, below, low, limit))
 
-pub clear_written : (cells : List ℕ) (w : Window) (p : ℤ) (v : ℕ) → IsClear cells w → w.low ≤ℤ p → p ≤ℤ w.high → IsClear (set cells (ring_index w.limit p) v) w
+pub clear_written : (cells : List ℕ) (w : Window) (p : ℤ) (v : ℕ) → IsClear cells w → w.low ≤ℤ p → p ≤ℤ w.high
+    → IsClear (set cells (ring_index w.limit p) v) w
 clear_written cells w p v clear from to k above below =
     let other : k ≢ ring_index w.limit p = λ e. elim (index_in w.low w.high w.limit w.valid p from to) [
       | inl up ↦ omega (arith, ints, up.1, e, above, to)
@@ -122,36 +151,42 @@ clear_written cells w p v clear from to k above below =
     ] in
     get_or-set_other cells (ring_index w.limit p) k v 0 other ∙ clear k above below
 
-pub clear_zeroes : (cells : List ℕ) (w : Window) → ((k : ℕ) → k < w.limit → get_or cells k 0 ≡ 0) → IsClear cells w
-clear_zeroes cells w zeroes k above below = let down = w.valid.from_zero in zeroes k (omega (arith, ints, below, down))
+pub clear_zeroes : (cells : List ℕ) (w : Window) → ((k : ℕ) → k < w.limit → get_or cells k 0 ≡ 0)
+    → IsClear cells w
+clear_zeroes cells w zeroes k above below =
+    let down = w.valid.from_zero in zeroes k (omega (arith, ints, below, down))
 
 -- with the ends cleared, all is 0
-pub all_clear : (cells dells : List ℕ) (w : Window) (front back : ℕ) → IsClear cells w → pos front ≡ w.high +ℤ pos 1 → pos back ≡ w.low +ℤ pos w.limit → ((k : ℕ) → k < front → get_or dells k 0 ≡ 0) → ((k : ℕ) → back ≤ k → get_or dells k 0 ≡ 0) → ((k : ℕ) → front ≤ k → k < back → get_or dells k 0 ≡ get_or cells k 0) → (k : ℕ) → get_or dells k 0 ≡ 0
+pub all_clear : (cells dells : List ℕ) (w : Window) (front back : ℕ) → IsClear cells w
+    → pos front ≡ w.high +ℤ pos 1 → pos back ≡ w.low +ℤ pos w.limit
+    → ((k : ℕ) → k < front → get_or dells k 0 ≡ 0) → ((k : ℕ) → back ≤ k → get_or dells k 0 ≡ 0)
+    → ((k : ℕ) → front ≤ k → k < back → get_or dells k 0 ≡ get_or cells k 0) → (k : ℕ) → get_or dells k 0 ≡ 0
 all_clear cells dells w front back clear ef eb low high between k =
     elim (cases_lt k front) [
       | inl lt ↦ low k lt
       | inr ge ↦ elim (cases_lt k back) [
-        | inl lt ↦ between k (omega (arith, ge)) lt ∙ clear k (omega (arith, ints, ef, ge)) (omega (arith, ints, eb, lt))
+        | inl lt ↦ between k (omega (arith, ge)) lt
+            ∙ clear k (omega (arith, ints, ef, ge)) (omega (arith, ints, eb, lt))
         | inr past ↦ high k (omega (arith, past))
       ]
     ]
 
 -- what is copied onto a ring whose window is the cell 0 leaves the rest clear
-pub clear_copied : (cells dells : List ℕ) (w v : Window) (front back : ℕ) → IsClear cells w → w.low ≡ pos 0 → w.high ≡ pos 0 → w.limit ≡ v.limit → pos front ≡ v.high +ℤ pos 1 → pos back ≡ v.low +ℤ pos v.limit → ((k : ℕ) → front ≤ k → k < back → get_or dells k 0 ≡ get_or cells k 0) → IsClear dells v
+pub clear_copied : (cells dells : List ℕ) (w v : Window) (front back : ℕ) → IsClear cells w → w.low ≡ pos 0
+    → w.high ≡ pos 0 → w.limit ≡ v.limit → pos front ≡ v.high +ℤ pos 1 → pos back ≡ v.low +ℤ pos v.limit
+    → ((k : ℕ) → front ≤ k → k < back → get_or dells k 0 ≡ get_or cells k 0) → IsClear dells v
 clear_copied cells dells w v front back clear wl wh limit ef eb between k above below =
     let up = v.valid.to_zero in
     let down = v.valid.from_zero in
-    between k (omega (arith, ints, ef, above)) (omega (arith, ints, eb, below)) ∙ clear k (omega (arith, ints, wh, above, up)) (omega (arith, ints, wl, below, down, limit))
+    between k (omega (arith, ints, ef, above)) (omega (arith, ints, eb, below))
+    ∙ clear k (omega (arith, ints, wh, above, up)) (omega (arith, ints, wl, below, down, limit))
 
 -- what is copied of another ring: all before `front`, and all from `back` on
-pub ring_copied : (cells dells : List ℕ) (w : Window) (front back : ℕ) → pos front ≡ w.high +ℤ pos 1 → pos back ≡ w.low +ℤ pos w.limit → ((k : ℕ) → k < front → get_or cells k 0 ≡ get_or dells k 0) → ((k : ℕ) → back ≤ k → get_or cells k 0 ≡ get_or dells k 0) → ring_content cells w ≡ ring_content dells w
+pub ring_copied : (cells dells : List ℕ) (w : Window) (front back : ℕ) → pos front ≡ w.high +ℤ pos 1
+    → pos back ≡ w.low +ℤ pos w.limit → ((k : ℕ) → k < front → get_or cells k 0 ≡ get_or dells k 0)
+    → ((k : ℕ) → back ≤ k → get_or cells k 0 ≡ get_or dells k 0) → ring_content cells w ≡ ring_content dells w
 ring_copied cells dells w front back ef eb low high = ring_same cells dells w (λ q a b.
     elim (index_in w.low w.high w.limit w.valid q a b) [
       | inl c ↦ low (ring_index w.limit q) (omega (arith, ints, c.1))
       | inr c ↦ high (ring_index w.limit q) (omega (arith, ints, c.1))
     ])
-
--- a position that isn't in the window
-pub outside_from : (w : Window) (p p' : ℤ) (b : Bool) → p' ≡ p → ((w.low ≤ℤ p') × (p' ≤ℤ w.high) → b ≡ true) → b ≡ false → (p <ℤ w.low) ⊎ (w.high <ℤ p)
-outside_from w p p' b same told is =
-    by_lt_z p w.low inl (λ from. by_lt_z w.high p inr (λ to. absurd (let found : b ≡ true = told (omega (arith, ints, same, from), omega (arith, ints, same, to)) in cc)))

@@ -16,40 +16,49 @@ abbrev pub length_of : Window → ℕ
 length_of w = unsigned_abs (w.high -ℤ w.low) + 1
 
 abbrev pub symbols_of : List ℕ → Window → List ℕ
-symbols_of cells w = map (λ k. get_or cells (ring_index w.limit (w.low +ℤ pos k)) 0) (range_with_len 0 (length_of w))
+symbols_of cells w =
+    map (λ k. get_or cells (ring_index w.limit (w.low +ℤ pos k)) 0) (range_with_len 0 (length_of w))
 
 -- a position is in the window, below it or above it
-pub by_window : (w : Window) (p : ℤ) {P : Type 0} → (w.low ≤ℤ p → p ≤ℤ w.high → P) → (p <ℤ w.low → P) → (w.high <ℤ p → P) → P
-by_window w p inside below above = by_lt_z p w.low below (λ low. by_lt_z w.high p above (λ high. inside low high))
+pub by_window : (w : Window) (p : ℤ) {P : Type 0} → (w.low ≤ℤ p → p ≤ℤ w.high → P) → (p <ℤ w.low → P)
+    → (w.high <ℤ p → P) → P
+by_window w p inside below above =
+    by_lt_z p w.low below (λ low. by_lt_z w.high p above (λ high. inside low high))
 
 pub abs_is : (z : ℤ) → pos 0 ≤ℤ z → pos (unsigned_abs z) ≡ z
 abs_is (pos n) h = refl
 abs_is (negsuc n) h = absurd (omega (arith, ints))
 
 pub offset : (low p : ℤ) → low ≤ℤ p → p ≡ low +ℤ pos (unsigned_abs (p -ℤ low))
-offset low p le = let e : pos (unsigned_abs (p -ℤ low)) ≡ p -ℤ low = abs_is (p -ℤ low) (omega (arith, ints)) in omega (arith, ints, e)
+offset low p le =
+    let e : pos (unsigned_abs (p -ℤ low)) ≡ p -ℤ low = abs_is (p -ℤ low) (omega (arith, ints)) in
+    omega (arith, ints, e)
 
 ends_within : (w : Window) (p : ℤ) → w.low ≤ℤ p → p ≤ℤ w.high → unsigned_abs (p -ℤ w.low) < length_of w
 ends_within w p low high =
     let a : pos (unsigned_abs (p -ℤ w.low)) ≡ p -ℤ w.low = abs_is (p -ℤ w.low) (omega (arith, ints)) in
-    let b : pos (unsigned_abs (w.high -ℤ w.low)) ≡ w.high -ℤ w.low = abs_is (w.high -ℤ w.low) (omega (arith, ints)) in
+    let b : pos (unsigned_abs (w.high -ℤ w.low)) ≡ w.high -ℤ w.low =
+    abs_is (w.high -ℤ w.low) (omega (arith, ints)) in
     omega (arith, ints, a, b)
 
 ends_past : (w : Window) (p : ℤ) → w.high <ℤ p → length_of w ≤ unsigned_abs (p -ℤ w.low)
 ends_past w p above =
     let a : pos (unsigned_abs (p -ℤ w.low)) ≡ p -ℤ w.low = abs_is (p -ℤ w.low) (omega (arith, ints)) in
-    let b : pos (unsigned_abs (w.high -ℤ w.low)) ≡ w.high -ℤ w.low = abs_is (w.high -ℤ w.low) (omega (arith, ints)) in
+    let b : pos (unsigned_abs (w.high -ℤ w.low)) ≡ w.high -ℤ w.low =
+    abs_is (w.high -ℤ w.low) (omega (arith, ints)) in
     omega (arith, ints, a, b)
 
 -- a cell of the window stands at its index
-pub cell-ring-inside : (cells : List ℕ) (w : Window) (p : ℤ) → w.low ≤ℤ p → p ≤ℤ w.high → cell (ring_content cells w) p ≡ get_or cells (ring_index w.limit p) 0
+pub cell-ring-inside : (cells : List ℕ) (w : Window) (p : ℤ) → w.low ≤ℤ p → p ≤ℤ w.high
+    → cell (ring_content cells w) p ≡ get_or cells (ring_index w.limit p) 0
 unfolding ring_content
 cell-ring-inside cells w p low high =
     let k = unsigned_abs (p -ℤ w.low) in
     let at : p ≡ w.low +ℤ pos k = offset w.low p low in
     let within : k < length_of w = ends_within w p low high in
     cell-laid w.low (symbols_of cells w) k p at
-    ∙ get_or-map-range_with_len (λ j. get_or cells (ring_index w.limit (w.low +ℤ pos j)) 0) 0 (length_of w) k k 0 within (omega arith)
+    ∙ get_or-map-range_with_len (λ j. get_or cells (ring_index w.limit (w.low +ℤ pos j)) 0) 0 (length_of w) k
+    k 0 within (omega arith)
     ∙ ap (λ q. get_or cells (ring_index w.limit q) 0) (sym at)
 
 pub cell-ring-below : (cells : List ℕ) (w : Window) (p : ℤ) → p <ℤ w.low → cell (ring_content cells w) p ≡ 0
@@ -63,4 +72,9 @@ cell-ring-above cells w p above =
     let k = unsigned_abs (p -ℤ w.low) in
     let past : length_of w ≤ k = ends_past w p above in
     cell-laid w.low (symbols_of cells w) k p (offset w.low p low)
-    ∙ get_or_past (symbols_of cells w) k 0 (omega (arith, length-map-range_with_len (λ j. get_or cells (ring_index w.limit (w.low +ℤ pos j)) 0) 0 (length_of w), past))
+    ∙ get_or_past (symbols_of cells w) k 0
+    (omega (
+      arith,
+      length-map-range_with_len (λ j. get_or cells (ring_index w.limit (w.low +ℤ pos j)) 0) 0 (length_of w),
+      past,
+    ))

@@ -10,31 +10,48 @@ use Rattle.bb_tape.specs.Windowed.{strip_of}
 use Rattle.bb_tape.proofs.Content.{cell-blank, cell-with_cell-same, cell-with_cell-other, by_position}
 
 -- a window's own facts, that all cells outside it are 0, and that each cell has a symbol
-pub sound_from : (c : Content) (w : Window) → ((p : ℤ) → cell c p ≢ 0 → IsInside (strip_of c w) p) → HasSymbols c → IsSound (strip_of c w)
-sound_from c w nothing symbols = record { from_zero = w.valid.from_zero; to_zero = w.valid.to_zero; within = w.valid.within; limited = w.valid.limited; nothing_outside = nothing; symbols = symbols }
+pub sound_from : (c : Content) (w : Window) → ((p : ℤ) → cell c p ≢ 0 → IsInside (strip_of c w) p)
+    → HasSymbols c → IsSound (strip_of c w)
+sound_from c w nothing symbols =
+    record {
+      from_zero = w.valid.from_zero;
+      to_zero = w.valid.to_zero;
+      within = w.valid.within;
+      limited = w.valid.limited;
+      nothing_outside = nothing;
+      symbols = symbols;
+    }
 
 pub sound_blank : (w : Window) → IsSound (strip_of blank w)
 sound_blank w = sound_from blank w (λ p ne. absurd (ne (cell-blank p))) (λ p. omega (arith, cell-blank p))
 
 -- in a wider window
-pub sound_wider : (c : Content) (w : Window) (p p' : ℤ) (v : Window) → IsSound (strip_of c w) → p' ≡ p → v.low ≡ int_min w.low p' → v.high ≡ int_max w.high p' → IsSound (strip_of c v)
-sound_wider c w p p' v s same low high = sound_from c v (λ q ne. let old : IsInside (strip_of c w) q = s.nothing_outside q ne in (omega (arith, ints, clamps), omega (arith, ints, clamps))) s.symbols
+pub sound_wider : (c : Content) (w : Window) (p p' : ℤ) (v : Window) → IsSound (strip_of c w) → p' ≡ p
+    → v.low ≡ int_min w.low p' → v.high ≡ int_max w.high p' → IsSound (strip_of c v)
+sound_wider c w p p' v s same low high =
+    sound_from c v (λ q ne. let old : IsInside (strip_of c w) q = s.nothing_outside q ne in
+    (omega (arith, ints, clamps), omega (arith, ints, clamps))) s.symbols
 
-symbols_written : (c : Content) (p : ℤ) (v : ℕ) → HasSymbols c → v ≤ MOST_SYMBOL → HasSymbols (with_cell c p v)
+symbols_written : (c : Content) (p : ℤ) (v : ℕ) → HasSymbols c → v ≤ MOST_SYMBOL
+    → HasSymbols (with_cell c p v)
 symbols_written c p v s small q =
     by_position q p _
-    (λ here. subst (λ x. cell (with_cell c p v) x ≤ MOST_SYMBOL) (sym here) (omega (arith, cell-with_cell-same c p v)))
+    (λ here. subst (λ x. cell (with_cell c p v) x ≤ MOST_SYMBOL) (sym here)
+    (omega (arith, cell-with_cell-same c p v)))
     (λ there. omega (arith, cell-with_cell-other c p v q there, s q))
 
 -- after a write in the window
-pub sound_written : (c : Content) (w : Window) (p : ℤ) (v : ℕ) → IsSound (strip_of c w) → w.low ≤ℤ p → p ≤ℤ w.high → v ≤ MOST_SYMBOL → IsSound (strip_of (with_cell c p v) w)
+pub sound_written : (c : Content) (w : Window) (p : ℤ) (v : ℕ) → IsSound (strip_of c w) → w.low ≤ℤ p
+    → p ≤ℤ w.high → v ≤ MOST_SYMBOL → IsSound (strip_of (with_cell c p v) w)
 sound_written c w p v s low high small = sound_from (with_cell c p v) w
     (λ q ne.
     by_position q p _
-    (λ here. let low' : w.low ≤ℤ q = subst (λ x. w.low ≤ℤ x) (sym here) low in let high' : q ≤ℤ w.high = subst (λ x. x ≤ℤ w.high) (sym here) high in (low', high'))
+    (λ here. let low' : w.low ≤ℤ q = subst (λ x. w.low ≤ℤ x) (sym here) low in
+    let high' : q ≤ℤ w.high = subst (λ x. x ≤ℤ w.high) (sym here) high in (low', high'))
     (λ there. s.nothing_outside q (λ e. ne (cell-with_cell-other c p v q there ∙ e))))
     (symbols_written c p v s.symbols small)
 
 -- a stretch that isn't empty begins in the window
 pub stretch_begins : (s : Strip) (from : ℤ) (len k : ℕ) → IsStretch s from len → k < len → s.low ≤ℤ from
-stretch_begins s from len k inside some = let first : IsInside s (from +ℤ pos 0) = inside 0 (omega arith) in omega (arith, ints)
+stretch_begins s from len k inside some =
+    let first : IsInside s (from +ℤ pos 0) = inside 0 (omega arith) in omega (arith, ints)

@@ -7,7 +7,8 @@ use Rattle.bb_tape.proofs.Content.{cell-with_cell-same, cell-with_cell-other, wi
 pub cell-written-same : (s : Strip) (p : ℤ) (v : ℕ) → cell (written s p v).content p ≡ v
 cell-written-same s p v = cell-with_cell-same s.content p v
 
-pub cell-written-other : (s : Strip) (p : ℤ) (v : ℕ) (q : ℤ) → q ≢ p → cell (written s p v).content q ≡ cell s.content q
+pub cell-written-other : (s : Strip) (p : ℤ) (v : ℕ) (q : ℤ) → q ≢ p
+    → cell (written s p v).content q ≡ cell s.content q
 cell-written-other s p v q apart = cell-with_cell-other s.content p v q apart
 
 -- to write what is there changes nothing

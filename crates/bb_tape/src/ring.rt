@@ -1,6 +1,7 @@
 //! A tape kept as a ring of exactly as many cells as the window may have.
 
-ghost use Rattle.std.specs.Prelude.{◌≡◌, ◌↔◌, ◌≤◌, ◌<◌, ◌++◌, ℕ, Bool, false, IsTrue, IfOk, OnErr, OnOk, length, slice_index, pos, ◌+ℤ◌, ◌-ℤ◌, ◌≤ℤ◌, ◌<ℤ◌, ℤ, ◌⊎◌};
+ghost use Rattle.std.specs.Prelude.{◌≡◌, ◌↔◌, ◌≤◌, ◌<◌, ◌++◌, ℕ, Bool, false, IsTrue, IfOk, OnErr};
+ghost use Rattle.std.specs.Prelude.{OnOk, length, slice_index, pos, ◌+ℤ◌, ◌-ℤ◌, ◌≤ℤ◌, ◌<ℤ◌, ℤ, ◌⊎◌};
 ghost use Rattle.bb_tape.specs.Content.{cell, score};
 ghost use Rattle.bb_tape.specs.Strip.{fresh, IsSound, IsStretch};
 ghost use Rattle.bb_tape.specs.Windowed.{strip_of};

@@ -2,7 +2,8 @@
 
 ghost use Rattle.std.specs.Prelude.{◌≡◌, ◌↔◌, ◌≤◌, Bool, IfErr, IsTrue, OnErr, OnOk, pos, ◌+ℤ◌, ◌-ℤ◌, ◌<ℤ◌};
 ghost use Rattle.bb_tape.specs.Content.{cell, score};
-ghost use Rattle.bb_tape.specs.Strip.{Strip, fresh, visited, written, width, IsInside, IsBeside, IsStretch, AgreesFrom, IsSound};
+ghost use Rattle.bb_tape.specs.Strip.{Strip, fresh, visited, written, width, IsInside};
+ghost use Rattle.bb_tape.specs.Strip.{IsBeside, IsStretch, AgreesFrom, IsSound};
 
 /// The greatest limit that a tape may have.
 pub const MOST_CELLS: u64 = 67_108_864;

@@ -1,5 +1,6 @@
 //! The reader of machine texts.
-ghost use Rattle.std.specs.Prelude.{◌≡◌, ℕ, ◌+◌, ◌*◌, ◌≤◌, ◌<◌, ◌↔◌, List, [], ◌∷◌, ◌++◌, length, take, drop, IsTrue, IfOk, IfErr, Ok};
+ghost use Rattle.std.specs.Prelude.{◌≡◌, ℕ, ◌+◌, ◌*◌, ◌≤◌, ◌<◌, ◌↔◌, List, [], ◌∷◌};
+ghost use Rattle.std.specs.Prelude.{◌++◌, length, take, drop, IsTrue, IfOk, IfErr, Ok};
 
 use crate::entry::Entry;
 use crate::machine::{LINE, MAX_STATES, MAX_SYMBOLS, Machine, SLOTS, Slot};
@@ -113,7 +114,8 @@ ghost use Rattle.bb_machine.specs.Draft.{Begun, IsDraft, begun_text, IsStop};
 #[inline]
 pub(super) fn read_prefix(line: &[u8]) -> Result<Machine, usize>
     ensures found { IfOk result (λ machine. IsMachine machine × (text machine ≡ line.now)) }
-    ensures only { (machine : List (List Entry)) → IsMachine machine → text machine ≡ line.now → result ≡ Ok machine }
+    ensures only { (machine : List (List Entry)) → IsMachine machine → text machine ≡ line.now
+        → result ≡ Ok machine }
     ensures prefix { IfErr result (IsLongestPrefix IsViable line.now) }
     ensures bounded { IfErr result (λ n. n ≤ LINE) }
 {

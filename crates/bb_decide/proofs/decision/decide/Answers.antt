@@ -1,5 +1,8 @@
 use Rattle.bb_cert.proofs.Facts.{claims_never_halt}
-use Rattle.bb_decide.proofs.Works.{verdict_of_searches, work_of_halt, work_of_searches}
+use Rattle.std.proofs.Common.{refl, rules}
+use Rattle.bb_cert.specs.declared.verdict.Verdict.TheVariants.{Halt}
+use Rattle.bb_decide.proofs.Claims.{verdicts_are_confirmed}
+use Rattle.bb_decide.proofs.Works.{verdict_of_deciders, work_of_halt, work_of_deciders}
 use Rattle.bb_decide.proofs.decision.decide.Goals as goal
 use Rattle.bb_decide.proofs.decision.decide.Goals.{in-NoSteps, in-NoCells}
 
@@ -11,26 +14,26 @@ returns-in-Halt-clause-counted g c =
 pub returns-in-Some-clause-never : goal.returns-in-Some-clause-never
 returns-in-Some-clause-never g c = λ says.
     let claim = rw c.in-Some.is at c.in_ok-verdict.ensures.claim in
-    claims_never_halt _ _ says claim
+    claims_never_halt _ _ c.states-read.ensures.machine says claim
 
 pub returns-in-Some-clause-counted : goal.returns-in-Some-clause-counted
 returns-in-Some-clause-counted g c = elim c.match-branch-2.branch [
   | in-NoSteps w ↦
       let outcome = rw w.in-NoSteps.is at c.in_ok-steps.ensures.outcome in
-      work_of_searches _ _ _ _ _ c.new.ensures c.in_ok-steps.ensures.counted outcome.0 _ c.in_ok-verdict.ensures.counted
+      work_of_deciders _ _ _ _ _ c.new.ensures c.in_ok-steps.ensures.counted outcome.0 _ c.in_ok-verdict.ensures.counted
   | in-NoCells w ↦
       let outcome = rw w.in-NoCells.is at c.in_ok-steps.ensures.outcome in
-      work_of_searches _ _ _ _ _ c.new.ensures c.in_ok-steps.ensures.counted outcome.0 _ c.in_ok-verdict.ensures.counted
+      work_of_deciders _ _ _ _ _ c.new.ensures c.in_ok-steps.ensures.counted outcome.0 _ c.in_ok-verdict.ensures.counted
 ]
 
 pub returns-in-None-clause-counted : goal.returns-in-None-clause-counted
 returns-in-None-clause-counted g c = elim c.match-branch-2.branch [
   | in-NoSteps w ↦
       let outcome = rw w.in-NoSteps.is at c.in_ok-steps.ensures.outcome in
-      work_of_searches _ _ _ _ _ c.new.ensures c.in_ok-steps.ensures.counted outcome.0 _ c.in_ok-verdict.ensures.counted
+      work_of_deciders _ _ _ _ _ c.new.ensures c.in_ok-steps.ensures.counted outcome.0 _ c.in_ok-verdict.ensures.counted
   | in-NoCells w ↦
       let outcome = rw w.in-NoCells.is at c.in_ok-steps.ensures.outcome in
-      work_of_searches _ _ _ _ _ c.new.ensures c.in_ok-steps.ensures.counted outcome.0 _ c.in_ok-verdict.ensures.counted
+      work_of_deciders _ _ _ _ _ c.new.ensures c.in_ok-steps.ensures.counted outcome.0 _ c.in_ok-verdict.ensures.counted
 ]
 
 pub returns-in-Some-clause-verdict : goal.returns-in-Some-clause-verdict
@@ -39,10 +42,10 @@ returns-in-Some-clause-verdict g c =
     elim c.match-branch-2.branch [
       | in-NoSteps w ↦
           let outcome = rw w.in-NoSteps.is at c.in_ok-steps.ensures.outcome in
-          verdict_of_searches c.args.machine.now c.args.limits.now c.args.plan _ outcome.0 found
+          verdict_of_deciders c.args.machine.now c.args.limits.now c.args.plan _ outcome.0 found
       | in-NoCells w ↦
           let outcome = rw w.in-NoCells.is at c.in_ok-steps.ensures.outcome in
-          verdict_of_searches c.args.machine.now c.args.limits.now c.args.plan _ outcome.0 found
+          verdict_of_deciders c.args.machine.now c.args.limits.now c.args.plan _ outcome.0 found
     ]
 
 pub returns-in-None-clause-verdict : goal.returns-in-None-clause-verdict
@@ -51,8 +54,30 @@ returns-in-None-clause-verdict g c =
     elim c.match-branch-2.branch [
       | in-NoSteps w ↦
           let outcome = rw w.in-NoSteps.is at c.in_ok-steps.ensures.outcome in
-          rw w.why-is (outcome, found.0, found.1)
+          rw w.why-is (outcome, found)
       | in-NoCells w ↦
           let outcome = rw w.in-NoCells.is at c.in_ok-steps.ensures.outcome in
-          rw w.why-is (outcome, found.0, found.1)
+          rw w.why-is (outcome, found)
     ]
+
+pub returns-in-Halt-clause-confirmed : goal.returns-in-Halt-clause-confirmed
+returns-in-Halt-clause-confirmed g c = λ claims.
+    let outcome = rw c.in-Halt.is at c.in_ok-steps.ensures.outcome in
+    verdicts_are_confirmed c.args.machine.now c.args.limits.now c.args.plan (Halt _ _) outcome claims
+
+pub returns-in-Some-clause-confirmed : goal.returns-in-Some-clause-confirmed
+returns-in-Some-clause-confirmed g c =
+    verdicts_are_confirmed c.args.machine.now c.args.limits.now c.args.plan _ (returns-in-Some-clause-verdict g c)
+
+pub returns-in-None-clause-confirmed : goal.returns-in-None-clause-confirmed
+returns-in-None-clause-confirmed g c = λ claims. absurd (claims tt)
+
+pub returns-in-Halt-clause-line : goal.returns-in-Halt-clause-line
+returns-in-Halt-clause-line g c = (c.states-read.ensures.machine, search rules, refl)
+
+pub returns-in-Some-clause-line : goal.returns-in-Some-clause-line
+returns-in-Some-clause-line g c =
+    (c.states-read.ensures.machine, rw c.in-Some.is at c.in_ok-verdict.ensures.numbers, refl)
+
+pub returns-in-None-clause-line : goal.returns-in-None-clause-line
+returns-in-None-clause-line g c = (c.states-read.ensures.machine, tt, refl)

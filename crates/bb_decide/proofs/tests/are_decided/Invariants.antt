@@ -1,6 +1,11 @@
+use Rattle.std.proofs.Common.{◌≡◌}
+use Rattle.bb_cert.specs.Path.{depth_of}
 use Rattle.bb_decide.specs.declared.tests.TheConstants.{CELLS}
 use Rattle.bb_decide.specs.Bench.{HasCells}
 use Rattle.bb_decide.proofs.tests.are_decided.Given as goal
 
 abbrev pub invariant-loop-text : goal.invariant-loop-text
-invariant-loop-text g l = HasCells g.T.Tape.strip CELLS l.bench
+invariant-loop-text g l = record {
+  tapes : HasCells g.T.Tape.strip CELLS l.bench;
+  path : depth_of l.bench.path ≡ 0;
+}

@@ -15,9 +15,12 @@ loop-rest-preserved g c = record {
 
 pub returns-in-Err-clause-err : goal.returns-in-Err-clause-err
 returns-in-Err-clause-err g c =
-    rw (append-nil, c.as_slice-rest.ensures.value) at (AppendsPrefix-sent _ _ _ _ _ (Sends-kept _ _ _ _ _ _ c.loop-rest.invariant.sent (rw c.in-Err.is at c.write.ensures.bytes)))
+    rw (append-nil, c.as_slice-rest.ensures.value) at
+    (AppendsPrefix-sent
+    _ _ _ _ _ (Sends-kept _ _ _ _ _ _ c.loop-rest.invariant.sent (rw c.in-Err.is at c.write.ensures.bytes)))
 
 pub returns-clause-ok : goal.returns-clause-ok
 returns-clause-ok g c =
     let none : c.loop-rest.rest.now ≡ [] = grind (arith, common_steps) in
-    rw (append-nil, c.as_slice-rest.ensures.value) at (Appends-sent _ _ _ _ (rw none at c.loop-rest.invariant.sent))
+    rw (append-nil, c.as_slice-rest.ensures.value) at
+    (Appends-sent _ _ _ _ (rw none at c.loop-rest.invariant.sent))

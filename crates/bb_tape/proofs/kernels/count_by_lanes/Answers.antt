@@ -12,4 +12,5 @@ overflow_add-count c =
     record { fits = omega (arith, sum, most, c.requires.within, c.requires.fits, c.loop-i-test.true) }
 
 pub loop-i-preserved : goal.loop-i-preserved
-loop-i-preserved c = (λ i. c.loop-i.invariant i + c.count_lanes-count.ensures i) ∙ count_more c.args.a.now (c.loop-i.i * 32) _ (omega arith)
+loop-i-preserved c = (λ i. c.loop-i.invariant i + c.count_lanes-count.ensures i)
+    ∙ count_more c.args.a.now (c.loop-i.i * 32) _ (omega arith)

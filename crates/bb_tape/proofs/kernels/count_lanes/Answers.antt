@@ -8,4 +8,5 @@ use Rattle.bb_tape.proofs.kernels.count_lanes.Goals as goal
 pub returns : goal.returns
 returns c =
     let v = chunk c.args.at 32 c.args.a.now in
-    ap ones (bitmask_splat w8 differ v 32 0 (length-chunk c.args.at 32 c.args.a.now c.requires) (omega arith)) ∙ ones-mask_l (λ x. differ x 0) v
+    ap ones (bitmask_splat w8 differ v 32 0 (length-chunk c.args.at 32 c.args.a.now c.requires) (omega arith))
+    ∙ ones-mask_l (λ x. differ x 0) v

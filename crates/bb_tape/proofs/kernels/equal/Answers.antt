@@ -7,6 +7,7 @@ returns-then-equal_by_lanes c =
     let n = length c.args.a.now / 32 * 32 in
     let a = c.args.a.now in
     let b = c.args.b.now in (
-      λ t. equal_halves a b n (c.equal_by_lanes.ensures.0 c.if-equal_by_lanes.true) (sym (whole_rest n a) ∙ c.equal_one_by_one.ensures.0 t ∙ whole_rest n b),
+      λ t. equal_halves a b n (c.equal_by_lanes.ensures.0 c.if-equal_by_lanes.true) (sym (whole_rest n a)
+          ∙ c.equal_one_by_one.ensures.0 t ∙ whole_rest n b),
       λ e. c.equal_one_by_one.ensures.1 (whole_rest n a ∙ ap (drop n) e ∙ sym (whole_rest n b)),
     )

@@ -17,9 +17,19 @@ reach_low-requires-clause-room g c =
     let high_fits : FitsSigned w64 c.high.result = search rules in
     let lo_fits : FitsSigned w64 c.min-low.result = search rules in
     let hi_fits : FitsSigned w64 c.max-high.result = search rules in
-    let el : lo ≡ int_min s.low p = to_z-of_z w64 _ lo_fits ∙ min_is low_fits c.ranges.p c.min-low.ensures.value ∙ ap (λ x. int_min x p) c.low.ensures in
-    let eh : hi ≡ int_max s.high p = to_z-of_z w64 _ hi_fits ∙ max_is high_fits c.ranges.p c.max-high.ensures.value ∙ ap (λ x. int_max x p) c.high.ensures in
-    let small : (hi -ℤ lo) <ℤ pos s.limit = omega (arith, ints, span_is s sound p lo hi el eh, c.abs_diff.ensures, c.limit.ensures, c.if-abs_diff-limit.false) in
+    let el : lo ≡ int_min s.low p = to_z-of_z w64 _ lo_fits
+    ∙ min_is low_fits c.ranges.p c.min-low.ensures.value ∙ ap (λ x. int_min x p) c.low.ensures in
+    let eh : hi ≡ int_max s.high p = to_z-of_z w64 _ hi_fits
+    ∙ max_is high_fits c.ranges.p c.max-high.ensures.value ∙ ap (λ x. int_max x p) c.high.ensures in
+    let small : (hi -ℤ lo) <ℤ pos s.limit =
+    omega (
+      arith,
+      ints,
+      span_is s sound p lo hi el eh,
+      c.abs_diff.ensures,
+      c.limit.ensures,
+      c.if-abs_diff-limit.false,
+    ) in
     room_low s sound p lo hi el eh small
 
 pub reach_high-requires-clause-above : goal.reach_high-requires-clause-above
@@ -33,8 +43,10 @@ reach_high-requires-clause-above g c =
     let high_fits : FitsSigned w64 c.high.result = search rules in
     let lo_fits : FitsSigned w64 c.min-low.result = search rules in
     let hi_fits : FitsSigned w64 c.max-high.result = search rules in
-    let el : lo ≡ int_min s.low p = to_z-of_z w64 _ lo_fits ∙ min_is low_fits c.ranges.p c.min-low.ensures.value ∙ ap (λ x. int_min x p) c.low.ensures in
-    let eh : hi ≡ int_max s.high p = to_z-of_z w64 _ hi_fits ∙ max_is high_fits c.ranges.p c.max-high.ensures.value ∙ ap (λ x. int_max x p) c.high.ensures in
+    let el : lo ≡ int_min s.low p = to_z-of_z w64 _ lo_fits
+    ∙ min_is low_fits c.ranges.p c.min-low.ensures.value ∙ ap (λ x. int_min x p) c.low.ensures in
+    let eh : hi ≡ int_max s.high p = to_z-of_z w64 _ hi_fits
+    ∙ max_is high_fits c.ranges.p c.max-high.ensures.value ∙ ap (λ x. int_max x p) c.high.ensures in
     subst (λ (t : Strip). t.high ≤ℤ hi) (sym c.reach_low.ensures) (above s sound p lo hi el eh)
 
 pub reach_high-requires-clause-room : goal.reach_high-requires-clause-room
@@ -48,10 +60,21 @@ reach_high-requires-clause-room g c =
     let high_fits : FitsSigned w64 c.high.result = search rules in
     let lo_fits : FitsSigned w64 c.min-low.result = search rules in
     let hi_fits : FitsSigned w64 c.max-high.result = search rules in
-    let el : lo ≡ int_min s.low p = to_z-of_z w64 _ lo_fits ∙ min_is low_fits c.ranges.p c.min-low.ensures.value ∙ ap (λ x. int_min x p) c.low.ensures in
-    let eh : hi ≡ int_max s.high p = to_z-of_z w64 _ hi_fits ∙ max_is high_fits c.ranges.p c.max-high.ensures.value ∙ ap (λ x. int_max x p) c.high.ensures in
-    let small : (hi -ℤ lo) <ℤ pos s.limit = omega (arith, ints, span_is s sound p lo hi el eh, c.abs_diff.ensures, c.limit.ensures, c.if-abs_diff-limit.false) in
-    subst (λ (t : Strip). width (visited t hi) ≤ℤ pos t.limit) (sym c.reach_low.ensures) (room_high s sound p lo hi el eh small)
+    let el : lo ≡ int_min s.low p = to_z-of_z w64 _ lo_fits
+    ∙ min_is low_fits c.ranges.p c.min-low.ensures.value ∙ ap (λ x. int_min x p) c.low.ensures in
+    let eh : hi ≡ int_max s.high p = to_z-of_z w64 _ hi_fits
+    ∙ max_is high_fits c.ranges.p c.max-high.ensures.value ∙ ap (λ x. int_max x p) c.high.ensures in
+    let small : (hi -ℤ lo) <ℤ pos s.limit =
+    omega (
+      arith,
+      ints,
+      span_is s sound p lo hi el eh,
+      c.abs_diff.ensures,
+      c.limit.ensures,
+      c.if-abs_diff-limit.false,
+    ) in
+    subst (λ (t : Strip). width (visited t hi) ≤ℤ pos t.limit) (sym c.reach_low.ensures)
+    (room_high s sound p lo hi el eh small)
 
 pub returns-clause-ok : goal.returns-clause-ok
 returns-clause-ok g c =
@@ -64,8 +87,10 @@ returns-clause-ok g c =
     let high_fits : FitsSigned w64 c.high.result = search rules in
     let lo_fits : FitsSigned w64 c.min-low.result = search rules in
     let hi_fits : FitsSigned w64 c.max-high.result = search rules in
-    let el : lo ≡ int_min s.low p = to_z-of_z w64 _ lo_fits ∙ min_is low_fits c.ranges.p c.min-low.ensures.value ∙ ap (λ x. int_min x p) c.low.ensures in
-    let eh : hi ≡ int_max s.high p = to_z-of_z w64 _ hi_fits ∙ max_is high_fits c.ranges.p c.max-high.ensures.value ∙ ap (λ x. int_max x p) c.high.ensures in
+    let el : lo ≡ int_min s.low p = to_z-of_z w64 _ lo_fits
+    ∙ min_is low_fits c.ranges.p c.min-low.ensures.value ∙ ap (λ x. int_min x p) c.low.ensures in
+    let eh : hi ≡ int_max s.high p = to_z-of_z w64 _ hi_fits
+    ∙ max_is high_fits c.ranges.p c.max-high.ensures.value ∙ ap (λ x. int_max x p) c.high.ensures in
     c.reach_high.ensures ∙ ap (λ t. visited t hi) c.reach_low.ensures ∙ reached s sound p lo hi el eh
 
 pub returns-clause-cells : goal.returns-clause-cells
@@ -79,7 +104,17 @@ returns-clause-cells g c =
     let high_fits : FitsSigned w64 c.high.result = search rules in
     let lo_fits : FitsSigned w64 c.min-low.result = search rules in
     let hi_fits : FitsSigned w64 c.max-high.result = search rules in
-    let el : lo ≡ int_min s.low p = to_z-of_z w64 _ lo_fits ∙ min_is low_fits c.ranges.p c.min-low.ensures.value ∙ ap (λ x. int_min x p) c.low.ensures in
-    let eh : hi ≡ int_max s.high p = to_z-of_z w64 _ hi_fits ∙ max_is high_fits c.ranges.p c.max-high.ensures.value ∙ ap (λ x. int_max x p) c.high.ensures in
-    let small : (hi -ℤ lo) <ℤ pos s.limit = omega (arith, ints, span_is s sound p lo hi el eh, c.abs_diff.ensures, c.limit.ensures, c.if-abs_diff-limit.false) in
+    let el : lo ≡ int_min s.low p = to_z-of_z w64 _ lo_fits
+    ∙ min_is low_fits c.ranges.p c.min-low.ensures.value ∙ ap (λ x. int_min x p) c.low.ensures in
+    let eh : hi ≡ int_max s.high p = to_z-of_z w64 _ hi_fits
+    ∙ max_is high_fits c.ranges.p c.max-high.ensures.value ∙ ap (λ x. int_max x p) c.high.ensures in
+    let small : (hi -ℤ lo) <ℤ pos s.limit =
+    omega (
+      arith,
+      ints,
+      span_is s sound p lo hi el eh,
+      c.abs_diff.ensures,
+      c.limit.ensures,
+      c.if-abs_diff-limit.false,
+    ) in
     (λ e. cc, λ wide. absurd (fits s sound p lo hi el eh small wide))

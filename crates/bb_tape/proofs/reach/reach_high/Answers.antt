@@ -13,10 +13,13 @@ loop-high-preserved g c =
     let fits : FitsSigned w64 (high +ℤ pos 1) = search rules in
     let next : to_z w64 (of_z w64 (high +ℤ pos 1)) ≡ high +ℤ pos 1 = to_z-of_z w64 _ fits in
     let sound = g.met.T.Tape.sound c.args.tape.now in
-    let order : s.low ≤ℤ high = omega (arith, ints, c.loop-high.invariant.from, sound.from_zero, sound.to_zero) in
+    let order : s.low ≤ℤ high =
+    omega (arith, ints, c.loop-high.invariant.from, sound.from_zero, sound.to_zero) in
     let further : high ≤ℤ to_z w64 (of_z w64 (high +ℤ pos 1)) = omega (arith, ints, next) in
     record {
-      strip = c.widen_high.ensures ∙ ap (λ x. visited x (to_z w64 (of_z w64 (high +ℤ pos 1)))) c.loop-high.invariant.strip ∙ visited-visited-high s high _ further order;
+      strip = c.widen_high.ensures
+          ∙ ap (λ x. visited x (to_z w64 (of_z w64 (high +ℤ pos 1)))) c.loop-high.invariant.strip
+          ∙ visited-visited-high s high _ further order;
       to = omega (arith, ints, same, next, test);
       from = omega (arith, ints, next, c.loop-high.invariant.from);
     }

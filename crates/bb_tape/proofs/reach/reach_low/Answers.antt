@@ -13,10 +13,13 @@ loop-low-preserved g c =
     let fits : FitsSigned w64 (low -ℤ pos 1) = search rules in
     let next : to_z w64 (of_z w64 (low -ℤ pos 1)) ≡ low -ℤ pos 1 = to_z-of_z w64 _ fits in
     let sound = g.met.T.Tape.sound c.args.tape.now in
-    let order : low ≤ℤ s.high = omega (arith, ints, c.loop-low.invariant.to, sound.from_zero, sound.to_zero) in
+    let order : low ≤ℤ s.high =
+    omega (arith, ints, c.loop-low.invariant.to, sound.from_zero, sound.to_zero) in
     let further : to_z w64 (of_z w64 (low -ℤ pos 1)) ≤ℤ low = omega (arith, ints, next) in
     record {
-      strip = c.widen_low.ensures ∙ ap (λ x. visited x (to_z w64 (of_z w64 (low -ℤ pos 1)))) c.loop-low.invariant.strip ∙ visited-visited-low s low _ further order;
+      strip = c.widen_low.ensures
+          ∙ ap (λ x. visited x (to_z w64 (of_z w64 (low -ℤ pos 1)))) c.loop-low.invariant.strip
+          ∙ visited-visited-low s low _ further order;
       from = omega (arith, ints, same, next, test);
       to = omega (arith, ints, next, c.loop-low.invariant.to);
     }

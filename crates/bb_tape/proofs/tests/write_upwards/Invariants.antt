@@ -5,4 +5,7 @@ use Rattle.bb_tape.proofs.tests.write_upwards.Given as goal
 -- the next cell may be visited
 abbrev pub invariant-loop-k : goal.invariant-loop-k
 invariant-loop-k g l =
-    record { next : IsBeside (g.T.Tape.strip l.tape) (pos l.k); limit : (g.T.Tape.strip l.tape).limit ≡ (g.T.Tape.strip l.fn.tape).limit }
+    record {
+      next : IsBeside (g.T.Tape.strip l.tape) (pos l.k);
+      limit : (g.T.Tape.strip l.tape).limit ≡ (g.T.Tape.strip l.fn.tape).limit;
+    }

@@ -7,7 +7,8 @@ use Rattle.bb_tape.proofs.tests.written_and_undone.Goals as goal
 pub returns-clause-value : goal.returns-clause-value
 returns-clause-value g c =
     let p : ℤ = to_z w64 (of_z w64 c.args.p) in
-    c.read-written.ensures ∙ ap (λ s. cell s.content p) c.in_ok-write.ensures.ok ∙ cell-written-same (g.T.Tape.strip c.args.tape.now) p c.args.v
+    c.read-written.ensures ∙ ap (λ s. cell s.content p) c.in_ok-write.ensures.ok
+    ∙ cell-written-same (g.T.Tape.strip c.args.tape.now) p c.args.v
 
 pub returns-clause-undone : goal.returns-clause-undone
 returns-clause-undone g c =

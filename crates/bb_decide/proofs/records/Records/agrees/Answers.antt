@@ -3,6 +3,7 @@ use Rattle.std.proofs.lemmas.Int.{to_z-of_z}
 use Rattle.bb_tape.specs.Strip.{Strip, IsInside, visited, width}
 use Rattle.bb_cert.specs.Record.{out}
 use Rattle.bb_decide.specs.Follow.{HasSameCells, IsComparable, IsKeptInStateOf}
+use Rattle.bb_decide.proofs.Reaching.{never_refused, no_wider}
 use Rattle.bb_decide.proofs.Stretches.{are_narrow, narrow_fits, room_for, comparable_wider, seen_at}
 use Rattle.bb_decide.proofs.records.Records.agrees.Goals as goal
 
@@ -28,8 +29,8 @@ how_far_out-requires-clause-high g c =
     let far_fits : FitsSigned w64 r.far = narrow_fits _ n.far in
     simp to_z-of_z n.far.high
 
-pub reach-requires : goal.reach-requires
-reach-requires g c =
+pub unreachable-requires : goal.unreachable-requires
+unreachable-requires g c =
     let r = c.args.self.now in
     let same = c.is_in_same_state.ensures.0 c.if-not-is_in_same_state.false in
     let kept : IsKeptInStateOf r c.args.runner.now = (λ e. c.if-self-eq0.false (ap (of_z w64) e), same.0, same.1) in
@@ -39,11 +40,11 @@ reach-requires g c =
     let far_fits : FitsSigned w64 r.far = narrow_fits _ n.far in
     let at_fits : FitsSigned w64 c.how_far_out.result = search rules in
     let at : c.how_far_out.result ≡ out r.side r.far = simp to_z-of_z at c.how_far_out.ensures in
-    record {
-      room = simp to_z-of_z (subst (λ p. width (visited (g.T.Tape.strip c.args.saved.now) p) ≤ℤ pos (g.T.Tape.strip c.args.saved.now).limit) (sym at)
-          (room_for (g.T.Tape.strip c.args.saved.now) (g.T.Tape.strip c.args.run.now) (out r.side r.far) (g.met.T.Tape.sound c.args.run.now)
-          c.requires.limit comparable.low comparable.high comparable.far_seen));
-    }
+    let room : width (visited (g.T.Tape.strip c.args.saved.now) c.how_far_out.result) ≤ℤ pos (g.T.Tape.strip c.args.saved.now).limit =
+    subst (λ p. width (visited (g.T.Tape.strip c.args.saved.now) p) ≤ℤ pos (g.T.Tape.strip c.args.saved.now).limit) (sym at)
+    (room_for (g.T.Tape.strip c.args.saved.now) (g.T.Tape.strip c.args.run.now) (out r.side r.far) (g.met.T.Tape.sound c.args.run.now)
+    c.requires.limit comparable.low comparable.high comparable.far_seen) in
+    never_refused c.reach.result _ c.reach.ensures.memory (simp to_z-of_z at c.reach.ensures.cells.0) (no_wider _ _ room) c.in_default.not-Ok
 
 pub has_same_cells-requires-clause-comparable : goal.has_same_cells-requires-clause-comparable
 has_same_cells-requires-clause-comparable g c =
@@ -56,7 +57,7 @@ has_same_cells-requires-clause-comparable g c =
     let far_fits : FitsSigned w64 r.far = narrow_fits _ n.far in
     let at_fits : FitsSigned w64 c.how_far_out.result = search rules in
     let at : c.how_far_out.result ≡ out r.side r.far = simp to_z-of_z at c.how_far_out.ensures in
-    let there = simp to_z-of_z at c.reach.ensures in
+    let there = simp to_z-of_z at c.in-Ok.ensures.ok in
     let reached : g.T.Tape.strip c.reach.new.tape ≡ visited (g.T.Tape.strip c.args.saved.now) (out r.side r.far) =
     there ∙ ap (visited (g.T.Tape.strip c.args.saved.now)) at in
     subst (λ s. IsComparable r s (g.T.Tape.strip c.args.run.now)) (sym reached)
@@ -73,7 +74,7 @@ has_same_cells-requires-clause-far g c =
     let far_fits : FitsSigned w64 r.far = narrow_fits _ n.far in
     let at_fits : FitsSigned w64 c.how_far_out.result = search rules in
     let at : c.how_far_out.result ≡ out r.side r.far = simp to_z-of_z at c.how_far_out.ensures in
-    let there = simp to_z-of_z at c.reach.ensures in
+    let there = simp to_z-of_z at c.in-Ok.ensures.ok in
     let reached : g.T.Tape.strip c.reach.new.tape ≡ visited (g.T.Tape.strip c.args.saved.now) (out r.side r.far) =
     there ∙ ap (visited (g.T.Tape.strip c.args.saved.now)) at in
     subst (λ s. IsInside s (out r.side r.far)) (sym reached) (seen_at (g.T.Tape.strip c.args.saved.now) (out r.side r.far))
@@ -89,7 +90,7 @@ returns-clause-agree g c =
     let far_fits : FitsSigned w64 r.far = narrow_fits _ n.far in
     let at_fits : FitsSigned w64 c.how_far_out.result = search rules in
     let at : c.how_far_out.result ≡ out r.side r.far = simp to_z-of_z at c.how_far_out.ensures in
-    let there = simp to_z-of_z at c.reach.ensures in
+    let there = simp to_z-of_z at c.in-Ok.ensures.ok in
     let reached : g.T.Tape.strip c.reach.new.tape ≡ visited (g.T.Tape.strip c.args.saved.now) (out r.side r.far) =
     there ∙ ap (visited (g.T.Tape.strip c.args.saved.now)) at in (
       λ yes. (kept, subst (λ (s : Strip). HasSameCells r s.content (g.T.Tape.strip c.args.run.now).content) reached (c.has_same_cells.ensures.0 yes)),
@@ -107,7 +108,7 @@ returns-clause-saved g c =
     let far_fits : FitsSigned w64 r.far = narrow_fits _ n.far in
     let at_fits : FitsSigned w64 c.how_far_out.result = search rules in
     let at : c.how_far_out.result ≡ out r.side r.far = simp to_z-of_z at c.how_far_out.ensures in
-    let there = simp to_z-of_z at c.reach.ensures in
+    let there = simp to_z-of_z at c.in-Ok.ensures.ok in
     let reached : g.T.Tape.strip c.reach.new.tape ≡ visited (g.T.Tape.strip c.args.saved.now) (out r.side r.far) =
     there ∙ ap (visited (g.T.Tape.strip c.args.saved.now)) at in
     inr (reached, comparable.far_seen)

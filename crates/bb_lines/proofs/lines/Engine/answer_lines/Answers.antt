@@ -30,18 +30,31 @@ loop-at-init g c =
 -- the bytes of the line that are in this piece
 others : (g : Over) (c : After-answer_kept g) → HasNoNewline (take c.in-Some.at c.loop-at.rest.now)
 others g c = let found = c.in-Some.ensures in
-    no_newline_before c.loop-at.rest.now c.in-Some.at (omega (arith, found.0.high)) (λ k l. found.0.before k (omega arith) l)
+    no_newline_before c.loop-at.rest.now c.in-Some.at
+    (omega (arith, found.0.high)) (λ k l. found.0.before k (omega arith) l)
 
 -- what is kept of the line
-is_kept : (g : Over) (c : After-answer_kept g) → c.keep.new.kept.items ≡ take g.A.Responder.KEEP (unfinished (c.args.self.now.kept.items ++ c.loop-at.invariant.prefix) ++ take c.in-Some.at c.loop-at.rest.now)
-is_kept g c = kept_more g.A.Responder.KEEP _ (take c.in-Some.at c.loop-at.rest.now) c.loop-at.self.kept.items c.keep.new.kept.items c.loop-at.invariant.kept
-    (c.keep.ensures ∙ ap (λ k. take k (c.loop-at.self.kept.items ++ take c.in-Some.at c.loop-at.rest.now)) c.keep-most.ensures)
+is_kept : (g : Over) (c : After-answer_kept g)
+    → c.keep.new.kept.items
+    ≡ take g.A.Responder.KEEP
+    (unfinished (c.args.self.now.kept.items ++ c.loop-at.invariant.prefix)
+    ++ take c.in-Some.at c.loop-at.rest.now)
+is_kept g c =
+    kept_more g.A.Responder.KEEP _ (take c.in-Some.at c.loop-at.rest.now) c.loop-at.self.kept.items
+    c.keep.new.kept.items c.loop-at.invariant.kept
+    (c.keep.ensures
+    ∙ ap (λ k. take k (c.loop-at.self.kept.items ++ take c.in-Some.at c.loop-at.rest.now))
+    c.keep-most.ensures)
 
 -- the piece, from the line on
-whole : (g : Over) (c : After-answer_kept g) → (c.loop-at.invariant.prefix ++ (take c.in-Some.at c.loop-at.rest.now ++ 10 ∷ [])) ++ drop (c.in-Some.at + 1) c.loop-at.rest.now ≡ c.args.piece.now
+whole : (g : Over) (c : After-answer_kept g)
+    → (c.loop-at.invariant.prefix ++ (take c.in-Some.at c.loop-at.rest.now ++ 10 ∷ []))
+    ++ drop (c.in-Some.at + 1) c.loop-at.rest.now ≡ c.args.piece.now
 whole g c = let found = c.in-Some.ensures in
-    append_assoc c.loop-at.invariant.prefix (take c.in-Some.at c.loop-at.rest.now ++ 10 ∷ []) (drop (c.in-Some.at + 1) c.loop-at.rest.now)
-    ∙ ap (λ b. c.loop-at.invariant.prefix ++ b) (line_split c.loop-at.rest.now c.in-Some.at found.0.high found.1)
+    append_assoc c.loop-at.invariant.prefix
+    (take c.in-Some.at c.loop-at.rest.now ++ 10 ∷ []) (drop (c.in-Some.at + 1) c.loop-at.rest.now)
+    ∙ ap (λ b. c.loop-at.invariant.prefix ++ b)
+    (line_split c.loop-at.rest.now c.in-Some.at found.0.high found.1)
     ∙ c.loop-at.invariant.whole
 
 pub returns-in_err-answer_kept-clause-ends : goal.returns-in_err-answer_kept-clause-ends
@@ -54,10 +67,17 @@ returns-in_err-answer_kept-clause-ends g c =
     let later = drop (c.in-Some.at + 1) c.loop-at.rest.now in
     let same : (past ++ (piece ++ 10 ∷ [])) ++ later ≡ c.args.self.now.kept.items ++ c.args.piece.now =
     ap (λ b. b ++ later) (append_assoc c.args.self.now.kept.items here.prefix (piece ++ 10 ∷ []))
-    ∙ append_assoc c.args.self.now.kept.items (here.prefix ++ (piece ++ 10 ∷ [])) later ∙ ap (λ b. c.args.self.now.kept.items ++ b) (whole g at) in
-    let lines = prefixes_after_line g.A.Responder.KEEP past piece c.keep.new.kept.items (others g at) (is_kept g at) later in
-    let law = g.met.A.Responder.keeps_reply c.args.self.now.responder.now c.loop-at.self.responder.now here.keeps in
-    rw (p.1, p.2) (fault_after _ _ _ _ _ _ _ _ _ _ here.answered _ law _ _ _ (ap (λ b. prefixes g.A.Responder.KEEP (complete b)) (sym same) ∙ lines) _ _ _ _ c.in_err-answer_kept.ensures.ends)
+    ∙ append_assoc c.args.self.now.kept.items (here.prefix ++ (piece ++ 10 ∷ [])) later
+    ∙ ap (λ b. c.args.self.now.kept.items ++ b) (whole g at) in
+    let lines =
+    prefixes_after_line g.A.Responder.KEEP past piece c.keep.new.kept.items (others g at)
+    (is_kept g at) later in
+    let law =
+    g.met.A.Responder.keeps_reply c.args.self.now.responder.now c.loop-at.self.responder.now here.keeps in
+    rw (p.1, p.2)
+    (fault_after _ _ _ _ _ _ _ _ _ _ here.answered _ law
+    _ _ _ (ap (λ b. prefixes g.A.Responder.KEEP (complete b)) (sym same)
+    ∙ lines) _ _ _ _ c.in_err-answer_kept.ensures.ends)
 
 pub loop-at-preserved : goal.loop-at-preserved
 loop-at-preserved g c =
@@ -67,16 +87,27 @@ loop-at-preserved g c =
     let start = c.args.self.now.kept.items in
     let piece = take c.in-Some.at c.loop-at.rest.now in
     let parts = append_assoc start here.prefix (piece ++ 10 ∷ []) in
-    let law = g.met.A.Responder.keeps_reply c.args.self.now.responder.now c.loop-at.self.responder.now here.keeps in
-    let lines = prefixes_line g.A.Responder.KEEP (start ++ here.prefix) piece c.keep.new.kept.items (others g at) (is_kept g at) in
-    let left = kept_after_line g.A.Responder.KEEP (start ++ here.prefix) piece c.keep.new.kept.items (others g at) (is_kept g at) in record {
+    let law =
+    g.met.A.Responder.keeps_reply c.args.self.now.responder.now c.loop-at.self.responder.now here.keeps in
+    let lines =
+    prefixes_line g.A.Responder.KEEP (start ++ here.prefix) piece c.keep.new.kept.items (others g at)
+    (is_kept g at) in
+    let left =
+    kept_after_line g.A.Responder.KEEP (start ++ here.prefix) piece c.keep.new.kept.items (others g at)
+    (is_kept g at) in
+    record {
       unmarked = search rules;
       ready = done.ready;
       keeps = g.met.A.Responder.keeps_on _ _ _ here.keeps done.keeps;
       prompt = done.prompt;
       one_line = rw done.kept none;
       reader = done.reader ∙ here.reader;
-      references = (done.references.0 ∙ here.references.0, done.references.1 ∙ here.references.1, done.references.2 ∙ here.references.2);
+      references = (
+        done.references.0 ∙ here.references.0,
+        done.references.1 ∙ here.references.1,
+        done.references.2
+            ∙ here.references.2,
+      );
       prefix = here.prefix ++ (piece ++ 10 ∷ []);
       whole = rw slice_from (whole g at);
       kept = rw done.kept (rw parts at left);
@@ -84,22 +115,36 @@ loop-at-preserved g c =
     }
 
 none_left : (g : Over) (c : After-keep-2 g) → HasNoNewline c.loop-at.rest.now
-none_left g c = subst HasNoNewline (take-length c.loop-at.rest.now) (no_newline_before c.loop-at.rest.now (length c.loop-at.rest.now) (omega arith) (λ k l. c.in_default.ensures k (omega arith) l))
+none_left g c =
+    subst HasNoNewline (take-length c.loop-at.rest.now)
+    (no_newline_before c.loop-at.rest.now (length c.loop-at.rest.now) (omega arith)
+    (λ k l. c.in_default.ensures k (omega arith) l))
 
-kept_now : (g : Over) (c : After-keep-2 g) → c.keep-2.new.kept.items ≡ take g.A.Responder.KEEP (c.loop-at.self.kept.items ++ c.loop-at.rest.now)
-kept_now g c = c.keep-2.ensures ∙ ap (λ k. take k (c.loop-at.self.kept.items ++ c.loop-at.rest.now)) c.keep-most.ensures
+kept_now : (g : Over) (c : After-keep-2 g)
+    → c.keep-2.new.kept.items ≡ take g.A.Responder.KEEP (c.loop-at.self.kept.items ++ c.loop-at.rest.now)
+kept_now g c = c.keep-2.ensures
+    ∙ ap (λ k. take k (c.loop-at.self.kept.items ++ c.loop-at.rest.now)) c.keep-most.ensures
 
 -- all of the piece, after what was kept
-all : (g : Over) (c : After-keep-2 g) → (c.args.self.now.kept.items ++ c.loop-at.invariant.prefix) ++ c.loop-at.rest.now ≡ c.args.self.now.kept.items ++ c.args.piece.now
-all g c = append_assoc c.args.self.now.kept.items c.loop-at.invariant.prefix c.loop-at.rest.now ∙ ap (λ b. c.args.self.now.kept.items ++ b) c.loop-at.invariant.whole
+all : (g : Over) (c : After-keep-2 g)
+    → (c.args.self.now.kept.items ++ c.loop-at.invariant.prefix) ++ c.loop-at.rest.now
+    ≡ c.args.self.now.kept.items ++ c.args.piece.now
+all g c = append_assoc c.args.self.now.kept.items c.loop-at.invariant.prefix c.loop-at.rest.now
+    ∙ ap (λ b. c.args.self.now.kept.items ++ b) c.loop-at.invariant.whole
 
 pub returns-clause-ends : goal.returns-clause-ends
 returns-clause-ends g c =
-    rw (← all g c, prefixes_none g.A.Responder.KEEP _ c.loop-at.rest.now (none_left g c)) c.loop-at.invariant.answered
+    rw (← all g c, prefixes_none g.A.Responder.KEEP _ c.loop-at.rest.now (none_left g c))
+    c.loop-at.invariant.answered
 
 pub returns-clause-kept : goal.returns-clause-kept
 returns-clause-kept g c =
-    rw (← all g c) (kept_none g.A.Responder.KEEP _ c.loop-at.rest.now _ (none_left g c) (kept_more g.A.Responder.KEEP _ c.loop-at.rest.now c.loop-at.self.kept.items c.keep-2.new.kept.items c.loop-at.invariant.kept (kept_now g c)))
+    rw (← all g c)
+    (kept_none g.A.Responder.KEEP _ c.loop-at.rest.now _ (none_left g c)
+    (kept_more g.A.Responder.KEEP _ c.loop-at.rest.now c.loop-at.self.kept.items c.keep-2.new.kept.items
+    c.loop-at.invariant.kept (kept_now g c)))
 
 pub returns-clause-one_line : goal.returns-clause-one_line
-returns-clause-one_line g c = rw (kept_now g c) (HasNoNewline-take g.A.Responder.KEEP (HasNoNewline-append c.loop-at.invariant.one_line (none_left g c)))
+returns-clause-one_line g c =
+    rw (kept_now g c)
+    (HasNoNewline-take g.A.Responder.KEEP (HasNoNewline-append c.loop-at.invariant.one_line (none_left g c)))

@@ -19,7 +19,8 @@ invariant-loop-at g l = record {
   whole : prefix ++ l.rest ≡ l.initial.rest;
   kept : l.self.kept.items ≡ take g.A.Responder.KEEP (unfinished (l.initial.self.kept.items ++ prefix));
   answered : AreAnswered (g.A.Responder.replies_with l.initial.self.responder.now) g.A.Responder.saw
-      (g.W.Write.contents (watched_inner l.initial.self.writer.now)) (g.W.Write.contents (watched_inner l.self.writer.now))
+      (g.W.Write.contents (watched_inner l.initial.self.writer.now))
+      (g.W.Write.contents (watched_inner l.self.writer.now))
       l.initial.self.waiting.items l.self.waiting.items l.initial.self.responder.now l.self.responder.now
       (prefixes g.A.Responder.KEEP (complete (l.initial.self.kept.items ++ prefix)));
 }

@@ -30,25 +30,43 @@ returns-in_err-write_waiting-clause-ends g c =
     let p = err_from_is_err_and c.from_residual.result c.from_residual.ensures.1 in
     let here = c.loop-self.invariant in
     let after = c.in_err-write_waiting.ensures in
-    let some = prefix_written _ _ _ _ _ _ _ _ _ _ here.answered after.err in
-    (here.past, here.consumed, rw (p.1, p.2, after.only_write, prefixes-lines g.A.Responder.KEEP here.past _ g.met.A.Responder.keeps_some here.kept) (AppendsPrefixOfReplies-writes _ _ _ _ _ refl (prefix_more _ _ _ _ _ _ some)))
+    let some = prefix_written _ _ _ _ _ _ _ _ _ _ here.answered after.err in (
+      here.past,
+      here.consumed,
+      rw (
+        p.1,
+        p.2,
+        after.only_write,
+        prefixes-lines g.A.Responder.KEEP here.past _ g.met.A.Responder.keeps_some here.kept,
+      ) (AppendsPrefixOfReplies-writes _ _ _ _ _ refl (prefix_more _ _ _ _ _ _ some)),
+    )
 
 -- what waited was written before the read
-answered_now : (g : Over) (c : After-answer_lines g) → AreAnswered (g.A.Responder.replies_with c.args.self.now.responder.now) g.A.Responder.saw
-    (g.W.Write.contents (watched_inner c.args.self.now.writer.now)) (g.W.Write.contents (watched_inner c.read_chunk.new.self.writer.now)) [] c.read_chunk.new.self.waiting.items
-    c.args.self.now.responder.now c.read_chunk.new.self.responder.now (prefixes g.A.Responder.KEEP (complete c.loop-self.invariant.past))
+answered_now : (g : Over) (c : After-answer_lines g)
+    → AreAnswered (g.A.Responder.replies_with c.args.self.now.responder.now) g.A.Responder.saw
+    (g.W.Write.contents (watched_inner c.args.self.now.writer.now))
+    (g.W.Write.contents (watched_inner c.read_chunk.new.self.writer.now))
+    [] c.read_chunk.new.self.waiting.items
+    c.args.self.now.responder.now c.read_chunk.new.self.responder.now
+    (prefixes g.A.Responder.KEEP (complete c.loop-self.invariant.past))
 answered_now g c =
     let read = c.in-Ok.ensures in
-    rw (read.writer, read.waiting, read.responder, c.in_ok-write_waiting.ensures.empty) (answered_written _ _ _ _ _ _ _ _ _ _ c.loop-self.invariant.answered c.in_ok-write_waiting.ensures.ok)
+    rw (read.writer, read.waiting, read.responder, c.in_ok-write_waiting.ensures.empty)
+    (answered_written _ _ _ _ _ _ _ _ _ _ c.loop-self.invariant.answered c.in_ok-write_waiting.ensures.ok)
 
-keeps_now : (g : Over) (c : After-answer_lines g) → g.A.Responder.keeps c.args.self.now.responder.now c.read_chunk.new.self.responder.now
+keeps_now : (g : Over) (c : After-answer_lines g)
+    → g.A.Responder.keeps c.args.self.now.responder.now c.read_chunk.new.self.responder.now
 keeps_now g c = rw c.in-Ok.ensures.responder c.loop-self.invariant.keeps
 
 -- the piece, after what was kept
-after : (g : Over) (c : After-answer_lines g) → AfterPiece g.A.Responder.KEEP c.loop-self.invariant.past (take c.in-Ok.n c.read_chunk.new.chunk) c.read_chunk.new.self.kept.items
+after : (g : Over) (c : After-answer_lines g)
+    → AfterPiece g.A.Responder.KEEP c.loop-self.invariant.past (take c.in-Ok.n c.read_chunk.new.chunk)
+    c.read_chunk.new.self.kept.items
 after g c =
     let read = c.in-Ok.ensures in
-    after_piece g.A.Responder.KEEP (take c.in-Ok.n c.read_chunk.new.chunk) c.loop-self.invariant.past c.read_chunk.new.self.kept.items (rw read.kept c.loop-self.invariant.kept) (rw read.kept c.loop-self.invariant.one_line)
+    after_piece g.A.Responder.KEEP (take c.in-Ok.n c.read_chunk.new.chunk) c.loop-self.invariant.past
+    c.read_chunk.new.self.kept.items (rw read.kept c.loop-self.invariant.kept)
+    (rw read.kept c.loop-self.invariant.one_line)
 
 pub loop-self-preserved : goal.loop-self-preserved
 loop-self-preserved g c =
@@ -57,27 +75,45 @@ loop-self-preserved g c =
     let read = c.in-Ok.ensures in
     let done = c.in_ok-answer_lines.ensures in
     let piece = take c.in-Ok.n c.read_chunk.new.chunk in
-    let law = g.met.A.Responder.keeps_reply c.args.self.now.responder.now c.read_chunk.new.self.responder.now (keeps_now g at) in record {
+    let law =
+    g.met.A.Responder.keeps_reply c.args.self.now.responder.now c.read_chunk.new.self.responder.now
+    (keeps_now g at) in
+    record {
       reader_unmarked = search rules;
       writer_unmarked = search rules;
       ready = done.ready;
       keeps = g.met.A.Responder.keeps_on _ _ _ (keeps_now g at) done.keeps;
       one_line = done.one_line;
-      references = (done.references.0 ∙ read.references.0 ∙ here.references.0, done.references.1 ∙ read.references.1 ∙ here.references.1, done.references.2 ∙ read.references.2 ∙ here.references.2);
+      references = (
+        done.references.0 ∙ read.references.0 ∙ here.references.0,
+        done.references.1 ∙ read.references.1
+            ∙ here.references.1,
+        done.references.2 ∙ read.references.2 ∙ here.references.2,
+      );
       past = here.past ++ piece;
       consumed = rw done.reader (Consumes-trans _ _ _ _ _ here.consumed read.bytes.0);
       kept = done.kept ∙ (after g at).is_kept;
-      answered = rw (after g at).is_complete (answered_more _ _ _ _ _ _ _ _ _ _ (answered_now g at) _ law _ _ _ done.ends);
+      answered =
+          rw (after g at).is_complete
+          (answered_more _ _ _ _ _ _ _ _ _ _ (answered_now g at) _ law _ _ _ done.ends);
     }
 
 pub returns-in_err-answer_lines-clause-ends : goal.returns-in_err-answer_lines-clause-ends
 returns-in_err-answer_lines-clause-ends g c =
-    let p = err_from_is_err_and c.from_residual-in_err-answer_lines.result c.from_residual-in_err-answer_lines.ensures.1 in
+    let p = err_from_is_err_and c.from_residual-in_err-answer_lines.result
+    c.from_residual-in_err-answer_lines.ensures.1 in
     let at = (goal.at.returns-in_err-answer_lines-clause-ends g c).After-answer_lines in
     let here = c.loop-self.invariant in
     let done = c.in_err-answer_lines.ensures in
     let piece = take c.in-Ok.n c.read_chunk.new.chunk in
-    let law = g.met.A.Responder.keeps_reply c.args.self.now.responder.now c.read_chunk.new.self.responder.now (keeps_now g at) in
+    let law =
+    g.met.A.Responder.keeps_reply c.args.self.now.responder.now c.read_chunk.new.self.responder.now
+    (keeps_now g at) in
     let last = take g.A.Responder.KEEP (unfinished (here.past ++ piece)) in
-    let all = prefixes-lines g.A.Responder.KEEP (here.past ++ piece) last g.met.A.Responder.keeps_some refl ∙ ap (λ l. l ++ unless_empty last) (after g at).is_complete in
-    (here.past ++ piece, rw done.reader (Consumes-trans _ _ _ _ _ here.consumed c.in-Ok.ensures.bytes.0), rw (p.1, p.2) (fault_after_none _ _ _ _ _ _ _ _ _ (answered_now g at) _ law _ _ _ all _ _ _ _ done.ends))
+    let all = prefixes-lines g.A.Responder.KEEP (here.past ++ piece) last g.met.A.Responder.keeps_some refl
+    ∙ ap (λ l. l ++ unless_empty last) (after g at).is_complete in (
+      here.past ++ piece,
+      rw done.reader (Consumes-trans _ _ _ _ _ here.consumed c.in-Ok.ensures.bytes.0),
+      rw (p.1, p.2) (fault_after_none _ _ _ _ _ _ _ _ _ (answered_now g at) _ law _ _ _ all
+          _ _ _ _ done.ends),
+    )

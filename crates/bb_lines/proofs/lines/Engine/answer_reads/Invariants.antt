@@ -15,10 +15,12 @@ invariant-loop-self g l = record {
   one_line : HasNoNewline l.self.kept.items;
   references : KeepsReferences l.initial.self l.self;
   past : List ℕ;
-  consumed : Consumes (g.R.Read.remaining (watched_inner l.initial.self.reader.now)) (g.R.Read.remaining (watched_inner l.self.reader.now)) past;
+  consumed : Consumes (g.R.Read.remaining (watched_inner l.initial.self.reader.now))
+      (g.R.Read.remaining (watched_inner l.self.reader.now)) past;
   kept : l.self.kept.items ≡ take g.A.Responder.KEEP (unfinished past);
   answered : AreAnswered (g.A.Responder.replies_with l.initial.self.responder.now) g.A.Responder.saw
-      (g.W.Write.contents (watched_inner l.initial.self.writer.now)) (g.W.Write.contents (watched_inner l.self.writer.now)) [] l.self.waiting.items
+      (g.W.Write.contents (watched_inner l.initial.self.writer.now))
+      (g.W.Write.contents (watched_inner l.self.writer.now)) [] l.self.waiting.items
       l.initial.self.responder.now l.self.responder.now (prefixes g.A.Responder.KEEP (complete past));
 }
 

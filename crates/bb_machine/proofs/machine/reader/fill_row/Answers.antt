@@ -12,13 +12,16 @@ slice_bounds-at_first-count c =
 pub slice_bounds-at_first-start : goal.slice_bounds-at_first-start
 slice_bounds-at_first-start c =
     let g = c.requires.group in
-    let inside : 3 * c.loop-symbol.symbol ≤ length c.args.bytes.now = entry_inside g.0 c.args.bytes.now c.args.symbols c.loop-symbol.symbol g.1 c.loop-symbol-test.true g.2 in
+    let inside : 3 * c.loop-symbol.symbol ≤ length c.args.bytes.now =
+    entry_inside g.0 c.args.bytes.now c.args.symbols c.loop-symbol.symbol g.1 c.loop-symbol-test.true g.2 in
     search rules
 
 pub at_first-requires : goal.at_first-requires
 at_first-requires c =
     let g = c.requires.group in
-    let read = entry_read g.0 c.args.bytes.now c.args.symbols c.loop-symbol.symbol g.1 c.requires.symbols c.loop-symbol-test.true g.2 in
+    let read =
+    entry_read g.0 c.args.bytes.now c.args.symbols c.loop-symbol.symbol g.1 c.requires.symbols
+    c.loop-symbol-test.true g.2 in
     (get_or g.0 c.loop-symbol.symbol Undefined, read.0, read.1)
 
 pub loop-symbol-preserved : goal.loop-symbol-preserved
@@ -26,7 +29,13 @@ loop-symbol-preserved c =
     record {
       count = length-set c.loop-symbol.slots _ _ ∙ c.loop-symbol.invariant.count;
       row = λ g group begins.
-          let read = entry_read g c.args.bytes.now c.args.symbols c.loop-symbol.symbol group c.requires.symbols c.loop-symbol-test.true begins in
-          row_grows c.loop-symbol.slots c.args.row c.args.symbols c.loop-symbol.symbol _ g c.loop-symbol.invariant.count c.requires.row c.requires.symbols c.loop-symbol-test.true group.full (c.new.ensures ∙ c.at_first.ensures (get_or g c.loop-symbol.symbol Undefined) read.0 read.1) (c.loop-symbol.invariant.row g group begins);
-      before = rows_stay c.loop-symbol.slots c.args.row c.args.symbols c.loop-symbol.symbol _ c.requires.symbols ∙ c.loop-symbol.invariant.before;
+          let read =
+          entry_read g c.args.bytes.now c.args.symbols c.loop-symbol.symbol group c.requires.symbols
+          c.loop-symbol-test.true begins in
+          row_grows c.loop-symbol.slots c.args.row c.args.symbols c.loop-symbol.symbol _ g
+          c.loop-symbol.invariant.count c.requires.row c.requires.symbols c.loop-symbol-test.true group.full
+          (c.new.ensures ∙ c.at_first.ensures (get_or g c.loop-symbol.symbol Undefined) read.0 read.1)
+          (c.loop-symbol.invariant.row g group begins);
+      before = rows_stay c.loop-symbol.slots c.args.row c.args.symbols c.loop-symbol.symbol
+          _ c.requires.symbols ∙ c.loop-symbol.invariant.before;
     }

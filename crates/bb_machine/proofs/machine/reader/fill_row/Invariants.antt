@@ -10,6 +10,7 @@ use Rattle.bb_machine.proofs.machine.reader.fill_row.Given as goal
 abbrev pub invariant-loop-symbol : goal.invariant-loop-symbol
 invariant-loop-symbol l = record {
   count : length l.slots ≡ SLOTS;
-  row : (g : List Entry) → IsGroup MAX_STATES l.symbols g → BeginsWith l.bytes (group_text g) → take l.symbol (drop (l.row * MAX_SYMBOLS) (entries_in l.slots)) ≡ take l.symbol g;
+  row : (g : List Entry) → IsGroup MAX_STATES l.symbols g → BeginsWith l.bytes (group_text g)
+      → take l.symbol (drop (l.row * MAX_SYMBOLS) (entries_in l.slots)) ≡ take l.symbol g;
   before : table_in l.row l.symbols l.slots ≡ table_in l.row l.symbols l.initial.slots;
 }

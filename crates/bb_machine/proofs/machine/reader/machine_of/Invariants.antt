@@ -6,4 +6,5 @@ use Rattle.bb_machine.proofs.machine.reader.machine_of.Given as goal
 
 -- the rows so far are the machine's groups
 abbrev pub invariant-loop-row : goal.invariant-loop-row
-invariant-loop-row l = (gs : List (List Entry)) → IsTable l.states l.symbols gs → text gs ≡ l.line → table_in l.row l.symbols l.slots ≡ take l.row gs
+invariant-loop-row l = (gs : List (List Entry)) → IsTable l.states l.symbols gs → text gs ≡ l.line
+    → table_in l.row l.symbols l.slots ≡ take l.row gs

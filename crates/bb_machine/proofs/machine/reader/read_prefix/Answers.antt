@@ -14,7 +14,9 @@ returns-in_err-draft-clause-prefix c =
 pub returns-in_err-draft-clause-bounded : goal.returns-in_err-draft-clause-bounded
 returns-in_err-draft-clause-bounded c =
     let p = err_from_is_err_and c.from_residual.result c.from_residual.ensures.1 in
-    rw (p.1, p.2) (prefix_bounded c.args.line.now c.in_err-draft.field-0.0 (longest_prefix c.args.line.now c.in_err-draft.field-0.0 c.in_err-draft.ensures.stop))
+    rw (p.1, p.2)
+    (prefix_bounded c.args.line.now c.in_err-draft.field-0.0
+    (longest_prefix c.args.line.now c.in_err-draft.field-0.0 c.in_err-draft.ensures.stop))
 
 pub machine_of-requires : goal.machine_of-requires
 machine_of-requires c =
@@ -26,14 +28,18 @@ pub returns-then-is_machine-clause-found : goal.returns-then-is_machine-clause-f
 returns-then-is_machine-clause-found c =
     let read = c.in_ok-draft.ensures.text in
     let machine : IsMachine (table_of read.0) = (c.is_machine.ensures read.0 read.1).0 (search rules) in
-    let is : c.machine_of.result ≡ table_of read.0 = c.machine_of.ensures (table_of read.0) (draft_table c.in_ok-draft.draft read.0 read.1 machine) (text-table_of read.0 ∙ read.2) in
+    let is : c.machine_of.result ≡ table_of read.0 =
+    c.machine_of.ensures (table_of read.0) (draft_table c.in_ok-draft.draft read.0 read.1 machine)
+    (text-table_of read.0 ∙ read.2) in
     rw is (machine, text-table_of read.0 ∙ read.2)
 
 pub returns-then-is_machine-clause-only : goal.returns-then-is_machine-clause-only
 returns-then-is_machine-clause-only c other is same =
     let read = c.in_ok-draft.ensures.text in
     let machine : IsMachine (table_of read.0) = (c.is_machine.ensures read.0 read.1).0 (search rules) in
-    let found : c.machine_of.result ≡ table_of read.0 = c.machine_of.ensures (table_of read.0) (draft_table c.in_ok-draft.draft read.0 read.1 machine) (text-table_of read.0 ∙ read.2) in
+    let found : c.machine_of.result ≡ table_of read.0 =
+    c.machine_of.ensures (table_of read.0) (draft_table c.in_ok-draft.draft read.0 read.1 machine)
+    (text-table_of read.0 ∙ read.2) in
     ap Ok (found ∙ sym (whole_table c.args.line.now read.0 other read.1.begun read.2 is same))
 
 pub returns-else-is_machine-clause-only : goal.returns-else-is_machine-clause-only

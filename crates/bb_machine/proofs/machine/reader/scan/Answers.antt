@@ -7,7 +7,11 @@ use Rattle.bb_machine.proofs.Prefixes.{stop_joined}
 use Rattle.bb_machine.proofs.machine.reader.scan.Goals as goal
 
 pub loop-at-init : goal.loop-at-init
-loop-at-init c = record { inside = omega arith; read = (record { groups = []; group = [] }, c.new-draft.ensures, search rules) }
+loop-at-init c =
+    record {
+      inside = omega arith;
+      read = (record { groups = []; group = [] }, c.new-draft.ensures, search rules);
+    }
 
 pub step-requires-clause-begun : goal.step-requires-clause-begun
 step-requires-clause-begun c = let read = c.loop-at.invariant.read in (read.0, read.1)
@@ -23,7 +27,12 @@ loop-at-preserved c =
     let text : begun_text next.0 ≡ begun_text read.0 ++ take taken (drop at line) = rw (← rest) next.2 in
     record {
       inside = omega (arith, c.in-Ok.ensures.taken.1, ap length rest, length-drop at line);
-      read = (next.0, next.1, text ∙ (ap (λ z. z ++ take taken (drop at line)) read.2 ∙ sym (take-add at taken line)));
+      read = (
+        next.0,
+        next.1,
+        text
+            ∙ (ap (λ z. z ++ take taken (drop at line)) read.2 ∙ sym (take-add at taken line)),
+      );
     }
 
 pub returns-in-Err-clause-stop : goal.returns-in-Err-clause-stop
@@ -31,5 +40,6 @@ returns-in-Err-clause-stop c =
     let line : List ℕ = c.args.line.now in
     let at : ℕ = c.loop-at.at in
     let read = c.loop-at.invariant.read in
-    let stop : IsStop (take at line) (drop at line) c.in-Err.more = rw (← take_rest line at, ← read.2) (c.in-Err.ensures.stop read.0 read.1) in
+    let stop : IsStop (take at line) (drop at line) c.in-Err.more =
+    rw (← take_rest line at, ← read.2) (c.in-Err.ensures.stop read.0 read.1) in
     stop_joined MAX_STATES MAX_SYMBOLS line at c.in-Err.more c.loop-at.invariant.inside stop

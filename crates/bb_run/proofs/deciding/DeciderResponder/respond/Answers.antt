@@ -1,4 +1,4 @@
-use Rattle.std.proofs.Common.{rules, refl, inl, inr}
+use Rattle.std.proofs.Common.{rules, refl, sym, inl, inr}
 use Rattle.bb_run.proofs.deciding.DeciderResponder.respond.Goals as goal
 
 pub returns-in-Err-clause-reply : goal.returns-in-Err-clause-reply
@@ -17,7 +17,7 @@ returns-in-Err-clause-saw g c = (
     no_machine = λ m. let found = c.in-Err.ensures.only m.0 m.1.machine m.1.is_text in cc;
     clean = refl;
     peak = refl;
-    no_work = refl;
+    no_effort = refl;
   }),
 )
 
@@ -27,7 +27,7 @@ returns-clause-reply g c = inl (record {
   of = record { machine = c.in-Ok.ensures.found.0; is_text = c.in-Ok.ensures.found.1 };
   verdict = c.in-Ok-decide.verdict;
   is_verdict = c.in-Ok-decide.ensures.verdict;
-  is_reply = search rules;
+  is_reply = (c.in-Ok-decide.ensures.line.0, c.in-Ok-decide.ensures.line.1, sym (search rules));
 })
 
 pub returns-clause-saw : goal.returns-clause-saw
@@ -41,6 +41,6 @@ returns-clause-saw g c = (
     counts = c.in-Ok-decide.ensures.counted;
     clean = refl;
     peak = c.greatest-self.ensures;
-    is_work = refl;
+    is_effort = refl;
   }),
 )

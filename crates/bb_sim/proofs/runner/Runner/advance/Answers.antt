@@ -12,29 +12,45 @@ use Rattle.bb_sim.proofs.Stepping.{halts_undefined, running, moves_on, next-span
 use Rattle.bb_sim.proofs.runner.Runner.advance.Goals as goal
 
 pub returns-in_default-clause-before : goal.returns-in_default-clause-before
-returns-in_default-clause-before g c = inside_here _ _ _ _ c.requires.stands (g.met.T.Tape.sound c.args.tape.now) c.requires.limit c.requires.steps
+returns-in_default-clause-before g c =
+    inside_here _ _ _ _ c.requires.stands (g.met.T.Tape.sound c.args.tape.now) c.requires.limit
+    c.requires.steps
 
 pub returns-in_default-step-clause-before : goal.returns-in_default-step-clause-before
-returns-in_default-step-clause-before g c = inside_here _ _ _ _ c.requires.stands (g.met.T.Tape.sound c.args.tape.now) c.requires.limit c.requires.steps
+returns-in_default-step-clause-before g c =
+    inside_here _ _ _ _ c.requires.stands (g.met.T.Tape.sound c.args.tape.now) c.requires.limit
+    c.requires.steps
 
 pub returns-then-self-steps-clause-before : goal.returns-then-self-steps-clause-before
-returns-then-self-steps-clause-before g c = inside_here _ _ _ _ c.requires.stands (g.met.T.Tape.sound c.args.tape.now) c.requires.limit c.requires.steps
+returns-then-self-steps-clause-before g c =
+    inside_here _ _ _ _ c.requires.stands (g.met.T.Tape.sound c.args.tape.now) c.requires.limit
+    c.requires.steps
 
 pub returns-then-not-enter-clause-before : goal.returns-then-not-enter-clause-before
-returns-then-not-enter-clause-before g c = inside_here _ _ _ _ c.requires.stands (g.met.T.Tape.sound c.args.tape.now) c.requires.limit c.requires.steps
+returns-then-not-enter-clause-before g c =
+    inside_here _ _ _ _ c.requires.stands (g.met.T.Tape.sound c.args.tape.now) c.requires.limit
+    c.requires.steps
 
 pub returns-in_default-step_to-clause-before : goal.returns-in_default-step_to-clause-before
-returns-in_default-step_to-clause-before g c = inside_here _ _ _ _ c.requires.stands (g.met.T.Tape.sound c.args.tape.now) c.requires.limit c.requires.steps
+returns-in_default-step_to-clause-before g c =
+    inside_here _ _ _ _ c.requires.stands (g.met.T.Tape.sound c.args.tape.now) c.requires.limit
+    c.requires.steps
 
 pub returns-clause-before : goal.returns-clause-before
-returns-clause-before g c = inside_here _ _ _ _ c.requires.stands (g.met.T.Tape.sound c.args.tape.now) c.requires.limit c.requires.steps
+returns-clause-before g c =
+    inside_here _ _ _ _ c.requires.stands (g.met.T.Tape.sound c.args.tape.now) c.requires.limit
+    c.requires.steps
 
 pub returns-in_default-clause-answers : goal.returns-in_default-clause-answers
-returns-in_default-clause-answers g c = halts_undefined c.args.machine.now c.args.self.now (g.T.Tape.strip c.args.tape.now) c.requires.stands (rw c.in_default.is refl)
+returns-in_default-clause-answers g c =
+    halts_undefined c.args.machine.now c.args.self.now (g.T.Tape.strip c.args.tape.now) c.requires.stands
+    (rw c.in_default.is refl)
 
 pub returns-in_default-clause-reaches : goal.returns-in_default-clause-reaches
 returns-in_default-clause-reaches g c =
-    let inside = inside_here _ _ _ _ c.requires.stands (g.met.T.Tape.sound c.args.tape.now) c.requires.limit c.requires.steps in
+    let inside =
+    inside_here _ _ _ _ c.requires.stands (g.met.T.Tape.sound c.args.tape.now) c.requires.limit
+    c.requires.steps in
     halts_last _ _ _ inside (returns-in_default-clause-answers g c)
 
 pub read_inside-symbol-requires : goal.read_inside-symbol-requires
@@ -43,7 +59,8 @@ read_inside-symbol-requires g c =
     let fits : FitsSigned w64 old.position = search rules in
     let is = c.in-State.is in
     let running_here : old.state ≢ Halt = λ e. cc in
-    simp to_z-of_z (head_inside c.args.machine.now old (g.T.Tape.strip c.args.tape.now) c.requires.stands running_here)
+    simp to_z-of_z
+    (head_inside c.args.machine.now old (g.T.Tape.strip c.args.tape.now) c.requires.stands running_here)
 
 pub returns-then-self-steps-clause-answers : goal.returns-then-self-steps-clause-answers
 returns-then-self-steps-clause-answers g c =
@@ -52,13 +69,17 @@ returns-then-self-steps-clause-answers g c =
     let strip = g.T.Tape.strip c.args.tape.now in
     let sound = g.met.T.Tape.sound c.args.tape.now in
     let fits : FitsSigned w64 old.position = search rules in
-    let read : c.read_inside-symbol.result ≡ cell strip.content old.position = simp to_z-of_z at c.read_inside-symbol.ensures in
-    let by = goes table old strip c.in-State.state c.read_inside-symbol.result c.in-Some.step c.in-State.is read c.in-Some.ensures.value c.in-Some.ensures.named in
+    let read : c.read_inside-symbol.result ≡ cell strip.content old.position =
+    simp to_z-of_z at c.read_inside-symbol.ensures in
+    let by = goes table old strip c.in-State.state c.read_inside-symbol.result c.in-Some.step c.in-State.is
+    read c.in-Some.ensures.value c.in-Some.ensures.named in
     (moves_on table old strip _ _ _ c.requires.stands by.here, cc)
 
 pub returns-then-self-steps-clause-reaches : goal.returns-then-self-steps-clause-reaches
 returns-then-self-steps-clause-reaches g c =
-    let inside = inside_here _ _ _ _ c.requires.stands (g.met.T.Tape.sound c.args.tape.now) c.requires.limit c.requires.steps in
+    let inside =
+    inside_here _ _ _ _ c.requires.stands (g.met.T.Tape.sound c.args.tape.now) c.requires.limit
+    c.requires.steps in
     steps_last _ _ _ inside cc
 
 pub moved_by-position-requires-clause-low : goal.moved_by-position-requires-clause-low
@@ -68,9 +89,13 @@ moved_by-position-requires-clause-low g c =
     let strip = g.T.Tape.strip c.args.tape.now in
     let sound = g.met.T.Tape.sound c.args.tape.now in
     let fits : FitsSigned w64 old.position = search rules in
-    let read : c.read_inside-symbol.result ≡ cell strip.content old.position = simp to_z-of_z at c.read_inside-symbol.ensures in
-    let by = goes table old strip c.in-State.state c.read_inside-symbol.result c.in-Some.step c.in-State.is read c.in-Some.ensures.value c.in-Some.ensures.named in
-    let near = near_head table old strip by.dir c.requires.stands (running table old strip _ _ _ c.requires.stands by.here) sound in
+    let read : c.read_inside-symbol.result ≡ cell strip.content old.position =
+    simp to_z-of_z at c.read_inside-symbol.ensures in
+    let by = goes table old strip c.in-State.state c.read_inside-symbol.result c.in-Some.step c.in-State.is
+    read c.in-Some.ensures.value c.in-Some.ensures.named in
+    let near =
+    near_head table old strip by.dir c.requires.stands
+    (running table old strip _ _ _ c.requires.stands by.here) sound in
     let low = near.small.0 in
     omega (arith, ints)
 
@@ -81,9 +106,13 @@ moved_by-position-requires-clause-high g c =
     let strip = g.T.Tape.strip c.args.tape.now in
     let sound = g.met.T.Tape.sound c.args.tape.now in
     let fits : FitsSigned w64 old.position = search rules in
-    let read : c.read_inside-symbol.result ≡ cell strip.content old.position = simp to_z-of_z at c.read_inside-symbol.ensures in
-    let by = goes table old strip c.in-State.state c.read_inside-symbol.result c.in-Some.step c.in-State.is read c.in-Some.ensures.value c.in-Some.ensures.named in
-    let near = near_head table old strip by.dir c.requires.stands (running table old strip _ _ _ c.requires.stands by.here) sound in
+    let read : c.read_inside-symbol.result ≡ cell strip.content old.position =
+    simp to_z-of_z at c.read_inside-symbol.ensures in
+    let by = goes table old strip c.in-State.state c.read_inside-symbol.result c.in-Some.step c.in-State.is
+    read c.in-Some.ensures.value c.in-Some.ensures.named in
+    let near =
+    near_head table old strip by.dir c.requires.stands
+    (running table old strip _ _ _ c.requires.stands by.here) sound in
     let high = near.small.1 in
     omega (arith, ints)
 
@@ -94,12 +123,17 @@ enter-requires-clause-near g c =
     let strip = g.T.Tape.strip c.args.tape.now in
     let sound = g.met.T.Tape.sound c.args.tape.now in
     let fits : FitsSigned w64 old.position = search rules in
-    let read : c.read_inside-symbol.result ≡ cell strip.content old.position = simp to_z-of_z at c.read_inside-symbol.ensures in
-    let by = goes table old strip c.in-State.state c.read_inside-symbol.result c.in-Some.step c.in-State.is read c.in-Some.ensures.value c.in-Some.ensures.named in
-    let near = near_head table old strip by.dir c.requires.stands (running table old strip _ _ _ c.requires.stands by.here) sound in
+    let read : c.read_inside-symbol.result ≡ cell strip.content old.position =
+    simp to_z-of_z at c.read_inside-symbol.ensures in
+    let by = goes table old strip c.in-State.state c.read_inside-symbol.result c.in-Some.step c.in-State.is
+    read c.in-Some.ensures.value c.in-Some.ensures.named in
+    let near =
+    near_head table old strip by.dir c.requires.stands
+    (running table old strip _ _ _ c.requires.stands by.here) sound in
     let offset_fits : FitsSigned w8 c.in-Some.step.offset = search rules in
     let result_fits : FitsSigned w64 c.moved_by-position.result = search rules in
-    let moved : c.moved_by-position.result ≡ old.position +ℤ c.in-Some.step.offset = simp to_z-of_z at c.moved_by-position.ensures in
+    let moved : c.moved_by-position.result ≡ old.position +ℤ c.in-Some.step.offset =
+    simp to_z-of_z at c.moved_by-position.ensures in
     let there : c.moved_by-position.result ≡ beside by.dir old.position = moved ∙ by.position old.position in
     simp to_z-of_z (rw there near.near)
 
@@ -110,21 +144,30 @@ returns-then-not-enter-clause-answers g c =
     let strip = g.T.Tape.strip c.args.tape.now in
     let sound = g.met.T.Tape.sound c.args.tape.now in
     let fits : FitsSigned w64 old.position = search rules in
-    let read : c.read_inside-symbol.result ≡ cell strip.content old.position = simp to_z-of_z at c.read_inside-symbol.ensures in
-    let by = goes table old strip c.in-State.state c.read_inside-symbol.result c.in-Some.step c.in-State.is read c.in-Some.ensures.value c.in-Some.ensures.named in
+    let read : c.read_inside-symbol.result ≡ cell strip.content old.position =
+    simp to_z-of_z at c.read_inside-symbol.ensures in
+    let by = goes table old strip c.in-State.state c.read_inside-symbol.result c.in-Some.step c.in-State.is
+    read c.in-Some.ensures.value c.in-Some.ensures.named in
     let offset_fits : FitsSigned w8 c.in-Some.step.offset = search rules in
     let result_fits : FitsSigned w64 c.moved_by-position.result = search rules in
-    let moved : c.moved_by-position.result ≡ old.position +ℤ c.in-Some.step.offset = simp to_z-of_z at c.moved_by-position.ensures in
+    let moved : c.moved_by-position.result ≡ old.position +ℤ c.in-Some.step.offset =
+    simp to_z-of_z at c.moved_by-position.ensures in
     let there : c.moved_by-position.result ≡ beside by.dir old.position = moved ∙ by.position old.position in
     let full = rw there at (simp to_z-of_z at c.if-not-enter.ensures.0) in
-    let spans = next-span table old strip _ _ _ c.requires.stands by.here in
-    (moves_on table old strip _ _ _ c.requires.stands by.here, λ e. c.if-self-steps.false cc, omega (arith, spans, full, c.requires.limit))
+    let spans = next-span table old strip _ _ _ c.requires.stands by.here in (
+      moves_on table old strip _ _ _ c.requires.stands by.here,
+      λ e. c.if-self-steps.false cc,
+      omega (arith, spans, full, c.requires.limit),
+    )
 
 pub returns-then-not-enter-clause-reaches : goal.returns-then-not-enter-clause-reaches
 returns-then-not-enter-clause-reaches g c =
-    let inside = inside_here _ _ _ _ c.requires.stands (g.met.T.Tape.sound c.args.tape.now) c.requires.limit c.requires.steps in
+    let inside =
+    inside_here _ _ _ _ c.requires.stands (g.met.T.Tape.sound c.args.tape.now) c.requires.limit
+    c.requires.steps in
     let wide = (returns-then-not-enter-clause-answers g c).2 in
-    let same : c.enter.new.self.steps ≡ c.args.self.now.steps = ap (λ (r : Runner). r.steps) c.if-not-enter.ensures.2 in
+    let same : c.enter.new.self.steps ≡ c.args.self.now.steps =
+    ap (λ (r : Runner). r.steps) c.if-not-enter.ensures.2 in
     rw same (cells_last _ _ _ inside wide)
 
 pub step_to-requires-clause-inside : goal.step_to-requires-clause-inside
@@ -134,12 +177,17 @@ step_to-requires-clause-inside g c =
     let strip = g.T.Tape.strip c.args.tape.now in
     let sound = g.met.T.Tape.sound c.args.tape.now in
     let fits : FitsSigned w64 old.position = search rules in
-    let read : c.read_inside-symbol.result ≡ cell strip.content old.position = simp to_z-of_z at c.read_inside-symbol.ensures in
-    let by = goes table old strip c.in-State.state c.read_inside-symbol.result c.in-Some.step c.in-State.is read c.in-Some.ensures.value c.in-Some.ensures.named in
-    let near = near_head table old strip by.dir c.requires.stands (running table old strip _ _ _ c.requires.stands by.here) sound in
+    let read : c.read_inside-symbol.result ≡ cell strip.content old.position =
+    simp to_z-of_z at c.read_inside-symbol.ensures in
+    let by = goes table old strip c.in-State.state c.read_inside-symbol.result c.in-Some.step c.in-State.is
+    read c.in-Some.ensures.value c.in-Some.ensures.named in
+    let near =
+    near_head table old strip by.dir c.requires.stands
+    (running table old strip _ _ _ c.requires.stands by.here) sound in
     let result_fits : FitsSigned w64 c.moved_by-position.result = search rules in
     let visited_is = simp to_z-of_z at c.if-not-enter.ensures.1 in
-    let wider : IsWidened old c.enter.new.self c.moved_by-position.result = simp to_z-of_z at c.if-not-enter.ensures.2 in
+    let wider : IsWidened old c.enter.new.self c.moved_by-position.result =
+    simp to_z-of_z at c.if-not-enter.ensures.2 in
     rw wider.head (inside_visited strip _ _ old.position visited_is near.here)
 
 pub returns-in_default-step_to-clause-wanted : goal.returns-in_default-step_to-clause-wanted
@@ -149,14 +197,18 @@ returns-in_default-step_to-clause-wanted g c =
     let strip = g.T.Tape.strip c.args.tape.now in
     let sound = g.met.T.Tape.sound c.args.tape.now in
     let fits : FitsSigned w64 old.position = search rules in
-    let read : c.read_inside-symbol.result ≡ cell strip.content old.position = simp to_z-of_z at c.read_inside-symbol.ensures in
-    let by = goes table old strip c.in-State.state c.read_inside-symbol.result c.in-Some.step c.in-State.is read c.in-Some.ensures.value c.in-Some.ensures.named in
+    let read : c.read_inside-symbol.result ≡ cell strip.content old.position =
+    simp to_z-of_z at c.read_inside-symbol.ensures in
+    let by = goes table old strip c.in-State.state c.read_inside-symbol.result c.in-Some.step c.in-State.is
+    read c.in-Some.ensures.value c.in-Some.ensures.named in
     let offset_fits : FitsSigned w8 c.in-Some.step.offset = search rules in
     let result_fits : FitsSigned w64 c.moved_by-position.result = search rules in
-    let moved : c.moved_by-position.result ≡ old.position +ℤ c.in-Some.step.offset = simp to_z-of_z at c.moved_by-position.ensures in
+    let moved : c.moved_by-position.result ≡ old.position +ℤ c.in-Some.step.offset =
+    simp to_z-of_z at c.moved_by-position.ensures in
     let there : c.moved_by-position.result ≡ beside by.dir old.position = moved ∙ by.position old.position in
     let room = rw there at (simp to_z-of_z at c.if-not-enter.ensures.0) in
-    wanted table old strip _ _ _ c.requires.stands by.here c.args.limits.now (λ e. c.if-self-steps.false cc) c.requires.limit room
+    wanted table old strip _ _ _ c.requires.stands by.here c.args.limits.now (λ e. c.if-self-steps.false cc)
+    c.requires.limit room
 
 pub returns-clause-answers : goal.returns-clause-answers
 returns-clause-answers g c =
@@ -165,19 +217,31 @@ returns-clause-answers g c =
     let strip = g.T.Tape.strip c.args.tape.now in
     let sound = g.met.T.Tape.sound c.args.tape.now in
     let fits : FitsSigned w64 old.position = search rules in
-    let read : c.read_inside-symbol.result ≡ cell strip.content old.position = simp to_z-of_z at c.read_inside-symbol.ensures in
-    let by = goes table old strip c.in-State.state c.read_inside-symbol.result c.in-Some.step c.in-State.is read c.in-Some.ensures.value c.in-Some.ensures.named in
+    let read : c.read_inside-symbol.result ≡ cell strip.content old.position =
+    simp to_z-of_z at c.read_inside-symbol.ensures in
+    let by = goes table old strip c.in-State.state c.read_inside-symbol.result c.in-Some.step c.in-State.is
+    read c.in-Some.ensures.value c.in-Some.ensures.named in
     let offset_fits : FitsSigned w8 c.in-Some.step.offset = search rules in
     let result_fits : FitsSigned w64 c.moved_by-position.result = search rules in
-    let moved : c.moved_by-position.result ≡ old.position +ℤ c.in-Some.step.offset = simp to_z-of_z at c.moved_by-position.ensures in
+    let moved : c.moved_by-position.result ≡ old.position +ℤ c.in-Some.step.offset =
+    simp to_z-of_z at c.moved_by-position.ensures in
     let there : c.moved_by-position.result ≡ beside by.dir old.position = moved ∙ by.position old.position in
     let visited_is = simp to_z-of_z at c.if-not-enter.ensures.1 in
-    let wider : IsWidened old c.enter.new.self c.moved_by-position.result = simp to_z-of_z at c.if-not-enter.ensures.2 in
+    let wider : IsWidened old c.enter.new.self c.moved_by-position.result =
+    simp to_z-of_z at c.if-not-enter.ensures.2 in
     let room = rw there at (simp to_z-of_z at c.if-not-enter.ensures.0) in
-    let steps : StepsTo c.enter.new.self c.step_to.new.self (State c.in-Some.step.state) c.moved_by-position.result = simp to_z-of_z at c.in-Ok.ensures.steps in
-    let stepped_is = into_state table old strip c.in-Some.step.write by.dir c.in-Some.step.state c.requires.stands by.here c.enter.new.self c.step_to.new.self (g.T.Tape.strip c.enter.new.tape) (g.T.Tape.strip c.step_to.new.tape) c.moved_by-position.result there wider visited_is steps c.in-Ok.ensures.written in
-    (made table old strip c.in-Some.step.write by.dir (State c.in-Some.step.state) c.requires.stands by.here c.args.limits.now c.step_to.new.self (g.T.Tape.strip c.step_to.new.tape) c.args.meter.now c.step_to.new.meter
-    sound by.named c.requires.limit c.requires.steps (λ e. c.if-self-steps.false cc) room stepped_is (c.in-Ok.ensures.counted ∙ ap (stepped c.args.meter.now) (cells_stay c.enter.new.self c.step_to.new.self _ _ steps))).answers
+    let steps : StepsTo c.enter.new.self c.step_to.new.self (State
+    c.in-Some.step.state) c.moved_by-position.result = simp to_z-of_z at c.in-Ok.ensures.steps in
+    let stepped_is =
+    into_state table old strip c.in-Some.step.write by.dir c.in-Some.step.state c.requires.stands by.here
+    c.enter.new.self c.step_to.new.self (g.T.Tape.strip c.enter.new.tape) (g.T.Tape.strip c.step_to.new.tape)
+    c.moved_by-position.result there wider visited_is steps c.in-Ok.ensures.written in
+    (made table old strip c.in-Some.step.write by.dir (State c.in-Some.step.state) c.requires.stands by.here
+    c.args.limits.now c.step_to.new.self (g.T.Tape.strip c.step_to.new.tape) c.args.meter.now
+    c.step_to.new.meter
+    sound by.named c.requires.limit c.requires.steps (λ e. c.if-self-steps.false cc) room stepped_is
+    (c.in-Ok.ensures.counted
+    ∙ ap (stepped c.args.meter.now) (cells_stay c.enter.new.self c.step_to.new.self _ _ steps))).answers
 
 pub returns-clause-moves : goal.returns-clause-moves
 returns-clause-moves g c =
@@ -186,19 +250,31 @@ returns-clause-moves g c =
     let strip = g.T.Tape.strip c.args.tape.now in
     let sound = g.met.T.Tape.sound c.args.tape.now in
     let fits : FitsSigned w64 old.position = search rules in
-    let read : c.read_inside-symbol.result ≡ cell strip.content old.position = simp to_z-of_z at c.read_inside-symbol.ensures in
-    let by = goes table old strip c.in-State.state c.read_inside-symbol.result c.in-Some.step c.in-State.is read c.in-Some.ensures.value c.in-Some.ensures.named in
+    let read : c.read_inside-symbol.result ≡ cell strip.content old.position =
+    simp to_z-of_z at c.read_inside-symbol.ensures in
+    let by = goes table old strip c.in-State.state c.read_inside-symbol.result c.in-Some.step c.in-State.is
+    read c.in-Some.ensures.value c.in-Some.ensures.named in
     let offset_fits : FitsSigned w8 c.in-Some.step.offset = search rules in
     let result_fits : FitsSigned w64 c.moved_by-position.result = search rules in
-    let moved : c.moved_by-position.result ≡ old.position +ℤ c.in-Some.step.offset = simp to_z-of_z at c.moved_by-position.ensures in
+    let moved : c.moved_by-position.result ≡ old.position +ℤ c.in-Some.step.offset =
+    simp to_z-of_z at c.moved_by-position.ensures in
     let there : c.moved_by-position.result ≡ beside by.dir old.position = moved ∙ by.position old.position in
     let visited_is = simp to_z-of_z at c.if-not-enter.ensures.1 in
-    let wider : IsWidened old c.enter.new.self c.moved_by-position.result = simp to_z-of_z at c.if-not-enter.ensures.2 in
+    let wider : IsWidened old c.enter.new.self c.moved_by-position.result =
+    simp to_z-of_z at c.if-not-enter.ensures.2 in
     let room = rw there at (simp to_z-of_z at c.if-not-enter.ensures.0) in
-    let steps : StepsTo c.enter.new.self c.step_to.new.self (State c.in-Some.step.state) c.moved_by-position.result = simp to_z-of_z at c.in-Ok.ensures.steps in
-    let stepped_is = into_state table old strip c.in-Some.step.write by.dir c.in-Some.step.state c.requires.stands by.here c.enter.new.self c.step_to.new.self (g.T.Tape.strip c.enter.new.tape) (g.T.Tape.strip c.step_to.new.tape) c.moved_by-position.result there wider visited_is steps c.in-Ok.ensures.written in
-    (made table old strip c.in-Some.step.write by.dir (State c.in-Some.step.state) c.requires.stands by.here c.args.limits.now c.step_to.new.self (g.T.Tape.strip c.step_to.new.tape) c.args.meter.now c.step_to.new.meter
-    sound by.named c.requires.limit c.requires.steps (λ e. c.if-self-steps.false cc) room stepped_is (c.in-Ok.ensures.counted ∙ ap (stepped c.args.meter.now) (cells_stay c.enter.new.self c.step_to.new.self _ _ steps))).moves
+    let steps : StepsTo c.enter.new.self c.step_to.new.self (State
+    c.in-Some.step.state) c.moved_by-position.result = simp to_z-of_z at c.in-Ok.ensures.steps in
+    let stepped_is =
+    into_state table old strip c.in-Some.step.write by.dir c.in-Some.step.state c.requires.stands by.here
+    c.enter.new.self c.step_to.new.self (g.T.Tape.strip c.enter.new.tape) (g.T.Tape.strip c.step_to.new.tape)
+    c.moved_by-position.result there wider visited_is steps c.in-Ok.ensures.written in
+    (made table old strip c.in-Some.step.write by.dir (State c.in-Some.step.state) c.requires.stands by.here
+    c.args.limits.now c.step_to.new.self (g.T.Tape.strip c.step_to.new.tape) c.args.meter.now
+    c.step_to.new.meter
+    sound by.named c.requires.limit c.requires.steps (λ e. c.if-self-steps.false cc) room stepped_is
+    (c.in-Ok.ensures.counted
+    ∙ ap (stepped c.args.meter.now) (cells_stay c.enter.new.self c.step_to.new.self _ _ steps))).moves
 
 pub returns-clause-reaches : goal.returns-clause-reaches
 returns-clause-reaches g c =
@@ -207,19 +283,31 @@ returns-clause-reaches g c =
     let strip = g.T.Tape.strip c.args.tape.now in
     let sound = g.met.T.Tape.sound c.args.tape.now in
     let fits : FitsSigned w64 old.position = search rules in
-    let read : c.read_inside-symbol.result ≡ cell strip.content old.position = simp to_z-of_z at c.read_inside-symbol.ensures in
-    let by = goes table old strip c.in-State.state c.read_inside-symbol.result c.in-Some.step c.in-State.is read c.in-Some.ensures.value c.in-Some.ensures.named in
+    let read : c.read_inside-symbol.result ≡ cell strip.content old.position =
+    simp to_z-of_z at c.read_inside-symbol.ensures in
+    let by = goes table old strip c.in-State.state c.read_inside-symbol.result c.in-Some.step c.in-State.is
+    read c.in-Some.ensures.value c.in-Some.ensures.named in
     let offset_fits : FitsSigned w8 c.in-Some.step.offset = search rules in
     let result_fits : FitsSigned w64 c.moved_by-position.result = search rules in
-    let moved : c.moved_by-position.result ≡ old.position +ℤ c.in-Some.step.offset = simp to_z-of_z at c.moved_by-position.ensures in
+    let moved : c.moved_by-position.result ≡ old.position +ℤ c.in-Some.step.offset =
+    simp to_z-of_z at c.moved_by-position.ensures in
     let there : c.moved_by-position.result ≡ beside by.dir old.position = moved ∙ by.position old.position in
     let visited_is = simp to_z-of_z at c.if-not-enter.ensures.1 in
-    let wider : IsWidened old c.enter.new.self c.moved_by-position.result = simp to_z-of_z at c.if-not-enter.ensures.2 in
+    let wider : IsWidened old c.enter.new.self c.moved_by-position.result =
+    simp to_z-of_z at c.if-not-enter.ensures.2 in
     let room = rw there at (simp to_z-of_z at c.if-not-enter.ensures.0) in
-    let steps : StepsTo c.enter.new.self c.step_to.new.self (State c.in-Some.step.state) c.moved_by-position.result = simp to_z-of_z at c.in-Ok.ensures.steps in
-    let stepped_is = into_state table old strip c.in-Some.step.write by.dir c.in-Some.step.state c.requires.stands by.here c.enter.new.self c.step_to.new.self (g.T.Tape.strip c.enter.new.tape) (g.T.Tape.strip c.step_to.new.tape) c.moved_by-position.result there wider visited_is steps c.in-Ok.ensures.written in
-    (made table old strip c.in-Some.step.write by.dir (State c.in-Some.step.state) c.requires.stands by.here c.args.limits.now c.step_to.new.self (g.T.Tape.strip c.step_to.new.tape) c.args.meter.now c.step_to.new.meter
-    sound by.named c.requires.limit c.requires.steps (λ e. c.if-self-steps.false cc) room stepped_is (c.in-Ok.ensures.counted ∙ ap (stepped c.args.meter.now) (cells_stay c.enter.new.self c.step_to.new.self _ _ steps))).reaches
+    let steps : StepsTo c.enter.new.self c.step_to.new.self (State
+    c.in-Some.step.state) c.moved_by-position.result = simp to_z-of_z at c.in-Ok.ensures.steps in
+    let stepped_is =
+    into_state table old strip c.in-Some.step.write by.dir c.in-Some.step.state c.requires.stands by.here
+    c.enter.new.self c.step_to.new.self (g.T.Tape.strip c.enter.new.tape) (g.T.Tape.strip c.step_to.new.tape)
+    c.moved_by-position.result there wider visited_is steps c.in-Ok.ensures.written in
+    (made table old strip c.in-Some.step.write by.dir (State c.in-Some.step.state) c.requires.stands by.here
+    c.args.limits.now c.step_to.new.self (g.T.Tape.strip c.step_to.new.tape) c.args.meter.now
+    c.step_to.new.meter
+    sound by.named c.requires.limit c.requires.steps (λ e. c.if-self-steps.false cc) room stepped_is
+    (c.in-Ok.ensures.counted
+    ∙ ap (stepped c.args.meter.now) (cells_stay c.enter.new.self c.step_to.new.self _ _ steps))).reaches
 
 pub returns-clause-stands : goal.returns-clause-stands
 returns-clause-stands g c =
@@ -228,16 +316,28 @@ returns-clause-stands g c =
     let strip = g.T.Tape.strip c.args.tape.now in
     let sound = g.met.T.Tape.sound c.args.tape.now in
     let fits : FitsSigned w64 old.position = search rules in
-    let read : c.read_inside-symbol.result ≡ cell strip.content old.position = simp to_z-of_z at c.read_inside-symbol.ensures in
-    let by = goes table old strip c.in-State.state c.read_inside-symbol.result c.in-Some.step c.in-State.is read c.in-Some.ensures.value c.in-Some.ensures.named in
+    let read : c.read_inside-symbol.result ≡ cell strip.content old.position =
+    simp to_z-of_z at c.read_inside-symbol.ensures in
+    let by = goes table old strip c.in-State.state c.read_inside-symbol.result c.in-Some.step c.in-State.is
+    read c.in-Some.ensures.value c.in-Some.ensures.named in
     let offset_fits : FitsSigned w8 c.in-Some.step.offset = search rules in
     let result_fits : FitsSigned w64 c.moved_by-position.result = search rules in
-    let moved : c.moved_by-position.result ≡ old.position +ℤ c.in-Some.step.offset = simp to_z-of_z at c.moved_by-position.ensures in
+    let moved : c.moved_by-position.result ≡ old.position +ℤ c.in-Some.step.offset =
+    simp to_z-of_z at c.moved_by-position.ensures in
     let there : c.moved_by-position.result ≡ beside by.dir old.position = moved ∙ by.position old.position in
     let visited_is = simp to_z-of_z at c.if-not-enter.ensures.1 in
-    let wider : IsWidened old c.enter.new.self c.moved_by-position.result = simp to_z-of_z at c.if-not-enter.ensures.2 in
+    let wider : IsWidened old c.enter.new.self c.moved_by-position.result =
+    simp to_z-of_z at c.if-not-enter.ensures.2 in
     let room = rw there at (simp to_z-of_z at c.if-not-enter.ensures.0) in
-    let steps : StepsTo c.enter.new.self c.step_to.new.self (State c.in-Some.step.state) c.moved_by-position.result = simp to_z-of_z at c.in-Ok.ensures.steps in
-    let stepped_is = into_state table old strip c.in-Some.step.write by.dir c.in-Some.step.state c.requires.stands by.here c.enter.new.self c.step_to.new.self (g.T.Tape.strip c.enter.new.tape) (g.T.Tape.strip c.step_to.new.tape) c.moved_by-position.result there wider visited_is steps c.in-Ok.ensures.written in
-    (made table old strip c.in-Some.step.write by.dir (State c.in-Some.step.state) c.requires.stands by.here c.args.limits.now c.step_to.new.self (g.T.Tape.strip c.step_to.new.tape) c.args.meter.now c.step_to.new.meter
-    sound by.named c.requires.limit c.requires.steps (λ e. c.if-self-steps.false cc) room stepped_is (c.in-Ok.ensures.counted ∙ ap (stepped c.args.meter.now) (cells_stay c.enter.new.self c.step_to.new.self _ _ steps))).end
+    let steps : StepsTo c.enter.new.self c.step_to.new.self (State
+    c.in-Some.step.state) c.moved_by-position.result = simp to_z-of_z at c.in-Ok.ensures.steps in
+    let stepped_is =
+    into_state table old strip c.in-Some.step.write by.dir c.in-Some.step.state c.requires.stands by.here
+    c.enter.new.self c.step_to.new.self (g.T.Tape.strip c.enter.new.tape) (g.T.Tape.strip c.step_to.new.tape)
+    c.moved_by-position.result there wider visited_is steps c.in-Ok.ensures.written in
+    (made table old strip c.in-Some.step.write by.dir (State c.in-Some.step.state) c.requires.stands by.here
+    c.args.limits.now c.step_to.new.self (g.T.Tape.strip c.step_to.new.tape) c.args.meter.now
+    c.step_to.new.meter
+    sound by.named c.requires.limit c.requires.steps (λ e. c.if-self-steps.false cc) room stepped_is
+    (c.in-Ok.ensures.counted
+    ∙ ap (stepped c.args.meter.now) (cells_stay c.enter.new.self c.step_to.new.self _ _ steps))).end

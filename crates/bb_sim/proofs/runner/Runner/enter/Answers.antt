@@ -18,14 +18,21 @@ returns-then-is_inside g c =
     let here : IsInside strip c.args.position = (rw c.requires.low inside.0, rw c.requires.high inside.1) in (
       inside_fits strip c.args.position sound here,
       sym (inside_stays strip c.args.position here),
-      record { state = refl; head = refl; steps = refl; low = sym (min-same _ _ inside.0); high = sym (max-same _ _ inside.1) },
+      record {
+        state = refl;
+        head = refl;
+        steps = refl;
+        low = sym (min-same _ _ inside.0);
+        high = sym (max-same _ _ inside.1);
+      },
     )
 
 pub widen_high-requires-clause-room : goal.widen_high-requires-clause-room
 widen_high-requires-clause-room g c =
     let runner = c.args.self.now in
     let strip = g.T.Tape.strip c.args.tape.now in
-    room_left runner strip c.args.position (g.met.T.Tape.sound c.args.tape.now) c.requires.low c.requires.high (λ e. c.if-self-cells.false (e ∙ c.requires.limit ∙ sym c.cells.ensures.value))
+    room_left runner strip c.args.position (g.met.T.Tape.sound c.args.tape.now) c.requires.low c.requires.high
+    (λ e. c.if-self-cells.false (e ∙ c.requires.limit ∙ sym c.cells.ensures.value))
 
 pub returns-then-position-self : goal.returns-then-position-self
 returns-then-position-self g c =
@@ -36,9 +43,17 @@ returns-then-position-self g c =
     let low_fits : FitsSigned w64 runner.low = search rules in
     let below : c.args.position <ℤ runner.low = search rules in
     let near : runner.low ≤ℤ (c.args.position +ℤ pos 1) = rw (← c.requires.low) c.requires.near.0 in (
-      fits_next runner strip c.args.position sound c.requires.low c.requires.high (λ e. c.if-self-cells.false (e ∙ c.requires.limit ∙ sym c.cells.ensures.value)) c.requires.near,
+      fits_next runner strip c.args.position sound c.requires.low c.requires.high
+          (λ e. c.if-self-cells.false (e ∙ c.requires.limit ∙ sym c.cells.ensures.value)) c.requires.near,
       simp to_z-of_z at c.widen_low.ensures,
-      record { state = refl; head = refl; steps = refl; low = simp to_z-of_z (low_grows runner.low c.args.position below); high = simp to_z-of_z (high_stays runner.low c.args.position runner.cells runner.some_cell below near) },
+      record {
+        state = refl;
+        head = refl;
+        steps = refl;
+        low = simp to_z-of_z (low_grows runner.low c.args.position below);
+        high = simp to_z-of_z
+            (high_stays runner.low c.args.position runner.cells runner.some_cell below near);
+      },
     )
 
 pub returns : goal.returns
@@ -50,10 +65,19 @@ returns g c =
     let low_fits : FitsSigned w64 runner.low = search rules in
     let at : runner.low ≤ℤ c.args.position = search rules in
     let test = simp to_z-of_z at c.is_inside.ensures in
-    let outside : (low_of runner ≤ℤ c.args.position) × (c.args.position ≤ℤ high_of runner) → ⊥ = λ h. let yes : IsTrue c.is_inside.result = test.1 h in absurd (search rules) in
-    let next = next_above runner strip c.args.position sound c.requires.low c.requires.high outside c.requires.near at in
+    let outside : (low_of runner ≤ℤ c.args.position) × (c.args.position ≤ℤ high_of runner) → ⊥ = λ h.
+    let yes : IsTrue c.is_inside.result = test.1 h in absurd (search rules) in
+    let next =
+    next_above runner strip c.args.position sound c.requires.low c.requires.high outside c.requires.near at in
     let above : c.args.position ≡ high_of runner +ℤ pos 1 = rw (← c.requires.high) next in (
-      fits_next runner strip c.args.position sound c.requires.low c.requires.high (λ e. c.if-self-cells.false (e ∙ c.requires.limit ∙ sym c.cells.ensures.value)) c.requires.near,
+      fits_next runner strip c.args.position sound c.requires.low c.requires.high
+          (λ e. c.if-self-cells.false (e ∙ c.requires.limit ∙ sym c.cells.ensures.value)) c.requires.near,
       simp to_z-of_z at c.widen_high.ensures,
-      record { state = refl; head = refl; steps = refl; low = low_stays runner.low c.args.position runner.cells above; high = high_grows runner.low c.args.position runner.cells above },
+      record {
+        state = refl;
+        head = refl;
+        steps = refl;
+        low = low_stays runner.low c.args.position runner.cells above;
+        high = high_grows runner.low c.args.position runner.cells above;
+      },
     )

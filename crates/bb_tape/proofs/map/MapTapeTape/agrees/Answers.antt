@@ -8,16 +8,22 @@ use Rattle.bb_tape.proofs.map.MapTapeTape.agrees.Goals as goal
 pub symbol_after-requires-clause-begins : goal.symbol_after-requires-clause-begins
 symbol_after-requires-clause-begins g c =
     let a = c.args.self.now in
-    rw (to_z-of_z w64 _ c.ranges.from) (stretch_begins (strip_of (content_of a.cells.entries) a.window) c.args.from c.args.len c.loop-k.k c.requires.here c.loop-k-test.true)
+    rw (to_z-of_z w64 _ c.ranges.from)
+    (stretch_begins (strip_of (content_of a.cells.entries) a.window) c.args.from c.args.len c.loop-k.k
+    c.requires.here c.loop-k-test.true)
 
 pub symbol_after-requires-in-loop-k-clause-begins :
     goal.symbol_after-requires-in-loop-k-clause-begins
 symbol_after-requires-in-loop-k-clause-begins g c =
     let b = c.args.other.now in
-    rw (to_z-of_z w64 _ c.ranges.other_from) (stretch_begins (strip_of (content_of b.cells.entries) b.window) c.args.other_from c.args.len c.loop-k.k c.requires.there c.loop-k-test.true)
+    rw (to_z-of_z w64 _ c.ranges.other_from)
+    (stretch_begins (strip_of (content_of b.cells.entries) b.window) c.args.other_from c.args.len c.loop-k.k
+    c.requires.there c.loop-k-test.true)
 
 pub loop-k-preserved : goal.loop-k-preserved
-loop-k-preserved g c = below_more _ _ c.loop-k.invariant (sym c.symbol_after.ensures ∙ c.if-symbol_after.false ∙ c.symbol_after-in-loop-k.ensures)
+loop-k-preserved g c =
+    below_more _ _ c.loop-k.invariant (sym c.symbol_after.ensures ∙ c.if-symbol_after.false
+    ∙ c.symbol_after-in-loop-k.ensures)
 
 pub returns : goal.returns
 returns g c = (

@@ -13,5 +13,8 @@ invariant_of-self g c =
 
 pub invariant_of-self-2 : goal.invariant_of-self-2
 invariant_of-self-2 g c =
-    let e : content_of c.copy_entries.new.to.entries ≡ content_of c.args.other.now.cells.entries = ap content_of {x = c.copy_entries.new.to.entries} (at_ok c.copy_entries.result c.if-is_err.ensures.negation c.copy_entries.ensures) in
+    let e : content_of c.copy_entries.new.to.entries ≡ content_of c.args.other.now.cells.entries =
+    ap content_of {x =
+    c.copy_entries.new.to.entries}
+    (at_ok c.copy_entries.result c.if-is_err.ensures.negation c.copy_entries.ensures) in
     record { sound = rw e c.args.other.now.sound }

@@ -13,9 +13,11 @@ returns-then-count_nonzero-eq0 c =
     let xs = c.pieces.result.0.now in
     let ys = c.pieces.result.1.now in
     let count = c.count_nonzero-then-count_nonzero-eq0 in (
-      λ t. zero_in_pieces content c.args.from c.args.len xs ys e (sym c.count_nonzero.ensures ∙ c.if-count_nonzero-eq0.true) (sym count.ensures ∙ (Decides-eqb count.result 0).0 t),
+      λ t. zero_in_pieces content c.args.from c.args.len xs ys e (sym c.count_nonzero.ensures
+          ∙ c.if-count_nonzero-eq0.true) (sym count.ensures ∙ (Decides-eqb count.result 0).0 t),
       λ z.
-          let none : count_by nonzero xs + count_by nonzero ys ≡ 0 = pieces_of_zero content c.args.from c.args.len xs ys e z in
+          let none : count_by nonzero xs + count_by nonzero ys ≡ 0 =
+          pieces_of_zero content c.args.from c.args.len xs ys e z in
           let second : count_by nonzero ys ≡ 0 = omega (arith, none) in
           (Decides-eqb count.result 0).1 (count.ensures ∙ second),
     )
@@ -28,7 +30,8 @@ returns-else-count_nonzero-eq0 c =
     let ys = c.pieces.result.1.now in (
       λ t. absurd (c.if-count_nonzero-eq0.false ((Decides-eqb c.count_nonzero.result 0).0 t)),
       λ z.
-          let none : count_by nonzero xs + count_by nonzero ys ≡ 0 = pieces_of_zero content c.args.from c.args.len xs ys e z in
+          let none : count_by nonzero xs + count_by nonzero ys ≡ 0 =
+          pieces_of_zero content c.args.from c.args.len xs ys e z in
           let first : count_by nonzero xs ≡ 0 = omega (arith, none) in
           (Decides-eqb c.count_nonzero.result 0).1 (c.count_nonzero.ensures ∙ first),
     )

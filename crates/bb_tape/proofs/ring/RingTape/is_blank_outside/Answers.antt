@@ -12,9 +12,17 @@ returns-then-is_blank c =
     let from_is = to_z-of_z w64 _ (low_fits a.window.valid) in
     let next_is : to_z w64 (of_z w64 (to_z w64 (of_z w64 part.high) +ℤ pos 1)) ≡ part.high +ℤ pos 1 =
     (λ i. to_z w64 (of_z w64 (to_z-of_z w64 _ (high_fits part.valid) i +ℤ pos 1)))
-    ∙ to_z-of_z w64 _ (narrow_fits (part.high +ℤ pos 1) (omega (arith, ints, part.valid.to_zero)) (omega (arith, ints, part.valid.within, part.valid.from_zero, part.valid.limited))) in (
-      λ t. zero_outside a.cells.items a.window part.low part.high c.below.result c.above.result _ _ from_is next_is c.below.ensures c.above.ensures (c.is_blank.ensures.0 c.if-is_blank.true) (c.is_blank-then-is_blank.ensures.0 t),
-      λ z. c.is_blank-then-is_blank.ensures.1 (zero_above_part (ring_content a.cells.items a.window) part.low part.high _ c.above.result next_is z),
+    ∙ to_z-of_z w64
+    _ (narrow_fits (part.high +ℤ pos 1)
+    (omega (arith, ints, part.valid.to_zero))
+    (omega (arith, ints, part.valid.within, part.valid.from_zero, part.valid.limited))) in (
+      λ t. zero_outside a.cells.items a.window part.low part.high c.below.result c.above.result _ _ from_is
+          next_is c.below.ensures c.above.ensures (c.is_blank.ensures.0 c.if-is_blank.true)
+          (c.is_blank-then-is_blank.ensures.0 t),
+      λ z.
+          c.is_blank-then-is_blank.ensures.1
+          (zero_above_part (ring_content a.cells.items a.window) part.low part.high
+          _ c.above.result next_is z),
     )
 
 pub returns-else-is_blank : goal.returns-else-is_blank
@@ -23,5 +31,7 @@ returns-else-is_blank c =
     let part = c.args.part in
     let from_is = to_z-of_z w64 _ (low_fits a.window.valid) in (
       λ t. cc,
-      λ z. c.is_blank.ensures.1 (zero_below_part (ring_content a.cells.items a.window) part.low part.high a.window.low _ c.below.result from_is c.below.ensures z),
+      λ z.
+          c.is_blank.ensures.1 (zero_below_part (ring_content a.cells.items a.window) part.low part.high
+          a.window.low _ c.below.result from_is c.below.ensures z),
     )

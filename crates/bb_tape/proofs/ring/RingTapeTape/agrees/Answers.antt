@@ -9,7 +9,11 @@ returns c =
     let x = ring_content c.args.self.now.cells.items c.args.self.now.window in
     let y = ring_content c.args.other.now.cells.items c.args.other.now.window in
     let here = c.pieces.ensures ∙ ap (λ p. symbols x p c.args.len) (to_z-of_z w64 _ c.ranges.from) in
-    let there = c.pieces-2.ensures ∙ ap (λ p. symbols y p c.args.len) (to_z-of_z w64 _ c.ranges.other_from) in (
-      λ t. symbols_agree x y c.args.from c.args.other_from c.args.len (sym here ∙ c.equal_in_pieces.ensures.0 t ∙ there),
-      λ agrees. c.equal_in_pieces.ensures.1 (here ∙ agree_symbols x y c.args.from c.args.other_from c.args.len agrees ∙ sym there),
+    let there = c.pieces-2.ensures
+    ∙ ap (λ p. symbols y p c.args.len) (to_z-of_z w64 _ c.ranges.other_from) in (
+      λ t. symbols_agree x y c.args.from c.args.other_from c.args.len
+          (sym here ∙ c.equal_in_pieces.ensures.0 t ∙ there),
+      λ agrees.
+          c.equal_in_pieces.ensures.1 (here
+          ∙ agree_symbols x y c.args.from c.args.other_from c.args.len agrees ∙ sym there),
     )

@@ -13,8 +13,10 @@ invariant_of-self c =
     let v = b.window in
     let new : List ℕ = c.copy_ends.new.to in
     let long : r.cells.len ≡ length new = sym (c.copy_ends.ensures.length ∙ c.as_mut_slice.ensures.len) in
-    let written : take r.cells.len (new ++ drop (length new) r.cells.items) ≡ new = ap (λ n. take n (new ++ drop (length new) r.cells.items)) long ∙ take-append_seam new _ in
-    let e : ring_content (take r.cells.len (new ++ drop (length new) r.cells.items)) v ≡ ring_content b.cells.items v =
+    let written : take r.cells.len (new ++ drop (length new) r.cells.items) ≡ new =
+    ap (λ n. take n (new ++ drop (length new) r.cells.items)) long ∙ take-append_seam new _ in
+    let e : ring_content (take r.cells.len (new ++ drop (length new) r.cells.items)) v
+    ≡ ring_content b.cells.items v =
     ap (λ xs. ring_content xs v) written
     ∙ ring_copied new b.cells.items v c.upper.result c.lower_at.result c.upper.ensures c.lower_at.ensures
     (λ k h. c.copy_ends.ensures.front k h ∙ ap (λ xs. get_or xs k 0) c.as_slice.ensures.value)
@@ -23,10 +25,13 @@ invariant_of-self c =
     let high : r.window.high ≡ pos 0 = ap (λ (s : Strip). s.high) c.reset.ensures in
     let limit : r.window.limit ≡ v.limit = ap (λ (s : Strip). s.limit) c.reset.ensures ∙ c.requires in
     record {
-      whole = ap length written ∙ c.copy_ends.ensures.length ∙ ap length c.as_mut_slice.ensures.value ∙ r.whole ∙ limit;
+      whole = ap length written ∙ c.copy_ends.ensures.length ∙ ap length c.as_mut_slice.ensures.value
+          ∙ r.whole ∙ limit;
       clear = subst (λ xs. IsClear xs v) (sym written)
-          (clear_copied r.cells.items new r.window v c.upper.result c.lower_at.result r.clear low high limit c.upper.ensures c.lower_at.ensures
-          (λ k from to. c.copy_ends.ensures.between k from to ∙ ap (λ xs. get_or xs k 0) c.as_mut_slice.ensures.value));
+          (clear_copied r.cells.items new r.window v c.upper.result c.lower_at.result r.clear low high limit
+          c.upper.ensures c.lower_at.ensures
+          (λ k from to. c.copy_ends.ensures.between k from to
+          ∙ ap (λ xs. get_or xs k 0) c.as_mut_slice.ensures.value));
       sound = rw e b.sound;
     }
 
@@ -37,8 +42,10 @@ returns-clause-ok c =
     let v = b.window in
     let new : List ℕ = c.copy_ends.new.to in
     let long : r.cells.len ≡ length new = sym (c.copy_ends.ensures.length ∙ c.as_mut_slice.ensures.len) in
-    let written : take r.cells.len (new ++ drop (length new) r.cells.items) ≡ new = ap (λ n. take n (new ++ drop (length new) r.cells.items)) long ∙ take-append_seam new _ in
-    let e : ring_content (take r.cells.len (new ++ drop (length new) r.cells.items)) v ≡ ring_content b.cells.items v =
+    let written : take r.cells.len (new ++ drop (length new) r.cells.items) ≡ new =
+    ap (λ n. take n (new ++ drop (length new) r.cells.items)) long ∙ take-append_seam new _ in
+    let e : ring_content (take r.cells.len (new ++ drop (length new) r.cells.items)) v
+    ≡ ring_content b.cells.items v =
     ap (λ xs. ring_content xs v) written
     ∙ ring_copied new b.cells.items v c.upper.result c.lower_at.result c.upper.ensures c.lower_at.ensures
     (λ k h. c.copy_ends.ensures.front k h ∙ ap (λ xs. get_or xs k 0) c.as_slice.ensures.value)

@@ -12,4 +12,5 @@ returns c =
     let same : to_z w64 (of_z w64 p) ≡ p = to_z-of_z w64 _ c.ranges.p in
     let room : c.index-at.result < length a.cells.items = omega (arith, a.whole, c.index-at.ensures.within) in
     c.index.ensures ∙ get_or_default_zero a.cells.items c.index-at.result _ room
-    ∙ ap (λ k. get_or a.cells.items k 0) (c.index-at.ensures.modulo ∙ ap (ring_index a.window.limit) same) ∙ sym (cell-ring-inside a.cells.items a.window p c.requires.0 c.requires.1)
+    ∙ ap (λ k. get_or a.cells.items k 0) (c.index-at.ensures.modulo ∙ ap (ring_index a.window.limit) same)
+    ∙ sym (cell-ring-inside a.cells.items a.window p c.requires.0 c.requires.1)

@@ -18,11 +18,15 @@ returns-then-is_blank_outside c =
       λ t.
           elim c.if-agrees.branch [
             | then-agrees w ↦
-                same_from_parts x y s.low s.high _ c.width.result (to_z-of_z w64 _ (low_fits s.valid)) c.width.ensures (c.agrees.ensures.0 w.if-agrees.true)
-                (w.is_blank_outside.ensures.0 (sym w.value-is ∙ c.if-is_blank_outside.true)) (rest.ensures.0 t)
+                same_from_parts x y s.low s.high _ c.width.result (to_z-of_z w64 _ (low_fits s.valid))
+                c.width.ensures (c.agrees.ensures.0 w.if-agrees.true)
+                (w.is_blank_outside.ensures.0 (sym w.value-is ∙ c.if-is_blank_outside.true))
+                (rest.ensures.0 t)
             | else-agrees w ↦ cc
           ],
-      λ e. rest.ensures.1 (zero_unshared a.cells.items b.cells.items a.window b.window s.low s.high c.shared-shared.ensures.low c.shared-shared.ensures.high e),
+      λ e.
+          rest.ensures.1 (zero_unshared a.cells.items b.cells.items a.window b.window s.low s.high
+          c.shared-shared.ensures.low c.shared-shared.ensures.high e),
     )
 
 pub returns-else-is_blank_outside : goal.returns-else-is_blank_outside
@@ -37,7 +41,11 @@ returns-else-is_blank_outside c =
           elim c.if-agrees.branch [
             | then-agrees w ↦
                 w.value-is ∙ w.is_blank_outside.ensures.1 (λ p outside.
-                ap (λ z. cell z p) e ∙ zero_unshared a.cells.items b.cells.items a.window b.window s.low s.high c.shared-shared.ensures.low c.shared-shared.ensures.high e p outside)
-            | else-agrees w ↦ (let alike : c.agrees.result ≡ true = c.agrees.ensures.1 (agrees_alike x y _ c.width.result e) in cc)
+                ap (λ z. cell z p) e
+                ∙ zero_unshared a.cells.items b.cells.items a.window b.window s.low s.high
+                c.shared-shared.ensures.low c.shared-shared.ensures.high e p outside)
+            | else-agrees w ↦
+                (let alike : c.agrees.result ≡ true =
+                c.agrees.ensures.1 (agrees_alike x y _ c.width.result e) in cc)
           ],
     )

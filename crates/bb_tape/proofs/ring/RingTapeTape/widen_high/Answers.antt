@@ -15,12 +15,15 @@ invariant_of-self c =
     let same : to_z w64 (of_z w64 p) ≡ p = to_z-of_z w64 _ c.ranges.p in
     let order_low = w.valid.from_zero in
     let order_high = w.valid.to_zero in
-    let low : v.low ≡ int_min w.low p = c.widen_high.ensures.low ∙ omega (arith, ints, clamps, c.requires.next, order_low, order_high) in
-    let high : v.high ≡ int_max w.high p = c.widen_high.ensures.high ∙ same ∙ omega (arith, ints, clamps, c.requires.next, order_low, order_high) in
+    let low : v.low ≡ int_min w.low p = c.widen_high.ensures.low
+    ∙ omega (arith, ints, clamps, c.requires.next, order_low, order_high) in
+    let high : v.high ≡ int_max w.high p = c.widen_high.ensures.high ∙ same
+    ∙ omega (arith, ints, clamps, c.requires.next, order_low, order_high) in
     let from : w.low ≤ℤ (p +ℤ pos 1) = omega (arith, ints, c.requires.next, order_low, order_high) in
     let to : p ≤ℤ (w.high +ℤ pos 1) = omega (arith, ints, c.requires.next, order_low, order_high) in
     let outside : (p <ℤ w.low) ⊎ (w.high <ℤ p) = inr (omega (arith, ints, c.requires.next)) in
-    let e : ring_content a.cells.items v ≡ ring_content a.cells.items w = ring_wider a.cells.items w v p a.clear c.widen_high.ensures.limit outside from to low high in
+    let e : ring_content a.cells.items v ≡ ring_content a.cells.items w =
+    ring_wider a.cells.items w v p a.clear c.widen_high.ensures.limit outside from to low high in
     record {
       whole = a.whole ∙ sym c.widen_high.ensures.limit;
       clear = clear_wider a.cells.items w v p a.clear c.widen_high.ensures.limit low high;
@@ -36,11 +39,14 @@ returns c =
     let same : to_z w64 (of_z w64 p) ≡ p = to_z-of_z w64 _ c.ranges.p in
     let order_low = w.valid.from_zero in
     let order_high = w.valid.to_zero in
-    let low : v.low ≡ int_min w.low p = c.widen_high.ensures.low ∙ omega (arith, ints, clamps, c.requires.next, order_low, order_high) in
-    let high : v.high ≡ int_max w.high p = c.widen_high.ensures.high ∙ same ∙ omega (arith, ints, clamps, c.requires.next, order_low, order_high) in
+    let low : v.low ≡ int_min w.low p = c.widen_high.ensures.low
+    ∙ omega (arith, ints, clamps, c.requires.next, order_low, order_high) in
+    let high : v.high ≡ int_max w.high p = c.widen_high.ensures.high ∙ same
+    ∙ omega (arith, ints, clamps, c.requires.next, order_low, order_high) in
     let from : w.low ≤ℤ (p +ℤ pos 1) = omega (arith, ints, c.requires.next, order_low, order_high) in
     let to : p ≤ℤ (w.high +ℤ pos 1) = omega (arith, ints, c.requires.next, order_low, order_high) in
     let outside : (p <ℤ w.low) ⊎ (w.high <ℤ p) = inr (omega (arith, ints, c.requires.next)) in
-    let e : ring_content a.cells.items v ≡ ring_content a.cells.items w = ring_wider a.cells.items w v p a.clear c.widen_high.ensures.limit outside from to low high in
+    let e : ring_content a.cells.items v ≡ ring_content a.cells.items w =
+    ring_wider a.cells.items w v p a.clear c.widen_high.ensures.limit outside from to low high in
     let limit = c.widen_high.ensures.limit in
     cc

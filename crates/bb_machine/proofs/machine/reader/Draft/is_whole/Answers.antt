@@ -10,8 +10,10 @@ returns-then-self-gt1 c b draft =
 pub returns-then-self-ge2 : goal.returns-then-self-ge2
 returns-then-self-ge2 c b draft =
     let on = first_whole c.args.self.now b draft c.if-self-gt1.false in (
-      λ yes. let few : c.args.self.now.named_symbols ≤ c.args.self.now.filled = search rules in on.1 (c.if-self-ge2.true, few),
-      λ whole. let few : c.args.self.now.named_symbols ≤ c.args.self.now.filled = (on.0 whole).1 in search rules,
+      λ yes. let few : c.args.self.now.named_symbols ≤ c.args.self.now.filled = search rules in
+          on.1 (c.if-self-ge2.true, few),
+      λ whole. let few : c.args.self.now.named_symbols ≤ c.args.self.now.filled = (on.0 whole).1 in
+          search rules,
     )
 
 pub returns-else-self-ge2 : goal.returns-else-self-ge2

@@ -6,22 +6,23 @@ use Rattle.bb_cert.specs.declared.verdict.Side.TheVariants.{L, R}
 use Rattle.bb_decide.specs.Bench.{HasCells}
 use Rattle.bb_decide.specs.Follow.{IsFollowed}
 use Rattle.bb_decide.specs.Translation.{IsTranslation}
-use Rattle.bb_decide.proofs.translation.translated.Given as goal
+use Rattle.bb_decide.proofs.translation.run.Given as goal
 
 -- the runner stands within the limits; the records of both sides are known up to here; none up to here agrees with its
 -- partner
-abbrev pub invariant-loop-right : goal.invariant-loop-right
-invariant-loop-right g l = record {
+abbrev pub invariant-loop-runner : goal.invariant-loop-runner
+invariant-loop-runner g l = record {
   stands : Stands l.machine l.runner (g.T.Tape.strip l.bench.run);
   right : IsFollowed l.machine (steps_of l.runner) l.right (g.T.Tape.strip l.bench.right);
   left : IsFollowed l.machine (steps_of l.runner) l.left (g.T.Tape.strip l.bench.left);
   right_side : l.right.side ≡ R;
   left_side : l.left.side ≡ L;
   tapes : HasCells g.T.Tape.strip l.limits.cells l.bench;
+  path : l.bench.path ≡ l.fn.bench.path;
   steps : steps_of l.runner ≤ l.limits.steps;
   meter : CountsTo l.machine (steps_of l.runner) l.fn.meter l.meter;
   none : (side : Side) (a b : ℕ) → b ≤ steps_of l.runner → IsTranslation l.machine l.limits side a b → ⊥;
 }
 
-abbrev pub decreases-loop-right : goal.decreases-loop-right
-decreases-loop-right g l = l.limits.steps - steps_of l.runner
+abbrev pub decreases-loop-runner : goal.decreases-loop-runner
+decreases-loop-runner g l = l.limits.steps - steps_of l.runner

@@ -1,15 +1,17 @@
-use Rattle.std.proofs.Common.{◌∙◌, ap, arith}
-use Rattle.bb_sim.specs.Runner.{steps_of}
-use Rattle.bb_sim.proofs.Facts.{counts_next, counts_start, counts_stopped, count_is_within, stopped}
+use Rattle.std.proofs.Common.{◌≡◌, refl, ◌∙◌, ap, arith}
+use Rattle.bb_machine.specs.declared.entry.Next.TheVariants.{Halt}
+use Rattle.bb_sim.specs.Runner.{state_of, steps_of}
+use Rattle.bb_sim.proofs.Facts.{counts_next, counts_start, counts_stopped, count_is_within, halts_last, stopped}
 use Rattle.bb_cert.specs.declared.verdict.Side.TheVariants.{L, R}
 use Rattle.bb_cert.proofs.Facts.{agreeing_records_never_halt}
 use Rattle.bb_decide.specs.declared.records.Records.{Records}
 use Rattle.bb_decide.proofs.Following.{followed_at_first}
-use Rattle.bb_decide.proofs.Translations.{first_translation, none_at_first, none_next, pair_agrees}
-use Rattle.bb_decide.proofs.translation.translated.Goals as goal
+use Rattle.bb_decide.proofs.Heads.{halts_in_Z, in_no_state}
+use Rattle.bb_decide.proofs.Translations.{first_translation, no_pair_at_end, none_at_first, none_next, pair_agrees}
+use Rattle.bb_decide.proofs.translation.run.Goals as goal
 
-pub loop-right-init : goal.loop-right-init
-loop-right-init g c =
+pub loop-runner-init : goal.loop-runner-init
+loop-runner-init g c =
     let zero = c.start-runner.ensures.steps in
     record {
       stands = c.start-runner.ensures.stands;
@@ -24,6 +26,7 @@ loop-right-init g c =
         right = c.requires.tapes.right;
         left = c.requires.tapes.left;
       };
+      path = refl;
       steps = rw zero (omega arith);
       meter = rw zero (counts_start c.args.machine.now c.args.meter.now _
           (ap (λ n. record c.args.meter.now { most_cells = n }) c.max-meter.ensures));
@@ -32,7 +35,7 @@ loop-right-init g c =
 
 pub returns-in_default : goal.returns-in_default
 returns-in_default g c =
-    let here = c.loop-right.invariant in
+    let here = c.loop-runner.invariant in
     let stop = stopped _ _ _ _ _ _ _ _ c.in_ok-advance.field-0 c.in_default.not-Stepped
     c.in_ok-advance.ensures.reaches c.in_ok-advance.ensures.moves in
     let same = ap (λ r. steps_of r) stop.stays.runner in
@@ -51,74 +54,75 @@ returns-in_default g c =
         right = here.tapes.right;
         left = here.tapes.left;
       };
+      path = here.path;
       memory = tt;
     }
 
-pub returns-in-Some-clause-found : goal.returns-in-Some-clause-found
-returns-in-Some-clause-found g c =
-    let here = c.loop-right.invariant in
+pub returns-in-Some-2-clause-found : goal.returns-in-Some-2-clause-found
+returns-in-Some-2-clause-found g c =
+    let here = c.loop-runner.invariant in
     let moves = rw c.in-Stepped.is at c.in_ok-advance.ensures.moves in
     let reaches = rw c.in-Stepped.is at c.in_ok-advance.ensures.reaches in
-    let found = rw c.in-Some.is at c.in_ok-first.ensures.found in
+    let found = rw c.in-Some-2.is at c.in_ok-first.ensures.found in
     let pair = rw here.right_side at found in
     let next = rw moves.0 at pair in
     let inside = rw moves.0 at reaches.0 in
     rw (c.steps.ensures, moves.0) (first_translation _ _ _ here.none R _ next inside)
 
-pub returns-in-Some-clause-counted : goal.returns-in-Some-clause-counted
-returns-in-Some-clause-counted g c =
-    let here = c.loop-right.invariant in
+pub returns-in-Some-2-clause-counted : goal.returns-in-Some-2-clause-counted
+returns-in-Some-2-clause-counted g c =
+    let here = c.loop-runner.invariant in
     let moves = rw c.in-Stepped.is at c.in_ok-advance.ensures.moves in
     rw (c.steps.ensures, moves.0) (counts_next _ _ _ _ _ here.meter moves.1)
 
-pub returns-in-Some-clause-never : goal.returns-in-Some-clause-never
-returns-in-Some-clause-never g c =
-    let here = c.loop-right.invariant in
-    let found = rw c.in-Some.is at c.in_ok-first.ensures.found in
-    let pair = rw here.right_side at found in
-    agreeing_records_never_halt _ _ _ _ (pair_agrees _ _ _ _ pair)
-
-pub returns-in-Some-clause-claim : goal.returns-in-Some-clause-claim
-returns-in-Some-clause-claim g c =
-    let here = c.loop-right.invariant in
-    let found = rw c.in-Some.is at c.in_ok-first.ensures.found in
-    let pair = rw here.right_side at found in
-    rw c.steps.ensures (pair_agrees _ _ _ _ pair)
-
-pub returns-in-Some-2-clause-found : goal.returns-in-Some-2-clause-found
-returns-in-Some-2-clause-found g c =
-    let here = c.loop-right.invariant in
-    let moves = rw c.in-Stepped.is at c.in_ok-advance.ensures.moves in
-    let reaches = rw c.in-Stepped.is at c.in_ok-advance.ensures.reaches in
-    let found = rw c.in-Some-2.is at c.in_ok-first-2.ensures.found in
-    let pair = rw here.left_side at found in
-    let next = rw moves.0 at pair in
-    let inside = rw moves.0 at reaches.0 in
-    rw (c.steps-in-Some-2.ensures, moves.0) (first_translation _ _ _ here.none L _ next inside)
-
-pub returns-in-Some-2-clause-counted : goal.returns-in-Some-2-clause-counted
-returns-in-Some-2-clause-counted g c =
-    let here = c.loop-right.invariant in
-    let moves = rw c.in-Stepped.is at c.in_ok-advance.ensures.moves in
-    rw (c.steps-in-Some-2.ensures, moves.0) (counts_next _ _ _ _ _ here.meter moves.1)
-
 pub returns-in-Some-2-clause-never : goal.returns-in-Some-2-clause-never
 returns-in-Some-2-clause-never g c =
-    let here = c.loop-right.invariant in
-    let found = rw c.in-Some-2.is at c.in_ok-first-2.ensures.found in
-    let pair = rw here.left_side at found in
+    let here = c.loop-runner.invariant in
+    let found = rw c.in-Some-2.is at c.in_ok-first.ensures.found in
+    let pair = rw here.right_side at found in
     agreeing_records_never_halt _ _ _ _ (pair_agrees _ _ _ _ pair)
 
 pub returns-in-Some-2-clause-claim : goal.returns-in-Some-2-clause-claim
 returns-in-Some-2-clause-claim g c =
-    let here = c.loop-right.invariant in
-    let found = rw c.in-Some-2.is at c.in_ok-first-2.ensures.found in
-    let pair = rw here.left_side at found in
-    rw c.steps-in-Some-2.ensures (pair_agrees _ _ _ _ pair)
+    let here = c.loop-runner.invariant in
+    let found = rw c.in-Some-2.is at c.in_ok-first.ensures.found in
+    let pair = rw here.right_side at found in
+    rw c.steps.ensures (pair_agrees _ _ _ _ pair)
 
-pub loop-right-preserved : goal.loop-right-preserved
-loop-right-preserved g c =
-    let here = c.loop-right.invariant in
+pub returns-in-Some-3-clause-found : goal.returns-in-Some-3-clause-found
+returns-in-Some-3-clause-found g c =
+    let here = c.loop-runner.invariant in
+    let moves = rw c.in-Stepped.is at c.in_ok-advance.ensures.moves in
+    let reaches = rw c.in-Stepped.is at c.in_ok-advance.ensures.reaches in
+    let found = rw c.in-Some-3.is at c.in_ok-first-2.ensures.found in
+    let pair = rw here.left_side at found in
+    let next = rw moves.0 at pair in
+    let inside = rw moves.0 at reaches.0 in
+    rw (c.steps-in-Some-3.ensures, moves.0) (first_translation _ _ _ here.none L _ next inside)
+
+pub returns-in-Some-3-clause-counted : goal.returns-in-Some-3-clause-counted
+returns-in-Some-3-clause-counted g c =
+    let here = c.loop-runner.invariant in
+    let moves = rw c.in-Stepped.is at c.in_ok-advance.ensures.moves in
+    rw (c.steps-in-Some-3.ensures, moves.0) (counts_next _ _ _ _ _ here.meter moves.1)
+
+pub returns-in-Some-3-clause-never : goal.returns-in-Some-3-clause-never
+returns-in-Some-3-clause-never g c =
+    let here = c.loop-runner.invariant in
+    let found = rw c.in-Some-3.is at c.in_ok-first-2.ensures.found in
+    let pair = rw here.left_side at found in
+    agreeing_records_never_halt _ _ _ _ (pair_agrees _ _ _ _ pair)
+
+pub returns-in-Some-3-clause-claim : goal.returns-in-Some-3-clause-claim
+returns-in-Some-3-clause-claim g c =
+    let here = c.loop-runner.invariant in
+    let found = rw c.in-Some-3.is at c.in_ok-first-2.ensures.found in
+    let pair = rw here.left_side at found in
+    rw c.steps-in-Some-3.ensures (pair_agrees _ _ _ _ pair)
+
+pub loop-runner-preserved : goal.loop-runner-preserved
+loop-runner-preserved g c =
+    let here = c.loop-runner.invariant in
     let moves = rw c.in-Stepped.is at c.in_ok-advance.ensures.moves in
     let reaches = rw c.in-Stepped.is at c.in_ok-advance.ensures.reaches in
     let right_found = rw c.in-None.is at c.in_ok-first.ensures.found in
@@ -138,7 +142,32 @@ loop-right-preserved g c =
         right = c.in_ok-first.ensures.limit ∙ here.tapes.right;
         left = c.in_ok-first-2.ensures.limit ∙ here.tapes.left;
       };
+      path = here.path;
       steps = reaches.0.within_steps;
       meter = rw moves.0 (counts_next _ _ _ _ _ here.meter moves.1);
       none = let moved = moves.0 in rw moved (none_next _ _ _ here.none right_none left_none);
+    }
+
+pub returns-in_default-state-clause-found : goal.returns-in_default-state-clause-found
+returns-in_default-state-clause-found g c =
+    let here = c.loop-runner.invariant in
+    let moves = rw c.in-Stepped.is at c.in_ok-advance.ensures.moves in
+    let reaches = rw c.in-Stepped.is at c.in_ok-advance.ensures.reaches in
+    let halts : state_of c.advance.new.self ≡ Halt = in_no_state _ _ c.state.ensures c.in_default-state.not-Some in
+    let last = halts_last _ _ _ reaches.0 (halts_in_Z _ _ _ c.in_ok-advance.ensures.stands halts) in
+    let none = no_pair_at_end _ _ _ c.in_ok-advance.ensures.stands halts in
+    λ side a b translation.
+    let few = last.greatest b translation.inside in
+    none_next _ _ _ here.none (rw moves.0 at (none R)) (rw moves.0 at (none L)) side a b (omega (arith, moves.0, few)) translation
+
+pub returns-in_default-state-clause-counted : goal.returns-in_default-state-clause-counted
+returns-in_default-state-clause-counted g c =
+    let here = c.loop-runner.invariant in
+    let moves = rw c.in-Stepped.is at c.in_ok-advance.ensures.moves in
+    let reaches = rw c.in-Stepped.is at c.in_ok-advance.ensures.reaches in
+    let halts : state_of c.advance.new.self ≡ Halt = in_no_state _ _ c.state.ensures c.in_default-state.not-Some in
+    record {
+      last = _;
+      is_last = halts_last _ _ _ reaches.0 (halts_in_Z _ _ _ c.in_ok-advance.ensures.stands halts);
+      counts = rw moves.0 (counts_next _ _ _ _ _ here.meter moves.1);
     }

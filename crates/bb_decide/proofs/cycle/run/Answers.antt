@@ -1,10 +1,12 @@
-use Rattle.std.proofs.Common.{◌∙◌, ap, arith}
-use Rattle.bb_sim.specs.Runner.{steps_of}
-use Rattle.bb_sim.proofs.Facts.{counts_next, counts_stopped, count_is_within, stopped}
+use Rattle.std.proofs.Common.{◌≡◌, ◌*◌, ◌∙◌, refl, ap, arith}
+use Rattle.bb_machine.specs.declared.entry.Next.TheVariants.{Halt}
+use Rattle.bb_sim.specs.Runner.{state_of, steps_of}
+use Rattle.bb_sim.proofs.Facts.{counts_next, counts_stopped, count_is_within, halts_last, stopped}
 use Rattle.bb_cert.proofs.Facts.{alike_of_same, same_of_alike, repeats_never_halt}
 use Rattle.bb_decide.proofs.Cycles.{first_cycle, no_cycle_next}
+use Rattle.bb_decide.proofs.Heads.{halts_in_Z, in_no_state, no_pair_in_Z}
 use Rattle.bb_decide.proofs.Partners.{kept_below, keeps_next, keeps_on}
-use Rattle.bb_decide.proofs.cycle.cyclers.Goals as goal
+use Rattle.bb_decide.proofs.cycle.run.Goals as goal
 
 pub returns-in_default : goal.returns-in_default
 returns-in_default g c =
@@ -27,6 +29,7 @@ returns-in_default g c =
         right = here.tapes.right;
         left = here.tapes.left;
       };
+      path = here.path;
       memory = tt;
     }
 
@@ -62,8 +65,8 @@ returns-then-is_same-clause-counted g c =
     let moves = rw c.in-Stepped.is at c.in_ok-advance.ensures.moves in
     rw (c.steps-then-is_same.ensures, moves.0) (counts_next _ _ _ _ _ here.meter moves.1)
 
-pub loop-runner-preserved-then-steps : goal.loop-runner-preserved-then-steps
-loop-runner-preserved-then-steps g c =
+pub loop-runner-preserved-then-steps-next_kept : goal.loop-runner-preserved-then-steps-next_kept
+loop-runner-preserved-then-steps-next_kept g c =
     let here = c.loop-runner.invariant in
     let moves = rw c.in-Stepped.is at c.in_ok-advance.ensures.moves in
     let reaches = rw c.in-Stepped.is at c.in_ok-advance.ensures.reaches in
@@ -75,9 +78,11 @@ loop-runner-preserved-then-steps g c =
         right = c.in-Ok.ensures.limit ∙ here.tapes.right;
         left = here.tapes.left;
       };
+      path = here.path;
       steps = reaches.0.within_steps;
       meter = rw moves.0 (counts_next _ _ _ _ _ here.meter moves.1);
-      partner = rw moves.0 (keeps_next _ _ here.partner (omega (arith, moves.0, c.if-steps.true, c.steps-in-loop-runner.ensures, c.steps-in-loop-runner-2.ensures)));
+      partner = rw moves.0 (keeps_next _ _ here.partner (let at = here.next in omega (arith, moves.0, at, c.if-steps-next_kept.true, c.steps-in-loop-runner.ensures)));
+      next = ap (λ n. 2 * n) c.steps-next_kept.ensures;
       none = let moved = moves.0 in rw moved (no_cycle_next _ _ _ _ here.partner here.none (λ same.
           let alike = alike_of_same _ _ _ _ _ c.in_ok-advance.ensures.stands here.kept (rw moved same) in
           let yes = c.is_same.ensures.1 alike in
@@ -98,12 +103,40 @@ loop-runner-preserved g c =
         right = here.tapes.right;
         left = here.tapes.left;
       };
+      path = here.path;
       steps = reaches.0.within_steps;
       meter = rw moves.0 (counts_next _ _ _ _ _ here.meter moves.1);
-      partner = rw moves.0 (keeps_on _ _ here.partner (omega (arith, moves.0, c.if-steps.false, c.steps-in-loop-runner.ensures, c.steps-in-loop-runner-2.ensures)));
+      partner = rw moves.0 (keeps_on _ _ here.partner (let at = here.next in omega (arith, moves.0, at, c.if-steps-next_kept.false, c.steps-in-loop-runner.ensures)));
+      next = here.next;
       none = let moved = moves.0 in rw moved (no_cycle_next _ _ _ _ here.partner here.none (λ same.
           let alike = alike_of_same _ _ _ _ _ c.in_ok-advance.ensures.stands here.kept (rw moved same) in
           let yes = c.is_same.ensures.1 alike in
           let no = c.if-is_same.false in
           cc));
+    }
+
+pub returns-in_default-state-clause-found : goal.returns-in_default-state-clause-found
+returns-in_default-state-clause-found g c =
+    let here = c.loop-runner.invariant in
+    let moves = rw c.in-Stepped.is at c.in_ok-advance.ensures.moves in
+    let reaches = rw c.in-Stepped.is at c.in_ok-advance.ensures.reaches in
+    let halts : state_of c.advance.new.self ≡ Halt = in_no_state _ _ c.state.ensures c.in_default-state.not-Some in
+    let last = halts_last _ _ _ reaches.0 (halts_in_Z _ _ _ c.in_ok-advance.ensures.stands halts) in
+    let below = kept_below _ _ here.partner in
+    λ a t cycle.
+    no_cycle_next _ _ _ _ here.partner here.none (λ same.
+    let pair = rw (← moves.0) at same in
+    no_pair_in_Z _ _ _ c.in_ok-advance.ensures.stands halts _ _ _ (omega (arith, moves.0, below)) pair.at_first pair.at_second refl)
+    a t (let few = last.greatest t cycle.inside in omega (arith, moves.0, few)) cycle
+
+pub returns-in_default-state-clause-counted : goal.returns-in_default-state-clause-counted
+returns-in_default-state-clause-counted g c =
+    let here = c.loop-runner.invariant in
+    let moves = rw c.in-Stepped.is at c.in_ok-advance.ensures.moves in
+    let reaches = rw c.in-Stepped.is at c.in_ok-advance.ensures.reaches in
+    let halts : state_of c.advance.new.self ≡ Halt = in_no_state _ _ c.state.ensures c.in_default-state.not-Some in
+    record {
+      last = _;
+      is_last = halts_last _ _ _ reaches.0 (halts_in_Z _ _ _ c.in_ok-advance.ensures.stands halts);
+      counts = rw moves.0 (counts_next _ _ _ _ _ here.meter moves.1);
     }

@@ -1,0 +1,85 @@
+-- Why what a verdict claims holds, and why the checker confirms it under the same bounds.
+use Rattle.std.proofs.Common.{◌≡◌, ℕ, ◌<◌, ◌≤◌, inl, inr, refl, arith}
+use Rattle.bb_machine.specs.Limits.{Bounds}
+use Rattle.bb_machine.specs.Machine.{Table}
+use Rattle.bb_cert.specs.declared.verdict.Side.{Side}
+use Rattle.bb_cert.specs.declared.verdict.Why.TheVariants.{Steps, Cells}
+use Rattle.bb_cert.specs.declared.verdict.Verdict.{Verdict}
+use Rattle.bb_cert.specs.declared.verdict.Verdict.TheVariants.{Halt, Cycler, Translated, Backward, Undecided}
+use Rattle.bb_cert.specs.Answer.{Applies, IsOutOfOrder, IsUndecided, NamesTooMuch, NeedsTooMuch, Rule, rank, undecided, too_much_named, out_of_order, too_much_needed, claim_holds, all_else}
+use Rattle.bb_cert.proofs.Facts.{records_in_order}
+use Rattle.bb_decide.specs.declared.plan.Plan.{Plan}
+use Rattle.bb_decide.specs.Laws.{VerdictsAreConfirmed, VerdictsHold}
+use Rattle.bb_decide.specs.Translation.{AgreesWithPartner}
+use Rattle.bb_decide.specs.Verdict.{IsVerdict}
+
+-- the record that agrees with its partner is the later one
+later : (table : Table) (side : Side) (a b : ℕ) → AgreesWithPartner table side a b → a < b
+later table side a b pair = (records_in_order table side pair.first_number pair.second_number a b pair.first_record
+    pair.second_record).0 pair.partner.below
+
+pub verdicts_hold : VerdictsHold
+verdicts_hold table bounds plan (Halt steps score) is = (is.0.halts, is.1)
+verdicts_hold table bounds plan (Cycler first second) is = (is.2.cycle.partner.below, is.2.cycle.same)
+verdicts_hold table bounds plan (Translated side first second) is =
+    let pair = is.3.translation.pair in record {
+      in_order = later table side first second pair;
+      first_number = pair.first_number;
+      second_number = pair.second_number;
+      first_record = pair.first_record;
+      second_record = pair.second_record;
+      agree = pair.agree;
+    }
+verdicts_hold table bounds plan (Backward levels nodes) is = (is.4.ends, is.4.clear)
+verdicts_hold table bounds plan (Undecided Steps) is = tt
+verdicts_hold table bounds plan (Undecided Cells) is = tt
+
+module _ (table : Table) (bounds : Bounds) (plan : Plan) where
+  names_few : (verdict : Verdict) → IsVerdict table bounds plan verdict → NamesTooMuch bounds verdict → ⊥
+  names_few (Halt steps score) is over = let few = is.0.inside.within_steps in omega (arith, few, over)
+  names_few (Cycler first second) is over =
+      let few = is.2.cycle.inside.within_steps in
+      let below = is.2.cycle.partner.below in
+      elim over [ inl a ↦ omega (arith, few, below, a) | inr b ↦ omega (arith, few, b) ]
+  names_few (Translated side first second) is over =
+      let few = is.3.translation.inside.within_steps in
+      let below = later table side first second is.3.translation.pair in
+      elim over [ inl a ↦ omega (arith, few, below, a) | inr b ↦ omega (arith, few, b) ]
+  names_few (Backward levels nodes) is over =
+      let deep = is.4.within_levels in
+      let many = is.4.within_nodes in
+      elim over [ inl a ↦ omega (arith, deep, a) | inr b ↦ omega (arith, many, b) ]
+  names_few (Undecided why) is over = over
+
+  in_order : (verdict : Verdict) → IsVerdict table bounds plan verdict → IsOutOfOrder verdict → ⊥
+  in_order (Halt steps score) is not = not
+  in_order (Cycler first second) is not = let below = is.2.cycle.partner.below in omega (arith, below, not)
+  in_order (Translated side first second) is not =
+      let below = later table side first second is.3.translation.pair in omega (arith, below, not)
+  in_order (Backward levels nodes) is not = not
+  in_order (Undecided why) is not = not
+
+  needs_few : (verdict : Verdict) → IsVerdict table bounds plan verdict → NeedsTooMuch table bounds verdict → ⊥
+  needs_few (Halt steps score) is over = let few = is.0.inside.within_cells in omega (arith, few, over)
+  needs_few (Cycler first second) is over = let few = is.2.cycle.inside.within_cells in omega (arith, few, over)
+  needs_few (Translated side first second) is over =
+      let few = is.3.translation.inside.within_cells in omega (arith, few, over)
+  needs_few (Backward levels nodes) is over = over
+  needs_few (Undecided why) is over = over
+
+  no_rule_before : (verdict : Verdict) → IsVerdict table bounds plan verdict → (IsUndecided verdict → ⊥)
+      → (other : Rule) → Applies table bounds verdict other → 5 ≤ rank other
+  no_rule_before verdict is claims undecided applies = absurd (claims applies)
+  no_rule_before verdict is claims too_much_named applies = absurd (names_few verdict is applies)
+  no_rule_before verdict is claims out_of_order applies = absurd (in_order verdict is applies)
+  no_rule_before verdict is claims too_much_needed applies = absurd (needs_few verdict is applies)
+  no_rule_before verdict is claims claim_holds applies = omega arith
+  no_rule_before verdict is claims all_else applies = omega arith
+
+pub verdicts_are_confirmed : VerdictsAreConfirmed
+verdicts_are_confirmed table bounds plan verdict is claims = record {
+  rule = claim_holds;
+  is = refl;
+  applies = verdicts_hold table bounds plan verdict is;
+  first = no_rule_before table bounds plan verdict is claims;
+}
