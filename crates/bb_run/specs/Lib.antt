@@ -1,3 +1,8 @@
+pub mod CheckEnds
+pub mod CheckKept
+pub mod CheckReply
+pub mod CheckSeen
+pub mod CheckSummary
 pub mod Ends
 pub mod KeptBytes
 pub mod Laws
