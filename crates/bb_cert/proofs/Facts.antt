@@ -1,6 +1,9 @@
 -- What the proofs of other crates may cite of claims, repeats, records and the tree before a halt.
 pub use Rattle.bb_cert.proofs.Agreements.{agreeing_records_never_halt}
+pub use Rattle.bb_cert.proofs.AnswerRules.{answer_is_unique}
 pub use Rattle.bb_cert.proofs.Claims.{claims_never_halt}
+pub use Rattle.bb_cert.proofs.Lengths.{length-line}
+pub use Rattle.bb_cert.proofs.Lines.{line_unique}
 pub use Rattle.bb_cert.proofs.Positions.{climbs, head_at-is, head_at-start, out-subtract, out-zero}
 pub use Rattle.bb_cert.proofs.Records.{record_has_one_step, record_takes_steps, records_in_order, short_of_record, stands_on}
 pub use Rattle.bb_cert.proofs.Repeats.{repeats_go_on, repeats_never_halt}

@@ -1,12 +1,18 @@
 -- How long the parts of a line are.
-use Rattle.std.proofs.Common.{ℕ, ◌<◌, ◌≤◌, ◌^◌, List, ◌∷◌, ◌++◌, length, codes, decimal, arith, length-append}
+use Rattle.std.proofs.Common.{◌≡◌, ℕ, ◌<◌, ◌≤◌, ◌^◌, List, ◌∷◌, ◌++◌, length, codes, decimal, arith, ap, length-append}
 use Rattle.std.proofs.lemmas.Fmt.{length-decimal-le}
+use Rattle.bb_machine.specs.declared.machine.TheConstants.{MAX_STATES, MAX_SYMBOLS}
+use Rattle.bb_machine.specs.Machine.{text}
+use Rattle.bb_machine.proofs.Facts.{text_short}
+use Rattle.bb_cert.specs.declared.line.TheConstants.{LONGEST}
+use Rattle.bb_cert.specs.declared.reader.Line.{Line}
+use Rattle.bb_cert.specs.declared.reader.Line.TheVariants.{Claim, Refusal}
 use Rattle.bb_cert.specs.declared.verdict.Side.TheVariants.{L, R}
 use Rattle.bb_cert.specs.declared.verdict.Why.TheVariants.{Steps, Cells}
 use Rattle.bb_cert.specs.declared.verdict.Verdict.{Verdict}
 use Rattle.bb_cert.specs.declared.verdict.Verdict.TheVariants.{Halt, Cycler, Translated, Backward, Undecided}
 use Rattle.bb_cert.specs.Verdict.{HasNumbers}
-use Rattle.bb_cert.specs.Line.{pair_text, verdict_text}
+use Rattle.bb_cert.specs.Line.{pair_text, refusal_text, verdict_text, IsLineOf}
 
 number : (n : ℕ) → n < 2 ^ 64 → length (decimal n) ≤ 20
 number n h = length-decimal-le 20 n (omega arith) (omega (arith, h)) h
@@ -29,3 +35,18 @@ length-verdict_text (Translated R first second) fits = numbers (codes " translat
 length-verdict_text (Backward levels nodes) fits = numbers (codes " backward ") levels nodes (omega arith) fits.0 fits.1
 length-verdict_text (Undecided Steps) fits = omega arith
 length-verdict_text (Undecided Cells) fits = omega arith
+
+-- no verdict line is longer
+pub length-line : (said : Line) (bytes : List ℕ) → IsLineOf said bytes → length bytes ≤ LONGEST
+length-line (Claim table verdict) bytes is =
+    let machine = text_short MAX_STATES MAX_SYMBOLS table is.0 in
+    let words = length-verdict_text verdict is.1 in
+    let whole = length-append (text table) (verdict_text verdict) in
+    let same = ap length is.2 in
+    omega arith
+length-line (Refusal column) bytes is =
+    let few = is.1 in
+    let digits = number column (omega (arith, few)) in
+    let whole = length-append (codes "refused ") (decimal column) in
+    let same = ap length is.2 in
+    omega arith

@@ -1,3 +1,5 @@
+pub mod CheckReplies
+pub mod CheckSummaries
 pub mod Replies
 pub mod Peaks
 pub mod Summaries

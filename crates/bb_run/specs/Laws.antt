@@ -1,10 +1,22 @@
--- A law of replies.
-use Rattle.std.specs.Prelude.{◌≡◌, ℕ, List}
+-- Laws of replies.
+use Rattle.std.specs.Prelude.{◌≡◌, ℕ, ◌<◌, List, length}
 use Rattle.bb_machine.specs.Limits.{Bounds}
 use Rattle.bb_decide.specs.declared.plan.Plan.{Plan}
+use Rattle.bb_cert.specs.declared.line.TheConstants.{LINE_BUFFER}
+use Rattle.bb_run.specs.CheckReply.{IsCheckReply, unread_text}
 use Rattle.bb_run.specs.Reply.{IsReply}
 
 -- two replies to one line, within the same bounds and by the same plan, are the same
 abbrev pub ReplyIsUnique : Type 0
 ReplyIsUnique = (bounds : Bounds) (plan : Plan) (line a b : List ℕ)
     → IsReply bounds plan line a → IsReply bounds plan line b → a ≡ b
+
+-- two replies of the checker to one line, within the same bounds, are the same
+abbrev pub CheckReplyIsUnique : Type 0
+CheckReplyIsUnique = (bounds : Bounds) (line a b : List ℕ)
+    → IsCheckReply bounds line a → IsCheckReply bounds line b → a ≡ b
+
+-- a line with no room in the buffer of a verdict line is unread
+abbrev pub LongLinesAreUnread : Type 0
+LongLinesAreUnread = (bounds : Bounds) (line reply : List ℕ) → LINE_BUFFER < length line
+    → IsCheckReply bounds line reply → reply ≡ unread_text

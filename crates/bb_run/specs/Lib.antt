@@ -1,4 +1,9 @@
 pub mod BorneOut
+pub mod CheckEnds
+pub mod CheckKept
+pub mod CheckReply
+pub mod CheckSeen
+pub mod CheckSummary
 pub mod Ends
 pub mod KeptBytes
 pub mod Laws

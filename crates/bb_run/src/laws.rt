@@ -1,7 +1,13 @@
-//! A law of replies, as a contract: a call of it does nothing.
-ghost use Rattle.bb_run.specs.Laws.{ReplyIsUnique};
+//! Laws of replies, as contracts: a call of each does nothing.
+ghost use Rattle.bb_run.specs.Laws.{CheckReplyIsUnique, LongLinesAreUnread, ReplyIsUnique};
 
 /// A line has one reply under one set of limits and one plan.
 pub fn reply_is_unique()
     ensures { ReplyIsUnique }
+{}
+
+/// A line has one answer under one set of limits. A line of more than 1,023 bytes is unread.
+pub fn check_reply_is_unique()
+    ensures unique { CheckReplyIsUnique }
+    ensures long { LongLinesAreUnread }
 {}

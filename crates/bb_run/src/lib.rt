@@ -1,6 +1,8 @@
-//! Engines over readers and writers: verdicts on the machines of a list, and the trace of one machine.
+//! Engines over readers and writers: verdicts on the machines of a list, answers to verdict lines, and the trace of one
+//! machine.
 #![tactic(auto)]
 
+mod checking;
 mod deciding;
 pub mod laws;
 mod summary;
@@ -8,6 +10,7 @@ mod summary;
 mod tests;
 mod tracing;
 
+pub use checking::run_check;
 pub use deciding::run_decide;
 pub use summary::Summary;
 pub use tracing::run_trace;

@@ -1,6 +1,7 @@
 //! Engines over bytes in memory, with answers that were worked out by hand.
 
 mod broken;
+mod check;
 mod streams;
 mod trace;
 

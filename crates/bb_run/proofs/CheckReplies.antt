@@ -1,0 +1,73 @@
+-- Why a line has one answer.
+use Rattle.std.proofs.Common.{◌≡◌, ℕ, ◌<◌, List, length, inl, inr, sym, subst, ap, ◌∙◌}
+use Rattle.bb_machine.specs.Limits.{Bounds}
+use Rattle.bb_machine.specs.Machine.{Table}
+use Rattle.bb_cert.specs.declared.line.TheConstants.{LINE_BUFFER}
+use Rattle.bb_cert.specs.declared.answer.Answer.{Answer}
+use Rattle.bb_cert.specs.declared.reader.Line.{Line}
+use Rattle.bb_cert.specs.declared.reader.Line.TheVariants.{Claim, Refusal}
+use Rattle.bb_cert.specs.declared.verdict.Verdict.{Verdict}
+use Rattle.bb_cert.specs.declared.verdict.Verdict.TheVariants.{Backward}
+use Rattle.bb_cert.specs.Answer.{IsAnswer, answer_text}
+use Rattle.bb_cert.specs.Line.{IsLineOf}
+use Rattle.bb_cert.proofs.Facts.{answer_is_unique, line_unique}
+use Rattle.bb_run.specs.CheckKept.{long_line}
+use Rattle.bb_run.specs.CheckReply.{IsAnswerReply, IsOpenReply, IsUnread}
+use Rattle.bb_run.specs.Laws.{CheckReplyIsUnique, LongLinesAreUnread}
+
+same_table : (s t : Table) (v w : Verdict) → Claim s v ≡ Claim t w → s ≡ t
+same_table s t v w e = cc
+
+same_verdict : (s t : Table) (v w : Verdict) → Claim s v ≡ Claim t w → v ≡ w
+same_verdict s t v w e = cc
+
+no_refusal : (t : Table) (v : Verdict) (column : ℕ) → Claim t v ≡ Refusal column → ⊥
+no_refusal t v column e = cc
+
+module _ (line : List ℕ) (s t : Table) (v w : Verdict) (first : IsLineOf (Claim s v) line)
+    (second : IsLineOf (Claim t w) line) where
+  -- one line claims one thing
+  pub one_table : s ≡ t
+  one_table = same_table s t v w (line_unique (Claim s v) (Claim t w) line first second)
+
+  pub one_verdict : v ≡ w
+  one_verdict = same_verdict s t v w (line_unique (Claim s v) (Claim t w) line first second)
+
+  -- so it has one answer
+  pub one_answer : (bounds : Bounds) (a b : Answer) → IsAnswer s bounds v a → IsAnswer t bounds w b → a ≡ b
+  one_answer bounds a b is_a is_b =
+      let moved = subst (λ (x : Table). IsAnswer x bounds v a) one_table is_a in
+      answer_is_unique t bounds w a b (subst (λ (x : Verdict). IsAnswer t bounds x a) one_verdict moved) is_b
+
+-- no line is both a claim and a refusal
+pub never_both : (line : List ℕ) (t : Table) (v : Verdict) (column : ℕ)
+    → IsLineOf (Claim t v) line → IsLineOf (Refusal column) line → ⊥
+never_both line t v column claim refusal =
+    no_refusal t v column (line_unique (Claim t v) (Refusal column) line claim refusal)
+
+pub check_reply_is_unique : CheckReplyIsUnique
+check_reply_is_unique bounds line a b (inl p) (inl q) =
+    let same = one_answer line p.table q.table p.verdict q.verdict p.of q.of bounds p.given q.given
+    p.is_answer q.is_answer in
+    p.is_reply ∙ ap answer_text same ∙ sym q.is_reply
+check_reply_is_unique bounds line a b (inl p) (inr (inl q)) =
+    absurd (never_both line p.table p.verdict q.column p.of q.of)
+check_reply_is_unique bounds line a b (inl p) (inr (inr q)) =
+    absurd (q.no_line (Claim p.table p.verdict) p.of)
+check_reply_is_unique bounds line a b (inr (inl p)) (inl q) =
+    absurd (never_both line q.table q.verdict p.column q.of p.of)
+check_reply_is_unique bounds line a b (inr (inl p)) (inr (inl q)) = p.is_reply ∙ sym q.is_reply
+check_reply_is_unique bounds line a b (inr (inl p)) (inr (inr q)) =
+    absurd (q.no_line (Refusal p.column) p.of)
+check_reply_is_unique bounds line a b (inr (inr p)) (inl q) =
+    absurd (p.no_line (Claim q.table q.verdict) q.of)
+check_reply_is_unique bounds line a b (inr (inr p)) (inr (inl q)) =
+    absurd (p.no_line (Refusal q.column) q.of)
+check_reply_is_unique bounds line a b (inr (inr p)) (inr (inr q)) = p.is_reply ∙ sym q.is_reply
+
+pub long_lines_are_unread : LongLinesAreUnread
+long_lines_are_unread bounds line reply long (inl p) =
+    absurd (long_line line long (Claim p.table p.verdict) p.of)
+long_lines_are_unread bounds line reply long (inr (inl p)) =
+    absurd (long_line line long (Refusal p.column) p.of)
+long_lines_are_unread bounds line reply long (inr (inr p)) = p.is_reply

@@ -1,0 +1,50 @@
+-- What checking the lines of a list is summed up in: this project's own.
+use Rattle.std.specs.Prelude.{◌≡◌, ℕ, ◌≤◌, ◌⊎◌, ◌↔◌, IsTrue, List}
+use Rattle.std.specs.List.{AllByRecursion}
+use Rattle.bb_machine.specs.Limits.{Bounds}
+use Rattle.bb_machine.specs.Machine.{Table}
+use Rattle.bb_sim.specs.declared.meter.Meter.{Meter}
+use Rattle.bb_cert.specs.declared.answer.Answer.TheVariants.{Ok, Open}
+use Rattle.bb_cert.specs.declared.reader.Line.TheVariants.{Claim}
+use Rattle.bb_cert.specs.declared.verdict.Verdict.{Verdict}
+use Rattle.bb_cert.specs.Answer.{IsAnswer, answer_text}
+use Rattle.bb_cert.specs.ClaimMeter.{last_step, levels_of, nodes_of}
+use Rattle.bb_cert.specs.Line.{IsLineOf}
+use Rattle.bb_run.specs.declared.summary.Summary.{Summary}
+use Rattle.bb_run.specs.CheckReply.{IsCheckReply}
+
+-- the reply to the line is `ok` or `open`: it is not `bad`, `over` or `unread`
+pub record IsFine (bounds : Bounds) (line : List ℕ) : Type 0 where
+  pub reply : List ℕ
+  pub is_reply : IsCheckReply bounds line reply
+  pub is_fine : (reply ≡ answer_text Ok) ⊎ (reply ≡ answer_text Open)
+
+-- the line claims so many steps, levels and nodes, and its claim is answered ok
+pub record IsOkOf (bounds : Bounds) (line : List ℕ) (steps levels nodes : ℕ) : Type 0 where
+  pub table : Table
+  pub verdict : Verdict
+  pub of : IsLineOf (Claim table verdict) line
+  pub is_ok : IsAnswer table bounds verdict Ok
+  pub steps_are : steps ≡ last_step verdict
+  pub levels_are : levels ≡ levels_of verdict
+  pub nodes_are : nodes ≡ nodes_of verdict
+
+-- no claim that is answered ok has more steps, levels or nodes
+abbrev pub AreOksWithin : Bounds → List (List ℕ) → Meter → Type 0
+AreOksWithin bounds lines peak = AllByRecursion (λ line. (steps levels nodes : ℕ)
+    → IsOkOf bounds line steps levels nodes
+    → (steps ≤ peak.steps) × (levels ≤ peak.most_levels) × (nodes ≤ peak.nodes)) lines
+
+-- no count is greater than its bound
+pub record IsWithinBounds (bounds : Bounds) (peak : Meter) : Type 0 where
+  pub steps : peak.steps ≤ bounds.steps
+  pub cells : peak.most_cells ≤ bounds.cells
+  pub levels : peak.most_levels ≤ bounds.depth
+  pub nodes : peak.nodes ≤ bounds.nodes
+
+-- `clean` says that each reply is `ok` or `open`; the peaks are within the bounds, and no less than what each claim
+-- that is answered ok has
+pub record IsCheckSummary (bounds : Bounds) (lines : List (List ℕ)) (summary : Summary) : Type 0 where
+  pub clean : IsTrue summary.clean ↔ AllByRecursion (IsFine bounds) lines
+  pub oks : AreOksWithin bounds lines summary.peak
+  pub within : IsWithinBounds bounds summary.peak

@@ -1,0 +1,176 @@
+//! Answers to the verdict lines of a list, a word each.
+ghost use Rattle.std.specs.Prelude.{◌≡◌, ◌↔◌, ◌≤◌, [], false, true, IsTrue, length};
+ghost use Rattle.bb_cert.specs.Pair.{HasCells};
+ghost use Rattle.bb_cert.specs.Path.{depth_of};
+ghost use Rattle.bb_lines.specs.Watched.{is_marked, watched_inner};
+ghost use Rattle.bb_run.specs.CheckEnds.{CheckEnds};
+ghost use Rattle.bb_run.specs.CheckSeen.{is_fine};
+
+use crate::summary::Summary;
+use arrayvec::ArrayVec;
+use bb_cert::{Answer, LINE_BUFFER, Line, Pair, Path, check, read_line};
+use bb_lines::fault::Fault;
+use bb_lines::lines::run;
+use bb_lines::responder::{REPLY, Responder};
+use bb_lines::watched::Watched;
+use bb_machine::Limits;
+use bb_sim::Meter;
+use bb_tape::Tape;
+use std::alloc::AllocError;
+use std::io::{Read, Write};
+
+/// What replies to the verdict lines of a list with answers.
+#[derive(Drop)]
+struct Checker<'a, T> {
+    limits: Limits,
+    pair: &'a mut Pair<T>,
+    path: &'a mut Path,
+    summary: Summary,
+    // The steps and the nodes that the last line cost; 0 where nothing was run, and before the first line.
+    last_effort: u64,
+}
+
+impl<T: Tape> Responder for Checker<'_, T> {
+    ghost use Rattle.std.specs.Prelude.{◌≡◌, ◌+◌, ◌≤◌};
+    ghost use Rattle.std.proofs.Common.{rules, subst};
+    ghost use Rattle.bb_cert.specs.declared.line.TheConstants.{LINE_BUFFER};
+    ghost use Rattle.bb_cert.specs.Pair.{HasCells};
+    ghost use Rattle.bb_cert.specs.Path.{depth_of};
+    ghost use Rattle.bb_run.specs.CheckReply.{IsCheckReply};
+    ghost use Rattle.bb_run.specs.CheckSeen.{CheckSaw};
+    ghost use Rattle.bb_run.specs.CheckKept.{check_reply_kept, check_reply_of_kept, check_saw_of_kept};
+
+    ghost replies_with = { λ c line reply. IsCheckReply c.limits line reply };
+
+    ghost saw = { λ a line b. (b.limits ≡ a.limits)
+        × CheckSaw a.limits a.summary line b.summary b.last_effort };
+
+    ghost work = { λ c. c.last_effort };
+
+    ghost keeps = { λ a b. (b.limits ≡ a.limits) × (b.pair.ghost_name ≡ a.pair.ghost_name)
+        × (b.path.ghost_name ≡ a.path.ghost_name) × (depth_of b.path.now ≡ depth_of a.path.now) };
+
+    ghost is_ready = { λ c. HasCells T.strip c.limits.cells c.pair.now
+        × (c.limits.depth ≤ depth_of c.path.now) };
+
+    ghost GROWS = { T.GROWS };
+
+    ghost KEEP = { LINE_BUFFER + 1 };
+
+    ghost keeps_at_first = { Prim.search rules };
+
+    ghost keeps_on = { Prim.search rules };
+
+    ghost keeps_reply = { λ a b keeps line text reply.
+        check_reply_kept b.limits a.limits line text keeps.0 reply };
+
+    ghost keeps_some = { Prim.search rules };
+
+    ghost keeps_few = { Prim.search rules };
+
+    ghost reply_by_kept = { λ a line text reply. check_reply_of_kept a.limits line text reply };
+
+    ghost saw_by_kept = { λ a line b saw.
+        (saw.0, check_saw_of_kept a.limits line a.summary b.summary b.last_effort saw.1) };
+
+    fn keep(&self) -> usize {
+        LINE_BUFFER + 1
+    }
+
+    fn respond(&mut self, line: &[u8], text: &mut ArrayVec<u8, REPLY>) -> Result<u64, AllocError> {
+        let (machine, verdict) = match read_line(line) {
+            Some(Line::Claim(machine, verdict)) => (machine, verdict),
+            Some(Line::Refusal(_)) => {
+                self.last_effort = 0;
+                put(Answer::Open.word(), text);
+                return Ok(0);
+            }
+            None => {
+                self.summary.clean = false;
+                self.last_effort = 0;
+                put(b"unread", text);
+                return Ok(0);
+            }
+        };
+        let _accepted = self.limits.steps();
+        let mut meter = Meter::new();
+        let Ok(answer) = check(
+            &machine,
+            &verdict,
+            &self.limits,
+            self.pair,
+            self.path,
+            &mut meter,
+        ) else {
+            return Err(AllocError);
+        };
+        put(answer.word(), text);
+        self.summary.clean = self.summary.clean & leaves_clean(answer);
+        self.summary.peak = self.summary.peak.greatest(meter);
+        self.last_effort = meter.steps + meter.nodes;
+        Ok(self.last_effort)
+    }
+}
+
+/// Whether a run stays clean with this answer.
+fn leaves_clean(answer: Answer) -> bool
+    ensures { result ≡ is_fine answer }
+{
+    match answer {
+        Answer::Ok | Answer::Open => true,
+        Answer::Bad | Answer::Over => false,
+    }
+}
+
+/// Puts a word into a text, which is empty.
+fn put(word: &[u8], text: &mut ArrayVec<u8, REPLY>)
+    requires empty { text.old.items ≡ [] }
+    requires short { length word.now ≤ REPLY }
+    ensures { text.new.items ≡ word.now }
+{
+    let _room = text.try_extend_from_slice(word);
+}
+
+/// Writes the answer to each verdict line of a list, `open` for each line of a refusal, and `unread` for each line that
+/// is no verdict line.
+///
+/// A line ends at a newline; a last line without one counts if it isn't empty. After a fault the
+/// reader and the writer are not to be used again.
+pub fn run_check<R: Read, W: Write, T: Tape>(
+    reader: &mut Watched<R>,
+    writer: &mut Watched<W>,
+    limits: &Limits,
+    pair: &mut Pair<T>,
+    path: &mut Path,
+) -> Result<Summary, Fault>
+    requires reader { is_marked reader.old ≡ false }
+    requires writer { is_marked writer.old ≡ false }
+    requires tapes { HasCells T.strip limits.now.cells pair.old }
+    requires path { limits.now.depth ≤ depth_of path.old }
+
+    // How the run ends, and what is written then.
+    ensures ends { CheckEnds limits.now
+        (R.remaining (watched_inner reader.old)) (R.remaining (watched_inner reader.new))
+        (W.contents (watched_inner writer.old)) (W.contents (watched_inner writer.new)) result }
+
+    // When each fault comes.
+    ensures memory { result ≡ Err Fault.Memory → IsTrue T.GROWS }
+    ensures read { (result ≡ Err Fault.Read) ↔ (is_marked reader.new ≡ true) }
+    ensures write { (result ≡ Err Fault.Write) ↔ (is_marked writer.new ≡ true) }
+
+    ensures tapes { HasCells T.strip limits.now.cells pair.new }
+    ensures path { depth_of path.new ≡ depth_of path.old }
+{
+    let mut checker = Checker {
+        limits: *limits,
+        pair,
+        path,
+        summary: Summary {
+            clean: true,
+            peak: Meter::new(),
+        },
+        last_effort: 0,
+    };
+    run(reader, writer, &mut checker)?;
+    Ok(checker.summary)
+}
