@@ -16,6 +16,7 @@ struct Counting {
 
 impl Tape for Counting {
     ghost use Rattle.std.specs.Prelude.{false};
+    ghost use Rattle.std.proofs.Common.{rules};
 
     ghost strip = { λ t. ⟦<RingTape as Tape>⟧.strip t.ring };
 
@@ -23,7 +24,7 @@ impl Tape for Counting {
 
     const GROWS: bool = false;
 
-    ghost sound = { λ t. ⟦<RingTape as Tape>⟧.sound t.ring };
+    ghost sound = { Prim.search rules };
 
     fn reset(&mut self) {
         self.ring.reset();
