@@ -18,11 +18,18 @@ VERDICTS = b"1RB1LB_1LA1RZ halt 6 4\n0RB---_0LA--- cycler 2 4\n1RA1RA translated
 BY_TREES = b"1RB1LB_1LA1RZ halt 6 4\n0RB---_0LA--- backward 2 4\n1RA1RA backward 0 0\n"
 
 
+CLAIMS = VERDICTS + b"1RA1RA undecided cells\nrefused 14\n"
+ANSWERS = b"ok\nok\nok\nopen\nopen\n"
+
+
 def cases(folder):
     """Name, words, standard input, status, standard output, a part of standard error."""
     listed = os.path.join(folder, "machines.txt")
     with open(listed, "wb") as file:
         file.write(MACHINES)
+    claimed = os.path.join(folder, "claims.txt")
+    with open(claimed, "wb") as file:
+        file.write(CLAIMS)
     missing = os.path.join(folder, "missing.txt")
     return [
         ("a file is read", ["decide", listed], b"------\n", 0, VERDICTS, b""),
@@ -44,6 +51,15 @@ def cases(folder):
         ("a number that is none", ["decide", "--steps", "x"], b"", 2, b"", b"--steps"),
         ("an argument that isn't UTF-8", ["decide", b"\xff"], b"", 2, b"", b"not UTF-8"),
         ("no command", [], b"", 2, b"", b"Usage"),
+        ("claims in a file", ["check", claimed], b"------ halt 1 0\n", 0, ANSWERS, b""),
+        ("claims", ["check"], CLAIMS, 0, ANSWERS, b""),
+        ("no claims", ["check"], b"", 0, b"", b""),
+        ("a bad claim", ["check"], b"------ halt 1 0\n", 1, b"bad\n", b""),
+        ("a claim past a limit", ["check", "--steps", "5"], CLAIMS, 1, b"over\nok\nok\nopen\nopen\n", b""),
+        ("no verdict line", ["check"], b"------ halt 0 0\n\n", 1, b"ok\nunread\n", b""),
+        ("a missing file of claims", ["check", missing], b"", 3, b"", b"bb: read failed\n"),
+        ("refused limits of a check", ["check", "--cells", "4", missing], b"", 2, b"", b"bb: depth does not fit in cells\n"),
+        ("a check by a plan", ["check", "--no-cyclers"], b"", 2, b"", b"--no-cyclers"),
         ("a trace", ["trace", "--upto", "1", "1RZ---"], b"", 0, b"0 A 0 0\n1 Z 1 1\n", b""),
         ("a cut trace", ["trace", "--upto", "5", "--cells", "2", "1RA1RA"], b"", 1, b"0 A 0 0\n1 A 1 10\n", b""),
         ("a refused trace", ["trace", "--upto", "2", "1RB1LB_1LA1RC"], b"", 1, b"refused 14\n", b""),
@@ -52,7 +68,7 @@ def cases(folder):
 
 def helps(program):
     """Help goes to standard output, with status 0."""
-    for words in (["--help"], ["decide", "--help"], ["trace", "--help"]):
+    for words in (["--help"], ["decide", "--help"], ["check", "--help"], ["trace", "--help"]):
         ended = subprocess.run([program, *words], capture_output=True)
         yield " ".join(words), ended.returncode == 0 and b"Usage" in ended.stdout and not ended.stderr
 

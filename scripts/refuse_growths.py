@@ -58,11 +58,14 @@ int posix_memalign(void **p, size_t a, size_t n) {
 LIMITS = ["--steps=1000", "--cells=64", "--depth=10", "--nodes=100"]
 LINES = b"1RB1LB_1LA1RZ\n1RB0RA_1LA---\n0RB---_0LA---\n"
 
+CLAIMS = b"1RB1LB_1LA1RZ halt 6 4\n1RB0RA_1LA--- translated R 4 8\n0RB---_0LA--- backward 2 4\n0RB---_0LA--- cycler 2 4\n"
+
 FAULTS = {b"bb: out of memory\n", b"bb: read failed\n", b"bb: write failed\n"}
 
 
 def run(program, words, environment):
-    end = subprocess.run([program, *words], input=LINES, capture_output=True, env=environment)
+    given = CLAIMS if words[0] == "check" else LINES
+    end = subprocess.run([program, *words], input=given, capture_output=True, env=environment)
     return end.returncode, end.stdout, end.stderr
 
 
@@ -95,6 +98,9 @@ def main():
             file.write(REFUSER)
         with open(listed, "wb") as file:
             file.write(LINES)
+        claimed = os.path.join(folder, "claims")
+        with open(claimed, "wb") as file:
+            file.write(CLAIMS)
         subprocess.run(["cc", "-shared", "-fPIC", "-O1", "-o", library, source, "-ldl"], check=True)
         failed = 0
         for words in (
@@ -102,6 +108,11 @@ def main():
             ["decide", *LIMITS],
             ["decide", *LIMITS, listed],
             ["decide", "--cells=4"],
+            ["check"],
+            ["check", *LIMITS],
+            ["check", *LIMITS, claimed],
+            ["check", "--cells=4"],
+            ["check", "--steps=x"],
             ["trace", "--upto=10", "1RB1LB_1LA1RZ"],
             ["trace", "--upto=10", "--cells=2", "1RA1RA"],
             ["trace", "--upto=10", "1RB1LB_1LA1RC"],

@@ -14,8 +14,8 @@ use Rattle.clap.specs.declared.parser.matches.ArgMatches.TheViews.{out-ArgMatche
 use Rattle.clap.proofs.OnLiterals.{clap_on_literals}
 use Rattle.bb.specs.declared.command.Stop.{Stop}
 use Rattle.bb.specs.declared.command.Stop.TheVariants.{Help, Words, Limits, Memory}
-use Rattle.bb.specs.Command.{Gives, IsKindStop, IsLimitsStop, IsStopOf, decide_bounds, trace_bounds}
-use Rattle.bb.specs.CommandLine.{command_line, decide_shape, trace_shape}
+use Rattle.bb.specs.Command.{Gives, IsKindStop, IsLimitsStop, IsStopOf, list_bounds, trace_bounds}
+use Rattle.bb.specs.CommandLine.{check_shape, command_line, decide_shape, trace_shape}
 
 simple_and_free : is_simple_and_free command_line ≡ true
 unfolding clap_on_literals
@@ -59,35 +59,44 @@ gives app is words m free matches name rows named valued = record {
       ∙ both_parts (subcommand_rows_of m) name rows (sym (name_by_rows m) ∙ named) valued;
 }
 
--- ---- a command line names one of the two commands
+-- ---- a command line names one of the three commands
 
--- of two commands, the one that answers to a word is one of them
-either_name : (a b : Shape) (q : Text × List Text) (p : Text × List Row)
-    → option_map (λ s. rows_at s q.1) (find (λ s. answers_to q.0 (label_of s)) (a ∷ b ∷ [])) ≡ Some p
-    → (p.0 ≡ a.name) ⊎ (p.0 ≡ b.name)
-either_name a b q p e = go (answers_to q.0 (label_of a)) refl (answers_to q.0 (label_of b)) refl
+-- of three commands, the one that answers to a word is one of them
+one_name : (a b d : Shape) (q : Text × List Text) (p : Text × List Row)
+    → option_map (λ s. rows_at s q.1) (find (λ s. answers_to q.0 (label_of s)) (a ∷ b ∷ d ∷ [])) ≡ Some p
+    → (p.0 ≡ a.name) ⊎ ((p.0 ≡ b.name) ⊎ (p.0 ≡ d.name))
+one_name a b d q p e =
+    go (answers_to q.0 (label_of a)) refl (answers_to q.0 (label_of b)) refl (answers_to q.0 (label_of d)) refl
   where
-    go : (x : Bool) → answers_to q.0 (label_of a) ≡ x → (y : Bool) → answers_to q.0 (label_of b) ≡ y → (p.0 ≡ a.name) ⊎ (p.0 ≡ b.name)
-    go true is_a y is_b = inl (sym (ap (λ o. option_map_or (λ r. r.0) o []) (rw is_a at e)))
-    go false is_a true is_b = inr (sym (ap (λ o. option_map_or (λ r. r.0) o []) (rw (is_a, is_b) at e)))
-    go false is_a false is_b = let none = rw (is_a, is_b) at e in cc
+    go : (x : Bool) → answers_to q.0 (label_of a) ≡ x → (y : Bool) → answers_to q.0 (label_of b) ≡ y
+        → (z : Bool) → answers_to q.0 (label_of d) ≡ z → (p.0 ≡ a.name) ⊎ ((p.0 ≡ b.name) ⊎ (p.0 ≡ d.name))
+    go true is_a y is_b z is_d = inl (sym (ap (λ o. option_map_or (λ r. r.0) o []) (rw is_a at e)))
+    go false is_a true is_b z is_d =
+        inr (inl (sym (ap (λ o. option_map_or (λ r. r.0) o []) (rw (is_a, is_b) at e))))
+    go false is_a false is_b true is_d =
+        inr (inr (sym (ap (λ o. option_map_or (λ r. r.0) o []) (rw (is_a, is_b, is_d) at e))))
+    go false is_a false is_b false is_d = let none = rw (is_a, is_b, is_d) at e in cc
 
 named : (stop : Option (Text × List Text)) (p : Text × List Row) → entered (built command_line) stop ≡ Some p
-    → (p.0 ≡ codes "decide") ⊎ (p.0 ≡ codes "trace")
+    → (p.0 ≡ codes "decide") ⊎ ((p.0 ≡ codes "check") ⊎ (p.0 ≡ codes "trace"))
 named None p e = cc
 named (Some q) p e =
     let top = with_leaf_noted (marked_built command_line.top) in
-    either_name (built_leaf (inherited top decide_shape)) (built_leaf (inherited top trace_shape)) q p e
+    one_name (built_leaf (inherited top decide_shape)) (built_leaf (inherited top check_shape))
+    (built_leaf (inherited top trace_shape)) q p e
 
--- a command other than `trace` is `decide`
-pub names_decide : (words : List Text) (name : Text) (rows : List Row) → Gives words name rows → (name ≡ codes "trace" → ⊥) → name ≡ codes "decide"
-names_decide words name rows given not_trace = elim (named (stop_after (built command_line).top.rules (names_of (built command_line)) (argument_words command_line words)) (name, rows) given.values) [
-  | inl is ↦ is
-  | inr is ↦ absurd (not_trace is)
-]
+-- a command other than `trace` and `check` is `decide`
+pub names_decide : (words : List Text) (name : Text) (rows : List Row) → Gives words name rows
+    → (name ≡ codes "trace" → ⊥) → (name ≡ codes "check" → ⊥) → name ≡ codes "decide"
+names_decide words name rows given not_trace not_check =
+    elim (named (stop_after (built command_line).top.rules (names_of (built command_line))
+    (argument_words command_line words)) (name, rows) given.values) [
+      | inl is ↦ is
+      | inr other ↦ elim other [ inl is ↦ absurd (not_check is) | inr is ↦ absurd (not_trace is) ]
+    ]
 
 pub stops_deciding : (words : List Text) (rows : List Row) → Gives words (codes "decide") rows → (stop : Stop)
-    → (stop ≡ Memory) ⊎ IsLimitsStop (decide_bounds rows) stop → IsStopOf words stop
+    → (stop ≡ Memory) ⊎ IsLimitsStop (list_bounds rows) stop → IsStopOf words stop
 stops_deciding words rows given (Help text) (inl h) = cc
 stops_deciding words rows given (Help text) (inr h) = absurd h
 stops_deciding words rows given (Words text) (inl h) = cc
@@ -96,6 +105,16 @@ stops_deciding words rows given (Limits fault) (inl h) = cc
 stops_deciding words rows given (Limits fault) (inr h) = record { rows = rows; refused = inl (given, h) }
 stops_deciding words rows given Memory h = tt
 
+pub stops_a_check : (words : List Text) (rows : List Row) → Gives words (codes "check") rows → (stop : Stop)
+    → (stop ≡ Memory) ⊎ IsLimitsStop (list_bounds rows) stop → IsStopOf words stop
+stops_a_check words rows given (Help text) (inl h) = cc
+stops_a_check words rows given (Help text) (inr h) = absurd h
+stops_a_check words rows given (Words text) (inl h) = cc
+stops_a_check words rows given (Words text) (inr h) = absurd h
+stops_a_check words rows given (Limits fault) (inl h) = cc
+stops_a_check words rows given (Limits fault) (inr h) = record { rows = rows; refused = inr (inl (given, h)) }
+stops_a_check words rows given Memory h = tt
+
 pub stops_a_trace : (words : List Text) (rows : List Row) → Gives words (codes "trace") rows → (stop : Stop)
     → (stop ≡ Memory) ⊎ IsLimitsStop (trace_bounds rows) stop → IsStopOf words stop
 stops_a_trace words rows given (Help text) (inl h) = cc
@@ -103,7 +122,7 @@ stops_a_trace words rows given (Help text) (inr h) = absurd h
 stops_a_trace words rows given (Words text) (inl h) = cc
 stops_a_trace words rows given (Words text) (inr h) = absurd h
 stops_a_trace words rows given (Limits fault) (inl h) = cc
-stops_a_trace words rows given (Limits fault) (inr h) = record { rows = rows; refused = inr (given, h) }
+stops_a_trace words rows given (Limits fault) (inr h) = record { rows = rows; refused = inr (inr (given, h)) }
 stops_a_trace words rows given Memory h = tt
 
 -- an error of a parse, as a stop

@@ -14,7 +14,7 @@ use Rattle.bb.specs.declared.command.Asked.{Asked}
 use Rattle.bb.specs.declared.command.Stop.{Stop}
 use Rattle.bb.specs.declared.command.Stop.TheVariants.{Help, Words, Limits, Memory}
 use Rattle.bb.specs.declared.command.Work.{Work}
-use Rattle.bb.specs.declared.command.Work.TheVariants.{Decide, Trace}
+use Rattle.bb.specs.declared.command.Work.TheVariants.{Decide, Check, Trace}
 use Rattle.bb.specs.CommandLine.{command_line}
 
 -- ---- what the words say
@@ -37,11 +37,11 @@ number_of name rows = option_map_or number_in (one_of name rows) 0
 abbrev pub is_given : Text → List Row → Bool
 is_given name rows = option_map_or (λ text. bytes_eq text (codes "true")) (one_of name rows) false
 
--- ---- the two commands
+-- ---- the three commands
 
 -- the limits of a list: the four numbers that are given, or their defaults
-abbrev pub decide_bounds : List Row → Bounds
-decide_bounds rows = record {
+abbrev pub list_bounds : List Row → Bounds
+list_bounds rows = record {
   steps = number_of (codes "steps") rows;
   cells = number_of (codes "cells") rows;
   depth = number_of (codes "depth") rows;
@@ -68,13 +68,20 @@ trace_bounds rows = record {
 -- verdicts for a list, by this plan, under these limits, from this file
 pub record AsksToDecide (rows : List Row) (asked : Asked) : Type 0 where
   pub work : asked.work ≡ Decide (decide_plan rows)
-  pub limits : asked.limits ≡ decide_bounds rows
+  pub limits : asked.limits ≡ list_bounds rows
+  pub file : option_map string_bytes asked.file ≡ first_of (codes "file") rows
+
+-- answers to a list, under these limits, from this file
+pub record AsksToCheck (rows : List Row) (asked : Asked) : Type 0 where
+  pub work : asked.work ≡ Check
+  pub limits : asked.limits ≡ list_bounds rows
   pub file : option_map string_bytes asked.file ≡ first_of (codes "file") rows
 
 -- a trace of the machine with this text
 abbrev pub IsTraceOf : Text → Work → Type 0
 IsTraceOf text (Trace machine) = string_bytes machine ≡ text
 IsTraceOf text (Decide plan) = ⊥
+IsTraceOf text Check = ⊥
 
 -- a trace of the machine with the text that is given, under these limits; it reads no file
 pub record AsksToTrace (rows : List Row) (asked : Asked) : Type 0 where
@@ -86,7 +93,8 @@ pub record AsksToTrace (rows : List Row) (asked : Asked) : Type 0 where
 abbrev pub IsAskedBy : List Text → Asked → Type 0
 IsAskedBy words asked = (rows : List Row)
     × ((Gives words (codes "decide") rows × AsksToDecide rows asked)
-      ⊎ (Gives words (codes "trace") rows × AsksToTrace rows asked))
+    ⊎ ((Gives words (codes "check") rows × AsksToCheck rows asked)
+    ⊎ (Gives words (codes "trace") rows × AsksToTrace rows asked)))
 
 -- ---- why there is no work
 
@@ -100,8 +108,9 @@ IsLimitsStop bounds Memory = ⊥
 -- the words are a command line, and what they ask for is refused
 pub record IsRefused (words : List Text) (stop : Stop) : Type 0 where
   pub rows : List Row
-  pub refused : (Gives words (codes "decide") rows × IsLimitsStop (decide_bounds rows) stop)
-      ⊎ (Gives words (codes "trace") rows × IsLimitsStop (trace_bounds rows) stop)
+  pub refused : (Gives words (codes "decide") rows × IsLimitsStop (list_bounds rows) stop)
+      ⊎ ((Gives words (codes "check") rows × IsLimitsStop (list_bounds rows) stop)
+      ⊎ (Gives words (codes "trace") rows × IsLimitsStop (trace_bounds rows) stop))
 
 -- why the words lead to no work: help is asked for, or they are no command line, or what they ask for is refused, or a
 -- growth was refused

@@ -19,9 +19,21 @@ number_rule name = record (new_rule name) {
 abbrev pub by_default : Text → Rule → Rule
 by_default text rule = record rule { defaults = text ∷ [] }
 
--- --cells N, which both commands have
+-- --steps N
+abbrev pub steps_rule : Rule
+steps_rule = by_default (codes "1000000") (number_rule (codes "steps"))
+
+-- --cells N, which all commands have
 abbrev pub cells_rule : Rule
 cells_rule = by_default (codes "65536") (number_rule (codes "cells"))
+
+-- --depth N
+abbrev pub depth_rule : Rule
+depth_rule = by_default (codes "300") (number_rule (codes "depth"))
+
+-- --nodes N
+abbrev pub nodes_rule : Rule
+nodes_rule = by_default (codes "1000000") (number_rule (codes "nodes"))
 
 -- an option without a value
 abbrev pub switch_rule : Text → Rule
@@ -38,13 +50,24 @@ must rule = record rule { required = true }
 -- bb decide [--steps N] [--cells N] [--depth N] [--nodes N] [--no-cyclers] [--no-translated] [--no-backward] [FILE]
 abbrev pub decide_shape : Shape
 decide_shape = record (new_shape (codes "decide")) {
-  rules = by_default (codes "1000000") (number_rule (codes "steps"))
+  rules = steps_rule
       ∷ cells_rule
-      ∷ by_default (codes "300") (number_rule (codes "depth"))
-      ∷ by_default (codes "1000000") (number_rule (codes "nodes"))
+      ∷ depth_rule
+      ∷ nodes_rule
       ∷ switch_rule (codes "no-cyclers")
       ∷ switch_rule (codes "no-translated")
       ∷ switch_rule (codes "no-backward")
+      ∷ positional_rule (codes "file")
+      ∷ [];
+}
+
+-- bb check [--steps N] [--cells N] [--depth N] [--nodes N] [FILE]
+abbrev pub check_shape : Shape
+check_shape = record (new_shape (codes "check")) {
+  rules = steps_rule
+      ∷ cells_rule
+      ∷ depth_rule
+      ∷ nodes_rule
       ∷ positional_rule (codes "file")
       ∷ [];
 }
@@ -55,7 +78,7 @@ trace_shape = record (new_shape (codes "trace")) {
   rules = must (number_rule (codes "upto")) ∷ cells_rule ∷ must (positional_rule (codes "machine")) ∷ [];
 }
 
--- bb, with one of the two commands
+-- bb, with one of the three commands
 abbrev pub command_line : App
 command_line = record {
   top = record (new_shape (codes "bb")) {
@@ -63,5 +86,5 @@ command_line = record {
     disable_help_subcommand = true;
     subcommand_required = true;
   };
-  subs = decide_shape ∷ trace_shape ∷ [];
+  subs = decide_shape ∷ check_shape ∷ trace_shape ∷ [];
 }

@@ -5,9 +5,10 @@ use Rattle.bb_machine.specs.Limits.{Bounds}
 use Rattle.bb_lines.specs.declared.fault.Fault.{Fault}
 use Rattle.bb_lines.specs.declared.fault.Fault.TheVariants.{Memory}
 use Rattle.bb_run.specs.declared.summary.Summary.{Summary}
+use Rattle.bb_run.specs.CheckEnds.{CheckEnds}
 use Rattle.bb_run.specs.Ends.{DecideEnds, TraceEnds}
 use Rattle.bb.specs.declared.command.Work.{Work}
-use Rattle.bb.specs.declared.command.Work.TheVariants.{Decide, Trace}
+use Rattle.bb.specs.declared.command.Work.TheVariants.{Decide, Check, Trace}
 
 -- the tapes, or the path, could not be made: nothing is read and nothing written
 pub record IsNotBegun (left left_then held held_then : Option (List ℕ)) (end : Result Summary Fault)
@@ -21,6 +22,8 @@ abbrev pub WorkEnds : Work → Bounds → Option (List ℕ) → Option (List ℕ
     → Result Summary Fault → Type 0
 WorkEnds (Decide plan) bounds left left_then held held_then end =
     DecideEnds bounds plan left left_then held held_then end
+WorkEnds Check bounds left left_then held held_then end =
+    CheckEnds bounds left left_then held held_then end
 WorkEnds (Trace text) bounds left left_then held held_then end =
     (left_then ≡ left) × TraceEnds bounds (string_bytes text) held held_then end
 

@@ -1,19 +1,21 @@
 //! The command line: which work is asked for, under which limits.
-ghost use Rattle.std.specs.Prelude.{◌≡◌, ◌⊎◌, false, IfErr, IfOk, List, Some, codes, map};
+ghost use Rattle.std.specs.Prelude.{◌≡◌, ◌⊎◌, false, IfErr, IfOk, List, Some, codes, map, option_map};
+ghost use Rattle.std.specs.String.{string_bytes};
 ghost use Rattle.clap.specs.declared.builder.command.Command.TheViews.{out-Command as fields_of};
-ghost use Rattle.clap.specs.Words.{app_of, found_of, kind_of, rows_of, rule_of, shape_of};
+ghost use Rattle.clap.specs.Words.{app_of, first_of, found_of, kind_of, rows_of, rule_of, shape_of};
 ghost use Rattle.clap.specs.Simple.{new_shape};
 ghost use Rattle.clap.specs.declared.builder.texts.Texts.TheVariants.{One};
 ghost use Rattle.bb.specs.Command.{
+  AsksToCheck,
   AsksToDecide,
   AsksToTrace,
   IsAskedBy,
   IsKindStop,
   IsLimitsStop,
   IsStopOf,
-  decide_bounds,
   decide_plan,
   is_given,
+  list_bounds,
   number_of,
   stop_status,
   trace_bounds,
@@ -21,10 +23,14 @@ ghost use Rattle.bb.specs.Command.{
 ghost use Rattle.bb.specs.CommandLine.{
   by_default,
   cells_rule,
+  check_shape,
   command_line,
   decide_shape,
+  depth_rule,
+  nodes_rule,
   number_rule,
   positional_rule,
+  steps_rule,
   switch_rule,
   trace_shape,
 };
@@ -40,6 +46,8 @@ use std::alloc::{AllocError, Global};
 pub enum Work {
     /// A verdict for each machine of a list, by these deciders.
     Decide(Plan),
+    /// An answer to each verdict line of a list.
+    Check,
     /// The first configurations of the machine with this text, up to the limit of steps.
     Trace(String),
 }
@@ -106,6 +114,8 @@ pub fn ask(alloc: Global, words: &[&str]) -> Result<Asked, Stop>
     };
     if name == "trace" {
         trace_of(alloc, values)
+    } else if name == "check" {
+        check_of(alloc, values)
     } else {
         decide_of(alloc, values)
     }
@@ -119,6 +129,7 @@ fn program<'a>(alloc: Global) -> Result<Command<'a>, AllocError>
         .disable_help_subcommand(true)
         .subcommand_required(true)
         .subcommand(decide_command(alloc)?)?
+        .subcommand(check_command(alloc)?)?
         .subcommand(trace_command(alloc)?)
 }
 
@@ -133,28 +144,31 @@ fn decide_command<'a>(alloc: Global) -> Result<Command<'a>, AllocError>
         "The list of machines, a line each [default: standard input]",
     );
     command(alloc, "decide", "Decides each machine of a list")
-        .arg(limit(
-            alloc,
-            "steps",
-            "1000000",
-            "The most steps of one simulation",
-        ))?
+        .arg(steps(alloc))?
         .arg(cells(alloc))?
-        .arg(limit(
-            alloc,
-            "depth",
-            "300",
-            "The most levels of the backward tree",
-        ))?
-        .arg(limit(
-            alloc,
-            "nodes",
-            "1000000",
-            "The most nodes of the backward tree",
-        ))?
+        .arg(depth(alloc))?
+        .arg(nodes(alloc))?
         .arg(switch(alloc, "no-cyclers", "Leaves out the cyclers"))?
         .arg(switch(alloc, "no-translated", "Leaves out the translated cyclers"))?
         .arg(switch(alloc, "no-backward", "Leaves out backward reasoning"))?
+        .arg(file)
+}
+
+fn check_command<'a>(alloc: Global) -> Result<Command<'a>, AllocError>
+    ensures shape { IfOk result (λ command. shape_of command ≡ check_shape) }
+    ensures local { IfOk result (λ command. (fields_of command).has_globals ≡ false) }
+{
+    let file = positional(
+        alloc,
+        "file",
+        "FILE",
+        "The list of verdict lines [default: standard input]",
+    );
+    command(alloc, "check", "Checks each verdict line of a list")
+        .arg(steps(alloc))?
+        .arg(cells(alloc))?
+        .arg(depth(alloc))?
+        .arg(nodes(alloc))?
         .arg(file)
 }
 
@@ -182,11 +196,47 @@ fn command<'a>(alloc: Global, name: &'a str, about: &'a str) -> Command<'a>
     Command::new(alloc, name).about(about)
 }
 
+fn steps<'a>(alloc: Global) -> Arg<'a>
+    ensures rule { rule_of result ≡ steps_rule }
+    ensures local { result.global ≡ false }
+{
+    limit(
+        alloc,
+        "steps",
+        "1000000",
+        "The most steps of one simulation",
+    )
+}
+
 fn cells<'a>(alloc: Global) -> Arg<'a>
     ensures rule { rule_of result ≡ cells_rule }
     ensures local { result.global ≡ false }
 {
     limit(alloc, "cells", "65536", "The most cells of one tape")
+}
+
+fn depth<'a>(alloc: Global) -> Arg<'a>
+    ensures rule { rule_of result ≡ depth_rule }
+    ensures local { result.global ≡ false }
+{
+    limit(
+        alloc,
+        "depth",
+        "300",
+        "The most levels of the backward tree",
+    )
+}
+
+fn nodes<'a>(alloc: Global) -> Arg<'a>
+    ensures rule { rule_of result ≡ nodes_rule }
+    ensures local { result.global ≡ false }
+{
+    limit(
+        alloc,
+        "nodes",
+        "1000000",
+        "The most nodes of the backward tree",
+    )
 }
 
 fn limit<'a>(alloc: Global, name: &'a str, default: &'a str, help: &'a str) -> Arg<'a>
@@ -242,28 +292,58 @@ fn stop_of(alloc: Global, error: &Error) -> Result<Stop, AllocError>
 fn decide_of(alloc: Global, matches: &ArgMatches<'_>) -> Result<Asked, Stop>
     ensures asked { IfOk result (AsksToDecide (rows_of (found_of matches.now))) }
     ensures stop { IfErr result (λ stop. (stop ≡ Stop.Memory)
-        ⊎ IsLimitsStop (decide_bounds (rows_of (found_of matches.now))) stop) }
+        ⊎ IsLimitsStop (list_bounds (rows_of (found_of matches.now))) stop) }
 {
     let plan = Plan {
         cyclers: !given(matches, "no-cyclers"),
         translated: !given(matches, "no-translated"),
         backward: !given(matches, "no-backward"),
     };
-    let limits = accepted(
-        value(matches, "steps"),
-        value(matches, "cells"),
-        value(matches, "depth"),
-        value(matches, "nodes"),
-    )?;
-    let file = match matches.get_str("file") {
-        Some(file) => Some(String::from_str(alloc, file)?),
-        None => None,
-    };
+    let limits = list_limits(matches)?;
+    let file = list_file(alloc, matches)?;
     Ok(Asked {
         work: Work::Decide(plan),
         limits,
         file,
     })
+}
+
+fn check_of(alloc: Global, matches: &ArgMatches<'_>) -> Result<Asked, Stop>
+    ensures asked { IfOk result (AsksToCheck (rows_of (found_of matches.now))) }
+    ensures stop { IfErr result (λ stop. (stop ≡ Stop.Memory)
+        ⊎ IsLimitsStop (list_bounds (rows_of (found_of matches.now))) stop) }
+{
+    let limits = list_limits(matches)?;
+    let file = list_file(alloc, matches)?;
+    Ok(Asked {
+        work: Work::Check,
+        limits,
+        file,
+    })
+}
+
+/// The limits that are given for a list, if they are accepted.
+fn list_limits(matches: &ArgMatches<'_>) -> Result<Limits, Stop>
+    ensures ok { IfOk result (λ limits. limits ≡ list_bounds (rows_of (found_of matches.now))) }
+    ensures stop { IfErr result (IsLimitsStop (list_bounds (rows_of (found_of matches.now)))) }
+{
+    accepted(
+        value(matches, "steps"),
+        value(matches, "cells"),
+        value(matches, "depth"),
+        value(matches, "nodes"),
+    )
+}
+
+/// The file that a list is read from.
+fn list_file(alloc: Global, matches: &ArgMatches<'_>) -> Result<Option<String>, AllocError>
+    ensures { IfOk result (λ file.
+        option_map string_bytes file ≡ first_of (codes "file") (rows_of (found_of matches.now))) }
+{
+    match matches.get_str("file") {
+        Some(file) => Ok(Some(String::from_str(alloc, file)?)),
+        None => Ok(None),
+    }
 }
 
 /// The limits, if they are accepted.

@@ -1,16 +1,18 @@
 //! Does what was asked for, and says how it ended.
 ghost use Rattle.std.specs.Prelude.{◌≡◌, ◌↔◌, false, true, IfOk};
+ghost use Rattle.bb_cert.specs.Pair.{HasCells as HasPairCells};
 ghost use Rattle.bb_cert.specs.Path.{depth_of};
 ghost use Rattle.bb_decide.specs.Bench.{HasCells};
 ghost use Rattle.bb_lines.specs.Watched.{is_marked, watched_inner};
 ghost use Rattle.bb.specs.Ends.{IsNotBegun, ServeEnds, end_status};
 
 use crate::command::{Asked, Work};
+use bb_cert::{Pair, Path};
 use bb_decide::Bench;
 use bb_lines::fault::Fault;
 use bb_lines::watched::Watched;
 use bb_machine::Limits;
-use bb_run::{Summary, run_decide, run_trace};
+use bb_run::{Summary, run_check, run_decide, run_trace};
 use bb_tape::{Memory, RingTape, Tape};
 use std::alloc::Global;
 use std::io::{Read, Write};
@@ -44,6 +46,10 @@ pub fn serve<R: Read, W: Write>(
             Ok(mut bench) => run_decide(reader, writer, &limits, *plan, &mut bench),
             Err(_) => Err(Fault::Memory),
         },
+        Work::Check => match pair_of(alloc, &limits) {
+            Ok((mut pair, mut path)) => run_check(reader, writer, &limits, &mut pair, &mut path),
+            Err(_) => Err(Fault::Memory),
+        },
         Work::Trace(text) => match RingTape::new(alloc, limits.cells()) {
             Ok(mut tape) => run_trace(text.as_str().as_bytes(), &limits, &mut tape, writer),
             Err(_) => Err(Fault::Memory),
@@ -61,6 +67,18 @@ fn bench_of(alloc: Global, limits: &Limits) -> Result<Bench<RingTape>, Memory>
     let right = RingTape::new(alloc, cells)?;
     let left = RingTape::new(alloc, cells)?;
     Bench::new(alloc, run, right, left, limits)
+}
+
+/// Two rings and a path for claims under these limits.
+fn pair_of(alloc: Global, limits: &Limits) -> Result<(Pair<RingTape>, Path), Memory>
+    ensures tapes { IfOk result (λ made. HasPairCells ⟦<RingTape as Tape>⟧.strip limits.now.cells made.0) }
+    ensures path { IfOk result (λ made. depth_of made.1 ≡ limits.now.depth) }
+{
+    let cells = limits.cells();
+    let run = RingTape::new(alloc, cells)?;
+    let saved = RingTape::new(alloc, cells)?;
+    let path = Path::new(alloc, limits.depth())?;
+    Ok((Pair { run, saved }, path))
 }
 
 /// The program's exit status: 0 where the summary is clean, 1 where it isn't, 3 for a fault.

@@ -83,6 +83,35 @@ fn asks_all_deciders(rt: HostRuntime) {
 }
 
 #[test]
+fn checks(rt: HostRuntime) {
+    let claims = b"1RB1LB_1LA1RZ halt 6 4\n0RB---_0LA--- backward 2 4\nrefused 14\n".as_slice();
+    for (words, output, code) in [
+        (["bb", "check"].as_slice(), b"ok\nok\nopen\n".as_slice(), 0),
+        (
+            ["bb", "check", "--steps=5"].as_slice(),
+            b"over\nok\nopen\n",
+            1,
+        ),
+        (
+            ["bb", "check", "--cells=3", "--depth=2"].as_slice(),
+            b"over\nok\nopen\n",
+            1,
+        ),
+        (
+            ["bb", "check", "--nodes=3"].as_slice(),
+            b"ok\nover\nopen\n",
+            1,
+        ),
+    ] {
+        let asked = ask(rt.alloc(), words).expect(&rt, "a command line");
+        let mut writer = Watched::new(Vec::new(rt.alloc()));
+        let end = serve(rt.alloc(), &asked, &mut Watched::new(claims), &mut writer);
+        assert_eq!(rt; writer.into_inner().as_slice(), output);
+        assert_eq!(rt; status(&end), code);
+    }
+}
+
+#[test]
 fn runs_the_champion_of_five_states(rt: HostRuntime) {
     let (_, written) = decided(
         &rt,
@@ -144,6 +173,14 @@ fn refuses_limits(rt: HostRuntime) {
             "bb: nodes out of range",
         ),
         (
+            ["check", "--cells=4"].as_slice(),
+            "bb: depth does not fit in cells",
+        ),
+        (
+            ["check", "--steps=1000000000001"].as_slice(),
+            "bb: steps out of range",
+        ),
+        (
             ["trace", "--upto=1000000000001", "1RA1RA"].as_slice(),
             "bb: steps out of range",
         ),
@@ -163,12 +200,13 @@ fn refuses_limits(rt: HostRuntime) {
 }
 
 /// Words that are no command line, and what the text that refuses them names.
-static NO_COMMAND_LINES: [(&[&str], &str); 11] = [
+static NO_COMMAND_LINES: [(&[&str], &str); 12] = [
     (&["decide", "--steps=x"], "--steps"),
     (&["decide", "--cells=18446744073709551616"], "--cells"),
     (&["decide", "--cels=4"], "--cels"),
     (&["decide", "a", "more"], "more"),
-    (&["check"], "check"),
+    (&["check", "--no-cyclers"], "--no-cyclers"),
+    (&["check", "a", "more"], "more"),
     (&["trace"], "--upto"),
     (&["trace", "1RA1RA"], "--upto"),
     (&["trace", "--upto", "1"], "MACHINE"),

@@ -1,0 +1,28 @@
+use Rattle.std.proofs.lemmas.Result.{IfOk-weaker}
+use Rattle.std.proofs.Common.{codes}
+use Rattle.clap.specs.Words.{AddsArg}
+use Rattle.clap.specs.Simple.{new_shape}
+use Rattle.clap.specs.declared.builder.command.Command.{Command}
+use Rattle.bb.specs.CommandLine.{check_shape}
+use Rattle.bb.proofs.CommandShapes.{IsLocal, with_arg}
+use Rattle.bb.proofs.command.check_command.Goals as goal
+
+-- what the last argument leaves
+has_shape : (c : goal.After-arg-5) (command : Command)
+    → AddsArg c.in_ok-arg-4.field-0 c.positional-file.result command → IsLocal command check_shape
+has_shape c command adds =
+    let s0 : IsLocal c.command.result (new_shape (codes "check")) =
+    record { is_shape = c.command.ensures.shape; no_globals = c.command.ensures.local } in
+    let s1 = with_arg _ _ _ _ _ c.in_ok-arg.ensures s0 c.steps.ensures.rule c.steps.ensures.local in
+    let s2 = with_arg _ _ _ _ _ c.in_ok-arg-2.ensures s1 c.cells.ensures.rule c.cells.ensures.local in
+    let s3 = with_arg _ _ _ _ _ c.in_ok-arg-3.ensures s2 c.depth.ensures.rule c.depth.ensures.local in
+    let s4 = with_arg _ _ _ _ _ c.in_ok-arg-4.ensures s3 c.nodes.ensures.rule c.nodes.ensures.local in
+    with_arg _ _ _ _ _ adds s4 c.positional-file.ensures.rule c.positional-file.ensures.local
+
+pub returns-clause-shape : goal.returns-clause-shape
+returns-clause-shape c =
+    IfOk-weaker c.arg-5.result _ _ (λ command adds. (has_shape c command adds).is_shape) c.arg-5.ensures
+
+pub returns-clause-local : goal.returns-clause-local
+returns-clause-local c =
+    IfOk-weaker c.arg-5.result _ _ (λ command adds. (has_shape c command adds).no_globals) c.arg-5.ensures
