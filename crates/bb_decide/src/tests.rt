@@ -72,9 +72,9 @@ static ROWS: [Row; 12] = [
     (b"0RA0RA", 1000, Verdict::Undecided(Why::Cells), 126),
 ];
 
-/// Rows where the search for records that agree is on too. The two machines with 300 steps go, between their records,
-/// beyond what they had visited at the first of them.
-static TRANSLATED_ROWS: [Row; 15] = [
+/// Rows where the search for records that agree is on too, each machine's mirror image among them. The two machines with
+/// 300 steps go, between their records, beyond what they had visited at the first of them.
+static TRANSLATED_ROWS: [Row; 20] = [
     (
         b"1RA1RA",
         1000,
@@ -190,6 +190,46 @@ static TRANSLATED_ROWS: [Row; 15] = [
     ),
     (
         b"0RB---_0LA---",
+        1000,
+        Verdict::Cycler {
+            first: 2,
+            second: 4,
+        },
+        1004,
+    ),
+    (
+        b"1LA1LA",
+        1000,
+        Verdict::Translated {
+            side: Side::L,
+            first: 1,
+            second: 2,
+        },
+        128,
+    ),
+    (
+        b"0RA0RA",
+        1000,
+        Verdict::Translated {
+            side: Side::R,
+            first: 1,
+            second: 2,
+        },
+        128,
+    ),
+    (
+        b"1LB---_1LC---_1LA---",
+        1000,
+        Verdict::Translated {
+            side: Side::L,
+            first: 4,
+            second: 7,
+        },
+        133,
+    ),
+    (b"1LB1LZ_1RB0LC_1RC1RA", 20, STEPS, 60),
+    (
+        b"0LB---_0RA---",
         1000,
         Verdict::Cycler {
             first: 2,

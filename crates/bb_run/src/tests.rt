@@ -356,12 +356,7 @@ static BY_TREES: [Row; 12] = [
         b"1RA1RA backward 0 0\n",
         true,
     ),
-    (
-        [1, 599, 0, 0],
-        b"1RA1RA\n",
-        b"1RA1RA backward 0 0\n",
-        true,
-    ),
+    ([1, 599, 0, 0], b"1RA1RA\n", b"1RA1RA backward 0 0\n", true),
     (
         [1, 599, 300, 1_000],
         b"1RB---_1LA---\n",
@@ -570,10 +565,18 @@ fn each_growth_refused(
         let run = MapTape::new_in(&heap, limits.cells());
         let right = MapTape::new_in(&heap, limits.cells());
         let left_tape = MapTape::new_in(&heap, limits.cells());
-        let mut bench = Bench::new(rt.alloc(), run, right, left_tape, &limits).expect(rt, "a bench");
+        let mut bench = Bench::new(rt.alloc(), run, right, left_tape, &limits).expect(
+            rt, "a bench",
+        );
         let rest: Vec<u8, &LocalHeap> = Vec::with_capacity(&heap, (1 << 13) - left)?;
         let mut writer = Watched::new(Vec::new(rt.alloc()));
-        let end = run_decide(&mut Watched::new(input), &mut writer, &limits, plan, &mut bench);
+        let end = run_decide(
+            &mut Watched::new(input),
+            &mut writer,
+            &limits,
+            plan,
+            &mut bench,
+        );
         drop(rest);
         let written = writer.into_inner();
         if end == Err(Fault::Memory) {
@@ -587,7 +590,13 @@ fn each_growth_refused(
             fitted |= 1;
         }
         let mut writer = Watched::new(Vec::new(rt.alloc()));
-        let end = run_decide(&mut Watched::new(input), &mut writer, &limits, plan, &mut bench);
+        let end = run_decide(
+            &mut Watched::new(input),
+            &mut writer,
+            &limits,
+            plan,
+            &mut bench,
+        );
         assert!(rt;
             end.is_ok() && writer.into_inner().as_slice() == output,
             "again"
