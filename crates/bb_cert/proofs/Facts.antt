@@ -4,9 +4,11 @@ pub use Rattle.bb_cert.proofs.AnswerRules.{answer_is_unique}
 pub use Rattle.bb_cert.proofs.Claims.{claims_never_halt}
 pub use Rattle.bb_cert.proofs.Lengths.{length-line}
 pub use Rattle.bb_cert.proofs.Lines.{line_unique}
+pub use Rattle.bb_cert.proofs.NoRecords.{agreeing_records_never_repeat}
 pub use Rattle.bb_cert.proofs.Positions.{climbs, head_at-is, head_at-start, out-subtract, out-zero}
+pub use Rattle.bb_cert.proofs.RecordPairs.{record_pair}
 pub use Rattle.bb_cert.proofs.Records.{record_has_one_step, record_takes_steps, records_in_order, short_of_record, stands_on}
-pub use Rattle.bb_cert.proofs.Repeats.{repeats_go_on, repeats_never_halt}
+pub use Rattle.bb_cert.proofs.Repeats.{repeats_go_on, repeats_keep_distance, repeats_never_halt}
 pub use Rattle.bb_cert.proofs.Runs.{earlier, moves}
 pub use Rattle.bb_cert.proofs.Standing.{AreAlike, same_of_alike, alike_of_same, no_repeat_at_once}
 pub use Rattle.bb_cert.proofs.Levels.{matches_level, halts_from_level}

@@ -7,6 +7,7 @@ pub mod Looking
 pub mod Partners
 pub mod Reaching
 pub mod Stretches
+pub mod Sure
 pub mod Translations
 pub mod Verdicts
 pub mod Works

@@ -5,6 +5,7 @@ pub mod Follow
 pub mod Laws
 pub mod Partner
 pub mod Search
+pub mod Sure
 pub mod Translation
 pub mod Verdict
 pub mod Work

@@ -6,6 +6,7 @@ ghost use Rattle.bb_cert.specs.Claim.{Claim};
 ghost use Rattle.bb_cert.specs.Verdict.{HasNumbers};
 ghost use Rattle.bb_decide.specs.Bench.{HasCells};
 ghost use Rattle.bb_decide.specs.Cycle.{CountsSearch, FindsCycle};
+ghost use Rattle.bb_decide.specs.Sure.{FindsRepeats};
 
 use crate::bench::Bench;
 use bb_cert::{Verdict, is_same};
@@ -27,6 +28,7 @@ pub fn cyclers<T: Tape>(
     requires tapes { HasCells T.strip limits.now.cells bench.old }
     requires room { meter.old.steps ≤ 2 * limits.now.steps }
     ensures found { IfOk result (FindsCycle machine.now limits.now) }
+    ensures sure { IfOk result (FindsRepeats machine.now limits.now) }
     ensures counted { IfOk result (CountsSearch machine.now limits.now meter.old meter.new) }
     ensures within { IsWithinRun limits.now meter.old meter.new }
     ensures never { IfOk result (λ found. IfSome found (λ verdict. Never machine.now)) }

@@ -26,6 +26,7 @@ ghost use Rattle.bb_decide.specs.Search.{
   TranslatedCount,
   TranslatedFind,
 };
+ghost use Rattle.bb_decide.specs.Sure.{KeepsEarlier};
 ghost use Rattle.bb_decide.specs.Verdict.{IsVerdict};
 ghost use Rattle.bb_decide.specs.Work.{CountsWork, IsWithinWork};
 
@@ -52,6 +53,7 @@ pub fn decide<T: Tape>(
     requires tapes { HasCells T.strip limits.now.cells bench.old }
     requires path { depth_of bench.old.path ≡ limits.now.depth }
     ensures verdict { IfOk result (IsVerdict machine.now limits.now plan) }
+    ensures earlier { IfOk result (KeepsEarlier machine.now limits.now plan) }
     ensures numbers { IfOk result HasNumbers }
     ensures claim { IfOk result (Claim machine.now) }
     ensures never { IfOk result (λ verdict. SaysNever verdict → Never machine.now) }

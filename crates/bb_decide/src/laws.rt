@@ -1,4 +1,5 @@
 //! Laws of verdicts, as contracts: a call of each does nothing.
+ghost use Rattle.bb_decide.specs.Laws.{AgreeingRecordsAreFound, LargerLimitsKeep, RepeatsAreFound};
 ghost use Rattle.bb_decide.specs.Laws.{VerdictIsUnique, VerdictsAreConfirmed, VerdictsHold, WorkIsBounded, WorkIsUnique};
 
 /// A machine has one verdict under one set of limits and one plan.
@@ -16,4 +17,15 @@ pub fn work_is_unique()
 pub fn verdicts_hold()
     ensures claim { VerdictsHold }
     ensures confirmed { VerdictsAreConfirmed }
+{}
+
+/// Where a pattern exists and the limits reach it, it is found.
+pub fn patterns_are_found()
+    ensures repeats { RepeatsAreFound }
+    ensures records { AgreeingRecordsAreFound }
+{}
+
+/// Larger limits lose nothing: a halt or a pair stays, and a tree stays or becomes a pair.
+pub fn larger_limits_keep()
+    ensures { LargerLimitsKeep }
 {}

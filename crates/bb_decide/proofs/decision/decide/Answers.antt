@@ -2,6 +2,7 @@ use Rattle.bb_cert.proofs.Facts.{claims_never_halt}
 use Rattle.std.proofs.Common.{refl, rules}
 use Rattle.bb_cert.specs.declared.verdict.Verdict.TheVariants.{Halt}
 use Rattle.bb_decide.proofs.Claims.{verdicts_are_confirmed}
+use Rattle.bb_decide.proofs.Sure.{larger_limits_keep}
 use Rattle.bb_decide.proofs.Works.{verdict_of_deciders, work_of_halt, work_of_deciders}
 use Rattle.bb_decide.proofs.decision.decide.Goals as goal
 use Rattle.bb_decide.proofs.decision.decide.Goals.{in-NoSteps, in-NoCells}
@@ -81,3 +82,19 @@ returns-in-Some-clause-line g c =
 
 pub returns-in-None-clause-line : goal.returns-in-None-clause-line
 returns-in-None-clause-line g c = (c.states-read.ensures.machine, tt, refl)
+
+pub returns-in-Halt-clause-earlier : goal.returns-in-Halt-clause-earlier
+returns-in-Halt-clause-earlier g c = λ lower earlier within is.
+    let outcome = rw c.in-Halt.is at c.in_ok-steps.ensures.outcome in
+    larger_limits_keep c.args.machine.now lower c.args.limits.now c.args.plan earlier (Halt _ _)
+    c.states-read.ensures.machine within is outcome
+
+pub returns-in-Some-clause-earlier : goal.returns-in-Some-clause-earlier
+returns-in-Some-clause-earlier g c = λ lower earlier within is.
+    larger_limits_keep c.args.machine.now lower c.args.limits.now c.args.plan earlier _
+    c.states-read.ensures.machine within is (returns-in-Some-clause-verdict g c)
+
+pub returns-in-None-clause-earlier : goal.returns-in-None-clause-earlier
+returns-in-None-clause-earlier g c = λ lower earlier within is.
+    larger_limits_keep c.args.machine.now lower c.args.limits.now c.args.plan earlier _
+    c.states-read.ensures.machine within is (returns-in-None-clause-verdict g c)
