@@ -2,6 +2,8 @@
 
 mod broken;
 mod check;
+mod forged;
+mod growing;
 mod streams;
 mod trace;
 
