@@ -30,14 +30,14 @@ answer_is_unique table bounds verdict a b one two =
 named_nothing : (bounds : Bounds) (verdict : Verdict) → NamesTooMuch bounds verdict → IsUndecided verdict → ⊥
 named_nothing bounds (Halt steps score) named none = none
 named_nothing bounds (Cycler first second) named none = none
-named_nothing bounds (Translated side first second) named none = none
+named_nothing bounds (Translated side first second extent) named none = none
 named_nothing bounds (Backward levels nodes) named none = none
 named_nothing bounds (Undecided why) named none = named
 
 no_pair : (verdict : Verdict) → IsOutOfOrder verdict → IsUndecided verdict → ⊥
 no_pair (Halt steps score) order none = none
 no_pair (Cycler first second) order none = none
-no_pair (Translated side first second) order none = none
+no_pair (Translated side first second extent) order none = none
 no_pair (Backward levels nodes) order none = none
 no_pair (Undecided why) order none = order
 

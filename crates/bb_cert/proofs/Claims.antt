@@ -9,8 +9,8 @@ use Rattle.bb_cert.proofs.TreeEnds.{clear_trees_never_halt}
 pub claims_never_halt : ClaimsNeverHalt
 claims_never_halt table (Halt steps score) machine says claim = absurd says
 claims_never_halt table (Cycler first second) machine says claim = repeats_never_halt table first second claim.0 claim.1
-claims_never_halt table (Translated side first second) machine says claim =
-    agreeing_records_never_halt table side first second claim
+claims_never_halt table (Translated side first second extent) machine says claim =
+    agreeing_records_never_halt table side first second claim.0
 claims_never_halt table (Backward levels nodes) machine says claim =
     clear_trees_never_halt table levels nodes machine claim.0 claim.1
 claims_never_halt table (Undecided why) machine says claim = absurd says

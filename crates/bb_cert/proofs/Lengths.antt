@@ -1,5 +1,5 @@
 -- How long the parts of a line are.
-use Rattle.std.proofs.Common.{◌≡◌, ℕ, ◌<◌, ◌≤◌, ◌^◌, List, ◌∷◌, ◌++◌, length, codes, decimal, arith, ap, length-append}
+use Rattle.std.proofs.Common.{◌≡◌, ℕ, ◌<◌, ◌≤◌, ◌^◌, Option, Some, None, List, ◌∷◌, ◌++◌, length, codes, decimal, arith, ap, length-append}
 use Rattle.std.proofs.lemmas.Fmt.{length-decimal-le}
 use Rattle.bb_machine.specs.declared.machine.TheConstants.{MAX_STATES, MAX_SYMBOLS}
 use Rattle.bb_machine.specs.Machine.{text}
@@ -7,31 +7,61 @@ use Rattle.bb_machine.proofs.Facts.{text_short}
 use Rattle.bb_cert.specs.declared.line.TheConstants.{LONGEST}
 use Rattle.bb_cert.specs.declared.reader.Line.{Line}
 use Rattle.bb_cert.specs.declared.reader.Line.TheVariants.{Claim, Refusal}
+use Rattle.bb_cert.specs.declared.verdict.Extent.{Extent}
 use Rattle.bb_cert.specs.declared.verdict.Side.TheVariants.{L, R}
 use Rattle.bb_cert.specs.declared.verdict.Why.TheVariants.{Steps, Cells}
 use Rattle.bb_cert.specs.declared.verdict.Verdict.{Verdict}
 use Rattle.bb_cert.specs.declared.verdict.Verdict.TheVariants.{Halt, Cycler, Translated, Backward, Undecided}
-use Rattle.bb_cert.specs.Verdict.{HasNumbers}
-use Rattle.bb_cert.specs.Line.{pair_text, refusal_text, verdict_text, IsLineOf}
+use Rattle.bb_cert.specs.Verdict.{HasExtentNumbers, HasNumbers}
+use Rattle.bb_cert.specs.Line.{pair_text, records_text, refusal_text, second_text, verdict_text, IsLineOf}
 
 number : (n : ℕ) → n < 2 ^ 64 → length (decimal n) ≤ 20
 number n h = length-decimal-le 20 n (omega arith) (omega (arith, h)) h
 
--- a word of at most 14 bytes and two numbers
-numbers : (word : List ℕ) (a b : ℕ) → length word ≤ 14 → a < 2 ^ 64 → b < 2 ^ 64 → length (word ++ pair_text a b) ≤ 55
-numbers word a b short first second =
+-- two numbers with a space between them
+pair : (a b : ℕ) → a < 2 ^ 64 → b < 2 ^ 64 → length (pair_text a b) ≤ 41
+pair a b first second =
     let m = number a first in
     let n = number b second in
+    let whole = length-append (decimal a) (32 ∷ decimal b) in
+    omega arith
+
+-- a second step, with its extent or without
+length-second : (b : ℕ) (extent : Option Extent) → b < 2 ^ 64 → HasExtentNumbers extent
+    → length (second_text b extent) ≤ 62
+length-second b None second fits = let n = number b second in omega arith
+length-second b (Some extent) second fits =
+    let n = number b second in
+    let after = pair extent.shift extent.length fits.0 fits.1 in
+    let whole = length-append (decimal b) (32 ∷ pair_text extent.shift extent.length) in
+    omega arith
+
+-- a word of at most 14 bytes, and two numbers
+numbers : (word : List ℕ) (a b : ℕ) → length word ≤ 14 → a < 2 ^ 64 → b < 2 ^ 64
+    → length (word ++ pair_text a b) ≤ 97
+numbers word a b short first second =
+    let both = pair a b first second in
     let whole = length-append word (pair_text a b) in
-    let pair = length-append (decimal a) (32 ∷ decimal b) in
+    omega arith
+
+-- such a word, and the steps of two records
+records : (word : List ℕ) (a b : ℕ) (extent : Option Extent) → length word ≤ 14 → a < 2 ^ 64 → b < 2 ^ 64
+    → HasExtentNumbers extent → length (word ++ records_text a b extent) ≤ 97
+records word a b extent short first second fits =
+    let m = number a first in
+    let n = length-second b extent second fits in
+    let whole = length-append word (records_text a b extent) in
+    let both = length-append (decimal a) (32 ∷ second_text b extent) in
     omega arith
 
 -- what stands after the machine
-pub length-verdict_text : (verdict : Verdict) → HasNumbers verdict → length (verdict_text verdict) ≤ 55
+pub length-verdict_text : (verdict : Verdict) → HasNumbers verdict → length (verdict_text verdict) ≤ 97
 length-verdict_text (Halt steps score) fits = numbers (codes " halt ") steps score (omega arith) fits.0 fits.1
 length-verdict_text (Cycler first second) fits = numbers (codes " cycler ") first second (omega arith) fits.0 fits.1
-length-verdict_text (Translated L first second) fits = numbers (codes " translated L ") first second (omega arith) fits.0 fits.1
-length-verdict_text (Translated R first second) fits = numbers (codes " translated R ") first second (omega arith) fits.0 fits.1
+length-verdict_text (Translated L first second extent) fits =
+    records (codes " translated L ") first second extent (omega arith) fits.0 fits.1 fits.2
+length-verdict_text (Translated R first second extent) fits =
+    records (codes " translated R ") first second extent (omega arith) fits.0 fits.1 fits.2
 length-verdict_text (Backward levels nodes) fits = numbers (codes " backward ") levels nodes (omega arith) fits.0 fits.1
 length-verdict_text (Undecided Steps) fits = omega arith
 length-verdict_text (Undecided Cells) fits = omega arith

@@ -1,5 +1,5 @@
 -- Decimal texts: one for each number, with no sign and no leading zero.
-use Rattle.std.proofs.Common.{◌≡◌, ◌≢◌, ℕ, ◌<◌, ◌^◌, List, ◌∷◌, ◌++◌, length, get_or, decimal, Result, Ok, Err, refl, sym, ◌∙◌, ap, inl, inr, arith}
+use Rattle.std.proofs.Common.{◌≡◌, ◌≢◌, ℕ, ◌<◌, ◌^◌, List, ◌∷◌, ◌++◌, length, get_or, decimal, Option, Some, None, Result, Ok, Err, refl, sym, ◌∙◌, ap, inl, inr, arith}
 use Rattle.std.specs.Result.{MatchResult}
 use Rattle.std.specs.Str.{IsUtf8}
 use Rattle.std.specs.Str.Parse.{AllDigits, digits_value, ParsesUnsigned}
@@ -8,8 +8,9 @@ use Rattle.std.proofs.lemmas.Fmt.{decimal_digit, decimal_nonempty, first_decimal
 use Rattle.std.proofs.lemmas.List.Elements.{All-from_get_or}
 use Rattle.std.proofs.lemmas.Str.{IsUtf8-from_ascii}
 use Rattle.std.proofs.lemmas.Str.Parse.{IsNumeralModel, digit_at, numerals_by_value, tells_digits, parse_plain}
-use Rattle.bb_cert.specs.Line.{pair_text}
-use Rattle.bb_cert.proofs.Spaces.{HasNoSpace, same_split}
+use Rattle.bb_cert.specs.declared.verdict.Extent.{Extent}
+use Rattle.bb_cert.specs.Line.{pair_text, records_text, second_text}
+use Rattle.bb_cert.proofs.Spaces.{HasNoSpace, no_space_within, same_split}
 
 model : IsNumeralModel (AllDigits 10) (digits_value 10)
 model = numerals_by_value (AllDigits 10) tells_digits
@@ -55,6 +56,24 @@ number_parsed {E} bytes (Err e) parses no_plus no_zero =
 pub pair_split : (a b : ℕ) (prefix rest bytes : List ℕ) → a < 2 ^ 64 → HasNoSpace prefix → prefix ++ 32 ∷ rest ≡ bytes → pair_text a b ≡ bytes → (decimal a ≡ prefix) × (decimal b ≡ rest)
 pair_split a b prefix rest bytes fits none parts is =
     same_split (decimal a) prefix (decimal b) rest (decimal_no_space a fits) none (is ∙ sym parts)
+
+-- the steps of two records are split there too
+pub records_split : (a b : ℕ) (extent : Option Extent) (prefix rest bytes : List ℕ) → a < 2 ^ 64 → HasNoSpace prefix
+    → prefix ++ 32 ∷ rest ≡ bytes → records_text a b extent ≡ bytes
+    → (decimal a ≡ prefix) × (second_text b extent ≡ rest)
+records_split a b extent prefix rest bytes fits none parts is =
+    same_split (decimal a) prefix (second_text b extent) rest (decimal_no_space a fits) none (is ∙ sym parts)
+
+-- where a space stands after the second of them, an extent does
+pub second_split : (b : ℕ) (extent : Option Extent) (prefix rest bytes : List ℕ) → b < 2 ^ 64 → HasNoSpace prefix
+    → prefix ++ 32 ∷ rest ≡ bytes → second_text b extent ≡ bytes
+    → (told : Extent) × (extent ≡ Some told) × (decimal b ≡ prefix) × (pair_text told.shift told.length ≡ rest)
+second_split b None prefix rest bytes fits none parts is =
+    absurd (no_space_within prefix rest (decimal b) (decimal_no_space b fits) (parts ∙ sym is))
+second_split b (Some told) prefix rest bytes fits none parts is =
+    let split = same_split (decimal b) prefix (pair_text told.shift told.length) rest (decimal_no_space b fits) none
+        (is ∙ sym parts) in
+    (told, refl, split.0, split.1)
 
 pub pair_apart : (a b c d : ℕ) → a < 2 ^ 64 → b < 2 ^ 64 → c < 2 ^ 64 → d < 2 ^ 64 → pair_text a b ≡ pair_text c d → (a ≡ c) × (b ≡ d)
 pair_apart a b c d p q r s is =

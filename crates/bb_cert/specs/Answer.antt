@@ -13,7 +13,7 @@ use Rattle.bb_cert.specs.Claim.{Claim}
 abbrev pub IsUndecided : Verdict → Type 0
 IsUndecided (Halt steps score) = ⊥
 IsUndecided (Cycler first second) = ⊥
-IsUndecided (Translated side first second) = ⊥
+IsUndecided (Translated side first second extent) = ⊥
 IsUndecided (Backward levels nodes) = ⊥
 IsUndecided (Undecided why) = Unit {0}
 
@@ -21,7 +21,7 @@ IsUndecided (Undecided why) = Unit {0}
 abbrev pub NamesTooMuch : Bounds → Verdict → Type 0
 NamesTooMuch bounds (Halt steps score) = bounds.steps < steps
 NamesTooMuch bounds (Cycler first second) = (bounds.steps < first) ⊎ (bounds.steps < second)
-NamesTooMuch bounds (Translated side first second) = (bounds.steps < first) ⊎ (bounds.steps < second)
+NamesTooMuch bounds (Translated side first second extent) = (bounds.steps < first) ⊎ (bounds.steps < second)
 NamesTooMuch bounds (Backward levels nodes) = (bounds.depth < levels) ⊎ (bounds.nodes < nodes)
 NamesTooMuch bounds (Undecided why) = ⊥
 
@@ -29,7 +29,7 @@ NamesTooMuch bounds (Undecided why) = ⊥
 abbrev pub IsOutOfOrder : Verdict → Type 0
 IsOutOfOrder (Halt steps score) = ⊥
 IsOutOfOrder (Cycler first second) = second ≤ first
-IsOutOfOrder (Translated side first second) = second ≤ first
+IsOutOfOrder (Translated side first second extent) = second ≤ first
 IsOutOfOrder (Backward levels nodes) = ⊥
 IsOutOfOrder (Undecided why) = ⊥
 
@@ -37,7 +37,7 @@ IsOutOfOrder (Undecided why) = ⊥
 abbrev pub NeedsTooMuch : Table → Bounds → Verdict → Type 0
 NeedsTooMuch table bounds (Halt steps score) = bounds.cells < span table steps
 NeedsTooMuch table bounds (Cycler first second) = bounds.cells < span table second
-NeedsTooMuch table bounds (Translated side first second) = bounds.cells < span table second
+NeedsTooMuch table bounds (Translated side first second extent) = bounds.cells < span table second
 NeedsTooMuch table bounds (Backward levels nodes) = ⊥
 NeedsTooMuch table bounds (Undecided why) = ⊥
 

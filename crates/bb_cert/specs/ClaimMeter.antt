@@ -9,7 +9,7 @@ use Rattle.bb_cert.specs.declared.verdict.Verdict.TheVariants.{Halt, Cycler, Tra
 abbrev pub last_step : Verdict → ℕ
 last_step (Halt steps score) = steps
 last_step (Cycler first second) = second
-last_step (Translated side first second) = second
+last_step (Translated side first second extent) = second
 last_step (Backward levels nodes) = 0
 last_step (Undecided why) = 0
 
@@ -17,7 +17,7 @@ last_step (Undecided why) = 0
 abbrev pub levels_of : Verdict → ℕ
 levels_of (Halt steps score) = 0
 levels_of (Cycler first second) = 0
-levels_of (Translated side first second) = 0
+levels_of (Translated side first second extent) = 0
 levels_of (Backward levels nodes) = levels
 levels_of (Undecided why) = 0
 
@@ -25,7 +25,7 @@ levels_of (Undecided why) = 0
 abbrev pub nodes_of : Verdict → ℕ
 nodes_of (Halt steps score) = 0
 nodes_of (Cycler first second) = 0
-nodes_of (Translated side first second) = 0
+nodes_of (Translated side first second extent) = 0
 nodes_of (Backward levels nodes) = nodes
 nodes_of (Undecided why) = 0
 

@@ -13,5 +13,6 @@ pub mod Claim
 pub mod Answer
 pub mod ClaimMeter
 pub mod Pair
+pub mod Extent
 pub mod Follow
 pub mod Checks

@@ -1,8 +1,9 @@
 -- The line of a machine and a verdict, and that of a refused line: this project's own format.
-use Rattle.std.specs.Prelude.{◌≡◌, ℕ, ◌+◌, ◌<◌, ◌≤◌, List, ◌∷◌, ◌++◌, codes, decimal}
+use Rattle.std.specs.Prelude.{◌≡◌, ℕ, ◌+◌, ◌<◌, ◌≤◌, Option, Some, None, List, ◌∷◌, ◌++◌, codes, decimal}
 use Rattle.bb_machine.specs.declared.machine.TheConstants.{LINE}
 use Rattle.bb_machine.specs.declared.entry.Entry.{Entry}
 use Rattle.bb_machine.specs.Machine.{IsMachine, text}
+use Rattle.bb_cert.specs.declared.verdict.Extent.{Extent}
 use Rattle.bb_cert.specs.declared.verdict.Side.{Side}
 use Rattle.bb_cert.specs.declared.verdict.Side.TheVariants.{L, R}
 use Rattle.bb_cert.specs.declared.verdict.Why.{Why}
@@ -17,6 +18,15 @@ use Rattle.bb_cert.specs.Verdict.{HasNumbers}
 abbrev pub pair_text : ℕ → ℕ → List ℕ
 pair_text a b = decimal a ++ (32 ∷ decimal b)
 
+-- the second step of a pair, and the extent after it where there is one
+abbrev pub second_text : ℕ → Option Extent → List ℕ
+second_text second None = decimal second
+second_text second (Some extent) = decimal second ++ (32 ∷ pair_text extent.shift extent.length)
+
+-- the steps of two records, and their extent where there is one
+abbrev pub records_text : ℕ → ℕ → Option Extent → List ℕ
+records_text first second extent = decimal first ++ (32 ∷ second_text second extent)
+
 -- the word that names a side, with the space before it
 abbrev pub side_text : Side → List ℕ
 side_text L = codes " translated L "
@@ -30,7 +40,7 @@ why_text Cells = codes " undecided cells"
 abbrev pub verdict_text : Verdict → List ℕ
 verdict_text (Halt steps score) = codes " halt " ++ pair_text steps score
 verdict_text (Cycler first second) = codes " cycler " ++ pair_text first second
-verdict_text (Translated side first second) = side_text side ++ pair_text first second
+verdict_text (Translated side first second extent) = side_text side ++ records_text first second extent
 verdict_text (Backward levels nodes) = codes " backward " ++ pair_text levels nodes
 verdict_text (Undecided why) = why_text why
 

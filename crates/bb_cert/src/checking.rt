@@ -138,6 +138,7 @@ fn check_claim<T: Tape>(
             side,
             first,
             second,
+            ..
         } => check_translated(machine, side, first, second, limits, pair, meter),
         Verdict::Backward { levels, nodes } => {
             check_backward(machine, levels, nodes, limits, &mut pair.run, path, meter)

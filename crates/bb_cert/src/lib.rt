@@ -22,4 +22,4 @@ pub use compare::is_same;
 pub use line::{LINE_BUFFER, LONGEST, line_into, lines_are_short, refusal_into};
 pub use path::Path;
 pub use reader::{Line, read_line};
-pub use verdict::{Side, Verdict, Why};
+pub use verdict::{Extent, Side, Verdict, Why};

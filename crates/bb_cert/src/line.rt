@@ -4,16 +4,16 @@ ghost use Rattle.bb_machine.specs.declared.entry.Entry.{Entry};
 ghost use Rattle.bb_machine.specs.Machine.{text};
 ghost use Rattle.bb_cert.specs.declared.verdict.Verdict.{Verdict};
 ghost use Rattle.bb_cert.specs.Verdict.{HasNumbers};
-ghost use Rattle.bb_cert.specs.Line.{line_text, pair_text, refusal_text, side_text, verdict_text};
+ghost use Rattle.bb_cert.specs.Line.{line_text, pair_text, records_text, refusal_text, side_text, verdict_text};
 
-use crate::verdict::{Side, Verdict, Why};
+use crate::verdict::{Extent, Side, Verdict, Why};
 use arrayvec::ArrayVec;
 use bb_machine::{LINE, Machine};
 use itoa::Buffer;
 
-/// The bytes of the longest verdict line: the longest machine, ` translated R `, and two numbers
-/// of 20 digits with a space between them.
-pub const LONGEST: usize = LINE + 55;
+/// The bytes of the longest verdict line: the longest machine, ` translated R `, and four numbers
+/// of 20 digits with spaces between them.
+pub const LONGEST: usize = LINE + 97;
 
 /// The bytes of a buffer that a line is written into.
 pub const LINE_BUFFER: usize = 1023;
@@ -54,10 +54,28 @@ fn verdict_into(verdict: Verdict, out: &mut ArrayVec<u8, LINE_BUFFER>)
             side,
             first,
             second,
-        } => pair_into(side_words(side), first, second, out),
+            extent,
+        } => records_into(side, first, second, extent, out),
         Verdict::Backward { levels, nodes } => pair_into(b" backward ", levels, nodes, out),
         Verdict::Undecided(Why::Steps) => append(b" undecided steps", out),
         Verdict::Undecided(Why::Cells) => append(b" undecided cells", out),
+    }
+}
+
+fn records_into(
+    side: Side,
+    first: u64,
+    second: u64,
+    extent: Option<Extent>,
+    out: &mut ArrayVec<u8, LINE_BUFFER>,
+)
+    requires { array_vec_len out.old + length (side_text side ++ records_text first second extent) ≤ LINE_BUFFER }
+    ensures { out.new.items ≡ out.old.items ++ (side_text side ++ records_text first second extent) }
+{
+    pair_into(side_words(side), first, second, out);
+    match extent {
+        Some(extent) => pair_into(b" ", extent.shift, extent.length, out),
+        None => {}
     }
 }
 

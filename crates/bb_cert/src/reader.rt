@@ -1,11 +1,13 @@
 //! The reader of verdict lines.
-ghost use Rattle.std.specs.Prelude.{◌≡◌, ◌≢◌, ℕ, ◌+◌, ◌≤◌, ◌<◌, ◌^◌, List, ◌∷◌, ◌++◌, decimal, All, MatchOption, IfSome, IfNone, Some};
+ghost use Rattle.std.specs.Prelude.{◌≡◌, ◌≢◌, ℕ, ◌+◌, ◌≤◌, ◌<◌, ◌^◌, List, ◌∷◌, ◌++◌, decimal};
+ghost use Rattle.std.specs.Prelude.{All, IfNone, IfSome, MatchOption, Option, Some};
+ghost use Rattle.bb_cert.specs.declared.verdict.Extent.{Extent};
 ghost use Rattle.bb_cert.specs.declared.verdict.Verdict.{Verdict};
 ghost use Rattle.bb_cert.specs.declared.reader.Line.{Line};
-ghost use Rattle.bb_cert.specs.Verdict.{HasNumbers};
-ghost use Rattle.bb_cert.specs.Line.{pair_text, verdict_text, refusal_text, IsLineOf};
+ghost use Rattle.bb_cert.specs.Verdict.{HasExtentNumbers, HasNumbers};
+ghost use Rattle.bb_cert.specs.Line.{pair_text, records_text, second_text, verdict_text, refusal_text, IsLineOf};
 
-use crate::verdict::{Side, Verdict, Why};
+use crate::verdict::{Extent, Side, Verdict, Why};
 use bb_machine::{LINE, Machine};
 
 /// What a verdict line says.
@@ -60,18 +62,20 @@ fn read_verdict(words: &[u8]) -> Option<Verdict>
     if let Some((first, second)) = read_pair(b"cycler ", words) {
         return Some(Verdict::Cycler { first, second });
     }
-    if let Some((first, second)) = read_pair(b"translated L ", words) {
+    if let Some((first, second, extent)) = read_records(b"translated L ", words) {
         return Some(Verdict::Translated {
             side: Side::L,
             first,
             second,
+            extent,
         });
     }
-    if let Some((first, second)) = read_pair(b"translated R ", words) {
+    if let Some((first, second, extent)) = read_records(b"translated R ", words) {
         return Some(Verdict::Translated {
             side: Side::R,
             first,
             second,
+            extent,
         });
     }
     if let Some((levels, nodes)) = read_pair(b"backward ", words) {
@@ -95,6 +99,36 @@ fn read_pair(words: &[u8], bytes: &[u8]) -> Option<(u64, u64)>
     let numbers = bytes.strip_prefix(words)?;
     let (first, second) = split_at_space(numbers)?;
     Some((read_number(first)?, read_number(second)?))
+}
+
+/// The steps of two records that stand after these words, and their extent where there is one.
+fn read_records(words: &[u8], bytes: &[u8]) -> Option<(u64, u64, Option<Extent>)>
+    ensures { MatchOption result
+        ((a b : ℕ) (extent : Option Extent) → a < 2 ^ 64 → b < 2 ^ 64 → HasExtentNumbers extent
+            → words.now ++ records_text a b extent ≢ bytes.now)
+        (λ found. (found.0 < 2 ^ 64) × (found.1 < 2 ^ 64) × HasExtentNumbers found.2
+            × (words.now ++ records_text found.0 found.1 found.2 ≡ bytes.now)) }
+{
+    let numbers = bytes.strip_prefix(words)?;
+    let (first, others) = split_at_space(numbers)?;
+    let first = read_number(first)?;
+    let (second, extent) = read_second(others)?;
+    Some((first, second, extent))
+}
+
+/// The second step of a pair, and the extent where one stands after it.
+fn read_second(bytes: &[u8]) -> Option<(u64, Option<Extent>)>
+    ensures { MatchOption result
+        ((b : ℕ) (extent : Option Extent) → b < 2 ^ 64 → HasExtentNumbers extent
+            → second_text b extent ≢ bytes.now)
+        (λ found. (found.0 < 2 ^ 64) × HasExtentNumbers found.1 × (second_text found.0 found.1 ≡ bytes.now)) }
+{
+    let Some((second, extent)) = split_at_space(bytes) else {
+        return Some((read_number(bytes)?, None));
+    };
+    let second = read_number(second)?;
+    let (shift, length) = read_pair(b"", extent)?;
+    Some((second, Some(Extent { shift, length })))
 }
 
 /// The number whose decimal text the bytes are.

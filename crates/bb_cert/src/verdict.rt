@@ -12,6 +12,15 @@ pub enum Why {
     Cells,
 }
 
+/// How two records that agree lie on the tape.
+#[derive(Clone, Copy, Debug, PartialEq, Eq)]
+pub struct Extent {
+    /// How many cells farther out the second one is.
+    pub shift: u64,
+    /// How many cells agree: from the first one back to where the head is least far out until the second, both counted.
+    pub length: u64,
+}
+
 /// What is found out about a machine. Steps are counted from the start, which is step 0.
 #[derive(Clone, Copy, Debug, PartialEq, Eq)]
 pub enum Verdict {
@@ -19,8 +28,13 @@ pub enum Verdict {
     Halt { steps: u64, score: u64 },
     /// The configurations at two steps are the same.
     Cycler { first: u64, second: u64 },
-    /// The records of a side at two steps agree.
-    Translated { side: Side, first: u64, second: u64 },
+    /// The records of a side at two steps agree; a claim may tell how they lie.
+    Translated {
+        side: Side,
+        first: u64,
+        second: u64,
+        extent: Option<Extent>,
+    },
     /// The tree of what could come before a halt ends in so many levels, with so many nodes.
     Backward { levels: u64, nodes: u64 },
     /// Nothing was found within the limits.

@@ -1,12 +1,14 @@
 -- Why what a verdict claims holds, and why the checker confirms it under the same bounds.
-use Rattle.std.proofs.Common.{ℕ, ◌<◌, ◌≤◌, inl, inr, refl, arith}
+use Rattle.std.proofs.Common.{ℕ, ◌<◌, ◌≤◌, Option, Some, None, inl, inr, refl, arith}
 use Rattle.bb_machine.specs.Limits.{Bounds}
 use Rattle.bb_machine.specs.Machine.{Table}
+use Rattle.bb_cert.specs.declared.verdict.Extent.{Extent}
 use Rattle.bb_cert.specs.declared.verdict.Side.{Side}
 use Rattle.bb_cert.specs.declared.verdict.Why.TheVariants.{Steps, Cells}
 use Rattle.bb_cert.specs.declared.verdict.Verdict.{Verdict}
 use Rattle.bb_cert.specs.declared.verdict.Verdict.TheVariants.{Halt, Cycler, Translated, Backward, Undecided}
 use Rattle.bb_cert.specs.Answer.{Applies, IsOutOfOrder, IsUndecided, NamesTooMuch, NeedsTooMuch, Rule, rank, undecided, too_much_named, out_of_order, too_much_needed, claim_holds, all_else}
+use Rattle.bb_cert.specs.Extent.{SaysExtent, TellsExtent}
 use Rattle.bb_cert.proofs.Facts.{records_in_order}
 use Rattle.bb_decide.specs.declared.plan.Plan.{Plan}
 use Rattle.bb_decide.specs.Laws.{VerdictsAreConfirmed, VerdictsHold}
@@ -18,18 +20,25 @@ later : (table : Table) (side : Side) (a b : ℕ) → AgreesWithPartner table si
 later table side a b pair = (records_in_order table side pair.first_number pair.second_number a b pair.first_record
     pair.second_record).0 pair.partner.below
 
+-- an extent that is told is right
+told_is_said : (table : Table) (side : Side) (a b : ℕ) (extent : Option Extent) → TellsExtent table side a b extent
+    → SaysExtent table side a b extent
+told_is_said table side a b None tells = absurd tells
+told_is_said table side a b (Some extent) tells = tells
+
 pub verdicts_hold : VerdictsHold
 verdicts_hold table bounds plan (Halt steps score) is = (is.0.halts, is.1)
 verdicts_hold table bounds plan (Cycler first second) is = (is.2.cycle.partner.below, is.2.cycle.same)
-verdicts_hold table bounds plan (Translated side first second) is =
-    let pair = is.3.translation.pair in record {
+verdicts_hold table bounds plan (Translated side first second extent) is =
+    let pair = is.3.translation.pair in
+    (record {
       in_order = later table side first second pair;
       first_number = pair.first_number;
       second_number = pair.second_number;
       first_record = pair.first_record;
       second_record = pair.second_record;
       agree = pair.agree;
-    }
+    }, told_is_said table side first second extent is.4)
 verdicts_hold table bounds plan (Backward levels nodes) is = (is.4.ends, is.4.clear)
 verdicts_hold table bounds plan (Undecided Steps) is = tt
 verdicts_hold table bounds plan (Undecided Cells) is = tt
@@ -41,7 +50,7 @@ module _ (table : Table) (bounds : Bounds) (plan : Plan) where
       let few = is.2.cycle.inside.within_steps in
       let below = is.2.cycle.partner.below in
       elim over [ inl a ↦ omega (arith, few, below, a) | inr b ↦ omega (arith, few, b) ]
-  names_few (Translated side first second) is over =
+  names_few (Translated side first second extent) is over =
       let few = is.3.translation.inside.within_steps in
       let below = later table side first second is.3.translation.pair in
       elim over [ inl a ↦ omega (arith, few, below, a) | inr b ↦ omega (arith, few, b) ]
@@ -54,7 +63,7 @@ module _ (table : Table) (bounds : Bounds) (plan : Plan) where
   in_order : (verdict : Verdict) → IsVerdict table bounds plan verdict → IsOutOfOrder verdict → ⊥
   in_order (Halt steps score) is not = not
   in_order (Cycler first second) is not = let below = is.2.cycle.partner.below in omega (arith, below, not)
-  in_order (Translated side first second) is not =
+  in_order (Translated side first second extent) is not =
       let below = later table side first second is.3.translation.pair in omega (arith, below, not)
   in_order (Backward levels nodes) is not = not
   in_order (Undecided why) is not = not
@@ -62,7 +71,7 @@ module _ (table : Table) (bounds : Bounds) (plan : Plan) where
   needs_few : (verdict : Verdict) → IsVerdict table bounds plan verdict → NeedsTooMuch table bounds verdict → ⊥
   needs_few (Halt steps score) is over = let few = is.0.inside.within_cells in omega (arith, few, over)
   needs_few (Cycler first second) is over = let few = is.2.cycle.inside.within_cells in omega (arith, few, over)
-  needs_few (Translated side first second) is over =
+  needs_few (Translated side first second extent) is over =
       let few = is.3.translation.inside.within_cells in omega (arith, few, over)
   needs_few (Backward levels nodes) is over = over
   needs_few (Undecided why) is over = over

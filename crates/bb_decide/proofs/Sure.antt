@@ -67,7 +67,7 @@ finds_repeats table bounds None none a p power positive same is inside =
 finds_repeats table bounds (Some (Cycler first second)) found a p power positive same is inside =
     found.first power (power + p) (repeats_are_found table bounds a p power positive same is inside)
 finds_repeats table bounds (Some (Halt steps score)) found a p power positive same is inside = found
-finds_repeats table bounds (Some (Translated side first second)) found a p power positive same is inside =
+finds_repeats table bounds (Some (Translated side first second extent)) found a p power positive same is inside =
     absurd found
 finds_repeats table bounds (Some (Backward levels nodes)) found a p power positive same is inside = found
 finds_repeats table bounds (Some (Undecided why)) found a p power positive same is inside = found
@@ -78,11 +78,11 @@ finds_agreeing_records table bounds None none side i r a b power n positive firs
     let pair = agreeing_records_are_found table bounds side i r a b power n positive first second agree is there
     inside in
     absurd (none side pair.0 n pair.1)
-finds_agreeing_records table bounds (Some (Translated other one two)) found side i r a b power n positive first second
+finds_agreeing_records table bounds (Some (Translated other one two extent)) found side i r a b power n positive first second
     agree is there inside =
     let pair = agreeing_records_are_found table bounds side i r a b power n positive first second agree is there
     inside in
-    found.first side pair.0 n pair.1
+    found.0.first side pair.0 n pair.1
 finds_agreeing_records table bounds (Some (Halt steps score)) found side i r a b power n positive first second agree is
     there inside = found
 finds_agreeing_records table bounds (Some (Cycler one two)) found side i r a b power n positive first second agree is
@@ -163,7 +163,7 @@ larger_limits_keep table lower upper plan (Halt n ones) (Halt m twos) machine wi
     (halts_upper table lower upper within n a.0, a.1) in cc
 larger_limits_keep table lower upper plan (Halt n ones) (Cycler first second) machine within a b =
     absurd (b.0 n (halts_upper table lower upper within n a.0))
-larger_limits_keep table lower upper plan (Halt n ones) (Translated side first second) machine within a b =
+larger_limits_keep table lower upper plan (Halt n ones) (Translated side first second extent) machine within a b =
     absurd (b.0 n (halts_upper table lower upper within n a.0))
 larger_limits_keep table lower upper plan (Halt n ones) (Backward levels nodes) machine within a b =
     absurd (b.0 n (halts_upper table lower upper within n a.0))
@@ -180,7 +180,7 @@ larger_limits_keep table lower upper plan (Cycler first second) (Cycler third fo
       b.1,
       first_cycle_lower table lower upper within first second third fourth a.2 b.2,
     ) a
-larger_limits_keep table lower upper plan (Cycler first second) (Translated side third fourth) machine within a b =
+larger_limits_keep table lower upper plan (Cycler first second) (Translated side third fourth extent) machine within a b =
     absurd (b.1 a.1 first second (cycle_upper table lower upper within first second a.2.cycle))
 larger_limits_keep table lower upper plan (Cycler first second) (Backward levels nodes) machine within a b =
     absurd (b.1 a.1 first second (cycle_upper table lower upper within first second a.2.cycle))
@@ -188,31 +188,32 @@ larger_limits_keep table lower upper plan (Cycler first second) (Undecided Steps
     absurd (b.1.0 a.1 first second (cycle_upper table lower upper within first second a.2.cycle))
 larger_limits_keep table lower upper plan (Cycler first second) (Undecided Cells) machine within a b =
     absurd (b.1.0 a.1 first second (cycle_upper table lower upper within first second a.2.cycle))
-larger_limits_keep table lower upper plan (Translated side first second) (Halt n ones) machine within a b =
-    let agree = verdicts_hold table lower plan (Translated side first second) a in
-    absurd ((agreeing_records_never_halt table side first second agree).never n b.0.halts)
-larger_limits_keep table lower upper plan (Translated side first second) (Cycler third fourth) machine within a b =
-    let agree = verdicts_hold table lower plan (Translated side first second) a in
+larger_limits_keep table lower upper plan (Translated side first second extent) (Halt n ones) machine within a b =
+    let agree = verdicts_hold table lower plan (Translated side first second extent) a in
+    absurd ((agreeing_records_never_halt table side first second agree.0).never n b.0.halts)
+larger_limits_keep table lower upper plan (Translated side first second extent) (Cycler third fourth) machine within a b =
+    let agree = verdicts_hold table lower plan (Translated side first second extent) a in
     let cycle = b.2.cycle in
-    absurd (agreeing_records_never_repeat table side first second third fourth agree cycle.partner.below cycle.same)
-larger_limits_keep table lower upper plan (Translated side first second) (Translated other third fourth) machine within
+    absurd (agreeing_records_never_repeat table side first second third fourth agree.0 cycle.partner.below cycle.same)
+larger_limits_keep table lower upper plan (Translated side first second extent) (Translated other third fourth told) machine within
     a b =
-    verdict_is_unique table lower plan (Translated other third fourth) (Translated side first second) (
+    verdict_is_unique table lower plan (Translated other third fourth told) (Translated side first second extent) (
       a.0,
       a.1,
       b.2,
       first_translation_lower table lower upper within side other first second third fourth a.3 b.3,
+      b.4,
     ) a
-larger_limits_keep table lower upper plan (Translated side first second) (Backward levels nodes) machine within a b =
+larger_limits_keep table lower upper plan (Translated side first second extent) (Backward levels nodes) machine within a b =
     absurd (b.2 a.2 side first second (translation_upper table lower upper within side first second a.3.translation))
-larger_limits_keep table lower upper plan (Translated side first second) (Undecided Steps) machine within a b =
+larger_limits_keep table lower upper plan (Translated side first second extent) (Undecided Steps) machine within a b =
     absurd (b.1.1 a.2 side first second (translation_upper table lower upper within side first second a.3.translation))
-larger_limits_keep table lower upper plan (Translated side first second) (Undecided Cells) machine within a b =
+larger_limits_keep table lower upper plan (Translated side first second extent) (Undecided Cells) machine within a b =
     absurd (b.1.1 a.2 side first second (translation_upper table lower upper within side first second a.3.translation))
 larger_limits_keep table lower upper plan (Backward levels nodes) (Halt n ones) machine within a b =
     absurd ((clear_trees_never_halt table levels nodes machine a.4.ends a.4.clear).never n b.0.halts)
 larger_limits_keep table lower upper plan (Backward levels nodes) (Cycler first second) machine within a b = inr tt
-larger_limits_keep table lower upper plan (Backward levels nodes) (Translated side first second) machine within a b =
+larger_limits_keep table lower upper plan (Backward levels nodes) (Translated side first second extent) machine within a b =
     inr tt
 larger_limits_keep table lower upper plan (Backward levels nodes) (Backward h k) machine within a b =
     let same = tree_has_one_end table h k levels nodes b.4.ends a.4.ends in

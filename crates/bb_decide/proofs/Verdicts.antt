@@ -1,5 +1,5 @@
 -- Why a machine has one verdict, and costs as many steps each time.
-use Rattle.std.proofs.Common.{◌≡◌, ℕ, ◌≤◌, ◌<◌, ℤ, pos, neg_ℤ, inl, inr, refl, sym, subst, ◌∙◌, arith}
+use Rattle.std.proofs.Common.{◌≡◌, ℕ, ◌≤◌, ◌<◌, Option, Some, None, ℤ, pos, neg_ℤ, inl, inr, refl, sym, subst, ◌∙◌, ap, arith}
 use Rattle.std.proofs.lemmas.Int.{ints}
 use Rattle.bb_machine.specs.Limits.{Bounds}
 use Rattle.bb_machine.specs.Machine.{Table}
@@ -7,8 +7,10 @@ use Rattle.bb_sim.specs.declared.simulation.Outcome.TheVariants.{Halt as Halts, 
 use Rattle.bb_sim.proofs.Facts.{last_step_is_unique, outcome_is_unique}
 use Rattle.bb_cert.specs.declared.verdict.Why.TheVariants.{Steps, Cells}
 use Rattle.bb_cert.specs.declared.verdict.Verdict.TheVariants.{Halt, Cycler, Translated, Backward, Undecided}
+use Rattle.bb_cert.specs.declared.verdict.Extent.{Extent}
 use Rattle.bb_cert.specs.declared.verdict.Side.{Side}
 use Rattle.bb_cert.specs.declared.verdict.Side.TheVariants.{L, R}
+use Rattle.bb_cert.specs.Extent.{TellsExtent}
 use Rattle.bb_cert.specs.Record.{IsRecord}
 use Rattle.bb_cert.proofs.Facts.{record_has_one_step, stands_on, tree_has_one_end}
 use Rattle.bb_decide.specs.Cycle.{IsFirstCycle}
@@ -33,6 +35,16 @@ module _ (table : Table) (bounds : Bounds) (a t b u : ℕ) (one : IsFirstCycle t
 -- there is one first record that agrees with its partner: of one side, and with one partner
 one_number : (i j : ℕ) (p : ℤ) → p ≡ pos i → p ≡ pos j → i ≡ j
 one_number i j p a b = omega (arith, ints, a, b)
+
+-- two records have one extent
+told_extent_is_one : (table : Table) (side : Side) (a b : ℕ) (one other : Option Extent)
+    → TellsExtent table side a b one → TellsExtent table side a b other → one ≡ other
+told_extent_is_one table side a b None other first second = absurd first
+told_extent_is_one table side a b (Some one) None first second = absurd second
+told_extent_is_one table side a b (Some one) (Some other) first second =
+    let shifts = one_number one.shift other.shift _ (sym first.shift) (sym second.shift) in
+    let lengths = one_number one.length other.length _ (sym first.length) (sym second.length) in
+    ap Some (ap (λ n. record one { shift = n }) shifts ∙ ap (λ n. record other { length = n }) lengths)
 
 module _ (table : Table) (bounds : Bounds) where
   first_translation_is_one : (s r : Side) (a b c d : ℕ) → IsFirstTranslation table bounds s a b
@@ -70,14 +82,20 @@ module _ (table : Table) (bounds : Bounds) where
       record_has_one_step table s second.first_number a c
       (subst (λ n. IsRecord table s n a) partner first.first_record) second.first_record
 
-  translations_are_one : (s r : Side) (a b c d : ℕ) → IsFirstTranslation table bounds s a b
-      → IsFirstTranslation table bounds r c d → Translated s a b ≡ Translated r c d
-  translations_are_one s r a b c d one other =
+  translations_are_one : (s r : Side) (a b c d : ℕ) (one_told other_told : Option Extent)
+      → IsFirstTranslation table bounds s a b → IsFirstTranslation table bounds r c d
+      → TellsExtent table s a b one_told → TellsExtent table r c d other_told
+      → Translated s a b one_told ≡ Translated r c d other_told
+  translations_are_one s r a b c d one_told other_told one other tells_one tells_other =
       let step = first_translation_is_one s r a b c d one other in
       let there = subst (IsFirstTranslation table bounds r c) (sym step) other in
       let side = side_is_one s r a b c one there in
       let here = subst (λ t. IsFirstTranslation table bounds t c b) (sym side) there in
       let partner = partner_of_translation_is_one s a b c one here in
+      let tells_step = subst (λ n. TellsExtent table r c n other_told) (sym step) tells_other in
+      let tells_side = subst (λ t. TellsExtent table t c b other_told) (sym side) tells_step in
+      let tells_here = subst (λ n. TellsExtent table s n b other_told) (sym partner) tells_side in
+      let told = told_extent_is_one table s a b one_told other_told tells_one tells_here in
       cc
 
 pub verdict_is_unique : VerdictIsUnique
@@ -111,26 +129,26 @@ verdict_is_unique table bounds plan (Undecided Steps) (Undecided Cells) a b =
     let same = outcome_is_unique table bounds NoSteps NoCells a.0 b.0 in cc
 verdict_is_unique table bounds plan (Undecided Cells) (Undecided Steps) a b =
     let same = outcome_is_unique table bounds NoCells NoSteps a.0 b.0 in cc
-verdict_is_unique table bounds plan (Translated side first second) (Halt m twos) a b = absurd (a.0 m b.0)
-verdict_is_unique table bounds plan (Translated side first second) (Cycler third fourth) a b =
+verdict_is_unique table bounds plan (Translated side first second extent) (Halt m twos) a b = absurd (a.0 m b.0)
+verdict_is_unique table bounds plan (Translated side first second extent) (Cycler third fourth) a b =
     absurd (a.1 b.1 third fourth b.2.cycle)
-verdict_is_unique table bounds plan (Translated side first second) (Translated other third fourth) a b =
-    translations_are_one table bounds side other first second third fourth a.3 b.3
-verdict_is_unique table bounds plan (Translated side first second) (Undecided Steps) a b =
+verdict_is_unique table bounds plan (Translated side first second extent) (Translated other third fourth told) a b =
+    translations_are_one table bounds side other first second third fourth extent told a.3 b.3 a.4 b.4
+verdict_is_unique table bounds plan (Translated side first second extent) (Undecided Steps) a b =
     absurd (b.1.1 a.2 side first second a.3.translation)
-verdict_is_unique table bounds plan (Translated side first second) (Undecided Cells) a b =
+verdict_is_unique table bounds plan (Translated side first second extent) (Undecided Cells) a b =
     absurd (b.1.1 a.2 side first second a.3.translation)
-verdict_is_unique table bounds plan (Halt n ones) (Translated side third fourth) a b = absurd (b.0 n a.0)
-verdict_is_unique table bounds plan (Cycler first second) (Translated side third fourth) a b =
+verdict_is_unique table bounds plan (Halt n ones) (Translated side third fourth extent) a b = absurd (b.0 n a.0)
+verdict_is_unique table bounds plan (Cycler first second) (Translated side third fourth extent) a b =
     absurd (b.1 a.1 first second a.2.cycle)
-verdict_is_unique table bounds plan (Undecided Steps) (Translated side third fourth) a b =
+verdict_is_unique table bounds plan (Undecided Steps) (Translated side third fourth extent) a b =
     absurd (a.1.1 b.2 side third fourth b.3.translation)
-verdict_is_unique table bounds plan (Undecided Cells) (Translated side third fourth) a b =
+verdict_is_unique table bounds plan (Undecided Cells) (Translated side third fourth extent) a b =
     absurd (a.1.1 b.2 side third fourth b.3.translation)
 verdict_is_unique table bounds plan (Backward levels nodes) (Halt m twos) a b = absurd (a.0 m b.0)
 verdict_is_unique table bounds plan (Backward levels nodes) (Cycler third fourth) a b =
     absurd (a.1 b.1 third fourth b.2.cycle)
-verdict_is_unique table bounds plan (Backward levels nodes) (Translated side third fourth) a b =
+verdict_is_unique table bounds plan (Backward levels nodes) (Translated side third fourth extent) a b =
     absurd (a.2 b.2 side third fourth b.3.translation)
 verdict_is_unique table bounds plan (Backward levels nodes) (Backward h k) a b =
     let same = tree_has_one_end table levels nodes h k a.4.ends b.4.ends in
@@ -144,7 +162,7 @@ verdict_is_unique table bounds plan (Backward levels nodes) (Undecided Cells) a 
 verdict_is_unique table bounds plan (Halt n ones) (Backward levels nodes) a b = absurd (b.0 n a.0)
 verdict_is_unique table bounds plan (Cycler first second) (Backward levels nodes) a b =
     absurd (b.1 a.1 first second a.2.cycle)
-verdict_is_unique table bounds plan (Translated side first second) (Backward levels nodes) a b =
+verdict_is_unique table bounds plan (Translated side first second extent) (Backward levels nodes) a b =
     absurd (b.2 a.2 side first second a.3.translation)
 verdict_is_unique table bounds plan (Undecided Steps) (Backward levels nodes) a b =
     absurd ((a.1.2 b.3).nowhere levels nodes b.4)

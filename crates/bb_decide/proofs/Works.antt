@@ -185,7 +185,7 @@ module _ (table : Table) (bounds : Bounds) where
     adds = adds_run second old new (λ last is_last. is_last.greatest second finds.cycle.inside) counts;
   }
   cycles_searched Made (Some (Halt steps score)) old new made counts finds = absurd finds
-  cycles_searched Made (Some (Translated side first second)) old new made counts finds = absurd finds
+  cycles_searched Made (Some (Translated side first second extent)) old new made counts finds = absurd finds
   cycles_searched Made (Some (Backward levels nodes)) old new made counts finds = absurd finds
   cycles_searched Made (Some (Undecided why)) old new made counts finds = absurd finds
 
@@ -197,10 +197,10 @@ module _ (table : Table) (bounds : Bounds) where
     is_steps = inl (made, inr (none, counts.is_last));
     adds = adds_run counts.last old new (λ last is_last. is_last.greatest counts.last counts.is_last.inside) counts.counts;
   }
-  translations_searched Made (Some (Translated side first second)) old new made counts finds = record {
+  translations_searched Made (Some (Translated side first second extent)) old new made counts finds = record {
     steps = second;
-    is_steps = inl (made, inl (side, first, finds));
-    adds = adds_run second old new (λ last is_last. is_last.greatest second finds.translation.inside) counts;
+    is_steps = inl (made, inl (side, first, finds.0));
+    adds = adds_run second old new (λ last is_last. is_last.greatest second finds.0.translation.inside) counts;
   }
   translations_searched Made (Some (Halt steps score)) old new made counts finds = absurd finds
   translations_searched Made (Some (Cycler first second)) old new made counts finds = absurd finds
@@ -256,7 +256,7 @@ module _ (table : Table) (bounds : Bounds) where
         → PassesCycles table bounds plan → ⊥
     not_passed (Cycler first second) found passes = passes found.0 first second found.1.cycle
     not_passed (Halt steps score) found passes = absurd found.1
-    not_passed (Translated side first second) found passes = absurd found.1
+    not_passed (Translated side first second extent) found passes = absurd found.1
     not_passed (Backward levels nodes) found passes = absurd found.1
     not_passed (Undecided why) found passes = absurd found.1
 
@@ -266,14 +266,15 @@ module _ (table : Table) (bounds : Bounds) where
         → SearchesFind table bounds plan (Some verdict)
     cycle_of_searches (Cycler first second) found = found
     cycle_of_searches (Halt steps score) found = absurd found.1
-    cycle_of_searches (Translated side first second) found = absurd found.1
+    cycle_of_searches (Translated side first second extent) found = absurd found.1
     cycle_of_searches (Backward levels nodes) found = absurd found.1
     cycle_of_searches (Undecided why) found = absurd found.1
 
     pub found_by_searches : (found : Option Verdict) → PassesCycles table bounds plan → TranslatedFind table bounds plan found
         → SearchesFind table bounds plan found
     found_by_searches None passes none = (passes, none)
-    found_by_searches (Some (Translated side first second)) passes found = (passes, found.0, found.1)
+    found_by_searches (Some (Translated side first second extent)) passes found =
+        (passes, found.0, found.1.0, found.1.1)
     found_by_searches (Some (Halt steps score)) passes found = absurd found.1
     found_by_searches (Some (Cycler first second)) passes found = absurd found.1
     found_by_searches (Some (Backward levels nodes)) passes found = absurd found.1
@@ -323,7 +324,7 @@ module _ (table : Table) (bounds : Bounds) (plan : Plan) (passes : PassesCycles 
       walk_of_tree (ReachesWalk table bounds plan) table bounds old new h k made.1 made.2 (reached made.0)
   counts_walk (Some (Halt steps score)) old new levels nodes (inl made) = absurd made.2
   counts_walk (Some (Cycler first second)) old new levels nodes (inl made) = absurd made.2
-  counts_walk (Some (Translated side first second)) old new levels nodes (inl made) = absurd made.2
+  counts_walk (Some (Translated side first second extent)) old new levels nodes (inl made) = absurd made.2
   counts_walk (Some (Undecided why)) old new levels nodes (inl made) = absurd made.2
   counts_walk found old new levels nodes (inr off) =
       no_walk_counted (ReachesWalk table bounds plan) table bounds new (ap (λ (m : Meter). m.most_levels) off.1 ∙ levels)
@@ -337,7 +338,7 @@ module _ (table : Table) (bounds : Bounds) (plan : Plan) (passes : PassesCycles 
       (ap (λ (m : Meter). m.steps) made.1, ap (λ (m : Meter). m.most_cells) made.1)
   walk_keeps (Some (Halt steps score)) old new (inl made) = absurd made.2
   walk_keeps (Some (Cycler first second)) old new (inl made) = absurd made.2
-  walk_keeps (Some (Translated side first second)) old new (inl made) = absurd made.2
+  walk_keeps (Some (Translated side first second extent)) old new (inl made) = absurd made.2
   walk_keeps (Some (Undecided why)) old new (inl made) = absurd made.2
   walk_keeps found old new (inr off) = (ap (λ (m : Meter). m.steps) off.1, ap (λ (m : Meter). m.most_cells) off.1)
 
@@ -360,7 +361,7 @@ module _ (table : Table) (bounds : Bounds) (plan : Plan) (passes : PassesCycles 
   found_by_all (Some (Backward levels nodes)) found = (passes.0, passes.1, found.0, found.1)
   found_by_all (Some (Halt steps score)) found = absurd found.1
   found_by_all (Some (Cycler first second)) found = absurd found.1
-  found_by_all (Some (Translated side first second)) found = absurd found.1
+  found_by_all (Some (Translated side first second extent)) found = absurd found.1
   found_by_all (Some (Undecided why)) found = absurd found.1
 
 module _ (table : Table) (bounds : Bounds) (plan : Plan) where
@@ -368,7 +369,7 @@ module _ (table : Table) (bounds : Bounds) (plan : Plan) where
   not_reached : (verdict : Verdict) → SearchesFind table bounds plan (Some verdict)
       → PassesCycles table bounds plan → PassesTranslations table bounds plan → ⊥
   not_reached (Cycler first second) found cycles translations = cycles found.0 first second found.1.cycle
-  not_reached (Translated side first second) found cycles translations =
+  not_reached (Translated side first second extent) found cycles translations =
       translations found.1 side first second found.2.translation
   not_reached (Halt steps score) found cycles translations = absurd found
   not_reached (Backward levels nodes) found cycles translations = absurd found
@@ -390,7 +391,7 @@ module _ (table : Table) (bounds : Bounds) (plan : Plan) where
   pub search_of_all : (verdict : Verdict) → SearchesFind table bounds plan (Some verdict)
       → DecidersFind table bounds plan (Some verdict)
   search_of_all (Cycler first second) found = found
-  search_of_all (Translated side first second) found = found
+  search_of_all (Translated side first second extent) found = found
   search_of_all (Halt steps score) found = absurd found
   search_of_all (Backward levels nodes) found = absurd found
   search_of_all (Undecided why) found = absurd found
@@ -408,8 +409,8 @@ if_ok_on (Err e) P Q f holds = tt
 pub verdict_of_deciders : (table : Table) (bounds : Bounds) (plan : Plan) (verdict : Verdict) → HaltsNowhere table bounds
     → DecidersFind table bounds plan (Some verdict) → IsVerdict table bounds plan verdict
 verdict_of_deciders table bounds plan (Cycler first second) nowhere found = (nowhere, found.0, found.1)
-verdict_of_deciders table bounds plan (Translated side first second) nowhere found =
-    (nowhere, found.0, found.1, found.2)
+verdict_of_deciders table bounds plan (Translated side first second extent) nowhere found =
+    (nowhere, found.0, found.1, found.2, found.3)
 verdict_of_deciders table bounds plan (Backward levels nodes) nowhere found =
     (nowhere, found.0, found.1, found.2, found.3)
 verdict_of_deciders table bounds plan (Halt steps score) nowhere found = absurd found

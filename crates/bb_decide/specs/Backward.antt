@@ -19,7 +19,7 @@ FindsTree table bounds None = HasNoTree table bounds
 FindsTree table bounds (Some (Backward levels nodes)) = Back table bounds levels nodes
 FindsTree table bounds (Some (Halt steps score)) = ⊥
 FindsTree table bounds (Some (Cycler first second)) = ⊥
-FindsTree table bounds (Some (Translated side first second)) = ⊥
+FindsTree table bounds (Some (Translated side first second extent)) = ⊥
 FindsTree table bounds (Some (Undecided why)) = ⊥
 
 -- a meter whose nodes and levels are begun at 0
@@ -32,5 +32,5 @@ CountsTree bounds old new None = IsWithinWalk bounds.depth bounds.nodes (without
 CountsTree bounds old new (Some (Backward levels nodes)) = new ≡ walked (without_nodes old) levels nodes
 CountsTree bounds old new (Some (Halt steps score)) = ⊥
 CountsTree bounds old new (Some (Cycler first second)) = ⊥
-CountsTree bounds old new (Some (Translated side first second)) = ⊥
+CountsTree bounds old new (Some (Translated side first second extent)) = ⊥
 CountsTree bounds old new (Some (Undecided why)) = ⊥

@@ -31,7 +31,7 @@ abbrev pub FindsCycle : Table → Bounds → Option Verdict → Type 0
 FindsCycle table bounds None = HasNoCycle table bounds
 FindsCycle table bounds (Some (Cycler first second)) = IsFirstCycle table bounds first second
 FindsCycle table bounds (Some (Halt steps score)) = ⊥
-FindsCycle table bounds (Some (Translated side first second)) = ⊥
+FindsCycle table bounds (Some (Translated side first second extent)) = ⊥
 FindsCycle table bounds (Some (Backward levels nodes)) = ⊥
 FindsCycle table bounds (Some (Undecided why)) = ⊥
 
@@ -39,7 +39,7 @@ FindsCycle table bounds (Some (Undecided why)) = ⊥
 abbrev pub CountsSearch : Table → Bounds → Meter → Meter → Option Verdict → Type 0
 CountsSearch table bounds old new None = CountsRun table bounds old new
 CountsSearch table bounds old new (Some (Cycler first second)) = CountsTo table second old new
-CountsSearch table bounds old new (Some (Translated side first second)) = CountsTo table second old new
+CountsSearch table bounds old new (Some (Translated side first second extent)) = CountsTo table second old new
 CountsSearch table bounds old new (Some (Halt steps score)) = ⊥
 CountsSearch table bounds old new (Some (Backward levels nodes)) = ⊥
 CountsSearch table bounds old new (Some (Undecided why)) = ⊥

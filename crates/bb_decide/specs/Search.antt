@@ -6,6 +6,7 @@ use Rattle.bb_sim.specs.declared.meter.Meter.{Meter}
 use Rattle.bb_sim.specs.Span.{span, IsLastInside}
 use Rattle.bb_cert.specs.declared.verdict.Verdict.{Verdict}
 use Rattle.bb_cert.specs.declared.verdict.Verdict.TheVariants.{Halt, Cycler, Translated, Backward, Undecided}
+use Rattle.bb_cert.specs.Extent.{TellsExtent}
 use Rattle.bb_cert.specs.Tree.{Back}
 use Rattle.bb_decide.specs.declared.plan.Plan.{Plan}
 use Rattle.bb_decide.specs.Backward.{CountsTree, FindsTree}
@@ -53,9 +54,9 @@ abbrev pub SearchesFind : Table → Bounds → Plan → Option Verdict → Type 
 SearchesFind table bounds plan None = PassesCycles table bounds plan × PassesTranslations table bounds plan
 SearchesFind table bounds plan (Some (Cycler first second)) =
     IsTrue plan.cyclers × IsFirstCycle table bounds first second
-SearchesFind table bounds plan (Some (Translated side first second)) =
+SearchesFind table bounds plan (Some (Translated side first second extent)) =
     PassesCycles table bounds plan × IsTrue plan.translated
-    × IsFirstTranslation table bounds side first second
+    × IsFirstTranslation table bounds side first second × TellsExtent table side first second extent
 SearchesFind table bounds plan (Some (Halt steps score)) = ⊥
 SearchesFind table bounds plan (Some (Backward levels nodes)) = ⊥
 SearchesFind table bounds plan (Some (Undecided why)) = ⊥
@@ -90,8 +91,8 @@ abbrev pub DecidersFind : Table → Bounds → Plan → Option Verdict → Type 
 DecidersFind table bounds plan None = PassesAll table bounds plan
 DecidersFind table bounds plan (Some (Cycler first second)) =
     SearchesFind table bounds plan (Some (Cycler first second))
-DecidersFind table bounds plan (Some (Translated side first second)) =
-    SearchesFind table bounds plan (Some (Translated side first second))
+DecidersFind table bounds plan (Some (Translated side first second extent)) =
+    SearchesFind table bounds plan (Some (Translated side first second extent))
 DecidersFind table bounds plan (Some (Backward levels nodes)) =
     PassesCycles table bounds plan × PassesTranslations table bounds plan × IsTrue plan.backward
     × Back table bounds levels nodes

@@ -24,7 +24,7 @@ pub record IsLeastPower (power first second : ℕ) : Type 0 where
 abbrev pub IsFoundBy : ℕ → Option Verdict → Type 0
 IsFoundBy latest None = ⊥
 IsFoundBy latest (Some (Cycler first second)) = second ≤ latest
-IsFoundBy latest (Some (Translated side first second)) = second ≤ latest
+IsFoundBy latest (Some (Translated side first second extent)) = second ≤ latest
 IsFoundBy latest (Some (Halt steps score)) = ⊥
 IsFoundBy latest (Some (Backward levels nodes)) = ⊥
 IsFoundBy latest (Some (Undecided why)) = ⊥
@@ -52,7 +52,7 @@ pub record NoneIsSmaller (lower upper : Bounds) : Type 0 where
 -- a pair, of whatever kind
 abbrev pub IsPair : Verdict → Type 0
 IsPair (Cycler first second) = Unit {0}
-IsPair (Translated side first second) = Unit {0}
+IsPair (Translated side first second extent) = Unit {0}
 IsPair (Halt steps score) = ⊥
 IsPair (Backward levels nodes) = ⊥
 IsPair (Undecided why) = ⊥
@@ -62,7 +62,7 @@ IsPair (Undecided why) = ⊥
 abbrev pub StaysAs : Verdict → Verdict → Type 0
 StaysAs (Halt steps score) later = later ≡ Halt steps score
 StaysAs (Cycler first second) later = later ≡ Cycler first second
-StaysAs (Translated side first second) later = later ≡ Translated side first second
+StaysAs (Translated side first second extent) later = later ≡ Translated side first second extent
 StaysAs (Backward levels nodes) later = (later ≡ Backward levels nodes) ⊎ IsPair later
 StaysAs (Undecided why) later = Unit {0}
 

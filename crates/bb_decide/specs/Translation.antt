@@ -8,6 +8,7 @@ use Rattle.bb_cert.specs.declared.verdict.Side.{Side}
 use Rattle.bb_cert.specs.declared.verdict.Verdict.{Verdict}
 use Rattle.bb_cert.specs.declared.verdict.Verdict.TheVariants.{Halt, Cycler, Translated, Backward, Undecided}
 use Rattle.bb_cert.specs.Agree.{Agree}
+use Rattle.bb_cert.specs.Extent.{TellsExtent}
 use Rattle.bb_cert.specs.Record.{IsRecord}
 use Rattle.bb_decide.specs.Partner.{IsPartner}
 
@@ -35,11 +36,11 @@ pub record IsFirstTranslation (table : Table) (bounds : Bounds) (side : Side) (a
   pub translation : IsTranslation table bounds side a b
   pub first : (other : Side) (c d : ℕ) → IsTranslation table bounds other c d → b ≤ d
 
--- the side and the pair of the first; none just where there is none
+-- the side, the pair and the extent of the first; none just where there is none
 abbrev pub FindsTranslation : Table → Bounds → Option Verdict → Type 0
 FindsTranslation table bounds None = HasNoTranslation table bounds
-FindsTranslation table bounds (Some (Translated side first second)) =
-    IsFirstTranslation table bounds side first second
+FindsTranslation table bounds (Some (Translated side first second extent)) =
+    IsFirstTranslation table bounds side first second × TellsExtent table side first second extent
 FindsTranslation table bounds (Some (Halt steps score)) = ⊥
 FindsTranslation table bounds (Some (Cycler first second)) = ⊥
 FindsTranslation table bounds (Some (Backward levels nodes)) = ⊥

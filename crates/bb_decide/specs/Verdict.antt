@@ -7,6 +7,7 @@ use Rattle.bb_sim.specs.Outcome.{HaltsNowhere, IsOutcome}
 use Rattle.bb_cert.specs.declared.verdict.Why.TheVariants.{Steps, Cells}
 use Rattle.bb_cert.specs.declared.verdict.Verdict.{Verdict}
 use Rattle.bb_cert.specs.declared.verdict.Verdict.TheVariants.{Halt, Cycler, Translated, Backward, Undecided}
+use Rattle.bb_cert.specs.Extent.{TellsExtent}
 use Rattle.bb_cert.specs.Tree.{Back}
 use Rattle.bb_decide.specs.declared.plan.Plan.{Plan}
 use Rattle.bb_decide.specs.Backward.{HasNoTree}
@@ -31,15 +32,15 @@ PassesAll table bounds plan =
     PassesCycles table bounds plan × PassesTranslations table bounds plan × PassesTrees table bounds plan
 
 -- the first that applies, deciders that are off being passed over: a halt inside the bounds; the first cycle; the first
--- record that agrees with its partner; the tree of what could come before a halt, if it ends; else which limit the
+-- record that agrees with its partner, with the extent of the two; the tree of what could come before a halt, if it ends; else which limit the
 -- simulation met
 abbrev pub IsVerdict : Table → Bounds → Plan → Verdict → Type 0
 IsVerdict table bounds plan (Halt n ones) = IsOutcome table bounds (Halts n ones)
 IsVerdict table bounds plan (Cycler first second) =
     HaltsNowhere table bounds × IsTrue plan.cyclers × IsFirstCycle table bounds first second
-IsVerdict table bounds plan (Translated side first second) =
+IsVerdict table bounds plan (Translated side first second extent) =
     HaltsNowhere table bounds × PassesCycles table bounds plan × IsTrue plan.translated
-    × IsFirstTranslation table bounds side first second
+    × IsFirstTranslation table bounds side first second × TellsExtent table side first second extent
 IsVerdict table bounds plan (Backward levels nodes) =
     HaltsNowhere table bounds × PassesCycles table bounds plan × PassesTranslations table bounds plan
     × IsTrue plan.backward × Back table bounds levels nodes

@@ -87,6 +87,7 @@ fn run<T: Tape>(
                     side: Side::R,
                     first,
                     second: runner.steps(),
+                    extent: None,
                 }));
             }
             None => {}
@@ -97,6 +98,7 @@ fn run<T: Tape>(
                     side: Side::L,
                     first,
                     second: runner.steps(),
+                    extent: None,
                 }));
             }
             None => {}

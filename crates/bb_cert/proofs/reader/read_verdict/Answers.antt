@@ -6,4 +6,5 @@ pub returns : goal.returns
 returns c =
     let steps : c.args.words.now ≢ codes "undecided steps" = search rules in
     let cells : c.args.words.now ≢ codes "undecided cells" = search rules in
-    no_verdict c.args.words.now c.in_default.ensures c.in_default-read_pair.ensures c.in_default-read_pair-2.ensures c.in_default-read_pair-3.ensures c.in_default-read_pair-4.ensures steps cells
+    no_verdict c.args.words.now c.in_default.ensures c.in_default-read_pair.ensures c.in_default-read_records.ensures
+    c.in_default-read_records-2.ensures c.in_default-read_pair-2.ensures steps cells
