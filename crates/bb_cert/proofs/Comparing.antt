@@ -6,7 +6,7 @@ use Rattle.std.proofs.lemmas.Int.{ints}
 use Rattle.bb_machine.specs.declared.entry.Next.TheVariants.{Halt}
 use Rattle.bb_machine.specs.Machine.{Table}
 use Rattle.bb_tape.specs.Content.{Content, cell}
-use Rattle.bb_tape.specs.Strip.{Strip, IsInside}
+use Rattle.bb_tape.specs.Strip.{Strip, IsInside, IsSound, visited}
 use Rattle.bb_sim.specs.declared.runner.Runner.{Runner}
 use Rattle.bb_sim.specs.Configuration.{Configuration}
 use Rattle.bb_sim.specs.Laws.{IsRunningAt}
@@ -14,13 +14,15 @@ use Rattle.bb_sim.specs.Runner.{Stands, position_of, state_of, steps_of}
 use Rattle.bb_sim.specs.Span.{counted_head, least, greatest}
 use Rattle.bb_cert.specs.declared.side_records.Records.{Records}
 use Rattle.bb_cert.specs.declared.verdict.Side.{Side}
-use Rattle.bb_cert.specs.Agree.{Agree, AgreeingRecords}
+use Rattle.bb_cert.specs.Agree.{Agree}
 use Rattle.bb_cert.specs.Checks.{KeepsStep, MakesRecord}
-use Rattle.bb_cert.specs.Follow.{IsComparable, IsFollowed, IsKeptInStateOf, IsKeptRecord, HasSameCells, IsTop}
+use Rattle.bb_cert.specs.Follow.{AgreesWithKept, IsComparable, IsFollowed, IsKeptInStateOf, IsKeptRecord}
+use Rattle.bb_cert.specs.Follow.{IsNarrow, IsTop, IsWidened, with_last_kept}
 use Rattle.bb_cert.specs.Record.{out, head_at, IsRecord}
 use Rattle.bb_cert.proofs.Heads.{out-out, runs_before, runs_up_to, head_in_window, far-here, far_bounds, far_is_reached}
 use Rattle.bb_cert.proofs.Positions.{head_at-is, out-subtract}
 use Rattle.bb_cert.proofs.Records.{short_of_record, stands_on}
+use Rattle.bb_cert.proofs.Stretches.{high_wider, low_wider, narrow_inside, seen_wider}
 
 pub some_number : (n : ℕ) (p : ℤ) → p ≡ pos n → p ≢ pos 0 → 0 < n
 some_number n p is apart = elim (cases_lt 0 n) [
@@ -87,8 +89,7 @@ module _ (table : Table) (runner : Runner) (run saved : Strip) (records : Record
   top_out = top_here table records.side (steps_of runner) made.0 records.top followed.top made.1
 
   -- it is kept, in what the run has now
-  pub keeps : (new : Records)
-      → new ≡ record records { number = records.top; kept = runner; far = records.top }
+  pub keeps : (new : Records) → new ≡ with_last_kept records runner
       → IsFollowed table (steps_of runner) new run
   keeps new is = subst (λ r. IsFollowed table (steps_of runner) r run) (sym is) (record {
     count = followed.count;
@@ -113,8 +114,7 @@ module _ (table : Table) (runner : Runner) (run saved : Strip) (records : Record
     number = one_number made.0 followed.count records.top
         (sym top_out ∙ stands_on table records.side made.0 (steps_of runner) made.1) followed.count_is
 
-  pub keeps_step : (new : Records)
-      → new ≡ record records { number = records.top; kept = runner; far = records.top }
+  pub keeps_step : (new : Records) → new ≡ with_last_kept records runner
       → KeepsStep table (steps_of runner) new
   keeps_step new is = subst (KeepsStep table (steps_of runner)) (sym is) (record {
     made = λ some none.
@@ -122,6 +122,37 @@ module _ (table : Table) (runner : Runner) (run saved : Strip) (records : Record
         no_zero made.0 records.top (sym top_out ∙ stands_out) ((made.1).positive) none;
     at = λ some. refl;
   })
+
+  -- else the kept one stays, in what was saved of it, which may have been widened
+  pub stays : (new : Strip) → IsWidened records run saved new
+      → IsFollowed table (steps_of runner) records new
+  stays new widened = record {
+    count = followed.count;
+    number = followed.number;
+    count_is = followed.count_is;
+    number_is = followed.number_is;
+    top = followed.top;
+    kept = λ some. elim widened [
+      | inl same ↦ subst (IsKeptRecord table records.side followed.number (steps_of runner)
+          records.kept records.far) (sym same) (followed.kept some)
+      | inr wider ↦ subst (IsKeptRecord table records.side followed.number (steps_of runner)
+          records.kept records.far) (sym wider.0) (wider_kept some wider.1)
+    ];
+  } where
+    wider_kept : 0 < followed.number → IsInside run (out records.side records.far)
+        → IsKeptRecord table records.side followed.number (steps_of runner) records.kept records.far
+        (visited saved (out records.side records.far))
+    wider_kept some inside = let old = followed.kept some in record {
+      made = old.made;
+      before = old.before;
+      at = old.at;
+      far_is = old.far_is;
+      low = low_wider _ _ saved old.low
+          (subst (λ l. l ≤ℤ out records.side records.far) (stands.window_low ∙ stands.low) inside.0);
+      high = high_wider _ _ saved old.high
+          (subst (λ h. out records.side records.far ≤ℤ h) (stands.window_high ∙ stands.high) inside.1);
+      seen = λ runs. seen_wider saved _ _ (old.seen runs);
+    }
 
   module _ (some : 0 < followed.number) where
     kept : IsKeptRecord table records.side followed.number (steps_of runner) records.kept records.far saved
@@ -137,8 +168,8 @@ module _ (table : Table) (runner : Runner) (run saved : Strip) (records : Record
     turned : (p n : ℤ) → out records.side p ≡ n → p ≡ out records.side n
     turned p n is = sym (out-out records.side p) ∙ ap (out records.side) is
 
-    pub comparable : state_of runner ≢ Halt → state_of records.kept ≢ Halt → IsComparable records saved run
-    comparable runs kept_runs =
+    are_comparable : state_of runner ≢ Halt → state_of records.kept ≢ Halt → IsComparable records saved run
+    are_comparable runs kept_runs =
         let reached = far_is_reached table records.side (steps_of records.kept)
         (steps_of runner) kept.before in
         record {
@@ -172,47 +203,42 @@ module _ (table : Table) (runner : Runner) (run saved : Strip) (records : Record
     kept_out = ap (out records.side) (sym kept_is) ∙ number_out
 
     -- the cells that were compared are those of two records that agree
-    agree_of_cells : state_of records.kept ≡ state_of runner → HasSameCells records saved.content run.content
+    pub agree_of_cells : AgreesWithKept records runner saved run
         → Agree table records.side (steps_of records.kept) (steps_of runner)
-    agree_of_cells states same = record {
+    agree_of_cells both = record {
       first = _;
       second = _;
       at_first = kept.at;
       at_second = stands.at;
-      same_state = states;
+      same_state = both.0.1;
       same_cells = λ x low high.
-          same x (subst (λ f. f ≤ℤ out records.side x) (sym kept.far_is) low)
+          both.1 x (subst (λ f. f ≤ℤ out records.side x) (sym kept.far_is) low)
           (subst (λ n. out records.side x ≤ℤ n) kept_out high)
           ∙ ap (λ d. cell run.content (x +ℤ d)) distance;
     }
 
-    module _ (first : ℕ) (at_kept : steps_of records.kept ≡ first) (less : first < steps_of runner) where
-      kept_before : steps_of records.kept < steps_of runner
-      kept_before = rw at_kept less
+    module _ (less : steps_of records.kept < steps_of runner) where
+      runs_at_kept : IsRunningAt table (steps_of records.kept) (head_at table (steps_of records.kept))
+      runs_at_kept = runs_before table (steps_of records.kept) (steps_of runner) less
+          (record { here = _; exists = stands.at })
 
       kept_runs : state_of records.kept ≢ Halt
       kept_runs =
-          let runs = runs_before table (steps_of records.kept) (steps_of runner) kept_before
-          (record { here = _; exists = stands.at }) in
+          let runs = runs_at_kept in
           let there = runs.exists in
           let at_kept = kept.at in
           let same : runs.here ≡ stood records.kept saved.content = cc in
           λ halts. runs.runs (ap (λ (c : Configuration). c.state) same ∙ halts)
 
-      pub agreeing : IsKeptInStateOf records runner → HasSameCells records saved.content run.content
-          → AgreeingRecords table records.side first (steps_of runner)
-      agreeing kept_there same = record {
-        in_order = less;
-        first_number = followed.number;
-        second_number = made.0;
-        first_record = subst (IsRecord table records.side followed.number) at_kept kept.made;
-        second_record = made.1;
-        agree = subst (λ a. Agree table records.side a (steps_of runner)) at_kept
-            (agree_of_cells kept_there.1 same);
-      }
+      -- its number is that of a position that was visited
+      pub kept_narrow : IsSound run → IsNarrow records.number
+      kept_narrow sound = narrow_inside records.side run records.number sound
+          (subst (IsInside run) (turned _ _ number_out)
+          (in_window _ (head_in_window table (steps_of records.kept) (steps_of runner) kept.before
+          runs_at_kept)))
 
-      cells_of_agree : Agree table records.side (steps_of records.kept) (steps_of runner)
-          → IsKeptInStateOf records runner × HasSameCells records saved.content run.content
+      pub cells_of_agree : Agree table records.side (steps_of records.kept) (steps_of runner)
+          → AgreesWithKept records runner saved run
       cells_of_agree agree =
           let first_is = agree.at_first in
           let second_is = agree.at_second in
@@ -238,7 +264,21 @@ module _ (table : Table) (runner : Runner) (run saved : Strip) (records : Record
                 ∙ ap (λ d. cell run.content (x +ℤ d)) (sym distance),
           )
 
-      pub cells_of_agreeing : AgreeingRecords table records.side first (steps_of runner)
-          → IsKeptInStateOf records runner × HasSameCells records saved.content run.content
-      cells_of_agreeing pair = cells_of_agree
-          (subst (λ a. Agree table records.side a (steps_of runner)) (sym at_kept) pair.agree)
+  -- where one is kept, in the state of the last one, there is a number
+  pub numbered : IsKeptInStateOf records runner → 0 < followed.number
+  numbered kept_there = some_number followed.number records.number followed.number_is kept_there.0
+
+  pub comparable : IsKeptInStateOf records runner → IsComparable records saved run
+  comparable kept_there = are_comparable (numbered kept_there)
+      (λ halts. kept_there.2 (kept_there.1 ∙ halts)) kept_there.2
+
+  -- the number of the kept record, made before this step, is that of a position that was visited
+  pub number_narrow : ((some : 0 < followed.number) → steps_of records.kept < steps_of runner)
+      → IsSound run
+      → IsNarrow records.number
+  number_narrow less sound = elim (cases_lt 0 followed.number) [
+    | inl some ↦ kept_narrow some (less some) sound
+    | inr none ↦ zero_narrow records.number (followed.number_is ∙ ap pos (omega (arith, none)))
+  ] where
+    zero_narrow : (z : ℤ) → z ≡ pos 0 → IsNarrow z
+    zero_narrow z is = record { low = omega (arith, ints, is); high = omega (arith, ints, is) }

@@ -13,7 +13,7 @@ use Rattle.bb_cert.specs.declared.following.Course.{Course}
 use Rattle.bb_cert.specs.declared.side_records.Records.{Records}
 use Rattle.bb_cert.specs.declared.verdict.Side.{Side}
 use Rattle.bb_cert.specs.Checks.{GoesOn, IsCourse, KeepsSame, KeepsStep, MakesRecord}
-use Rattle.bb_cert.specs.Follow.{IsTop, IsKeptRecord, IsFollowed}
+use Rattle.bb_cert.specs.Follow.{IsTop, IsKeptRecord, IsFollowed, taken}
 use Rattle.bb_cert.specs.Record.{out, head_at, IsRecord}
 use Rattle.bb_cert.proofs.Heads.{far-next, top_at_first, top-next, window_falls, window_rises}
 use Rattle.bb_cert.proofs.Positions.{climbs, head_at-is}
@@ -64,16 +64,18 @@ kept-next table side number n kept far_out saved is = record {
   seen = is.seen;
 }
 
--- what is known after a step
-abbrev pub taken : Records → ℤ → Records
-taken records far_out =
-    record records { top = int_max records.top far_out; far = int_min records.far far_out }
-
 same_max : (p q : ℤ) → q ≤ℤ p → int_max p q ≡ p
 same_max p q h = omega (arith, ints, clamps, h)
 
 new_max : (p q : ℤ) → p <ℤ q → int_max p q ≡ q
 new_max p q h = omega (arith, ints, clamps, h)
+
+-- where the head is no farther out than before
+pub taken_below : (records : Records) (far_out least : ℤ) → far_out ≤ℤ records.top
+    → least ≡ int_min records.far far_out
+    → record records { far = least } ≡ taken records far_out
+taken_below records far_out least low is =
+    λ i. record records { top = sym (same_max records.top far_out low) i; far = is i }
 
 next_up : (p q r : ℤ) (n : ℕ) → p ≡ pos n → q ≤ℤ (r +ℤ pos 1) → r ≤ℤ p → p <ℤ q → q ≡ pos (n + 1)
 next_up p q r n is step below above = omega (arith, ints, is, step, below, above)

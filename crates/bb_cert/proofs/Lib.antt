@@ -31,6 +31,7 @@ pub mod Stretches
 pub mod UnderWay
 pub mod Courses
 pub mod Comparing
+pub mod KeptCourses
 pub mod AnswerRules
 pub mod ClaimChecks
 pub mod Facts

@@ -1,5 +1,5 @@
 -- The stretch that is compared: how far out its ends are, and which positions those are.
-use Rattle.std.proofs.Common.{◌≡◌, ℕ, ◌<◌, ℤ, pos, negsuc, neg_ℤ, ◌+ℤ◌, ◌-ℤ◌, ◌*ℤ◌, ◌≤ℤ◌, refl, ap, sym, ◌∙◌, w64, FitsSigned, arith}
+use Rattle.std.proofs.Common.{◌≡◌, ℕ, ◌<◌, ℤ, pos, negsuc, neg_ℤ, ◌+ℤ◌, ◌-ℤ◌, ◌*ℤ◌, ◌≤ℤ◌, inl, inr, refl, ap, sym, ◌∙◌, w64, FitsSigned, arith}
 use Rattle.std.proofs.lemmas.Int.{ints, clamps}
 use Rattle.std.specs.Prelude.{◌<ℤ◌}
 use Rattle.bb_tape.specs.Content.{Content, cell}
@@ -8,12 +8,7 @@ use Rattle.bb_cert.specs.declared.verdict.Side.{Side}
 use Rattle.bb_cert.specs.declared.verdict.Side.TheVariants.{L, R}
 use Rattle.bb_cert.specs.Record.{out}
 use Rattle.bb_cert.specs.declared.side_records.Records.{Records}
-use Rattle.bb_cert.specs.Follow.{lesser_of, IsComparable}
-
--- a number that is no farther from 0 than any position of a tape
-pub record IsNarrow (z : ℤ) : Type 0 where
-  pub low : neg_ℤ (pos 67108864) ≤ℤ z
-  pub high : z ≤ℤ pos 67108864
+use Rattle.bb_cert.specs.Follow.{lesser_of, IsComparable, IsNarrow, IsWidened}
 
 pub narrow_inside : (side : Side) (s : Strip) (z : ℤ) → IsSound s → IsInside s (out side z) → IsNarrow z
 narrow_inside L s z sound inside =
@@ -192,3 +187,9 @@ comparable_wider records saved run is = record {
   top_seen = is.top_seen;
   number_saved = seen_wider saved _ _ is.number_saved;
 }
+
+-- what was saved has the same limit where it is widened
+pub limit_kept : (records : Records) (run saved new : Strip) → IsWidened records run saved new
+    → new.limit ≡ saved.limit
+limit_kept records run saved new (inl same) = ap (λ (s : Strip). s.limit) same
+limit_kept records run saved new (inr wider) = ap (λ (s : Strip). s.limit) wider.0

@@ -3,6 +3,7 @@ use Rattle.std.proofs.Common.{◌≡◌, ℕ, ◌<◌, ◌≤◌, max, ℤ, pos,
 use Rattle.std.proofs.lemmas.Int.{ints}
 use Rattle.bb_machine.specs.Limits.{Bounds}
 use Rattle.bb_machine.specs.Machine.{Table}
+use Rattle.bb_tape.specs.declared.tape.TheConstants.{MOST_CELLS}
 use Rattle.bb_tape.specs.Strip.{Strip, IsBeside, IsSound}
 use Rattle.bb_sim.specs.declared.meter.Meter.{Meter}
 use Rattle.bb_sim.specs.declared.runner.Runner.{Runner}
@@ -57,12 +58,12 @@ cut_by_halt table bounds n inside halts before = (
 )
 
 -- a head in a window or next to it is no farther from 0 than any position of a tape
-pub near_low : (strip : Strip) (p : ℤ) → IsSound strip → IsBeside strip p → neg_ℤ (pos 67108864) ≤ℤ p
+pub near_low : (strip : Strip) (p : ℤ) → IsSound strip → IsBeside strip p → neg_ℤ (pos MOST_CELLS) ≤ℤ p
 near_low strip p sound near =
     let low = near.0 in
     omega (arith, ints, low, sound.to_zero, sound.within, sound.limited)
 
-pub near_high : (strip : Strip) (p : ℤ) → IsSound strip → IsBeside strip p → p ≤ℤ pos 67108864
+pub near_high : (strip : Strip) (p : ℤ) → IsSound strip → IsBeside strip p → p ≤ℤ pos MOST_CELLS
 near_high strip p sound near =
     let high = near.1 in
     omega (arith, ints, high, sound.from_zero, sound.within, sound.limited)

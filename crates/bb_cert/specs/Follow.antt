@@ -1,8 +1,10 @@
 -- What is known of the records of one side while a run is followed, and when the last record agrees with a kept one.
 use Rattle.std.specs.Prelude.{◌≡◌, ◌≢◌, ℕ, ◌<◌, ◌≤◌, ◌⊎◌, Some, ℤ, pos, neg_ℤ, ◌+ℤ◌, ◌-ℤ◌, ◌≤ℤ◌}
+use Rattle.std.specs.Int.{int_min, int_max}
 use Rattle.bb_machine.specs.declared.entry.Next.TheVariants.{Halt}
 use Rattle.bb_machine.specs.Machine.{Table}
 use Rattle.bb_tape.specs.Content.{Content, cell}
+use Rattle.bb_tape.specs.declared.tape.TheConstants.{MOST_CELLS}
 use Rattle.bb_tape.specs.Strip.{Strip, IsInside, visited}
 use Rattle.bb_sim.specs.declared.runner.Runner.{Runner}
 use Rattle.bb_sim.specs.Run.{conf}
@@ -12,6 +14,21 @@ use Rattle.bb_cert.specs.declared.verdict.Side.{Side}
 use Rattle.bb_cert.specs.declared.verdict.Side.TheVariants.{L, R}
 use Rattle.bb_cert.specs.declared.side_records.Records.{Records}
 use Rattle.bb_cert.specs.Record.{out, head_at, far, IsRecord}
+
+-- a number that is no farther from 0 than any position of a tape
+pub record IsNarrow (z : ℤ) : Type 0 where
+  pub low : neg_ℤ (pos MOST_CELLS) ≤ℤ z
+  pub high : z ≤ℤ pos MOST_CELLS
+
+-- what is known after one step more, which led the head so far out
+abbrev pub taken : Records → ℤ → Records
+taken records far_out =
+    record records { top = int_max records.top far_out; far = int_min records.far far_out }
+
+-- with the last record kept, where a runner stands that has just made it
+abbrev pub with_last_kept : Records → Runner → Records
+with_last_kept records runner =
+    record records { number = records.top; kept = runner; far = records.top }
 
 -- how far out the head is at most up to step n
 pub record IsTop (table : Table) (side : Side) (n : ℕ) (top : ℤ) : Type 0 where
@@ -68,6 +85,11 @@ HasSameCells records saved run = (x : ℤ) → records.far ≤ℤ out records.si
 abbrev pub IsKeptInStateOf : Records → Runner → Type 0
 IsKeptInStateOf records runner =
     (records.number ≢ pos 0) × (state_of records.kept ≡ state_of runner) × (state_of records.kept ≢ Halt)
+
+-- the kept record agrees with the last one, which the runner has just made
+abbrev pub AgreesWithKept : Records → Runner → Strip → Strip → Type 0
+AgreesWithKept records runner saved run =
+    IsKeptInStateOf records runner × HasSameCells records saved.content run.content
 
 -- what was saved is at most widened, to the position that is least far out, which is in the window of the run
 abbrev pub IsWidened : Records → Strip → Strip → Strip → Type 0

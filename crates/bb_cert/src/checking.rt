@@ -1,13 +1,11 @@
 //! The checker: whether what a verdict claims of a machine holds, whoever found it.
-ghost use Rattle.std.specs.Prelude.{◌≡◌, ℕ, ◌<◌, ◌≤◌, ◌↔◌, pos, IfOk, IsTrue, OnErr};
+ghost use Rattle.std.specs.Prelude.{◌≡◌, ◌<◌, ◌≤◌, IfOk, IsTrue, OnErr};
 ghost use Rattle.bb_sim.specs.Meter.{zero_meter};
 ghost use Rattle.bb_sim.specs.Run.{Never};
-ghost use Rattle.bb_sim.specs.Runner.{Stands, steps_of};
-ghost use Rattle.bb_cert.specs.Agree.{AgreeingRecords};
 ghost use Rattle.bb_cert.specs.declared.answer.Answer.{Answer};
 ghost use Rattle.bb_cert.specs.declared.verdict.Verdict.{Verdict};
 ghost use Rattle.bb_cert.specs.Answer.{IsAnswer, IsSettled};
-ghost use Rattle.bb_cert.specs.Checks.{Checks, IsAtStep, IsCourse, KeepsStep, Settles};
+ghost use Rattle.bb_cert.specs.Checks.{Checks, Settles};
 ghost use Rattle.bb_cert.specs.Claim.{Claim, SaysNever};
 ghost use Rattle.bb_cert.specs.ClaimMeter.{CountsClaim, IsWithinClaim};
 ghost use Rattle.bb_cert.specs.Pair.{HasCells};
@@ -278,7 +276,7 @@ fn check_translated<T: Tape>(
     let Ok(()) = pair.saved.copy_from(&pair.run) else {
         return Err(Memory);
     };
-    keep(machine, &mut course, &runner, &pair.run);
+    course.keep(&runner);
     match follow_to(
         machine,
         &mut runner,
@@ -291,49 +289,10 @@ fn check_translated<T: Tape>(
         Some(answer) => return Ok(answer),
         None => {}
     }
-    if agrees(machine, &course, &runner, &pair.run, &mut pair.saved) {
+    if course.agrees(&runner, &pair.run, &mut pair.saved) {
         return Ok(Answer::Ok);
     }
     Ok(Answer::Bad)
-}
-
-/// Keeps the record that the step makes where the runner stands, if it makes one.
-///
-/// The machine is the one that runs.
-fn keep<T: Tape>(_machine: &Machine, course: &mut Course, runner: &Runner, run: &T)
-    requires stands { Stands _machine.now runner.now (T.strip run.now) }
-    requires course { IsCourse _machine.now (steps_of runner.now) course.old (T.strip run.now) }
-    requires none { course.old.records.number ≡ pos 0 }
-    ensures course { IsCourse _machine.now (steps_of runner.now) course.new (T.strip run.now) }
-    ensures side { course.new.records.side ≡ course.old.records.side }
-    ensures keeps { KeepsStep _machine.now (steps_of runner.now) course.new.records }
-{
-    if course.is_record {
-        course.records.keep(runner);
-    }
-}
-
-/// Whether the step where the runner stands makes a record that agrees with that of the step that is kept.
-///
-/// The machine is the one that runs.
-fn agrees<T: Tape>(
-    _machine: &Machine,
-    course: &Course,
-    runner: &Runner,
-    run: &T,
-    saved: &mut T,
-) -> bool
-    requires stands { Stands _machine.now runner.now (T.strip run.now) }
-    requires limit { (T.strip saved.old).limit ≡ (T.strip run.now).limit }
-    requires course { IsCourse _machine.now (steps_of runner.now) course.now (T.strip saved.old) }
-    ensures agree { (first : ℕ) → first < steps_of runner.now → KeepsStep _machine.now first course.now.records
-        → IsTrue result ↔ AgreeingRecords _machine.now course.now.records.side first (steps_of runner.now) }
-    ensures limit { (T.strip saved.new).limit ≡ (T.strip saved.old).limit }
-{
-    if !course.is_record {
-        return false;
-    }
-    course.records.agrees(runner, run, saved)
 }
 
 /// Whether the tree of what could come before a halt ends in so many levels with so many nodes, and the start matches

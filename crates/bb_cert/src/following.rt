@@ -1,10 +1,11 @@
 //! The run of a claim, up to the steps that the claim names.
-ghost use Rattle.std.specs.Prelude.{◌≡◌, ◌<◌, ◌≤◌, IfOk, IfSome, IsTrue, MatchOption, OnErr};
+ghost use Rattle.std.specs.Prelude.{◌≡◌, ◌<◌, ◌≤◌, ◌↔◌, IfOk, IfSome, IsTrue, MatchBool, MatchOption, OnErr};
 ghost use Rattle.bb_tape.specs.Strip.{IsBeside};
 ghost use Rattle.bb_sim.specs.Meter.{IsWithinRun, zero_meter};
 ghost use Rattle.bb_sim.specs.Run.{Exists};
 ghost use Rattle.bb_sim.specs.Runner.{position_of, steps_of};
 ghost use Rattle.bb_cert.specs.Checks.{GoesOn, IsAtStep, IsCourse, IsCut, IsOneOn, IsUnderWay};
+ghost use Rattle.bb_cert.specs.Follow.{AgreesWithKept, IsComparable, IsKeptInStateOf, with_last_kept};
 
 use crate::answer::Answer;
 use crate::side_records::Records;
@@ -18,6 +19,34 @@ use bb_tape::{Memory, Tape};
 pub(crate) struct Course {
     pub(crate) records: Records,
     pub(crate) is_record: bool,
+}
+
+impl Course {
+    /// Keeps the record that the last step makes, if it makes one. The runner stands there.
+    pub(crate) fn keep(&mut self, runner: &Runner)
+        ensures { MatchBool self.old.is_record
+            (self.new ≡ record self.old { records = with_last_kept self.old.records runner.now })
+            (self.new ≡ self.old) }
+    {
+        if self.is_record {
+            self.records.keep(runner);
+        }
+    }
+
+    /// Whether the last step, where the runner stands, makes a record that agrees with the kept one.
+    pub(crate) fn agrees<T: Tape>(&self, runner: &Runner, run: &T, saved: &mut T) -> bool
+        requires limit { (T.strip saved.old).limit ≡ (T.strip run.now).limit }
+        requires comparable { IsTrue self.now.is_record → IsKeptInStateOf self.now.records runner.now
+            → IsComparable self.now.records (T.strip saved.old) (T.strip run.now) }
+        ensures agree { IsTrue result ↔ (IsTrue self.now.is_record
+            × AgreesWithKept self.now.records runner.now (T.strip saved.old) (T.strip run.now)) }
+        ensures limit { (T.strip saved.new).limit ≡ (T.strip saved.old).limit }
+    {
+        if !self.is_record {
+            return false;
+        }
+        self.records.agrees(runner, run, saved)
+    }
 }
 
 /// Begins the run of a claim, under a meter that counted nothing.

@@ -1,10 +1,10 @@
 //! The records of one side of a run, and the one with which a later one is compared.
 ghost use Rattle.std.specs.Prelude.{◌≡◌, ◌≢◌, ◌↔◌, ◌+ℤ◌, ◌-ℤ◌, ◌<ℤ◌, ◌≤ℤ◌, neg_ℤ, pos, IsTrue};
-ghost use Rattle.std.specs.Int.{int_max, int_min};
 ghost use Rattle.bb_tape.specs.Strip.{IsInside};
 ghost use Rattle.bb_sim.specs.Runner.{state_of};
 ghost use Rattle.bb_cert.specs.Record.{out};
-ghost use Rattle.bb_cert.specs.Follow.{HasSameCells, IsComparable, IsKeptInStateOf, IsWidened, lesser_of};
+ghost use Rattle.bb_cert.specs.Follow.{AgreesWithKept, HasSameCells, IsComparable, IsKeptInStateOf, IsWidened};
+ghost use Rattle.bb_cert.specs.Follow.{lesser_of, taken, with_last_kept};
 
 use crate::verdict::Side;
 use bb_machine::Next;
@@ -47,21 +47,20 @@ impl Records {
         requires low { neg_ℤ (pos MOST_CELLS) ≤ℤ position }
         requires high { position ≤ℤ pos MOST_CELLS }
         ensures told { IsTrue result ↔ (self.old.top <ℤ out self.old.side position) }
-        ensures taken { self.new ≡ record self.old {
-          top = int_max self.old.top (out self.old.side position);
-          far = int_min self.old.far (out self.old.side position);
-        } }
+        ensures taken { self.new ≡ taken self.old (out self.old.side position) }
     {
         let far_out = how_far_out(self.side, position);
-        let is_record = self.top < far_out;
-        self.top = self.top.max(far_out);
         self.far = self.far.min(far_out);
-        is_record
+        if far_out <= self.top {
+            return false;
+        }
+        self.top = far_out;
+        true
     }
 
     /// Keeps the last record, which the runner has just made.
     pub fn keep(&mut self, runner: &Runner)
-        ensures { self.new ≡ record self.old { number = self.old.top; kept = runner.now; far = self.old.top } }
+        ensures { self.new ≡ with_last_kept self.old runner.now }
     {
         self.kept = *runner;
         self.number = self.top;
@@ -74,8 +73,8 @@ impl Records {
         requires limit { (T.strip saved.old).limit ≡ (T.strip run.now).limit }
         requires comparable { IsKeptInStateOf self.now runner.now
             → IsComparable self.now (T.strip saved.old) (T.strip run.now) }
-        ensures agree { IsTrue result ↔ (IsKeptInStateOf self.now runner.now
-            × HasSameCells self.now (T.strip saved.old).content (T.strip run.now).content) }
+        ensures agree { IsTrue result
+            ↔ AgreesWithKept self.now runner.now (T.strip saved.old) (T.strip run.now) }
         ensures saved { IsWidened self.now (T.strip run.now) (T.strip saved.old) (T.strip saved.new) }
     {
         if self.number == 0 {

@@ -1,0 +1,144 @@
+-- A course whose record is kept, and compared with a later one.
+use Rattle.std.proofs.Common.{◌≡◌, ℕ, ◌<◌, ◌↔◌, pos, IsTrue, Bool, true, false, refl, sym, subst, ap, ◌∙◌}
+use Rattle.std.specs.Prelude.{MatchBool}
+use Rattle.bb_machine.specs.Machine.{Table}
+use Rattle.bb_tape.specs.Strip.{Strip}
+use Rattle.bb_sim.specs.declared.runner.Runner.{Runner}
+use Rattle.bb_sim.specs.Runner.{Stands, steps_of}
+use Rattle.bb_cert.specs.declared.following.Course.{Course}
+use Rattle.bb_cert.specs.declared.side_records.Records.{Records}
+use Rattle.bb_cert.specs.Agree.{Agree, AgreeingRecords}
+use Rattle.bb_cert.specs.declared.verdict.Side.{Side}
+use Rattle.bb_cert.specs.Checks.{GoesOn, IsCourse, KeepsStep, MakesRecord}
+use Rattle.bb_cert.specs.Follow.{AgreesWithKept, IsComparable, IsKeptInStateOf, with_last_kept}
+use Rattle.bb_cert.specs.Record.{IsRecord}
+use Rattle.bb_cert.proofs.Comparing.{agree_of_cells, cells_of_agree, comparable, keeps, keeps_step, numbered, some_number}
+use Rattle.bb_cert.proofs.Courses.{course_at_first, keeps_on}
+
+-- the course after its record, if the last step makes one, was kept
+abbrev pub Keeps : Runner → Course → Course → Type 0
+Keeps runner old new = MatchBool old.is_record
+    (new ≡ record old { records = with_last_kept old.records runner }) (new ≡ old)
+
+module _ (table : Table) (runner : Runner) (run : Strip) (old new : Course)
+    (stands : Stands table runner run) (course : IsCourse table (steps_of runner) old run) where
+  course_kept : Keeps runner old new → IsCourse table (steps_of runner) new run
+  course_kept kept = by_told old.is_record refl kept where
+    by_told : (told : Bool) → old.is_record ≡ told
+        → MatchBool told (new ≡ record old { records = with_last_kept old.records runner }) (new ≡ old)
+        → IsCourse table (steps_of runner) new run
+    by_told true makes is = subst (λ c. IsCourse table (steps_of runner) c run) (sym is) (record {
+      followed = keeps table runner run run old.records stands course.followed (course.told.0 makes) _ refl;
+      told = course.told;
+    })
+    by_told false none is = subst (λ c. IsCourse table (steps_of runner) c run) (sym is) course
+
+  step_kept : old.records.number ≡ pos 0 → Keeps runner old new
+      → KeepsStep table (steps_of runner) new.records
+  step_kept zeroth kept = by_told old.is_record refl kept where
+    by_told : (told : Bool) → old.is_record ≡ told
+        → MatchBool told (new ≡ record old { records = with_last_kept old.records runner }) (new ≡ old)
+        → KeepsStep table (steps_of runner) new.records
+    by_told true makes is =
+        subst (λ (c : Course). KeepsStep table (steps_of runner) c.records) (sym is)
+        (keeps_step table runner run run old.records stands course.followed (course.told.0 makes) _ refl)
+    by_told false none is =
+        subst (λ (c : Course). KeepsStep table (steps_of runner) c.records) (sym is) (record {
+          made = λ made. let makes = course.told.1 made in absurd cc;
+          at = λ some. absurd (some zeroth);
+        })
+
+side_kept : (runner : Runner) (old new : Course) → Keeps runner old new
+    → new.records.side ≡ old.records.side
+side_kept runner old new kept = by_told old.is_record kept where
+  by_told : (told : Bool)
+      → MatchBool told (new ≡ record old { records = with_last_kept old.records runner }) (new ≡ old)
+      → new.records.side ≡ old.records.side
+  by_told true is = ap (λ (c : Course). c.records.side) is
+  by_told false is = ap (λ (c : Course). c.records.side) is
+
+module _ (table : Table) (runner : Runner) (run saved : Strip) (course : Course)
+    (stands : Stands table runner run) (known : IsCourse table (steps_of runner) course saved) where
+  course_comparable : IsTrue course.is_record → IsKeptInStateOf course.records runner
+      → IsComparable course.records saved run
+  course_comparable makes =
+      comparable table runner run saved course.records stands known.followed (known.told.0 makes)
+
+  -- whether this step makes a record that agrees with that of the step that is kept
+  course_agrees : (told : Bool)
+      → IsTrue told ↔ (IsTrue course.is_record × AgreesWithKept course.records runner saved run)
+      → (first : ℕ) → first < steps_of runner → KeepsStep table first course.records
+      → IsTrue told ↔ AgreeingRecords table course.records.side first (steps_of runner)
+  course_agrees told is first less kept = (
+    λ yes.
+        let both = is.0 yes in
+        let made = known.told.0 both.0 in
+        let some = numbered table runner run saved course.records stands known.followed made both.1.0 in
+        let at = kept.at both.1.0.0 in
+        record {
+          in_order = less;
+          first_number = known.followed.number;
+          second_number = made.0;
+          first_record = subst (IsRecord table course.records.side known.followed.number) at
+              (known.followed.kept some).made;
+          second_record = made.1;
+          agree = subst (λ a. Agree table course.records.side a (steps_of runner)) at
+              (agree_of_cells table runner run saved course.records stands known.followed made some both.1);
+        },
+    λ pair.
+        let made : MakesRecord table course.records.side (steps_of runner) =
+        (pair.second_number, pair.second_record) in
+        let apart = kept.made (pair.first_number, pair.first_record) in
+        let at = kept.at apart in
+        let some = some_number known.followed.number course.records.number known.followed.number_is apart in
+        is.1 (
+          known.told.1 made,
+          cells_of_agree table runner run saved course.records stands known.followed
+              made some (rw at less)
+              (subst (λ a. Agree table course.records.side a (steps_of runner)) (sym at) pair.agree),
+        ),
+  )
+
+-- a course is known up to this step, whose record is kept, if it makes one
+pub record IsKeptAt (table : Table) (side : Side) (step : ℕ) (course : Course) (saved : Strip) : Type 0 where
+  pub known : IsCourse table step course saved
+  pub keeps : KeepsStep table step course.records
+  pub side_is : course.records.side ≡ side
+
+-- begun at the start, followed up to the step where the runner stands, and kept there
+pub kept_at : (table : Table) (side : Side) (step : ℕ) (start : Runner) (none : Records) (old new : Course)
+    (runner : Runner) (run : Strip)
+    → none ≡ record { side = side; top = pos 0; number = pos 0; kept = start; far = pos 0 }
+    → GoesOn table 0 step (record { records = none; is_record = false }) old → Stands table runner run
+    → steps_of runner ≡ step → Keeps runner old new → IsKeptAt table side step new run
+kept_at table side step start none old new runner run is goes stands here kept = record {
+  known = subst (λ n. IsCourse table n new run) here (course_kept table runner run old new stands known kept);
+  keeps = subst (λ n. KeepsStep table n new.records) here
+      (step_kept table runner run old new stands known
+      (goes.same.number ∙ ap (λ (r : Records). r.number) is) kept);
+  side_is = side_kept runner old new kept ∙ goes.same.side ∙ ap (λ (r : Records). r.side) is;
+} where
+  known : IsCourse table (steps_of runner) old run
+  known = subst (λ n. IsCourse table n old run) (sym here)
+      (goes.course run (course_at_first table (record { records = none; is_record = false }) run
+      (ap (λ (r : Records). r.top) is) (ap (λ (r : Records). r.number) is) refl))
+
+-- followed on from there
+module _ (table : Table) (side : Side) (first second : ℕ) (old new : Course) (runner : Runner)
+    (run saved : Strip) (kept : IsKeptAt table side first old saved) (goes : GoesOn table first second old new)
+    (stands : Stands table runner run) (here : steps_of runner ≡ second) where
+  known_on : IsCourse table (steps_of runner) new saved
+  known_on = subst (λ n. IsCourse table n new saved) (sym here) (goes.course saved kept.known)
+
+  pub comparable_at : IsTrue new.is_record → IsKeptInStateOf new.records runner
+      → IsComparable new.records saved run
+  comparable_at = course_comparable table runner run saved new stands known_on
+
+  pub agrees_at : (told : Bool)
+      → IsTrue told ↔ (IsTrue new.is_record × AgreesWithKept new.records runner saved run) → first < second
+      → IsTrue told ↔ AgreeingRecords table side first second
+  agrees_at told is less =
+      subst (λ s. IsTrue told ↔ AgreeingRecords table s first second) (goes.same.side ∙ kept.side_is)
+      (subst (λ n. IsTrue told ↔ AgreeingRecords table new.records.side first n) here
+      (course_agrees table runner run saved new stands known_on told is first (rw here less)
+      (keeps_on table first old.records new.records goes.same kept.keeps)))
