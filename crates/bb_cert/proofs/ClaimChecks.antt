@@ -1,5 +1,5 @@
 -- Why each kind of claim is answered as it is.
-use Rattle.std.proofs.Common.{◌≡◌, ℕ, ◌+◌, ◌<◌, ◌≤◌, ap, sym, subst, ◌∙◌, arith}
+use Rattle.std.proofs.Common.{◌≡◌, ℕ, ◌+◌, ◌<◌, ◌≤◌, Option, ap, sym, subst, ◌∙◌, arith}
 use Rattle.std.specs.Prelude.{◌≢◌}
 use Rattle.bb_machine.specs.Limits.{Bounds}
 use Rattle.bb_machine.specs.Machine.{Table}
@@ -13,6 +13,7 @@ use Rattle.bb_sim.specs.Span.{span}
 use Rattle.bb_sim.proofs.Facts.{fits_at_halt, halt_is_unique, halts_last, last_step_is_unique}
 use Rattle.bb_cert.specs.declared.answer.Answer.{Answer}
 use Rattle.bb_cert.specs.declared.answer.Answer.TheVariants as answer
+use Rattle.bb_cert.specs.declared.verdict.Extent.{Extent}
 use Rattle.bb_cert.specs.declared.verdict.Side.{Side}
 use Rattle.bb_cert.specs.declared.verdict.Verdict.{Verdict}
 use Rattle.bb_cert.specs.declared.verdict.Verdict.TheVariants.{Halt, Cycler, Translated}
@@ -65,13 +66,14 @@ cycler_cut table bounds first second answer.Over cut = cut
 cycler_cut table bounds first second answer.Ok cut = absurd cut
 cycler_cut table bounds first second answer.Open cut = absurd cut
 
-pub translated_cut : (table : Table) (bounds : Bounds) (side : Side) (first second : ℕ) (given : Answer)
-    → IsCut table (up_to bounds second) given → Checks table bounds (Translated side first second) given
-translated_cut table bounds side first second answer.Bad cut =
-    (not_wide _ _ cut.1, λ claim. cut.0 (record { here = _; exists = claim.agree.at_second }))
-translated_cut table bounds side first second answer.Over cut = cut
-translated_cut table bounds side first second answer.Ok cut = absurd cut
-translated_cut table bounds side first second answer.Open cut = absurd cut
+pub translated_cut : (table : Table) (bounds : Bounds) (side : Side) (first second : ℕ) (extent : Option Extent)
+    (given : Answer) → IsCut table (up_to bounds second) given
+    → Checks table bounds (Translated side first second extent) given
+translated_cut table bounds side first second extent answer.Bad cut =
+    (not_wide _ _ cut.1, λ claim. cut.0 (record { here = _; exists = claim.0.agree.at_second }))
+translated_cut table bounds side first second extent answer.Over cut = cut
+translated_cut table bounds side first second extent answer.Ok cut = absurd cut
+translated_cut table bounds side first second extent answer.Open cut = absurd cut
 
 -- a run that came to the step fits
 pub fits_there : (table : Table) (bounds : Bounds) (n : ℕ) (runner : Runner) (strip : Strip) (meter : Meter)

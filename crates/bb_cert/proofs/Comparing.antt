@@ -13,11 +13,13 @@ use Rattle.bb_sim.specs.Laws.{IsRunningAt}
 use Rattle.bb_sim.specs.Runner.{Stands, position_of, state_of, steps_of}
 use Rattle.bb_sim.specs.Span.{counted_head, least, greatest}
 use Rattle.bb_cert.specs.declared.side_records.Records.{Records}
+use Rattle.bb_cert.specs.declared.verdict.Extent.{Extent}
 use Rattle.bb_cert.specs.declared.verdict.Side.{Side}
 use Rattle.bb_cert.specs.Agree.{Agree}
 use Rattle.bb_cert.specs.Checks.{KeepsStep, MakesRecord}
 use Rattle.bb_cert.specs.Follow.{AgreesWithKept, IsComparable, IsFollowed, IsKeptInStateOf, IsKeptRecord}
-use Rattle.bb_cert.specs.Follow.{IsNarrow, IsTop, IsWidened, with_last_kept}
+use Rattle.bb_cert.specs.Extent.{IsExtent}
+use Rattle.bb_cert.specs.Follow.{IsNarrow, IsTop, LiesAs, IsWidened, with_last_kept}
 use Rattle.bb_cert.specs.Record.{out, head_at, IsRecord}
 use Rattle.bb_cert.proofs.Heads.{out-out, runs_before, runs_up_to, head_in_window, far-here, far_bounds, far_is_reached}
 use Rattle.bb_cert.proofs.Positions.{head_at-is, out-subtract}
@@ -201,6 +203,16 @@ module _ (table : Table) (runner : Runner) (run saved : Strip) (records : Record
 
     kept_out : out records.side (position_of records.kept) ≡ records.number
     kept_out = ap (out records.side) (sym kept_is) ∙ number_out
+
+    -- how they lie is their extent
+    pub extent_of_records : (extent : Extent) → LiesAs records extent
+        → IsExtent table records.side (steps_of records.kept) (steps_of runner) extent
+    extent_of_records extent lies = record {
+      shift = lies.shift ∙ ap (λ t. t -ℤ records.number) (sym top_out)
+          ∙ ap (λ n. out records.side (head_at table (steps_of runner)) -ℤ n) (sym number_out);
+      length = lies.length ∙ ap (λ n. (n -ℤ records.far) +ℤ pos 1) (sym number_out)
+          ∙ ap (λ f. (out records.side (head_at table (steps_of records.kept)) -ℤ f) +ℤ pos 1) kept.far_is;
+    }
 
     -- the cells that were compared are those of two records that agree
     pub agree_of_cells : AgreesWithKept records runner saved run

@@ -5,6 +5,7 @@ pub use Rattle.bb_cert.proofs.Claims.{claims_never_halt}
 pub use Rattle.bb_cert.proofs.Comparing.{agree_of_cells, cells_of_agree, comparable, keeps, number_narrow, numbered}
 pub use Rattle.bb_cert.proofs.Comparing.{stays}
 pub use Rattle.bb_cert.proofs.Courses.{followed_at_first, followed-next, made_next, no_record}
+pub use Rattle.bb_cert.proofs.Extents.{told_is_one, told_is_said}
 pub use Rattle.bb_cert.proofs.Heads.{runs_before}
 pub use Rattle.bb_cert.proofs.Lengths.{length-line}
 pub use Rattle.bb_cert.proofs.Lines.{line_unique}

@@ -8,11 +8,14 @@ use Rattle.bb_sim.specs.Runner.{Stands, steps_of}
 use Rattle.bb_cert.specs.declared.following.Course.{Course}
 use Rattle.bb_cert.specs.declared.side_records.Records.{Records}
 use Rattle.bb_cert.specs.Agree.{Agree, AgreeingRecords}
+use Rattle.bb_cert.specs.declared.verdict.Extent.{Extent}
 use Rattle.bb_cert.specs.declared.verdict.Side.{Side}
 use Rattle.bb_cert.specs.Checks.{GoesOn, IsCourse, KeepsStep, MakesRecord}
-use Rattle.bb_cert.specs.Follow.{AgreesWithKept, IsComparable, IsKeptInStateOf, with_last_kept}
+use Rattle.bb_cert.specs.Extent.{IsExtent}
+use Rattle.bb_cert.specs.Follow.{AgreesWithKept, IsComparable, IsKeptInStateOf, LiesAs, with_last_kept}
 use Rattle.bb_cert.specs.Record.{IsRecord}
-use Rattle.bb_cert.proofs.Comparing.{agree_of_cells, cells_of_agree, comparable, keeps, keeps_step, numbered, some_number}
+use Rattle.bb_cert.proofs.Comparing.{agree_of_cells, cells_of_agree, comparable, extent_of_records, keeps, keeps_step}
+use Rattle.bb_cert.proofs.Comparing.{numbered, some_number}
 use Rattle.bb_cert.proofs.Courses.{course_at_first, keeps_on}
 
 -- the course after its record, if the last step makes one, was kept
@@ -64,40 +67,40 @@ module _ (table : Table) (runner : Runner) (run saved : Strip) (course : Course)
   course_comparable makes =
       comparable table runner run saved course.records stands known.followed (known.told.0 makes)
 
-  -- whether this step makes a record that agrees with that of the step that is kept
-  course_agrees : (told : Bool)
-      → IsTrue told ↔ (IsTrue course.is_record × AgreesWithKept course.records runner saved run)
+  -- this step makes a record that agrees with that of the step that is kept
+  pair_of_course : IsTrue course.is_record → AgreesWithKept course.records runner saved run
       → (first : ℕ) → first < steps_of runner → KeepsStep table first course.records
-      → IsTrue told ↔ AgreeingRecords table course.records.side first (steps_of runner)
-  course_agrees told is first less kept = (
-    λ yes.
-        let both = is.0 yes in
-        let made = known.told.0 both.0 in
-        let some = numbered table runner run saved course.records stands known.followed made both.1.0 in
-        let at = kept.at both.1.0.0 in
-        record {
-          in_order = less;
-          first_number = known.followed.number;
-          second_number = made.0;
-          first_record = subst (IsRecord table course.records.side known.followed.number) at
-              (known.followed.kept some).made;
-          second_record = made.1;
-          agree = subst (λ a. Agree table course.records.side a (steps_of runner)) at
-              (agree_of_cells table runner run saved course.records stands known.followed made some both.1);
-        },
-    λ pair.
-        let made : MakesRecord table course.records.side (steps_of runner) =
-        (pair.second_number, pair.second_record) in
-        let apart = kept.made (pair.first_number, pair.first_record) in
-        let at = kept.at apart in
-        let some = some_number known.followed.number course.records.number known.followed.number_is apart in
-        is.1 (
-          known.told.1 made,
-          cells_of_agree table runner run saved course.records stands known.followed
-              made some (rw at less)
-              (subst (λ a. Agree table course.records.side a (steps_of runner)) (sym at) pair.agree),
-        ),
-  )
+      → AgreeingRecords table course.records.side first (steps_of runner)
+  pair_of_course makes both first less kept =
+      let made = known.told.0 makes in
+      let some = numbered table runner run saved course.records stands known.followed made both.0 in
+      let at = kept.at both.0.0 in
+      record {
+        in_order = less;
+        first_number = known.followed.number;
+        second_number = made.0;
+        first_record = subst (IsRecord table course.records.side known.followed.number) at
+            (known.followed.kept some).made;
+        second_record = made.1;
+        agree = subst (λ a. Agree table course.records.side a (steps_of runner)) at
+            (agree_of_cells table runner run saved course.records stands known.followed made some both);
+      }
+
+  -- where it does, that was seen
+  course_of_pair : (first : ℕ) → first < steps_of runner → KeepsStep table first course.records
+      → AgreeingRecords table course.records.side first (steps_of runner)
+      → IsTrue course.is_record × AgreesWithKept course.records runner saved run
+  course_of_pair first less kept pair =
+      let made : MakesRecord table course.records.side (steps_of runner) =
+      (pair.second_number, pair.second_record) in
+      let apart = kept.made (pair.first_number, pair.first_record) in
+      let at = kept.at apart in
+      let some = some_number known.followed.number course.records.number known.followed.number_is apart in (
+        known.told.1 made,
+        cells_of_agree table runner run saved course.records stands known.followed
+            made some (rw at less)
+            (subst (λ a. Agree table course.records.side a (steps_of runner)) (sym at) pair.agree),
+      )
 
 -- a course is known up to this step, whose record is kept, if it makes one
 pub record IsKeptAt (table : Table) (side : Side) (step : ℕ) (course : Course) (saved : Strip) : Type 0 where
@@ -134,11 +137,38 @@ module _ (table : Table) (side : Side) (first second : ℕ) (old new : Course) (
       → IsComparable new.records saved run
   comparable_at = course_comparable table runner run saved new stands known_on
 
-  pub agrees_at : (told : Bool)
-      → IsTrue told ↔ (IsTrue new.is_record × AgreesWithKept new.records runner saved run) → first < second
-      → IsTrue told ↔ AgreeingRecords table side first second
-  agrees_at told is less =
-      subst (λ s. IsTrue told ↔ AgreeingRecords table s first second) (goes.same.side ∙ kept.side_is)
-      (subst (λ n. IsTrue told ↔ AgreeingRecords table new.records.side first n) here
-      (course_agrees table runner run saved new stands known_on told is first (rw here less)
-      (keeps_on table first old.records new.records goes.same kept.keeps)))
+  keeps_first : KeepsStep table first new.records
+  keeps_first = keeps_on table first old.records new.records goes.same kept.keeps
+
+  -- how the two lie, where they agree, is their extent
+  pub extent_at : IsTrue new.is_record → AgreesWithKept new.records runner saved run → (found : Extent)
+      → LiesAs new.records found → IsExtent table side first second found
+  extent_at makes both found lies =
+      let made = known_on.told.0 makes in
+      let some = numbered table runner run saved new.records stands known_on.followed made both.0 in
+      let at = keeps_first.at both.0.0 in
+      subst (λ s. IsExtent table s first second found) (goes.same.side ∙ kept.side_is)
+      (subst (λ a. IsExtent table new.records.side a second found) at
+      (subst (λ b. IsExtent table new.records.side (steps_of new.records.kept) b found) here
+      (extent_of_records table runner run saved new.records stands known_on.followed made some found lies)))
+
+  turned : AgreeingRecords table new.records.side first (steps_of runner) → AgreeingRecords table side first second
+  turned pair = subst (λ s. AgreeingRecords table s first second) (goes.same.side ∙ kept.side_is)
+      (subst (λ n. AgreeingRecords table new.records.side first n) here pair)
+
+  turned_back : AgreeingRecords table side first second → AgreeingRecords table new.records.side first (steps_of runner)
+  turned_back pair = subst (λ n. AgreeingRecords table new.records.side first n) (sym here)
+      (subst (λ s. AgreeingRecords table s first second) (sym (goes.same.side ∙ kept.side_is)) pair)
+
+  pub pair_at : first < second → IsTrue new.is_record → AgreesWithKept new.records runner saved run
+      → AgreeingRecords table side first second
+  pair_at less makes both = turned (pair_of_course table runner run saved new stands known_on makes both first
+      (rw here less) keeps_first)
+
+  pub no_pair_at : first < second
+      → (IsTrue new.is_record → AgreesWithKept new.records runner saved run → ⊥)
+      → AgreeingRecords table side first second → ⊥
+  no_pair_at less none pair =
+      let seen = course_of_pair table runner run saved new stands known_on first (rw here less) keeps_first
+          (turned_back pair) in
+      none seen.0 seen.1

@@ -34,4 +34,5 @@ pub mod Comparing
 pub mod KeptCourses
 pub mod AnswerRules
 pub mod ClaimChecks
+pub mod Extents
 pub mod Facts

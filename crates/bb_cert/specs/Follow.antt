@@ -10,6 +10,7 @@ use Rattle.bb_sim.specs.declared.runner.Runner.{Runner}
 use Rattle.bb_sim.specs.Run.{conf}
 use Rattle.bb_sim.specs.Runner.{position_of, state_of, steps_of}
 use Rattle.bb_sim.specs.Span.{counted_head, least, greatest}
+use Rattle.bb_cert.specs.declared.verdict.Extent.{Extent}
 use Rattle.bb_cert.specs.declared.verdict.Side.{Side}
 use Rattle.bb_cert.specs.declared.verdict.Side.TheVariants.{L, R}
 use Rattle.bb_cert.specs.declared.side_records.Records.{Records}
@@ -90,6 +91,11 @@ IsKeptInStateOf records runner =
 abbrev pub AgreesWithKept : Records → Runner → Strip → Strip → Type 0
 AgreesWithKept records runner saved run =
     IsKeptInStateOf records runner × HasSameCells records saved.content run.content
+
+-- how far the last record is beyond the kept one, and how many positions there are from there back to the farthest point
+pub record LiesAs (records : Records) (extent : Extent) : Type 0 where
+  pub shift : pos extent.shift ≡ records.top -ℤ records.number
+  pub length : pos extent.length ≡ (records.number -ℤ records.far) +ℤ pos 1
 
 -- what was saved is at most widened, to the position that is least far out, which is in the window of the run
 abbrev pub IsWidened : Records → Strip → Strip → Strip → Type 0

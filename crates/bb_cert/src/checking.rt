@@ -1,5 +1,5 @@
 //! The checker: whether what a verdict claims of a machine holds, whoever found it.
-ghost use Rattle.std.specs.Prelude.{◌≡◌, ◌<◌, ◌≤◌, IfOk, IsTrue, OnErr};
+ghost use Rattle.std.specs.Prelude.{◌≡◌, ◌<◌, ◌≤◌, ◌↔◌, IfOk, IfSome, IsTrue, OnErr};
 ghost use Rattle.bb_sim.specs.Meter.{zero_meter};
 ghost use Rattle.bb_sim.specs.Run.{Never};
 ghost use Rattle.bb_cert.specs.declared.answer.Answer.{Answer};
@@ -16,7 +16,7 @@ use crate::compare::is_same;
 use crate::following::{Course, begin, follow_to, run_to};
 use crate::path::Path;
 use crate::side_records::Records;
-use crate::verdict::{Side, Verdict};
+use crate::verdict::{Extent, Side, Verdict};
 use crate::walk::walk;
 use bb_machine::{Limits, Machine};
 use bb_sim::{Meter, Outcome, Runner, simulate};
@@ -136,8 +136,8 @@ fn check_claim<T: Tape>(
             side,
             first,
             second,
-            ..
-        } => check_translated(machine, side, first, second, limits, pair, meter),
+            extent,
+        } => check_translated(machine, side, first, second, extent, limits, pair, meter),
         Verdict::Backward { levels, nodes } => {
             check_backward(machine, levels, nodes, limits, &mut pair.run, path, meter)
         }
@@ -234,12 +234,13 @@ fn check_cycler<T: Tape>(
     Ok(Answer::Bad)
 }
 
-/// Whether two steps make records of a side that agree: one run, and a copy of its tape.
+/// Whether two steps make records of a side that agree, and lie as was told: one run, and a copy of its tape.
 fn check_translated<T: Tape>(
     machine: &Machine,
     side: Side,
     first: u64,
     second: u64,
+    extent: Option<Extent>,
     limits: &Limits,
     pair: &mut Pair<T>,
     meter: &mut Meter,
@@ -248,10 +249,11 @@ fn check_translated<T: Tape>(
     requires steps { second ≤ limits.now.steps }
     requires tapes { HasCells T.strip limits.now.cells pair.old }
     requires meter { meter.old ≡ zero_meter }
-    ensures checks { IfOk result (Checks machine.now limits.now (Verdict.Translated side first second)) }
+    ensures checks { IfOk result
+        (Checks machine.now limits.now (Verdict.Translated side first second extent)) }
     ensures counted { IfOk result (λ answer. answer ≡ Answer.Ok
-        → CountsClaim (Verdict.Translated side first second) meter.new) }
-    ensures within { IsWithinClaim limits.now (Verdict.Translated side first second) meter.new }
+        → CountsClaim (Verdict.Translated side first second extent) meter.new) }
+    ensures within { IsWithinClaim limits.now (Verdict.Translated side first second extent) meter.new }
     ensures tapes { HasCells T.strip limits.now.cells pair.new }
     ensures memory { OnErr result (IsTrue T.GROWS) }
 {
@@ -289,10 +291,23 @@ fn check_translated<T: Tape>(
         Some(answer) => return Ok(answer),
         None => {}
     }
-    if course.agrees(&runner, &pair.run, &mut pair.saved) {
-        return Ok(Answer::Ok);
+    let Some(found) = course.agreement(&runner, &pair.run, &mut pair.saved) else {
+        return Ok(Answer::Bad);
+    };
+    if !is_as_told(extent, found) {
+        return Ok(Answer::Bad);
     }
-    Ok(Answer::Bad)
+    Ok(Answer::Ok)
+}
+
+/// Whether an extent, if one was told, is this one.
+fn is_as_told(told: Option<Extent>, found: Extent) -> bool
+    ensures { IsTrue result ↔ IfSome told (λ extent. extent ≡ found) }
+{
+    match told {
+        Some(extent) => extent == found,
+        None => true,
+    }
 }
 
 /// Whether the tree of what could come before a halt ends in so many levels with so many nodes, and the start matches

@@ -5,11 +5,11 @@ ghost use Rattle.bb_sim.specs.Meter.{IsWithinRun, zero_meter};
 ghost use Rattle.bb_sim.specs.Run.{Exists};
 ghost use Rattle.bb_sim.specs.Runner.{position_of, steps_of};
 ghost use Rattle.bb_cert.specs.Checks.{GoesOn, IsAtStep, IsCourse, IsCut, IsOneOn, IsUnderWay};
-ghost use Rattle.bb_cert.specs.Follow.{AgreesWithKept, IsComparable, IsKeptInStateOf, with_last_kept};
+ghost use Rattle.bb_cert.specs.Follow.{AgreesWithKept, IsComparable, IsKeptInStateOf, LiesAs, with_last_kept};
 
 use crate::answer::Answer;
 use crate::side_records::Records;
-use crate::verdict::Side;
+use crate::verdict::{Extent, Side};
 use bb_machine::{Limits, Machine};
 use bb_sim::{Meter, Moved, Runner};
 use bb_tape::{Memory, Tape};
@@ -33,19 +33,31 @@ impl Course {
         }
     }
 
-    /// Whether the last step, where the runner stands, makes a record that agrees with the kept one.
-    pub(crate) fn agrees<T: Tape>(&self, runner: &Runner, run: &T, saved: &mut T) -> bool
+    /// How the kept record and that of the last step, where the runner stands, lie, if it makes one that agrees.
+    pub(crate) fn agreement<T: Tape>(
+        &self,
+        runner: &Runner,
+        run: &T,
+        saved: &mut T,
+    ) -> Option<Extent>
         requires limit { (T.strip saved.old).limit ≡ (T.strip run.now).limit }
         requires comparable { IsTrue self.now.is_record → IsKeptInStateOf self.now.records runner.now
             → IsComparable self.now.records (T.strip saved.old) (T.strip run.now) }
-        ensures agree { IsTrue result ↔ (IsTrue self.now.is_record
-            × AgreesWithKept self.now.records runner.now (T.strip saved.old) (T.strip run.now)) }
+        ensures agree { MatchOption result
+            (IsTrue self.now.is_record
+                → AgreesWithKept self.now.records runner.now (T.strip saved.old) (T.strip run.now) → ⊥)
+            (λ extent. IsTrue self.now.is_record
+                × AgreesWithKept self.now.records runner.now (T.strip saved.old) (T.strip run.now)
+                × LiesAs self.now.records extent) }
         ensures limit { (T.strip saved.new).limit ≡ (T.strip saved.old).limit }
     {
         if !self.is_record {
-            return false;
+            return None;
         }
-        self.records.agrees(runner, run, saved)
+        if !self.records.agrees(runner, run, saved) {
+            return None;
+        }
+        Some(self.records.extent())
     }
 }
 

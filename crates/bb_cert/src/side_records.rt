@@ -4,9 +4,9 @@ ghost use Rattle.bb_tape.specs.Strip.{IsInside};
 ghost use Rattle.bb_sim.specs.Runner.{state_of};
 ghost use Rattle.bb_cert.specs.Record.{out};
 ghost use Rattle.bb_cert.specs.Follow.{AgreesWithKept, HasSameCells, IsComparable, IsKeptInStateOf, IsWidened};
-ghost use Rattle.bb_cert.specs.Follow.{lesser_of, taken, with_last_kept};
+ghost use Rattle.bb_cert.specs.Follow.{IsNarrow, LiesAs, lesser_of, taken, with_last_kept};
 
-use crate::verdict::Side;
+use crate::verdict::{Extent, Side};
 use bb_machine::Next;
 use bb_sim::Runner;
 use bb_tape::reach::reach;
@@ -87,6 +87,20 @@ impl Records {
             unreachable!();
         };
         self.has_same_cells(run, saved)
+    }
+
+    /// How the kept record and the last one, which agree, lie.
+    pub fn extent(&self) -> Extent
+        requires far { IsNarrow self.now.far }
+        requires order { self.now.far ≤ℤ self.now.number }
+        requires number { IsNarrow self.now.number }
+        requires later { self.now.number ≤ℤ self.now.top }
+        ensures { LiesAs self.now result }
+    {
+        Extent {
+            shift: self.top.abs_diff(self.number),
+            length: length_of(self.far, self.number),
+        }
     }
 
     /// Whether the cells from the farthest point out to the kept record are those that lie as far before the last one.

@@ -1,20 +1,21 @@
 use Rattle.std.proofs.Common.{◌≡◌, Bool, true, false, sym}
 use Rattle.bb_cert.proofs.ClaimChecks.{fits_there, translated_cut}
-use Rattle.bb_cert.proofs.KeptCourses.{agrees_at, comparable_at, kept_at}
+use Rattle.bb_cert.proofs.Extents.{said_as_found}
+use Rattle.bb_cert.proofs.KeptCourses.{comparable_at, extent_at, kept_at, no_pair_at, pair_at}
 use Rattle.bb_cert.proofs.checking.check_translated.Goals as goal
 
 pub returns-in-Some-clause-checks : goal.returns-in-Some-clause-checks
 returns-in-Some-clause-checks g c =
     let cut = rw (c.in-Some.is, c.with_steps-limits.ensures) at c.in_ok-answer.ensures.runs in
-    translated_cut _ c.args.limits.now _ _ _ _ cut
+    translated_cut _ c.args.limits.now _ _ _ _ _ cut
 
 pub returns-in-Some-2-clause-checks : goal.returns-in-Some-2-clause-checks
 returns-in-Some-2-clause-checks g c =
     let cut = rw (c.in-Some-2.is, c.with_steps-limits.ensures) at c.in_ok-answer-2.ensures.runs in
-    translated_cut _ c.args.limits.now _ _ _ _ cut
+    translated_cut _ c.args.limits.now _ _ _ _ _ cut
 
-pub agrees-requires-clause-comparable : goal.agrees-requires-clause-comparable
-agrees-requires-clause-comparable g c =
+pub agreement-requires-clause-comparable : goal.agreement-requires-clause-comparable
+agreement-requires-clause-comparable g c =
     let first = rw c.in-None.is at c.in_ok-answer.ensures.runs in
     let begun = rw (c.in-None.is, c.begin-runner.ensures.at.at) at c.in_ok-answer.ensures.follows in
     let second = rw (c.in-None-2.is, c.with_steps-limits.ensures) at c.in_ok-answer-2.ensures.runs in
@@ -24,8 +25,8 @@ agrees-requires-clause-comparable g c =
     let saved = rw (sym c.in-Ok.ensures.ok) at kept in
     comparable_at _ _ _ _ _ _ _ _ _ saved goes second.under_way.stands second.at
 
-pub returns-then-agrees-clause-checks : goal.returns-then-agrees-clause-checks
-returns-then-agrees-clause-checks g c =
+pub returns-in_default-agreement-clause-checks : goal.returns-in_default-agreement-clause-checks
+returns-in_default-agreement-clause-checks g c =
     let first = rw c.in-None.is at c.in_ok-answer.ensures.runs in
     let begun = rw (c.in-None.is, c.begin-runner.ensures.at.at) at c.in_ok-answer.ensures.follows in
     let second = rw (c.in-None-2.is, c.with_steps-limits.ensures) at c.in_ok-answer-2.ensures.runs in
@@ -33,12 +34,30 @@ returns-then-agrees-clause-checks g c =
     let kept = kept_at _ _ _ _ _ _ _ _ _ c.new.ensures begun first.under_way.stands first.at
     c.keep.ensures in
     let saved = rw (sym c.in-Ok.ensures.ok) at kept in
-    let agree = agrees_at _ _ _ _ _ _ _ _ _ saved goes second.under_way.stands second.at _
-    c.agrees.ensures.agree c.requires.order in
-    (fits_there _ c.args.limits.now _ _ _ _ second, agree.0 c.if-agrees.true)
+    (
+      fits_there _ c.args.limits.now _ _ _ _ second,
+      λ claim. no_pair_at _ _ _ _ _ _ _ _ _ saved goes second.under_way.stands second.at c.requires.order
+          c.in_default-agreement.ensures.agree claim.0,
+    )
 
 apart : (told : Bool) → told ≡ true → told ≡ false → ⊥
 apart told is isnt = cc
+
+pub returns-then-not-is_as_told-clause-checks : goal.returns-then-not-is_as_told-clause-checks
+returns-then-not-is_as_told-clause-checks g c =
+    let first = rw c.in-None.is at c.in_ok-answer.ensures.runs in
+    let begun = rw (c.in-None.is, c.begin-runner.ensures.at.at) at c.in_ok-answer.ensures.follows in
+    let second = rw (c.in-None-2.is, c.with_steps-limits.ensures) at c.in_ok-answer-2.ensures.runs in
+    let goes = rw (c.in-None-2.is, first.at) at c.in_ok-answer-2.ensures.follows in
+    let kept = kept_at _ _ _ _ _ _ _ _ _ c.new.ensures begun first.under_way.stands first.at
+    c.keep.ensures in
+    let saved = rw (sym c.in-Ok.ensures.ok) at kept in
+    let agree = c.in-Some-agreement.ensures.agree in
+    let is = extent_at _ _ _ _ _ _ _ _ _ saved goes second.under_way.stands second.at agree.0 agree.1 _ agree.2 in
+    let said = said_as_found _ _ _ _ _ is c.args.extent in (
+      fits_there _ c.args.limits.now _ _ _ _ second,
+      λ claim. apart _ (c.is_as_told.ensures.1 (said.1 claim.1)) c.if-not-is_as_told.true,
+    )
 
 pub returns-clause-checks : goal.returns-clause-checks
 returns-clause-checks g c =
@@ -49,8 +68,12 @@ returns-clause-checks g c =
     let kept = kept_at _ _ _ _ _ _ _ _ _ c.new.ensures begun first.under_way.stands first.at
     c.keep.ensures in
     let saved = rw (sym c.in-Ok.ensures.ok) at kept in
-    let agree = agrees_at _ _ _ _ _ _ _ _ _ saved goes second.under_way.stands second.at _
-    c.agrees.ensures.agree c.requires.order in (
+    let agree = c.in-Some-agreement.ensures.agree in
+    let is = extent_at _ _ _ _ _ _ _ _ _ saved goes second.under_way.stands second.at agree.0 agree.1 _ agree.2 in
+    let said = said_as_found _ _ _ _ _ is c.args.extent in (
       fits_there _ c.args.limits.now _ _ _ _ second,
-      λ claim. apart _ (agree.1 claim) c.if-agrees.false,
+      (
+        pair_at _ _ _ _ _ _ _ _ _ saved goes second.under_way.stands second.at c.requires.order agree.0 agree.1,
+        said.0 (c.is_as_told.ensures.0 c.if-not-is_as_told.false),
+      ),
     )
