@@ -9,7 +9,8 @@ ghost use Rattle.bb_decide.specs.Cycle.{CountsSearch};
 ghost use Rattle.bb_decide.specs.Translation.{FindsTranslation};
 
 use crate::bench::Bench;
-use crate::records::Records;
+use crate::keeping::take_in;
+use bb_cert::side_records::Records;
 use bb_cert::{Side, Verdict};
 use bb_machine::{Limits, Machine};
 use bb_sim::{Meter, Moved, Runner};
@@ -79,7 +80,7 @@ fn run<T: Tape>(
         let Some(_) = runner.state() else {
             return Ok(None);
         };
-        match right.take_in(machine, &runner, &bench.run, &mut bench.right)? {
+        match take_in(&mut right, &runner, &bench.run, &mut bench.right)? {
             Some(first) => {
                 return Ok(Some(Verdict::Translated {
                     side: Side::R,
@@ -89,7 +90,7 @@ fn run<T: Tape>(
             }
             None => {}
         }
-        match left.take_in(machine, &runner, &bench.run, &mut bench.left)? {
+        match take_in(&mut left, &runner, &bench.run, &mut bench.left)? {
             Some(first) => {
                 return Ok(Some(Verdict::Translated {
                     side: Side::L,

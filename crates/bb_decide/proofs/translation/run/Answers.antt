@@ -4,9 +4,9 @@ use Rattle.bb_sim.specs.Runner.{state_of, steps_of}
 use Rattle.bb_sim.proofs.Facts.{counts_next, counts_start, counts_stopped, count_is_within, halts_last, stopped}
 use Rattle.bb_cert.specs.declared.verdict.Side.TheVariants.{L, R}
 use Rattle.bb_cert.proofs.Facts.{agreeing_records_never_halt}
-use Rattle.bb_decide.specs.declared.records.Records.{Records}
-use Rattle.bb_decide.proofs.Following.{followed_at_first}
-use Rattle.bb_decide.proofs.Heads.{halts_in_Z, in_no_state}
+use Rattle.bb_cert.specs.declared.side_records.Records.{Records}
+use Rattle.bb_decide.proofs.Halting.{halts_in_Z, in_no_state}
+use Rattle.bb_decide.proofs.TakingIn.{no_pair, pair_found, ready, searched_at_first, searched_on}
 use Rattle.bb_decide.proofs.Translations.{first_translation, no_pair_at_end, none_at_first, none_next, pair_agrees}
 use Rattle.bb_decide.proofs.translation.run.Goals as goal
 
@@ -15,9 +15,9 @@ loop-runner-init g c =
     let zero = c.start-runner.ensures.steps in
     record {
       stands = c.start-runner.ensures.stands;
-      right = rw zero (followed_at_first _ _ _ (ap (λ (r : Records). r.top) c.new-right.ensures)
+      right = rw zero (searched_at_first _ _ _ (ap (λ (r : Records). r.top) c.new-right.ensures)
           (ap (λ (r : Records). r.number) c.new-right.ensures));
-      left = rw zero (followed_at_first _ _ _ (ap (λ (r : Records). r.top) c.new-left.ensures)
+      left = rw zero (searched_at_first _ _ _ (ap (λ (r : Records). r.top) c.new-left.ensures)
           (ap (λ (r : Records). r.number) c.new-left.ensures));
       right_side = ap (λ (r : Records). r.side) c.new-right.ensures;
       left_side = ap (λ (r : Records). r.side) c.new-left.ensures;
@@ -58,12 +58,25 @@ returns-in_default g c =
       memory = tt;
     }
 
+pub take_in-requires-clause-ready : goal.take_in-requires-clause-ready
+take_in-requires-clause-ready g c =
+    let moves = rw c.in-Stepped.is at c.in_ok-advance.ensures.moves in
+    λ high. ready _ _ _ _ _ _ c.in_ok-advance.ensures.stands moves.0 c.loop-runner.invariant.right high
+    (g.met.T.Tape.sound _)
+
+pub take_in-requires-in-loop-runner-clause-ready : goal.take_in-requires-in-loop-runner-clause-ready
+take_in-requires-in-loop-runner-clause-ready g c =
+    let moves = rw c.in-Stepped.is at c.in_ok-advance.ensures.moves in
+    λ high. ready _ _ _ _ _ _ c.in_ok-advance.ensures.stands moves.0 c.loop-runner.invariant.left high
+    (g.met.T.Tape.sound _)
+
 pub returns-in-Some-2-clause-found : goal.returns-in-Some-2-clause-found
 returns-in-Some-2-clause-found g c =
     let here = c.loop-runner.invariant in
     let moves = rw c.in-Stepped.is at c.in_ok-advance.ensures.moves in
     let reaches = rw c.in-Stepped.is at c.in_ok-advance.ensures.reaches in
-    let found = rw c.in-Some-2.is at c.in_ok-first.ensures.found in
+    let taken = rw c.in-Some-2.is at c.in_ok-first.ensures.taken in
+    let found = pair_found _ _ _ _ _ _ c.in_ok-advance.ensures.stands moves.0 here.right _ _ _ taken in
     let pair = rw here.right_side at found in
     let next = rw moves.0 at pair in
     let inside = rw moves.0 at reaches.0 in
@@ -78,14 +91,18 @@ returns-in-Some-2-clause-counted g c =
 pub returns-in-Some-2-clause-never : goal.returns-in-Some-2-clause-never
 returns-in-Some-2-clause-never g c =
     let here = c.loop-runner.invariant in
-    let found = rw c.in-Some-2.is at c.in_ok-first.ensures.found in
+    let moves = rw c.in-Stepped.is at c.in_ok-advance.ensures.moves in
+    let taken = rw c.in-Some-2.is at c.in_ok-first.ensures.taken in
+    let found = pair_found _ _ _ _ _ _ c.in_ok-advance.ensures.stands moves.0 here.right _ _ _ taken in
     let pair = rw here.right_side at found in
     agreeing_records_never_halt _ _ _ _ (pair_agrees _ _ _ _ pair)
 
 pub returns-in-Some-2-clause-claim : goal.returns-in-Some-2-clause-claim
 returns-in-Some-2-clause-claim g c =
     let here = c.loop-runner.invariant in
-    let found = rw c.in-Some-2.is at c.in_ok-first.ensures.found in
+    let moves = rw c.in-Stepped.is at c.in_ok-advance.ensures.moves in
+    let taken = rw c.in-Some-2.is at c.in_ok-first.ensures.taken in
+    let found = pair_found _ _ _ _ _ _ c.in_ok-advance.ensures.stands moves.0 here.right _ _ _ taken in
     let pair = rw here.right_side at found in
     rw c.steps.ensures (pair_agrees _ _ _ _ pair)
 
@@ -94,7 +111,8 @@ returns-in-Some-3-clause-found g c =
     let here = c.loop-runner.invariant in
     let moves = rw c.in-Stepped.is at c.in_ok-advance.ensures.moves in
     let reaches = rw c.in-Stepped.is at c.in_ok-advance.ensures.reaches in
-    let found = rw c.in-Some-3.is at c.in_ok-first-2.ensures.found in
+    let taken = rw c.in-Some-3.is at c.in_ok-first-2.ensures.taken in
+    let found = pair_found _ _ _ _ _ _ c.in_ok-advance.ensures.stands moves.0 here.left _ _ _ taken in
     let pair = rw here.left_side at found in
     let next = rw moves.0 at pair in
     let inside = rw moves.0 at reaches.0 in
@@ -109,14 +127,18 @@ returns-in-Some-3-clause-counted g c =
 pub returns-in-Some-3-clause-never : goal.returns-in-Some-3-clause-never
 returns-in-Some-3-clause-never g c =
     let here = c.loop-runner.invariant in
-    let found = rw c.in-Some-3.is at c.in_ok-first-2.ensures.found in
+    let moves = rw c.in-Stepped.is at c.in_ok-advance.ensures.moves in
+    let taken = rw c.in-Some-3.is at c.in_ok-first-2.ensures.taken in
+    let found = pair_found _ _ _ _ _ _ c.in_ok-advance.ensures.stands moves.0 here.left _ _ _ taken in
     let pair = rw here.left_side at found in
     agreeing_records_never_halt _ _ _ _ (pair_agrees _ _ _ _ pair)
 
 pub returns-in-Some-3-clause-claim : goal.returns-in-Some-3-clause-claim
 returns-in-Some-3-clause-claim g c =
     let here = c.loop-runner.invariant in
-    let found = rw c.in-Some-3.is at c.in_ok-first-2.ensures.found in
+    let moves = rw c.in-Stepped.is at c.in_ok-advance.ensures.moves in
+    let taken = rw c.in-Some-3.is at c.in_ok-first-2.ensures.taken in
+    let found = pair_found _ _ _ _ _ _ c.in_ok-advance.ensures.stands moves.0 here.left _ _ _ taken in
     let pair = rw here.left_side at found in
     rw c.steps-in-Some-3.ensures (pair_agrees _ _ _ _ pair)
 
@@ -125,16 +147,19 @@ loop-runner-preserved g c =
     let here = c.loop-runner.invariant in
     let moves = rw c.in-Stepped.is at c.in_ok-advance.ensures.moves in
     let reaches = rw c.in-Stepped.is at c.in_ok-advance.ensures.reaches in
-    let right_found = rw c.in-None.is at c.in_ok-first.ensures.found in
+    let stands = c.in_ok-advance.ensures.stands in
+    let right_taken = rw c.in-None.is at c.in_ok-first.ensures.taken in
+    let right_found = no_pair _ _ _ _ _ _ stands moves.0 here.right _ _ right_taken in
     let right_here = rw here.right_side at right_found in
     let right_none = rw moves.0 at right_here in
-    let left_found = rw c.in-None-2.is at c.in_ok-first-2.ensures.found in
+    let left_taken = rw c.in-None-2.is at c.in_ok-first-2.ensures.taken in
+    let left_found = no_pair _ _ _ _ _ _ stands moves.0 here.left _ _ left_taken in
     let left_here = rw here.left_side at left_found in
     let left_none = rw moves.0 at left_here in
     record {
-      stands = c.in_ok-advance.ensures.stands;
-      right = rw c.in-None.is at c.in_ok-first.ensures.followed;
-      left = rw c.in-None-2.is at c.in_ok-first-2.ensures.followed;
+      stands = stands;
+      right = searched_on _ _ _ _ _ _ stands moves.0 here.right _ _ right_taken;
+      left = searched_on _ _ _ _ _ _ stands moves.0 here.left _ _ left_taken;
       right_side = c.in_ok-first.ensures.side ∙ here.right_side;
       left_side = c.in_ok-first-2.ensures.side ∙ here.left_side;
       tapes = record {
