@@ -1,15 +1,13 @@
 -- Why what a verdict claims holds, and why the checker confirms it under the same bounds.
-use Rattle.std.proofs.Common.{ℕ, ◌<◌, ◌≤◌, Option, Some, None, inl, inr, refl, arith}
+use Rattle.std.proofs.Common.{ℕ, ◌<◌, ◌≤◌, inl, inr, refl, arith}
 use Rattle.bb_machine.specs.Limits.{Bounds}
 use Rattle.bb_machine.specs.Machine.{Table}
-use Rattle.bb_cert.specs.declared.verdict.Extent.{Extent}
 use Rattle.bb_cert.specs.declared.verdict.Side.{Side}
 use Rattle.bb_cert.specs.declared.verdict.Why.TheVariants.{Steps, Cells}
 use Rattle.bb_cert.specs.declared.verdict.Verdict.{Verdict}
 use Rattle.bb_cert.specs.declared.verdict.Verdict.TheVariants.{Halt, Cycler, Translated, Backward, Undecided}
 use Rattle.bb_cert.specs.Answer.{Applies, IsOutOfOrder, IsUndecided, NamesTooMuch, NeedsTooMuch, Rule, rank, undecided, too_much_named, out_of_order, too_much_needed, claim_holds, all_else}
-use Rattle.bb_cert.specs.Extent.{SaysExtent, TellsExtent}
-use Rattle.bb_cert.proofs.Facts.{records_in_order}
+use Rattle.bb_cert.proofs.Facts.{records_in_order, told_is_said}
 use Rattle.bb_decide.specs.declared.plan.Plan.{Plan}
 use Rattle.bb_decide.specs.Laws.{VerdictsAreConfirmed, VerdictsHold}
 use Rattle.bb_decide.specs.Translation.{AgreesWithPartner}
@@ -19,12 +17,6 @@ use Rattle.bb_decide.specs.Verdict.{IsVerdict}
 later : (table : Table) (side : Side) (a b : ℕ) → AgreesWithPartner table side a b → a < b
 later table side a b pair = (records_in_order table side pair.first_number pair.second_number a b pair.first_record
     pair.second_record).0 pair.partner.below
-
--- an extent that is told is right
-told_is_said : (table : Table) (side : Side) (a b : ℕ) (extent : Option Extent) → TellsExtent table side a b extent
-    → SaysExtent table side a b extent
-told_is_said table side a b None tells = absurd tells
-told_is_said table side a b (Some extent) tells = tells
 
 pub verdicts_hold : VerdictsHold
 verdicts_hold table bounds plan (Halt steps score) is = (is.0.halts, is.1)

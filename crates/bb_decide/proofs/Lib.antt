@@ -1,13 +1,10 @@
 pub mod Claims
 pub mod Cycles
 pub mod Facts
-pub mod Following
-pub mod Heads
-pub mod Looking
+pub mod Halting
 pub mod Partners
-pub mod Reaching
-pub mod Stretches
 pub mod Sure
+pub mod TakingIn
 pub mod Translations
 pub mod Verdicts
 pub mod Works

@@ -12,7 +12,7 @@ use Rattle.bb_cert.specs.declared.verdict.Side.{Side}
 use Rattle.bb_cert.specs.declared.verdict.Side.TheVariants.{L, R}
 use Rattle.bb_cert.specs.Agree.{AgreeingRecords}
 use Rattle.bb_cert.proofs.Facts.{record_takes_steps, records_in_order}
-use Rattle.bb_decide.proofs.Heads.{no_pair_in_Z}
+use Rattle.bb_decide.proofs.Halting.{no_pair_in_Z}
 use Rattle.bb_decide.specs.Translation.{AgreesWithPartner, IsTranslation, IsFirstTranslation}
 
 -- step 0 makes no record

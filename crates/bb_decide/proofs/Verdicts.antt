@@ -1,5 +1,5 @@
 -- Why a machine has one verdict, and costs as many steps each time.
-use Rattle.std.proofs.Common.{◌≡◌, ℕ, ◌≤◌, ◌<◌, Option, Some, None, ℤ, pos, neg_ℤ, inl, inr, refl, sym, subst, ◌∙◌, ap, arith}
+use Rattle.std.proofs.Common.{◌≡◌, ℕ, ◌≤◌, ◌<◌, Option, ℤ, pos, neg_ℤ, inl, inr, refl, sym, subst, ◌∙◌, arith}
 use Rattle.std.proofs.lemmas.Int.{ints}
 use Rattle.bb_machine.specs.Limits.{Bounds}
 use Rattle.bb_machine.specs.Machine.{Table}
@@ -12,7 +12,7 @@ use Rattle.bb_cert.specs.declared.verdict.Side.{Side}
 use Rattle.bb_cert.specs.declared.verdict.Side.TheVariants.{L, R}
 use Rattle.bb_cert.specs.Extent.{TellsExtent}
 use Rattle.bb_cert.specs.Record.{IsRecord}
-use Rattle.bb_cert.proofs.Facts.{record_has_one_step, stands_on, tree_has_one_end}
+use Rattle.bb_cert.proofs.Facts.{record_has_one_step, stands_on, told_is_one, tree_has_one_end}
 use Rattle.bb_decide.specs.Cycle.{IsFirstCycle}
 use Rattle.bb_decide.specs.Partner.{IsPartner}
 use Rattle.bb_decide.specs.Translation.{IsFirstTranslation}
@@ -35,16 +35,6 @@ module _ (table : Table) (bounds : Bounds) (a t b u : ℕ) (one : IsFirstCycle t
 -- there is one first record that agrees with its partner: of one side, and with one partner
 one_number : (i j : ℕ) (p : ℤ) → p ≡ pos i → p ≡ pos j → i ≡ j
 one_number i j p a b = omega (arith, ints, a, b)
-
--- two records have one extent
-told_extent_is_one : (table : Table) (side : Side) (a b : ℕ) (one other : Option Extent)
-    → TellsExtent table side a b one → TellsExtent table side a b other → one ≡ other
-told_extent_is_one table side a b None other first second = absurd first
-told_extent_is_one table side a b (Some one) None first second = absurd second
-told_extent_is_one table side a b (Some one) (Some other) first second =
-    let shifts = one_number one.shift other.shift _ (sym first.shift) (sym second.shift) in
-    let lengths = one_number one.length other.length _ (sym first.length) (sym second.length) in
-    ap Some (ap (λ n. record one { shift = n }) shifts ∙ ap (λ n. record other { length = n }) lengths)
 
 module _ (table : Table) (bounds : Bounds) where
   first_translation_is_one : (s r : Side) (a b c d : ℕ) → IsFirstTranslation table bounds s a b
@@ -95,7 +85,7 @@ module _ (table : Table) (bounds : Bounds) where
       let tells_step = subst (λ n. TellsExtent table r c n other_told) (sym step) tells_other in
       let tells_side = subst (λ t. TellsExtent table t c b other_told) (sym side) tells_step in
       let tells_here = subst (λ n. TellsExtent table s n b other_told) (sym partner) tells_side in
-      let told = told_extent_is_one table s a b one_told other_told tells_one tells_here in
+      let told = told_is_one table s a b one_told other_told tells_one tells_here in
       cc
 
 pub verdict_is_unique : VerdictIsUnique

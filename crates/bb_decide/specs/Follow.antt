@@ -1,106 +1,55 @@
--- What the search for records that agree knows of one side, as its functions tell one another; no public contract
--- cites it.
-use Rattle.std.specs.Prelude.{◌≡◌, ◌≢◌, ℕ, ◌+◌, ◌<◌, ◌≤◌, ◌⊎◌, Option, Some, None}
-use Rattle.std.specs.Prelude.{ℤ, pos, neg_ℤ, ◌+ℤ◌, ◌-ℤ◌, ◌≤ℤ◌}
-use Rattle.bb_machine.specs.declared.entry.Next.TheVariants.{Halt}
+-- How the search for records that agree goes on, as its functions tell one another; no public contract cites it.
+use Rattle.std.specs.Prelude.{◌≡◌, ℕ, ◌⊎◌, Option, Some, None, pos, ◌*ℤ◌, ◌<ℤ◌, ◌≤ℤ◌}
 use Rattle.bb_machine.specs.Machine.{Table}
-use Rattle.bb_tape.specs.Content.{Content, cell}
-use Rattle.bb_tape.specs.Strip.{Strip, IsInside, visited}
+use Rattle.bb_tape.specs.Strip.{Strip}
 use Rattle.bb_sim.specs.declared.runner.Runner.{Runner}
-use Rattle.bb_sim.specs.Run.{conf}
-use Rattle.bb_sim.specs.Runner.{position_of, state_of, steps_of}
-use Rattle.bb_sim.specs.Span.{counted_head, least, greatest}
-use Rattle.bb_cert.specs.declared.verdict.Side.{Side}
-use Rattle.bb_cert.specs.declared.verdict.Side.TheVariants.{L, R}
-use Rattle.bb_cert.specs.Record.{out, head_at, far, IsRecord}
-use Rattle.bb_decide.specs.declared.records.Records.{Records}
+use Rattle.bb_sim.specs.Runner.{position_of, steps_of}
+use Rattle.bb_cert.specs.declared.side_records.Records.{Records}
+use Rattle.bb_cert.specs.Follow.{AgreesWithKept, IsComparable, IsFollowed, IsKeptInStateOf, IsNarrow, IsWidened}
+use Rattle.bb_cert.specs.Follow.{LiesAs, taken, with_last_kept}
+use Rattle.bb_cert.specs.Record.{out}
+use Rattle.bb_decide.specs.declared.keeping.Partner.{Partner}
 use Rattle.bb_decide.specs.Partner.{IsKept}
-use Rattle.bb_decide.specs.Translation.{AgreesWithPartner}
 
--- how far out the head is at most up to step n
-pub record IsTop (table : Table) (side : Side) (n : ℕ) (top : ℤ) : Type 0 where
-  pub step : ℕ
-  pub no_later : step ≤ n
-  pub reached : out side (head_at table step) ≡ top
-  pub bounds : (m : ℕ) → m ≤ n → out side (head_at table m) ≤ℤ top
+-- the kept record is the one with which the next is compared
+abbrev pub KeepsPartner : Records → Type 0
+KeepsPartner records = (number count : ℕ) → records.number ≡ pos number → records.top ≡ pos count
+    → IsKept number count
 
--- the record that is kept, its configuration, and how far out the head is at least from there to step n; what was
--- saved of it lies in the window of the run, and its own head in what was saved
-pub record IsKeptRecord (table : Table) (side : Side) (number n : ℕ) (kept : Runner) (far_out : ℤ)
-    (saved : Strip) : Type 0 where
-  pub made : IsRecord table side number (steps_of kept)
-  pub before : steps_of kept ≤ n
-  pub at : conf table (steps_of kept)
-      ≡ Some (record { state = state_of kept; head = position_of kept; tape = saved.content })
-  pub far_is : far_out ≡ far table side (steps_of kept) n
-  pub low : least (counted_head table) n ≤ℤ saved.low
-  pub high : saved.high ≤ℤ greatest (counted_head table) n
-  pub seen : state_of kept ≢ Halt → IsInside saved (position_of kept)
+-- the records of a side up to step n are known, and the partner of the next one is kept
+pub record IsSearched (table : Table) (n : ℕ) (records : Records) (saved : Strip) : Type 0 where
+  pub followed : IsFollowed table n records saved
+  pub partner : KeepsPartner records
 
--- the records of a side up to step n: how many, and which one is kept
-pub record IsFollowed (table : Table) (n : ℕ) (records : Records) (saved : Strip) : Type 0 where
-  pub count : ℕ
-  pub number : ℕ
-  pub count_is : records.top ≡ pos count
-  pub number_is : records.number ≡ pos number
-  pub top : IsTop table records.side n records.top
-  pub partner : IsKept number count
-  pub kept : 0 < number → IsKeptRecord table records.side number n records.kept records.far saved
+-- a runner stands farther out than all before, where it makes the next record
+abbrev pub IsNextRecord : Records → Runner → Type 0
+IsNextRecord records runner = records.top <ℤ out records.side (position_of runner)
 
--- they are known up to the step before b
-pub record IsFollowedBefore (table : Table) (b : ℕ) (records : Records) (saved : Strip) : Type 0 where
-  pub before : ℕ
-  pub next : b ≡ before + 1
-  pub followed : IsFollowed table before records saved
+-- what is known where it stands
+abbrev pub with_next : Records → Runner → Records
+with_next records runner = taken records (out records.side (position_of runner))
 
--- step b makes a record, the last of those that are counted; it was neither compared nor kept yet
-pub record IsAtRecord (table : Table) (b : ℕ) (records : Records) (saved : Strip) : Type 0 where
-  pub count : ℕ
-  pub number : ℕ
-  pub count_is : records.top ≡ pos (count + 1)
-  pub number_is : records.number ≡ pos number
-  pub top : IsTop table records.side b records.top
-  pub made : IsRecord table records.side (count + 1) b
-  pub partner : IsKept number count
-  pub kept : 0 < number → IsKeptRecord table records.side number b records.kept records.far saved
+-- the last record, which the runner has just made, can be compared with the kept one
+pub record IsReady (records : Records) (runner : Runner) (saved run : Strip) : Type 0 where
+  pub narrow : IsNarrow records.number
+  pub comparable : IsKeptInStateOf records runner → IsComparable records saved run
 
--- the step whose record agrees with that of step b, which is its partner; none just where none does
-abbrev pub FindsPartner : Table → Side → ℕ → Option ℕ → Type 0
-FindsPartner table side b None = (a : ℕ) → AgreesWithPartner table side a b → ⊥
-FindsPartner table side b (Some a) = AgreesWithPartner table side a b
+-- the last record is kept, in what the run has, where its number is at least twice that of the kept one, which stays
+-- elsewhere
+abbrev pub KeepsByTurn : Records → Runner → Strip → Strip → Records → Strip → Type 0
+KeepsByTurn old runner run saved new new_saved =
+    (((pos 2 *ℤ old.number) ≤ℤ old.top) × (new ≡ with_last_kept old runner) × (new_saved ≡ run))
+    ⊎ ((old.top <ℤ (pos 2 *ℤ old.number)) × (new ≡ old) × IsWidened old run saved new_saved)
 
--- where none was found the records are known up to step b
-abbrev pub GoesOn : Table → ℕ → Records → Strip → Option ℕ → Type 0
-GoesOn table b records saved None = IsFollowed table b records saved
-GoesOn table b records saved (Some a) = Unit {0}
+-- the kept record, where the last one agrees with it; none just where it does not
+abbrev pub Compares : Records → Runner → Strip → Strip → Records → Strip → Option Partner → Type 0
+Compares old runner run saved new new_saved None =
+    (AgreesWithKept old runner saved run → ⊥) × KeepsByTurn old runner run saved new new_saved
+Compares old runner run saved new new_saved (Some partner) =
+    AgreesWithKept old runner saved run × (partner.step ≡ steps_of old.kept) × LiesAs old partner.extent
 
--- the lesser position of a stretch between two that are so far out
-abbrev pub lesser_of : Side → ℤ → ℤ → ℤ
-lesser_of R near far_out = near
-lesser_of L near far_out = neg_ℤ far_out
-
--- the stretch of the kept record that is compared: from the least far out up to the head
-pub record IsComparable (records : Records) (saved run : Strip) : Type 0 where
-  pub low : run.low ≤ℤ saved.low
-  pub high : saved.high ≤ℤ run.high
-  pub order : records.far ≤ℤ records.number
-  pub later : records.number ≤ℤ records.top
-  pub far_seen : IsInside run (out records.side records.far)
-  pub top_seen : IsInside run (out records.side records.top)
-  pub number_saved : IsInside saved (out records.side records.number)
-
--- its cells are those that the last record has as far before its head
-abbrev pub HasSameCells : Records → Content → Content → Type 0
-HasSameCells records saved run = (x : ℤ) → records.far ≤ℤ out records.side x
-    → out records.side x ≤ℤ records.number
-    → cell saved x ≡ cell run (x +ℤ out records.side (records.top -ℤ records.number))
-
--- a record is kept, in the state in which a runner is, which is not Z
-abbrev pub IsKeptInStateOf : Records → Runner → Type 0
-IsKeptInStateOf records runner =
-    (records.number ≢ pos 0) × (state_of records.kept ≡ state_of runner) × (state_of records.kept ≢ Halt)
-
--- what was saved is at most widened, to the position that is least far out, which is in the window of the run
-abbrev pub IsWidened : Records → Strip → Strip → Strip → Type 0
-IsWidened records run old new = (new ≡ old)
-    ⊎ ((new ≡ visited old (out records.side records.far)) × IsInside run (out records.side records.far))
+-- the configuration where the runner stands is taken in; only a record is compared
+abbrev pub TakesIn : Records → Runner → Strip → Strip → Records → Strip → Option Partner → Type 0
+TakesIn old runner run saved new new_saved found =
+    (IsNextRecord old runner × Compares (with_next old runner) runner run saved new new_saved found)
+    ⊎ ((IsNextRecord old runner → ⊥) × (found ≡ None) × (new ≡ with_next old runner) × (new_saved ≡ saved))

@@ -10,7 +10,8 @@ ghost use Rattle.bb_decide.specs.Sure.{FindsAgreeingRecords};
 ghost use Rattle.bb_decide.specs.Translation.{FindsTranslation};
 
 use crate::bench::Bench;
-use crate::records::Records;
+use crate::keeping::take_in;
+use bb_cert::side_records::Records;
 use bb_cert::{Side, Verdict};
 use bb_machine::{Limits, Machine};
 use bb_sim::{Meter, Moved, Runner};
@@ -81,24 +82,24 @@ fn run<T: Tape>(
         let Some(_) = runner.state() else {
             return Ok(None);
         };
-        match right.take_in(machine, &runner, &bench.run, &mut bench.right)? {
-            Some(first) => {
+        match take_in(&mut right, &runner, &bench.run, &mut bench.right)? {
+            Some(partner) => {
                 return Ok(Some(Verdict::Translated {
                     side: Side::R,
-                    first,
+                    first: partner.step,
                     second: runner.steps(),
-                    extent: None,
+                    extent: Some(partner.extent),
                 }));
             }
             None => {}
         }
-        match left.take_in(machine, &runner, &bench.run, &mut bench.left)? {
-            Some(first) => {
+        match take_in(&mut left, &runner, &bench.run, &mut bench.left)? {
+            Some(partner) => {
                 return Ok(Some(Verdict::Translated {
                     side: Side::L,
-                    first,
+                    first: partner.step,
                     second: runner.steps(),
-                    extent: None,
+                    extent: Some(partner.extent),
                 }));
             }
             None => {}

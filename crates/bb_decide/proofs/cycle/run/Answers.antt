@@ -4,7 +4,7 @@ use Rattle.bb_sim.specs.Runner.{state_of, steps_of}
 use Rattle.bb_sim.proofs.Facts.{counts_next, counts_stopped, count_is_within, halts_last, stopped}
 use Rattle.bb_cert.proofs.Facts.{alike_of_same, same_of_alike, repeats_never_halt}
 use Rattle.bb_decide.proofs.Cycles.{first_cycle, no_cycle_next}
-use Rattle.bb_decide.proofs.Heads.{halts_in_Z, in_no_state, no_pair_in_Z}
+use Rattle.bb_decide.proofs.Halting.{halts_in_Z, in_no_state, no_pair_in_Z}
 use Rattle.bb_decide.proofs.Partners.{kept_below, keeps_next, keeps_on}
 use Rattle.bb_decide.proofs.cycle.run.Goals as goal
 

@@ -4,7 +4,7 @@ use Rattle.bb_sim.specs.Runner.{Stands, steps_of}
 use Rattle.bb_cert.specs.declared.verdict.Side.{Side}
 use Rattle.bb_cert.specs.declared.verdict.Side.TheVariants.{L, R}
 use Rattle.bb_decide.specs.Bench.{HasCells}
-use Rattle.bb_decide.specs.Follow.{IsFollowed}
+use Rattle.bb_decide.specs.Follow.{IsSearched}
 use Rattle.bb_decide.specs.Translation.{IsTranslation}
 use Rattle.bb_decide.proofs.translation.run.Given as goal
 
@@ -13,8 +13,8 @@ use Rattle.bb_decide.proofs.translation.run.Given as goal
 abbrev pub invariant-loop-runner : goal.invariant-loop-runner
 invariant-loop-runner g l = record {
   stands : Stands l.machine l.runner (g.T.Tape.strip l.bench.run);
-  right : IsFollowed l.machine (steps_of l.runner) l.right (g.T.Tape.strip l.bench.right);
-  left : IsFollowed l.machine (steps_of l.runner) l.left (g.T.Tape.strip l.bench.left);
+  right : IsSearched l.machine (steps_of l.runner) l.right (g.T.Tape.strip l.bench.right);
+  left : IsSearched l.machine (steps_of l.runner) l.left (g.T.Tape.strip l.bench.left);
   right_side : l.right.side ≡ R;
   left_side : l.left.side ≡ L;
   tapes : HasCells g.T.Tape.strip l.limits.cells l.bench;

@@ -1,0 +1,45 @@
+-- A runner in Z: there the machine halts.
+use Rattle.std.proofs.Common.{◌≡◌, ◌≢◌, ℕ, ◌<◌, Option, Some, None, refl, ap, ◌∙◌}
+use Rattle.std.specs.Prelude.{MatchOption}
+use Rattle.bb_machine.specs.declared.entry.Next.{Next}
+use Rattle.bb_machine.specs.declared.entry.Next.TheVariants.{Halt, State}
+use Rattle.bb_machine.specs.Machine.{Table}
+use Rattle.bb_tape.specs.Content.{cell}
+use Rattle.bb_tape.specs.Strip.{Strip}
+use Rattle.bb_sim.specs.Configuration.{Configuration, entry_at, followed, next}
+use Rattle.bb_sim.specs.declared.runner.Runner.{Runner}
+use Rattle.bb_sim.specs.Run.{conf, HaltsAt}
+use Rattle.bb_sim.specs.Runner.{Stands, position_of, state_of, steps_of}
+use Rattle.bb_cert.proofs.Facts.{runs_before}
+
+-- a runner that tells no state is in Z
+pub in_no_state : (found : Option ℕ) (state : Next) → MatchOption found (state ≡ Halt) (λ n. state ≡ State n)
+    → ((n : ℕ) → found ≢ Some n) → state ≡ Halt
+in_no_state None state told apart = told
+in_no_state (Some n) state told apart = absurd (apart n refl)
+
+-- a runner in Z stands where the machine halts, and nothing before is in the same state
+module _ (table : Table) (runner : Runner) (run : Strip) (stands : Stands table runner run)
+    (halts : state_of runner ≡ Halt) where
+  pub halts_in_Z : HaltsAt table (steps_of runner)
+  unfolding next
+  halts_in_Z = record {
+    last = _;
+    exists = stands.at;
+    no_next =
+        let c : Configuration =
+        record { state = state_of runner; head = position_of runner; tape = run.content } in
+        ap (λ s. followed (entry_at table s (cell c.tape c.head)) c) halts;
+  }
+
+  pub no_pair_in_Z : (a : ℕ) (c d : Configuration) → a < steps_of runner → conf table a ≡ Some c
+      → conf table (steps_of runner) ≡ Some d → c.state ≡ d.state → ⊥
+  no_pair_in_Z a c d less at_first at_second same =
+      let runs = runs_before table a (steps_of runner) less
+      (record { here = d; exists = at_second }) in
+      let there = runs.exists in
+      let at = stands.at in
+      let one : runs.here ≡ c = cc in
+      let two : d ≡ record { state = state_of runner; head = position_of runner; tape = run.content } = cc in
+      runs.runs (ap (λ (e : Configuration). e.state) one ∙ same ∙ ap (λ (e : Configuration). e.state) two
+      ∙ halts)
