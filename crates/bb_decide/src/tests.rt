@@ -6,7 +6,7 @@ ghost use Rattle.bb_decide.specs.Bench.{HasCells};
 mod trees;
 
 use crate::{Bench, Plan, cyclers, decide};
-use bb_cert::{Side, Verdict, Why};
+use bb_cert::{Extent, Side, Verdict, Why};
 use bb_machine::{Limits, Machine};
 use bb_sim::Meter;
 use bb_tape::{MapTape, RingTape, Tape};
@@ -82,6 +82,10 @@ static TRANSLATED_ROWS: [Row; 20] = [
             side: Side::R,
             first: 1,
             second: 2,
+            extent: Some(Extent {
+                shift: 1,
+                length: 1,
+            }),
         },
         128,
     ),
@@ -92,6 +96,10 @@ static TRANSLATED_ROWS: [Row; 20] = [
             side: Side::L,
             first: 1,
             second: 2,
+            extent: Some(Extent {
+                shift: 1,
+                length: 1,
+            }),
         },
         128,
     ),
@@ -102,6 +110,10 @@ static TRANSLATED_ROWS: [Row; 20] = [
             side: Side::R,
             first: 4,
             second: 7,
+            extent: Some(Extent {
+                shift: 3,
+                length: 1,
+            }),
         },
         133,
     ),
@@ -112,6 +124,10 @@ static TRANSLATED_ROWS: [Row; 20] = [
             side: Side::R,
             first: 4,
             second: 7,
+            extent: Some(Extent {
+                shift: 3,
+                length: 1,
+            }),
         },
         21,
     ),
@@ -123,6 +139,10 @@ static TRANSLATED_ROWS: [Row; 20] = [
             side: Side::R,
             first: 3,
             second: 6,
+            extent: Some(Extent {
+                shift: 1,
+                length: 2,
+            }),
         },
         382,
     ),
@@ -133,6 +153,10 @@ static TRANSLATED_ROWS: [Row; 20] = [
             side: Side::L,
             first: 3,
             second: 6,
+            extent: Some(Extent {
+                shift: 1,
+                length: 2,
+            }),
         },
         382,
     ),
@@ -144,6 +168,10 @@ static TRANSLATED_ROWS: [Row; 20] = [
             side: Side::R,
             first: 4,
             second: 8,
+            extent: Some(Extent {
+                shift: 2,
+                length: 1,
+            }),
         },
         262,
     ),
@@ -154,6 +182,10 @@ static TRANSLATED_ROWS: [Row; 20] = [
             side: Side::L,
             first: 4,
             second: 8,
+            extent: Some(Extent {
+                shift: 2,
+                length: 1,
+            }),
         },
         262,
     ),
@@ -164,6 +196,10 @@ static TRANSLATED_ROWS: [Row; 20] = [
             side: Side::R,
             first: 4,
             second: 8,
+            extent: Some(Extent {
+                shift: 2,
+                length: 1,
+            }),
         },
         24,
     ),
@@ -175,6 +211,10 @@ static TRANSLATED_ROWS: [Row; 20] = [
             side: Side::L,
             first: 1,
             second: 8,
+            extent: Some(Extent {
+                shift: 1,
+                length: 3,
+            }),
         },
         608,
     ),
@@ -185,6 +225,10 @@ static TRANSLATED_ROWS: [Row; 20] = [
             side: Side::R,
             first: 1,
             second: 8,
+            extent: Some(Extent {
+                shift: 1,
+                length: 3,
+            }),
         },
         608,
     ),
@@ -204,6 +248,10 @@ static TRANSLATED_ROWS: [Row; 20] = [
             side: Side::L,
             first: 1,
             second: 2,
+            extent: Some(Extent {
+                shift: 1,
+                length: 1,
+            }),
         },
         128,
     ),
@@ -214,6 +262,10 @@ static TRANSLATED_ROWS: [Row; 20] = [
             side: Side::R,
             first: 1,
             second: 2,
+            extent: Some(Extent {
+                shift: 1,
+                length: 1,
+            }),
         },
         128,
     ),
@@ -224,6 +276,10 @@ static TRANSLATED_ROWS: [Row; 20] = [
             side: Side::L,
             first: 4,
             second: 7,
+            extent: Some(Extent {
+                shift: 3,
+                length: 1,
+            }),
         },
         133,
     ),
