@@ -2,7 +2,8 @@
 pub use Rattle.bb_cert.proofs.Agreements.{agreeing_records_never_halt}
 pub use Rattle.bb_cert.proofs.AnswerRules.{answer_is_unique}
 pub use Rattle.bb_cert.proofs.Claims.{claims_never_halt}
-pub use Rattle.bb_cert.proofs.Comparing.{agree_of_cells, cells_of_agree, comparable, keeps, number_narrow, numbered}
+pub use Rattle.bb_cert.proofs.Comparing.{agree_of_cells, cells_of_agree, comparable, keeps, number_narrow}
+pub use Rattle.bb_cert.proofs.Comparing.{numbered}
 pub use Rattle.bb_cert.proofs.Comparing.{stays}
 pub use Rattle.bb_cert.proofs.Courses.{followed_at_first, followed-next, made_next, no_record}
 pub use Rattle.bb_cert.proofs.Heads.{runs_before}

@@ -12,7 +12,8 @@ use Rattle.bb_cert.specs.declared.verdict.Side.{Side}
 use Rattle.bb_cert.specs.Checks.{GoesOn, IsCourse, KeepsStep, MakesRecord}
 use Rattle.bb_cert.specs.Follow.{AgreesWithKept, IsComparable, IsKeptInStateOf, with_last_kept}
 use Rattle.bb_cert.specs.Record.{IsRecord}
-use Rattle.bb_cert.proofs.Comparing.{agree_of_cells, cells_of_agree, comparable, keeps, keeps_step, numbered, some_number}
+use Rattle.bb_cert.proofs.Comparing.{agree_of_cells, cells_of_agree, comparable, keeps, keeps_step, numbered}
+use Rattle.bb_cert.proofs.Comparing.{some_number}
 use Rattle.bb_cert.proofs.Courses.{course_at_first, keeps_on}
 
 -- the course after its record, if the last step makes one, was kept
@@ -125,7 +126,8 @@ kept_at table side step start none old new runner run is goes stands here kept =
 
 -- followed on from there
 module _ (table : Table) (side : Side) (first second : ℕ) (old new : Course) (runner : Runner)
-    (run saved : Strip) (kept : IsKeptAt table side first old saved) (goes : GoesOn table first second old new)
+    (run saved : Strip) (kept : IsKeptAt table side first old saved)
+    (goes : GoesOn table first second old new)
     (stands : Stands table runner run) (here : steps_of runner ≡ second) where
   known_on : IsCourse table (steps_of runner) new saved
   known_on = subst (λ n. IsCourse table n new saved) (sym here) (goes.course saved kept.known)

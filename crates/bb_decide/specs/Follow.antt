@@ -1,11 +1,13 @@
--- How the search for records that agree goes on, as its functions tell one another; no public contract cites it.
+-- How the search for records that agree goes on, as its functions tell one another; no public contract cites
+-- it.
 use Rattle.std.specs.Prelude.{◌≡◌, ℕ, ◌⊎◌, Option, Some, None, pos, ◌*ℤ◌, ◌<ℤ◌, ◌≤ℤ◌}
 use Rattle.bb_machine.specs.Machine.{Table}
 use Rattle.bb_tape.specs.Strip.{Strip}
 use Rattle.bb_sim.specs.declared.runner.Runner.{Runner}
 use Rattle.bb_sim.specs.Runner.{position_of, steps_of}
 use Rattle.bb_cert.specs.declared.side_records.Records.{Records}
-use Rattle.bb_cert.specs.Follow.{AgreesWithKept, IsComparable, IsFollowed, IsKeptInStateOf, IsNarrow, IsWidened}
+use Rattle.bb_cert.specs.Follow.{AgreesWithKept, IsComparable, IsFollowed, IsKeptInStateOf, IsNarrow}
+use Rattle.bb_cert.specs.Follow.{IsWidened}
 use Rattle.bb_cert.specs.Follow.{taken, with_last_kept}
 use Rattle.bb_cert.specs.Record.{out}
 use Rattle.bb_decide.specs.Partner.{IsKept}
@@ -33,8 +35,8 @@ pub record IsReady (records : Records) (runner : Runner) (saved run : Strip) : T
   pub narrow : IsNarrow records.number
   pub comparable : IsKeptInStateOf records runner → IsComparable records saved run
 
--- the last record is kept, in what the run has, where its number is at least twice that of the kept one, which stays
--- elsewhere
+-- the last record is kept, in what the run has, where its number is at least twice that of the kept one,
+-- which stays elsewhere
 abbrev pub KeepsByTurn : Records → Runner → Strip → Strip → Records → Strip → Type 0
 KeepsByTurn old runner run saved new new_saved =
     (((pos 2 *ℤ old.number) ≤ℤ old.top) × (new ≡ with_last_kept old runner) × (new_saved ≡ run))

@@ -8,8 +8,8 @@ use bb_cert::side_records::Records;
 use bb_sim::Runner;
 use bb_tape::{Memory, Tape};
 
-/// Takes in the configuration that the runner has come to. Where it makes a record that agrees with the kept one, that
-/// one's step; else the record is kept, if it is its turn.
+/// Takes in the configuration that the runner has come to. Where it makes a record that agrees with the kept
+/// one, that one's step; else the record is kept, if it is its turn.
 #[inline(always)]
 pub fn take_in<T: Tape>(
     records: &mut Records,
@@ -34,8 +34,8 @@ pub fn take_in<T: Tape>(
     Ok(found)
 }
 
-/// Compares the record that was just made with the kept one, and keeps it if it is its turn. The records and the
-/// runner are locals of a loop: they stay in registers, since what is out of line gets copies of them.
+/// Compares the record that was just made with the kept one, and keeps it if it is its turn. The records and
+/// the runner are locals of a loop: they stay in registers, since what is out of line gets copies of them.
 #[inline(always)]
 fn look<T: Tape>(
     records: &mut Records,
@@ -59,7 +59,8 @@ fn look<T: Tape>(
     Ok(found)
 }
 
-/// Compares the record that was just made with the kept one, and keeps it if its number is at least twice the other.
+/// Compares the record that was just made with the kept one, and keeps it if its number is at least twice the
+/// other.
 #[cold]
 #[inline(never)]
 fn compare_and_keep<T: Tape>(

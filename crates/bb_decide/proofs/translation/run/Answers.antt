@@ -1,13 +1,15 @@
 use Rattle.std.proofs.Common.{◌≡◌, refl, ◌∙◌, ap, arith}
 use Rattle.bb_machine.specs.declared.entry.Next.TheVariants.{Halt}
 use Rattle.bb_sim.specs.Runner.{state_of, steps_of}
-use Rattle.bb_sim.proofs.Facts.{counts_next, counts_start, counts_stopped, count_is_within, halts_last, stopped}
+use Rattle.bb_sim.proofs.Facts.{counts_next, counts_start, counts_stopped, count_is_within, halts_last}
+use Rattle.bb_sim.proofs.Facts.{stopped}
 use Rattle.bb_cert.specs.declared.verdict.Side.TheVariants.{L, R}
 use Rattle.bb_cert.proofs.Facts.{agreeing_records_never_halt}
 use Rattle.bb_cert.specs.declared.side_records.Records.{Records}
 use Rattle.bb_decide.proofs.Halting.{halts_in_Z, in_no_state}
 use Rattle.bb_decide.proofs.TakingIn.{no_pair, pair_found, ready, searched_at_first, searched_on}
-use Rattle.bb_decide.proofs.Translations.{first_translation, no_pair_at_end, none_at_first, none_next, pair_agrees}
+use Rattle.bb_decide.proofs.Translations.{first_translation, no_pair_at_end, none_at_first, none_next}
+use Rattle.bb_decide.proofs.Translations.{pair_agrees}
 use Rattle.bb_decide.proofs.translation.run.Goals as goal
 
 pub loop-runner-init : goal.loop-runner-init
@@ -178,19 +180,22 @@ returns-in_default-state-clause-found g c =
     let here = c.loop-runner.invariant in
     let moves = rw c.in-Stepped.is at c.in_ok-advance.ensures.moves in
     let reaches = rw c.in-Stepped.is at c.in_ok-advance.ensures.reaches in
-    let halts : state_of c.advance.new.self ≡ Halt = in_no_state _ _ c.state.ensures c.in_default-state.not-Some in
+    let halts : state_of c.advance.new.self ≡ Halt =
+    in_no_state _ _ c.state.ensures c.in_default-state.not-Some in
     let last = halts_last _ _ _ reaches.0 (halts_in_Z _ _ _ c.in_ok-advance.ensures.stands halts) in
     let none = no_pair_at_end _ _ _ c.in_ok-advance.ensures.stands halts in
     λ side a b translation.
     let few = last.greatest b translation.inside in
-    none_next _ _ _ here.none (rw moves.0 at (none R)) (rw moves.0 at (none L)) side a b (omega (arith, moves.0, few)) translation
+    none_next _ _ _ here.none (rw moves.0 at (none R)) (rw moves.0 at (none L)) side a b
+    (omega (arith, moves.0, few)) translation
 
 pub returns-in_default-state-clause-counted : goal.returns-in_default-state-clause-counted
 returns-in_default-state-clause-counted g c =
     let here = c.loop-runner.invariant in
     let moves = rw c.in-Stepped.is at c.in_ok-advance.ensures.moves in
     let reaches = rw c.in-Stepped.is at c.in_ok-advance.ensures.reaches in
-    let halts : state_of c.advance.new.self ≡ Halt = in_no_state _ _ c.state.ensures c.in_default-state.not-Some in
+    let halts : state_of c.advance.new.self ≡ Halt =
+    in_no_state _ _ c.state.ensures c.in_default-state.not-Some in
     record {
       last = _;
       is_last = halts_last _ _ _ reaches.0 (halts_in_Z _ _ _ c.in_ok-advance.ensures.stands halts);
