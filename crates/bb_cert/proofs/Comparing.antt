@@ -1,5 +1,6 @@
 -- A record that was just made, and the kept one: when they agree.
-use Rattle.std.proofs.Common.{◌≡◌, ℕ, ◌<◌, ◌≤◌, inl, inr, ℤ, pos, ◌+ℤ◌, ◌-ℤ◌, ◌≤ℤ◌, refl, ap, sym, subst, ◌∙◌, arith}
+use Rattle.std.proofs.Common.{◌≡◌, ℕ, ◌<◌, ◌≤◌, inl, inr, ℤ, pos, ◌+ℤ◌, ◌-ℤ◌, ◌≤ℤ◌, refl, ap, sym, subst, ◌∙◌}
+use Rattle.std.proofs.Common.{arith}
 use Rattle.std.specs.Prelude.{◌≢◌, ◌<ℤ◌}
 use Rattle.std.proofs.lemmas.Bool.{cases_lt}
 use Rattle.std.proofs.lemmas.Int.{ints}
@@ -21,7 +22,8 @@ use Rattle.bb_cert.specs.Follow.{AgreesWithKept, IsComparable, IsFollowed, IsKep
 use Rattle.bb_cert.specs.Extent.{IsExtent}
 use Rattle.bb_cert.specs.Follow.{IsNarrow, IsTop, LiesAs, IsWidened, with_last_kept}
 use Rattle.bb_cert.specs.Record.{out, head_at, IsRecord}
-use Rattle.bb_cert.proofs.Heads.{out-out, runs_before, runs_up_to, head_in_window, far-here, far_bounds, far_is_reached}
+use Rattle.bb_cert.proofs.Heads.{out-out, runs_before, runs_up_to, head_in_window, far-here, far_bounds}
+use Rattle.bb_cert.proofs.Heads.{far_is_reached}
 use Rattle.bb_cert.proofs.Positions.{head_at-is, out-subtract}
 use Rattle.bb_cert.proofs.Records.{short_of_record, stands_on}
 use Rattle.bb_cert.proofs.Stretches.{high_wider, low_wider, narrow_inside, seen_wider}

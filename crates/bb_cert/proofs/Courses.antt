@@ -1,5 +1,6 @@
 -- What is known of a side's records, as the run goes on by a step.
-use Rattle.std.proofs.Common.{◌≡◌, ℕ, ◌+◌, ◌<◌, ◌↔◌, ℤ, pos, ◌+ℤ◌, ◌≤ℤ◌, IsTrue, Bool, false, refl, ap, sym, subst, ◌∙◌, add-one, arith}
+use Rattle.std.proofs.Common.{◌≡◌, ℕ, ◌+◌, ◌<◌, ◌↔◌, ℤ, pos, ◌+ℤ◌, ◌≤ℤ◌, IsTrue, Bool, false, refl, ap, sym}
+use Rattle.std.proofs.Common.{subst, ◌∙◌, add-one, arith}
 use Rattle.std.specs.Prelude.{◌<ℤ◌, ◌≢◌}
 use Rattle.std.specs.Int.{int_min, int_max}
 use Rattle.std.proofs.lemmas.Int.{ints, clamps, by_lt_z}

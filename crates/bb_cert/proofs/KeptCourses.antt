@@ -128,7 +128,8 @@ kept_at table side step start none old new runner run is goes stands here kept =
 
 -- followed on from there
 module _ (table : Table) (side : Side) (first second : ℕ) (old new : Course) (runner : Runner)
-    (run saved : Strip) (kept : IsKeptAt table side first old saved) (goes : GoesOn table first second old new)
+    (run saved : Strip) (kept : IsKeptAt table side first old saved)
+    (goes : GoesOn table first second old new)
     (stands : Stands table runner run) (here : steps_of runner ≡ second) where
   known_on : IsCourse table (steps_of runner) new saved
   known_on = subst (λ n. IsCourse table n new saved) (sym here) (goes.course saved kept.known)

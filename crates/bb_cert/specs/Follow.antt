@@ -1,4 +1,5 @@
--- What is known of the records of one side while a run is followed, and when the last record agrees with a kept one.
+-- What is known of the records of one side while a run is followed, and when the last record agrees with a
+-- kept one.
 use Rattle.std.specs.Prelude.{◌≡◌, ◌≢◌, ℕ, ◌<◌, ◌≤◌, ◌⊎◌, Some, ℤ, pos, neg_ℤ, ◌+ℤ◌, ◌-ℤ◌, ◌≤ℤ◌}
 use Rattle.std.specs.Int.{int_min, int_max}
 use Rattle.bb_machine.specs.declared.entry.Next.TheVariants.{Halt}
@@ -38,8 +39,8 @@ pub record IsTop (table : Table) (side : Side) (n : ℕ) (top : ℤ) : Type 0 wh
   pub reached : out side (head_at table step) ≡ top
   pub bounds : (m : ℕ) → m ≤ n → out side (head_at table m) ≤ℤ top
 
--- the record that is kept, its configuration, and how far out the head is at least from there to step n; what was
--- saved of it lies in the window of the run, and its own head in what was saved
+-- the record that is kept, its configuration, and how far out the head is at least from there to step n; what
+-- was saved of it lies in the window of the run, and its own head in what was saved
 pub record IsKeptRecord (table : Table) (side : Side) (number n : ℕ) (kept : Runner) (far_out : ℤ)
     (saved : Strip)
     : Type 0 where

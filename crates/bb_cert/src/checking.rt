@@ -31,8 +31,8 @@ pub struct Pair<T> {
     pub saved: T,
 }
 
-/// What is answered to a verdict on a machine, and under the meter what that cost: the meter is begun at 0, and nothing
-/// past what the verdict names is run or walked.
+/// What is answered to a verdict on a machine, and under the meter what that cost: the meter is begun at 0,
+/// and nothing past what the verdict names is run or walked.
 ///
 /// After an error nothing is said of what the tapes hold; the next call resets them.
 pub fn check<T: Tape>(
@@ -310,8 +310,8 @@ fn is_as_told(told: Option<Extent>, found: Extent) -> bool
     }
 }
 
-/// Whether the tree of what could come before a halt ends in so many levels with so many nodes, and the start matches
-/// none of them: one walk with no more levels and nodes.
+/// Whether the tree of what could come before a halt ends in so many levels with so many nodes, and the start
+/// matches none of them: one walk with no more levels and nodes.
 fn check_backward<T: Tape>(
     machine: &Machine,
     levels: u64,

@@ -77,7 +77,8 @@ pub(crate) fn begin<T: Tape>(
     Runner::start(machine, tape)
 }
 
-/// Makes one step of a run that is to come to its limit of steps. Where it can't come there, what is answered.
+/// Makes one step of a run that is to come to its limit of steps. Where it can't come there, what is
+/// answered.
 #[inline(always)]
 fn step_on<T: Tape>(
     machine: &Machine,
@@ -104,7 +105,8 @@ fn step_on<T: Tape>(
     }
 }
 
-/// Runs on up to a step, on the way to the limit of steps. Where the run can't come to that limit, what is answered.
+/// Runs on up to a step, on the way to the limit of steps. Where the run can't come to that limit, what is
+/// answered.
 #[inline(never)]
 pub(crate) fn run_to<T: Tape>(
     machine: &Machine,

@@ -12,8 +12,8 @@ use bb_sim::Runner;
 use bb_tape::reach::reach;
 use bb_tape::{MOST_CELLS, Tape};
 
-/// How many records of a side there were, and the one that is kept. Everything is told in how far out a position is on
-/// the side.
+/// How many records of a side there were, and the one that is kept. Everything is told in how far out a
+/// position is on the side.
 #[derive(Clone, Copy, Debug)]
 pub struct Records {
     pub side: Side,
@@ -67,8 +67,8 @@ impl Records {
         self.far = self.top;
     }
 
-    /// Whether a record is kept that agrees with the last one, which the runner has just made. The kept one's tape may
-    /// be widened.
+    /// Whether a record is kept that agrees with the last one, which the runner has just made. The kept one's
+    /// tape may be widened.
     pub fn agrees<T: Tape>(&self, runner: &Runner, run: &T, saved: &mut T) -> bool
         requires limit { (T.strip saved.old).limit ≡ (T.strip run.now).limit }
         requires comparable { IsKeptInStateOf self.now runner.now
@@ -107,7 +107,8 @@ impl Records {
     fn has_same_cells<T: Tape>(&self, run: &T, saved: &T) -> bool
         requires comparable { IsComparable self.now (T.strip saved.now) (T.strip run.now) }
         requires far { IsInside (T.strip saved.now) (out self.now.side self.now.far) }
-        ensures { IsTrue result ↔ HasSameCells self.now (T.strip saved.now).content (T.strip run.now).content }
+        ensures { IsTrue result
+            ↔ HasSameCells self.now (T.strip saved.now).content (T.strip run.now).content }
     {
         let shift = self.top - self.number;
         let from = lesser_end(self.side, self.far, self.number);

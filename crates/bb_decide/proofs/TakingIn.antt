@@ -1,5 +1,6 @@
 -- What taking in a configuration means for the run of a machine.
-use Rattle.std.proofs.Common.{◌≡◌, ℕ, ◌+◌, ◌*◌, ◌<◌, ◌≤◌, inl, inr, Some, None, ℤ, pos, ◌*ℤ◌, ◌≤ℤ◌, ap, sym, subst, ◌∙◌, arith}
+use Rattle.std.proofs.Common.{◌≡◌, ℕ, ◌+◌, ◌*◌, ◌<◌, ◌≤◌, inl, inr, Some, None, ℤ, pos, ◌*ℤ◌, ◌≤ℤ◌, ap, sym}
+use Rattle.std.proofs.Common.{subst, ◌∙◌, arith}
 use Rattle.std.specs.Prelude.{◌<ℤ◌}
 use Rattle.std.specs.Int.{int_max}
 use Rattle.std.proofs.Math.Nat.{one-le-pow}
@@ -89,7 +90,8 @@ module _ (table : Table) (n : ℕ) (runner : Runner) (run saved : Strip) (old : 
       (followed-next table n old there (out old.side (position_of runner)) at saved searched.followed)
 
   kept_partner : IsKept known.number searched.followed.count
-  kept_partner = searched.partner known.number searched.followed.count known.number_is searched.followed.count_is
+  kept_partner = searched.partner known.number searched.followed.count known.number_is
+      searched.followed.count_is
 
   module _ (high : IsNextRecord old runner) where
     made : IsRecord table old.side (searched.followed.count + 1) (steps_of runner)
@@ -112,7 +114,8 @@ module _ (table : Table) (n : ℕ) (runner : Runner) (run saved : Strip) (old : 
     -- it can be compared with the kept one
     pub ready : IsSound run → IsReady (with_next old runner) runner saved run
     ready sound = record {
-      narrow = number_narrow table runner run saved (with_next old runner) stands known makes kept_before sound;
+      narrow = number_narrow table runner run saved (with_next old runner) stands known makes kept_before
+          sound;
       comparable = comparable table runner run saved (with_next old runner) stands known makes;
     }
 
@@ -144,7 +147,8 @@ module _ (table : Table) (n : ℕ) (runner : Runner) (run saved : Strip) (old : 
         let some = first.positive in
         let step = record_has_one_step table old.side known.number a (steps_of old.kept) first
         (known.kept some).made in
-        cells_of_agree table runner run saved (with_next old runner) stands known makes some (kept_before some)
+        cells_of_agree table runner run saved (with_next old runner) stands known makes some
+        (kept_before some)
         (subst (λ m. Agree table old.side m (steps_of runner)) step pair.agree)
 
   -- a configuration that is taken in, and what was found

@@ -16,7 +16,8 @@ use Rattle.bb_decide.proofs.Halting.{no_pair_in_Z}
 use Rattle.bb_decide.specs.Translation.{AgreesWithPartner, IsTranslation, IsFirstTranslation}
 
 -- step 0 makes no record
-pub none_at_first : (table : Table) (bounds : Bounds) (side : Side) (a b : ℕ) → b ≤ 0 → IsTranslation table bounds side a b → ⊥
+pub none_at_first : (table : Table) (bounds : Bounds) (side : Side) (a b : ℕ) → b ≤ 0
+    → IsTranslation table bounds side a b → ⊥
 none_at_first table bounds side a b few found =
     let record_b = found.pair.second_record in
     let takes = record_takes_steps table side found.pair.second_number b record_b in
@@ -24,9 +25,11 @@ none_at_first table bounds side a b few found =
     omega (arith, few, takes, some)
 
 -- a record that agrees with its partner is one of two that agree
-pub pair_agrees : (table : Table) (side : Side) (a b : ℕ) → AgreesWithPartner table side a b → AgreeingRecords table side a b
+pub pair_agrees : (table : Table) (side : Side) (a b : ℕ) → AgreesWithPartner table side a b
+    → AgreeingRecords table side a b
 pair_agrees table side a b pair = record {
-  in_order = (records_in_order table side pair.first_number pair.second_number a b pair.first_record pair.second_record).0
+  in_order = (records_in_order table side pair.first_number pair.second_number a b pair.first_record
+      pair.second_record).0
       pair.partner.below;
   first_number = pair.first_number;
   second_number = pair.second_number;
@@ -36,18 +39,20 @@ pair_agrees table side a b pair = record {
 }
 
 -- in Z no record agrees with an earlier one
-pub no_pair_at_end : (table : Table) (runner : Runner) (run : Strip) → Stands table runner run → state_of runner ≡ Halt
+pub no_pair_at_end : (table : Table) (runner : Runner) (run : Strip) → Stands table runner run
+    → state_of runner ≡ Halt
     → (side : Side) (a : ℕ) → AgreesWithPartner table side a (steps_of runner) → ⊥
 no_pair_at_end table runner run stands halts side a pair =
     let agreeing = pair_agrees table side a (steps_of runner) pair in
     let agree = agreeing.agree in
-    no_pair_in_Z table runner run stands halts a agree.first agree.second agreeing.in_order agree.at_first agree.at_second
-    agree.same_state
+    no_pair_in_Z table runner run stands halts a agree.first agree.second agreeing.in_order agree.at_first
+    agree.at_second agree.same_state
 
 module _ (table : Table) (bounds : Bounds) (n : ℕ)
     (none : (side : Side) (a b : ℕ) → b ≤ n → IsTranslation table bounds side a b → ⊥) where
   -- the first is that of the next step
-  pub first_translation : (side : Side) (a : ℕ) → AgreesWithPartner table side a (n + 1) → Inside table bounds (n + 1)
+  pub first_translation : (side : Side) (a : ℕ) → AgreesWithPartner table side a (n + 1)
+      → Inside table bounds (n + 1)
       → IsFirstTranslation table bounds side a (n + 1)
   first_translation side a pair inside = record {
     translation = record { pair = pair; inside = inside };
@@ -58,7 +63,8 @@ module _ (table : Table) (bounds : Bounds) (n : ℕ)
   }
 
   -- or it isn't made by the next step either
-  pub none_next : ((a : ℕ) → AgreesWithPartner table R a (n + 1) → ⊥) → ((a : ℕ) → AgreesWithPartner table L a (n + 1) → ⊥)
+  pub none_next : ((a : ℕ) → AgreesWithPartner table R a (n + 1) → ⊥)
+      → ((a : ℕ) → AgreesWithPartner table L a (n + 1) → ⊥)
       → (side : Side) (a b : ℕ) → b ≤ n + 1 → IsTranslation table bounds side a b → ⊥
   none_next right left side a b few found = elim (cases_lt n b) [
     | inr before ↦ none side a b before found

@@ -1,4 +1,5 @@
--- How the search for records that agree goes on, as its functions tell one another; no public contract cites it.
+-- How the search for records that agree goes on, as its functions tell one another; no public contract cites
+-- it.
 use Rattle.std.specs.Prelude.{◌≡◌, ℕ, ◌⊎◌, Option, Some, None, pos, ◌*ℤ◌, ◌<ℤ◌, ◌≤ℤ◌}
 use Rattle.bb_machine.specs.Machine.{Table}
 use Rattle.bb_tape.specs.Strip.{Strip}
@@ -34,8 +35,8 @@ pub record IsReady (records : Records) (runner : Runner) (saved run : Strip) : T
   pub narrow : IsNarrow records.number
   pub comparable : IsKeptInStateOf records runner → IsComparable records saved run
 
--- the last record is kept, in what the run has, where its number is at least twice that of the kept one, which stays
--- elsewhere
+-- the last record is kept, in what the run has, where its number is at least twice that of the kept one,
+-- which stays elsewhere
 abbrev pub KeepsByTurn : Records → Runner → Strip → Strip → Records → Strip → Type 0
 KeepsByTurn old runner run saved new new_saved =
     (((pos 2 *ℤ old.number) ≤ℤ old.top) × (new ≡ with_last_kept old runner) × (new_saved ≡ run))

@@ -44,8 +44,8 @@ pub fn take_in<T: Tape>(
     Ok(found)
 }
 
-/// Compares the record that was just made with the kept one, and keeps it if it is its turn. The records and the
-/// runner are locals of a loop: they stay in registers, since what is out of line gets copies of them.
+/// Compares the record that was just made with the kept one, and keeps it if it is its turn. The records and
+/// the runner are locals of a loop: they stay in registers, since what is out of line gets copies of them.
 #[inline(always)]
 fn look<T: Tape>(
     records: &mut Records,
@@ -69,7 +69,8 @@ fn look<T: Tape>(
     Ok(found)
 }
 
-/// Compares the record that was just made with the kept one, and keeps it if its number is at least twice the other.
+/// Compares the record that was just made with the kept one, and keeps it if its number is at least twice the
+/// other.
 #[cold]
 #[inline(never)]
 fn compare_and_keep<T: Tape>(

@@ -17,8 +17,8 @@ use bb_machine::{Limits, Machine};
 use bb_sim::{Meter, Moved, Runner};
 use bb_tape::{Memory, Tape};
 
-/// The first record of either side, from record 2 on, that agrees with its partner, the record of that side whose
-/// number is the greatest power of two below its own. None where there is none inside the limits.
+/// The first record of either side, from record 2 on, that agrees with its partner, the record of that side
+/// whose number is the greatest power of two below its own. None where there is none inside the limits.
 ///
 /// After an error nothing is said of what the tapes hold; the next call resets them.
 #[inline(never)]

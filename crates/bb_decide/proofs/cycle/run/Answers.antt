@@ -38,7 +38,8 @@ returns-then-is_same-clause-claim g c =
     let here = c.loop-runner.invariant in
     let moves = rw c.in-Stepped.is at c.in_ok-advance.ensures.moves in
     let below = kept_below _ _ here.partner in
-    let same = same_of_alike _ _ _ _ _ c.in_ok-advance.ensures.stands here.kept (c.is_same.ensures.0 c.if-is_same.true) in (
+    let same = same_of_alike _ _ _ _ _ c.in_ok-advance.ensures.stands here.kept
+    (c.is_same.ensures.0 c.if-is_same.true) in (
       omega (arith, c.steps.ensures, c.steps-then-is_same.ensures, moves.0, below),
       rw (c.steps.ensures, c.steps-then-is_same.ensures) same,
     )
@@ -53,7 +54,8 @@ returns-then-is_same-clause-found g c =
     let here = c.loop-runner.invariant in
     let moves = rw c.in-Stepped.is at c.in_ok-advance.ensures.moves in
     let reaches = rw c.in-Stepped.is at c.in_ok-advance.ensures.reaches in
-    let same = same_of_alike _ _ _ _ _ c.in_ok-advance.ensures.stands here.kept (c.is_same.ensures.0 c.if-is_same.true) in
+    let same = same_of_alike _ _ _ _ _ c.in_ok-advance.ensures.stands here.kept
+    (c.is_same.ensures.0 c.if-is_same.true) in
     let next = rw moves.0 at same in
     let inside = rw moves.0 at reaches.0 in
     rw (c.steps.ensures, c.steps-then-is_same.ensures, moves.0)
@@ -81,7 +83,8 @@ loop-runner-preserved-then-steps-next_kept g c =
       path = here.path;
       steps = reaches.0.within_steps;
       meter = rw moves.0 (counts_next _ _ _ _ _ here.meter moves.1);
-      partner = rw moves.0 (keeps_next _ _ here.partner (let at = here.next in omega (arith, moves.0, at, c.if-steps-next_kept.true, c.steps-in-loop-runner.ensures)));
+      partner = rw moves.0 (keeps_next _ _ here.partner (let at = here.next in
+          omega (arith, moves.0, at, c.if-steps-next_kept.true, c.steps-in-loop-runner.ensures)));
       next = ap (λ n. 2 * n) c.steps-next_kept.ensures;
       none = let moved = moves.0 in rw moved (no_cycle_next _ _ _ _ here.partner here.none (λ same.
           let alike = alike_of_same _ _ _ _ _ c.in_ok-advance.ensures.stands here.kept (rw moved same) in
@@ -106,7 +109,8 @@ loop-runner-preserved g c =
       path = here.path;
       steps = reaches.0.within_steps;
       meter = rw moves.0 (counts_next _ _ _ _ _ here.meter moves.1);
-      partner = rw moves.0 (keeps_on _ _ here.partner (let at = here.next in omega (arith, moves.0, at, c.if-steps-next_kept.false, c.steps-in-loop-runner.ensures)));
+      partner = rw moves.0 (keeps_on _ _ here.partner (let at = here.next in
+          omega (arith, moves.0, at, c.if-steps-next_kept.false, c.steps-in-loop-runner.ensures)));
       next = here.next;
       none = let moved = moves.0 in rw moved (no_cycle_next _ _ _ _ here.partner here.none (λ same.
           let alike = alike_of_same _ _ _ _ _ c.in_ok-advance.ensures.stands here.kept (rw moved same) in
@@ -120,13 +124,15 @@ returns-in_default-state-clause-found g c =
     let here = c.loop-runner.invariant in
     let moves = rw c.in-Stepped.is at c.in_ok-advance.ensures.moves in
     let reaches = rw c.in-Stepped.is at c.in_ok-advance.ensures.reaches in
-    let halts : state_of c.advance.new.self ≡ Halt = in_no_state _ _ c.state.ensures c.in_default-state.not-Some in
+    let halts : state_of c.advance.new.self ≡ Halt =
+    in_no_state _ _ c.state.ensures c.in_default-state.not-Some in
     let last = halts_last _ _ _ reaches.0 (halts_in_Z _ _ _ c.in_ok-advance.ensures.stands halts) in
     let below = kept_below _ _ here.partner in
     λ a t cycle.
     no_cycle_next _ _ _ _ here.partner here.none (λ same.
     let pair = rw (← moves.0) at same in
-    no_pair_in_Z _ _ _ c.in_ok-advance.ensures.stands halts _ _ _ (omega (arith, moves.0, below)) pair.at_first pair.at_second refl)
+    no_pair_in_Z _ _ _ c.in_ok-advance.ensures.stands halts _ _ _ (omega (arith, moves.0, below))
+    pair.at_first pair.at_second refl)
     a t (let few = last.greatest t cycle.inside in omega (arith, moves.0, few)) cycle
 
 pub returns-in_default-state-clause-counted : goal.returns-in_default-state-clause-counted
@@ -134,7 +140,8 @@ returns-in_default-state-clause-counted g c =
     let here = c.loop-runner.invariant in
     let moves = rw c.in-Stepped.is at c.in_ok-advance.ensures.moves in
     let reaches = rw c.in-Stepped.is at c.in_ok-advance.ensures.reaches in
-    let halts : state_of c.advance.new.self ≡ Halt = in_no_state _ _ c.state.ensures c.in_default-state.not-Some in
+    let halts : state_of c.advance.new.self ≡ Halt =
+    in_no_state _ _ c.state.ensures c.in_default-state.not-Some in
     record {
       last = _;
       is_last = halts_last _ _ _ reaches.0 (halts_in_Z _ _ _ c.in_ok-advance.ensures.stands halts);

@@ -1,7 +1,8 @@
 use Rattle.std.proofs.Common.{◌≡◌, refl, ◌∙◌, ap, arith}
 use Rattle.bb_machine.specs.declared.entry.Next.TheVariants.{Halt}
 use Rattle.bb_sim.specs.Runner.{state_of, steps_of}
-use Rattle.bb_sim.proofs.Facts.{counts_next, counts_start, counts_stopped, count_is_within, halts_last, stopped}
+use Rattle.bb_sim.proofs.Facts.{counts_next, counts_start, counts_stopped, count_is_within, halts_last}
+use Rattle.bb_sim.proofs.Facts.{stopped}
 use Rattle.bb_cert.specs.declared.verdict.Side.TheVariants.{L, R}
 use Rattle.bb_cert.proofs.Facts.{agreeing_records_never_halt}
 use Rattle.bb_cert.specs.declared.side_records.Records.{Records}
@@ -188,19 +189,22 @@ returns-in_default-state-clause-found g c =
     let here = c.loop-runner.invariant in
     let moves = rw c.in-Stepped.is at c.in_ok-advance.ensures.moves in
     let reaches = rw c.in-Stepped.is at c.in_ok-advance.ensures.reaches in
-    let halts : state_of c.advance.new.self ≡ Halt = in_no_state _ _ c.state.ensures c.in_default-state.not-Some in
+    let halts : state_of c.advance.new.self ≡ Halt =
+    in_no_state _ _ c.state.ensures c.in_default-state.not-Some in
     let last = halts_last _ _ _ reaches.0 (halts_in_Z _ _ _ c.in_ok-advance.ensures.stands halts) in
     let none = no_pair_at_end _ _ _ c.in_ok-advance.ensures.stands halts in
     λ side a b translation.
     let few = last.greatest b translation.inside in
-    none_next _ _ _ here.none (rw moves.0 at (none R)) (rw moves.0 at (none L)) side a b (omega (arith, moves.0, few)) translation
+    none_next _ _ _ here.none (rw moves.0 at (none R)) (rw moves.0 at (none L)) side a b
+    (omega (arith, moves.0, few)) translation
 
 pub returns-in_default-state-clause-counted : goal.returns-in_default-state-clause-counted
 returns-in_default-state-clause-counted g c =
     let here = c.loop-runner.invariant in
     let moves = rw c.in-Stepped.is at c.in_ok-advance.ensures.moves in
     let reaches = rw c.in-Stepped.is at c.in_ok-advance.ensures.reaches in
-    let halts : state_of c.advance.new.self ≡ Halt = in_no_state _ _ c.state.ensures c.in_default-state.not-Some in
+    let halts : state_of c.advance.new.self ≡ Halt =
+    in_no_state _ _ c.state.ensures c.in_default-state.not-Some in
     record {
       last = _;
       is_last = halts_last _ _ _ reaches.0 (halts_in_Z _ _ _ c.in_ok-advance.ensures.stands halts);

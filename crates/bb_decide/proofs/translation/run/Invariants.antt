@@ -8,8 +8,8 @@ use Rattle.bb_decide.specs.Follow.{IsSearched}
 use Rattle.bb_decide.specs.Translation.{IsTranslation}
 use Rattle.bb_decide.proofs.translation.run.Given as goal
 
--- the runner stands within the limits; the records of both sides are known up to here; none up to here agrees with its
--- partner
+-- the runner stands within the limits; the records of both sides are known up to here; none up to here agrees
+-- with its partner
 abbrev pub invariant-loop-runner : goal.invariant-loop-runner
 invariant-loop-runner g l = record {
   stands : Stands l.machine l.runner (g.T.Tape.strip l.bench.run);
