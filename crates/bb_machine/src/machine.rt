@@ -20,7 +20,10 @@ pub const MAX_SYMBOLS: usize = 10;
 /// The bytes of the longest text: three for each entry, and one between groups.
 pub const LINE: usize = MAX_STATES * (3 * MAX_SYMBOLS + 1) - 1;
 
-const SLOTS: usize = MAX_STATES * MAX_SYMBOLS;
+/// How many slots of a table belong to one state: a power of two, so that a step finds its entry by a shift.
+const STRIDE: usize = 16;
+
+const SLOTS: usize = MAX_STATES * STRIDE;
 
 /// A line that is no machine's text. The column is 1 plus the number of the line's first bytes with
 /// which some machine's text begins.
@@ -133,8 +136,7 @@ pub struct Step {
     pub state: u8,
 }
 
-/// A Turing machine. Its table stands row by row in an array, each row at a multiple of
-/// `MAX_SYMBOLS`.
+/// A Turing machine. Its table stands row by row in an array, each row at a multiple of `STRIDE`.
 #[derive(Drop)]
 pub struct Machine {
     slots: [Slot; SLOTS],
@@ -211,7 +213,7 @@ impl Machine {
         ensures named { IsEntryOf (length self.now) (symbols_of self.now) result }
         ensures machine { IsMachine self.now }
     {
-        self.slots[state as usize * MAX_SYMBOLS + symbol as usize].entry()
+        self.slots[state as usize * STRIDE + symbol as usize].entry()
     }
 
     /// What the entry for a state and a symbol does, where it goes to a state; none where it is
@@ -224,7 +226,7 @@ impl Machine {
         ensures named { IsEntryOf (length self.now) (symbols_of self.now) (entry_of self.now state symbol) }
         ensures machine { IsMachine self.now }
     {
-        self.slots[state as usize * MAX_SYMBOLS + symbol as usize].step()
+        self.slots[state as usize * STRIDE + symbol as usize].step()
     }
 
     /// How many states the machine has, the halting state not counted.

@@ -3,6 +3,7 @@ ghost use Rattle.std.specs.Prelude.{◌≤◌};
 
 use crate::{Dir, Entry, LINE, LimitFault, Limits, MAX_STATES, MAX_SYMBOLS, Machine, Next, Step};
 use arrayvec::ArrayVec;
+use std::process::Abort;
 use std::test::Fail;
 
 const CHAMPION: &[u8] = b"1RB1LC_1RC1RB_1RD0LE_1LA1LD_1RZ0LA";
@@ -233,9 +234,9 @@ fn entries_are_the_table(rt: HostRuntime) -> Result<(), Fail> {
     Ok(())
 }
 
-#[test]
-fn each_changed_byte_is_refused_where_no_prefix_goes_on(rt: HostRuntime) {
-    for machine in MACHINES {
+/// Each byte of each line, changed to each other byte.
+fn are_read_with_each_byte(rt: &impl Abort, machines: &[&[u8]]) {
+    for machine in machines {
         let mut line = [0; 64];
         let length = machine.len();
         assert!(rt; length <= line.len());
@@ -249,6 +250,16 @@ fn each_changed_byte_is_refused_where_no_prefix_goes_on(rt: HostRuntime) {
             line[index] = machine[index];
         }
     }
+}
+
+#[test]
+fn each_changed_byte_is_refused_where_no_prefix_goes_on(rt: HostRuntime) {
+    are_read_with_each_byte(&rt, &MACHINES[..12]);
+}
+
+#[test]
+fn each_changed_byte_of_larger_machines_is_too(rt: HostRuntime) {
+    are_read_with_each_byte(&rt, &MACHINES[12..]);
 }
 
 #[test]

@@ -3,7 +3,7 @@ ghost use Rattle.std.specs.Prelude.{◌≡◌, ◌≢◌, ℕ, ◌+◌, ◌*◌,
 ghost use Rattle.std.specs.Prelude.{◌++◌, length, take, drop, IsTrue, IfOk, IfErr, OnOk, OnErr};
 
 use crate::entry::Entry;
-use crate::machine::{LINE, MAX_STATES, MAX_SYMBOLS, Machine, Refused, SLOTS, Slot};
+use crate::machine::{LINE, MAX_STATES, MAX_SYMBOLS, Machine, Refused, SLOTS, STRIDE, Slot};
 
 /// How much was read of a text so far: `states` counts the groups, with the one at work, and `filled`
 /// the entries of that one; `symbols` is the most that can be, until a `_` has closed the first group.
@@ -194,10 +194,10 @@ fn fill_row(slots: &mut [Slot; SLOTS], row: usize, symbols: usize, bytes: &[u8])
     requires symbols { symbols ≤ MAX_SYMBOLS }
     requires group { (g : List Entry) × IsGroup MAX_STATES symbols g × BeginsWith bytes.now (group_text g) }
     ensures row { (g : List Entry) → IsGroup MAX_STATES symbols g → BeginsWith bytes.now (group_text g)
-        → take symbols (drop (row * MAX_SYMBOLS) (entries_in slots.new)) ≡ g }
+        → take symbols (drop (row * STRIDE) (entries_in slots.new)) ≡ g }
     ensures before { table_in row symbols slots.new ≡ table_in row symbols slots.old }
 {
     for symbol in 0..symbols {
-        slots[row * MAX_SYMBOLS + symbol] = Slot::new(Entry::at_first(&bytes[3 * symbol..]));
+        slots[row * STRIDE + symbol] = Slot::new(Entry::at_first(&bytes[3 * symbol..]));
     }
 }
