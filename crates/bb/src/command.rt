@@ -125,7 +125,7 @@ fn program<'a>(alloc: Global) -> Result<Command<'a>, AllocError>
     ensures { IfOk result (λ command. app_of command ≡ command_line) }
 {
     Command::new(alloc, "bb")
-        .about("Simulates and decides small Turing machines")
+        .about("Simulates and decides Turing machines of up to 25 states and 10 symbols")
         .disable_help_subcommand(true)
         .subcommand_required(true)
         .subcommand(decide_command(alloc)?)?

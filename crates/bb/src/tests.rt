@@ -42,7 +42,7 @@ fn refuses_long_lines(rt: HostRuntime) -> Result<(), Fail> {
     )?;
     input.resize(input.len() + 1_000_000, b'x')?;
     let (_, written) = decided(&rt, &[], input.as_slice());
-    assert_eq!(rt; written.as_slice(), b"refused 49\n".as_slice());
+    assert_eq!(rt; written.as_slice(), b"refused 56\n".as_slice());
     let mut input: Vec<u8> = Vec::new(rt.alloc());
     input.resize(1_000_000, b'_')?;
     input.extend_from_slice(b"\n------")?;

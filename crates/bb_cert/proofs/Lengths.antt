@@ -1,9 +1,11 @@
 -- How long the parts of a line are.
-use Rattle.std.proofs.Common.{◌≡◌, ℕ, ◌<◌, ◌≤◌, ◌^◌, Option, Some, None, List, ◌∷◌, ◌++◌, length, codes, decimal, arith, ap, length-append}
+use Rattle.std.proofs.Common.{◌≡◌, ℕ, ◌+◌, ◌*◌, ◌<◌, ◌≤◌, ◌^◌, Option, Some, None, List, ◌∷◌, ◌++◌, length}
+use Rattle.std.proofs.Common.{codes, decimal, arith, ap, length-append}
 use Rattle.std.proofs.lemmas.Fmt.{length-decimal-le}
+use Rattle.std.proofs.Math.Nat.{mul-le-mul}
 use Rattle.bb_machine.specs.declared.machine.TheConstants.{MAX_STATES, MAX_SYMBOLS}
 use Rattle.bb_machine.specs.Machine.{text}
-use Rattle.bb_machine.proofs.Facts.{text_short}
+use Rattle.bb_machine.proofs.Facts.{text_short, machine_of_smaller}
 use Rattle.bb_cert.specs.declared.line.TheConstants.{LONGEST}
 use Rattle.bb_cert.specs.declared.reader.Line.{Line}
 use Rattle.bb_cert.specs.declared.reader.Line.TheVariants.{Claim, Refusal}
@@ -13,6 +15,7 @@ use Rattle.bb_cert.specs.declared.verdict.Why.TheVariants.{Steps, Cells}
 use Rattle.bb_cert.specs.declared.verdict.Verdict.{Verdict}
 use Rattle.bb_cert.specs.declared.verdict.Verdict.TheVariants.{Halt, Cycler, Translated, Backward, Undecided}
 use Rattle.bb_cert.specs.Verdict.{HasExtentNumbers, HasNumbers}
+use Rattle.bb_cert.specs.Laws.{IsLineWithin}
 use Rattle.bb_cert.specs.Line.{pair_text, records_text, refusal_text, second_text, verdict_text, IsLineOf}
 
 number : (n : ℕ) → n < 2 ^ 64 → length (decimal n) ≤ 20
@@ -80,3 +83,11 @@ length-line (Refusal column) bytes is =
     let whole = length-append (codes "refused ") (decimal column) in
     let same = ap length is.2 in
     omega arith
+
+-- a line of smaller machines
+pub line_of_smaller : (states symbols : ℕ) (said : Line) (bytes : List ℕ) → states ≤ MAX_STATES → symbols ≤ MAX_SYMBOLS → IsLineWithin states symbols said bytes → IsLineOf said bytes
+line_of_smaller states symbols (Claim table verdict) bytes few_states few_symbols is =
+    (machine_of_smaller states symbols table few_states few_symbols is.0, is.1, is.2)
+line_of_smaller states symbols (Refusal column) bytes few_states few_symbols is =
+    let fewer : states * (3 * symbols + 1) ≤ MAX_STATES * (3 * MAX_SYMBOLS + 1) = mul-le-mul {n₁ = states} {m₁ = 3 * symbols + 1} {n₂ = MAX_STATES} {m₂ = 3 * MAX_SYMBOLS + 1} few_states (omega arith) in
+    (is.0, omega (arith, is.1), is.2)

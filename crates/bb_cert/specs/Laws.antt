@@ -1,17 +1,20 @@
 -- Laws of verdict lines, of answers, of runs that repeat, and of what could come before a halt.
-use Rattle.std.specs.Prelude.{◌≡◌, ℕ, ◌+◌, ◌<◌, ◌≤◌, ◌↔◌, List, [], pos, ◌<ℤ◌}
+use Rattle.std.specs.Prelude.{◌≡◌, ℕ, ◌+◌, ◌*◌, ◌<◌, ◌≤◌, ◌↔◌, List, [], pos, ◌<ℤ◌}
 use Rattle.bb_machine.specs.Limits.{Bounds}
-use Rattle.bb_machine.specs.Machine.{Table, IsMachine}
+use Rattle.bb_machine.specs.declared.machine.TheConstants.{MAX_STATES, MAX_SYMBOLS}
+use Rattle.bb_machine.specs.Machine.{Table, IsMachine, IsMachineWithin}
 use Rattle.bb_sim.specs.Configuration.{Configuration}
 use Rattle.bb_sim.specs.Run.{Never}
 use Rattle.bb_cert.specs.declared.answer.Answer.{Answer}
 use Rattle.bb_cert.specs.declared.reader.Line.{Line}
+use Rattle.bb_cert.specs.declared.reader.Line.TheVariants.{Claim as claim_line, Refusal}
 use Rattle.bb_cert.specs.declared.verdict.Side.{Side}
 use Rattle.bb_cert.specs.declared.verdict.Side.TheVariants.{L, R}
 use Rattle.bb_cert.specs.declared.verdict.Verdict.{Verdict}
 use Rattle.bb_cert.specs.Answer.{IsAnswer}
 use Rattle.bb_cert.specs.Claim.{Claim, SaysNever}
-use Rattle.bb_cert.specs.Line.{IsLineOf}
+use Rattle.bb_cert.specs.Line.{IsLineOf, line_text, refusal_text}
+use Rattle.bb_cert.specs.Verdict.{HasNumbers}
 use Rattle.bb_cert.specs.Repeat.{Same}
 use Rattle.bb_cert.specs.Record.{out, head_at, IsRecord}
 use Rattle.bb_cert.specs.Agree.{Agree, AgreeingRecords, GoesAlike}
@@ -20,6 +23,20 @@ use Rattle.bb_cert.specs.Tree.{MatchesOne, level, Ends, Clear, HaltsNextAfter}
 -- different claims and columns have different lines
 abbrev pub LinesDiffer : Type 0
 LinesDiffer = (a b : Line) (bytes : List ℕ) → IsLineOf a bytes → IsLineOf b bytes → a ≡ b
+
+-- the bytes are the line of a machine of at most so many states and symbols and a verdict, or of a column
+-- that such machines alone give
+abbrev pub IsLineWithin : ℕ → ℕ → Line → List ℕ → Type 0
+IsLineWithin states symbols (claim_line table verdict) bytes =
+    IsMachineWithin states symbols table × HasNumbers verdict × (line_text table verdict ≡ bytes)
+IsLineWithin states symbols (Refusal column) bytes =
+    (0 < column) × (column ≤ states * (3 * symbols + 1)) × (refusal_text column ≡ bytes)
+
+-- a verdict line of fewer states and symbols than are allowed is a verdict line, and says the same; so those
+-- of at most 7 states and 2 symbols, and of their columns up to 49, are
+abbrev pub SmallerLinesAreLines : Type 0
+SmallerLinesAreLines = (states symbols : ℕ) (said : Line) (bytes : List ℕ) → states ≤ MAX_STATES
+    → symbols ≤ MAX_SYMBOLS → IsLineWithin states symbols said bytes → IsLineOf said bytes
 
 -- from a configuration that comes again on, each one comes again
 abbrev pub RepeatsGoOn : Type 0

@@ -12,6 +12,8 @@ use Rattle.bb_cert.specs.declared.verdict.Verdict.{Verdict}
 use Rattle.bb_cert.specs.declared.verdict.Verdict.TheVariants.{Halt, Cycler, Translated, Backward, Undecided}
 use Rattle.bb_cert.specs.declared.reader.Line.{Line}
 use Rattle.bb_cert.specs.declared.reader.Line.TheVariants.{Claim, Refusal}
+use Rattle.bb_cert.specs.declared.reader.Said.{Said}
+use Rattle.bb_cert.specs.declared.reader.Said.TheVariants as said
 use Rattle.bb_cert.specs.Verdict.{HasNumbers}
 
 -- two numbers, with a space between them
@@ -57,3 +59,8 @@ abbrev pub IsLineOf : Line → List ℕ → Type 0
 IsLineOf (Claim table verdict) bytes =
     IsMachine table × HasNumbers verdict × (line_text table verdict ≡ bytes)
 IsLineOf (Refusal column) bytes = (0 < column) × (column ≤ LINE + 1) × (refusal_text column ≡ bytes)
+
+-- what a line says, put together from its machine and what it says beside that
+abbrev pub line_said : List (List Entry) → Said → Line
+line_said table (said.Claim verdict) = Claim table verdict
+line_said table (said.Refusal column) = Refusal column

@@ -23,12 +23,18 @@ ghost use Rattle.bb_cert.specs.Laws.{
   RepeatsMakeNoRecord,
   RepeatsNeverHalt,
   ShortOfRecord,
+  SmallerLinesAreLines,
   TreeHasOneEnd,
 };
 
 /// A verdict line says one thing only: it is the line of one machine and one verdict, or of one column.
 pub fn lines_differ()
     ensures { LinesDiffer }
+{}
+
+/// A verdict line of fewer states and symbols than are allowed is a verdict line, and says the same.
+pub fn smaller_lines_are_lines()
+    ensures { SmallerLinesAreLines }
 {}
 
 /// A configuration that comes again goes on coming again, so the machine never halts.

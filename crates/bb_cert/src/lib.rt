@@ -21,5 +21,5 @@ pub use checking::{Pair, check};
 pub use compare::is_same;
 pub use line::{LINE_BUFFER, LONGEST, line_into, lines_are_short, refusal_into};
 pub use path::Path;
-pub use reader::{Line, read_line};
+pub use reader::{Line, Said, read_line, read_line_anew};
 pub use verdict::{Extent, Side, Verdict, Why};

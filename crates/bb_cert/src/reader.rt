@@ -5,7 +5,8 @@ ghost use Rattle.bb_cert.specs.declared.verdict.Extent.{Extent};
 ghost use Rattle.bb_cert.specs.declared.verdict.Verdict.{Verdict};
 ghost use Rattle.bb_cert.specs.declared.reader.Line.{Line};
 ghost use Rattle.bb_cert.specs.Verdict.{HasExtentNumbers, HasNumbers};
-ghost use Rattle.bb_cert.specs.Line.{pair_text, records_text, second_text, verdict_text, refusal_text, IsLineOf};
+ghost use Rattle.bb_cert.specs.Line.{pair_text, records_text, refusal_text, second_text, verdict_text};
+ghost use Rattle.bb_cert.specs.Line.{line_said, IsLineOf};
 
 use crate::verdict::{Extent, Side, Verdict, Why};
 use bb_machine::{LINE, Machine};
@@ -19,6 +20,15 @@ pub enum Line {
     Refusal(u32),
 }
 
+/// What a verdict line says beside its machine.
+#[derive(Clone, Copy, Debug, PartialEq, Eq)]
+pub enum Said {
+    /// A verdict on the machine.
+    Claim(Verdict),
+    /// The column at which a line is refused.
+    Refusal(u32),
+}
+
 /// What a verdict line says; `None` where the bytes are no verdict line. A newline is no part of a line.
 ///
 /// Fields are separated by one space. Numbers are decimal, with no sign and no leading zero.
@@ -27,13 +37,30 @@ pub fn read_line(bytes: &[u8]) -> Option<Line>
     ensures only { (line : Line) → IsLineOf line bytes.now → result ≡ Some line }
     ensures none { IfNone result ((line : Line) → ¬ (IsLineOf line bytes.now)) }
 {
+    let mut machine = Machine::blank();
+    match read_line_anew(bytes, &mut machine) {
+        Some(Said::Claim(verdict)) => Some(Line::Claim(machine, verdict)),
+        Some(Said::Refusal(column)) => Some(Line::Refusal(column)),
+        None => None,
+    }
+}
+
+/// The same, the machine being read in place of another one, so that no table is cleared or moved. Where a line
+/// has no machine, nothing is said of what stands there.
+pub fn read_line_anew(bytes: &[u8], machine: &mut Machine) -> Option<Said>
+    ensures found { IfSome result (λ said. IsLineOf (line_said machine.new said) bytes.now) }
+    ensures none { IfNone result ((line : Line) → ¬ (IsLineOf line bytes.now)) }
+{
     if let Some(column) = read_refusal(bytes) {
-        return Some(Line::Refusal(column));
+        return Some(Said::Refusal(column));
     }
     let (text, words) = split_at_space(bytes)?;
-    let machine = Machine::read(text).ok()?;
+    match machine.read_anew(text) {
+        Ok(()) => {}
+        Err(_) => return None,
+    }
     let verdict = read_verdict(words)?;
-    Some(Line::Claim(machine, verdict))
+    Some(Said::Claim(verdict))
 }
 
 /// The column of a refused line.

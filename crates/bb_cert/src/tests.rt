@@ -11,11 +11,11 @@ mod check;
 mod counting;
 mod walk;
 
-/// The longest line: a machine of seven states, and the greatest numbers.
+/// A machine of seven states, and the greatest numbers.
 const LONG: &[u8] =
     b"0RA0RA_0RA0RA_0RA0RA_0RA0RA_0RA0RA_0RA0RA_0RA0RA translated R 18446744073709551615 18446744073709551615";
 
-const CLAIMS: [(&[u8], Verdict); 9] = [
+const CLAIMS: [(&[u8], Verdict); 10] = [
     (
         b"1RB1LB_1LA1RZ halt 6 4",
         Verdict::Halt { steps: 6, score: 4 },
@@ -69,13 +69,22 @@ const CLAIMS: [(&[u8], Verdict); 9] = [
         Verdict::Undecided(Why::Steps),
     ),
     (b"1RA1RA undecided cells", Verdict::Undecided(Why::Cells)),
+    (
+        b"1RB2LB1RZ_2LA2RB1LB halt 38 9",
+        Verdict::Halt {
+            steps: 38,
+            score: 9,
+        },
+    ),
 ];
 
-const REFUSALS: [(&[u8], u32); 4] = [
+const REFUSALS: [(&[u8], u32); 6] = [
     (b"refused 1", 1),
     (b"refused 10", 10),
     (b"refused 14", 14),
     (b"refused 49", 49),
+    (b"refused 50", 50),
+    (b"refused 775", 775),
 ];
 
 const NO_LINES: [&[u8]; 28] = [
@@ -85,7 +94,7 @@ const NO_LINES: [&[u8]; 28] = [
     b"refused ",
     b"refused 0",
     b"refused 01",
-    b"refused 50",
+    b"refused 776",
     b"refused +1",
     b"refused 1\n",
     b"refused 4294967297",
@@ -109,7 +118,7 @@ const NO_LINES: [&[u8]; 28] = [
     b"------ halt 18446744073709551616 0",
 ];
 
-const LINES: [&[u8]; 40] = [
+const LINES: [&[u8]; 44] = [
     b"1RB1LB_1LA1RZ halt 6 4",
     b"1RB1LB_1LA--- halt 5 4",
     b"1RB1LB_1LA1RZ undecided steps",
@@ -136,6 +145,10 @@ const LINES: [&[u8]; 40] = [
     b"refused 13",
     b"refused 14",
     b"refused 49",
+    b"refused 775",
+    b"1RB2LB1RZ_2LA2RB1LB halt 38 9",
+    b"2LZ------ halt 1 1",
+    b"2RA---1LA translated R 1 2",
     b"0RA0RA_0RA0RA_0RA0RA_0RA0RA_0RA0RA_0RA0RA_0RA0RA translated R 1 2",
     b"1RB1LB_1LA1RZ halt 6 5",
     b"1RZ--- backward 1 2",
@@ -183,7 +196,7 @@ fn is_verdict_line(bytes: &[u8]) -> bool {
     let is_number = |index: usize| number(field(bytes, index)).is_some();
     let is = |index: usize, word: &[u8]| field(bytes, index) == word;
     match bytes.split(|byte| *byte == b' ').count() {
-        2 => is(0, b"refused") && matches!(number(field(bytes, 1)), Some(1..=49)),
+        2 => is(0, b"refused") && matches!(number(field(bytes, 1)), Some(1..=775)),
         3 => {
             is_machine(field(bytes, 0))
                 && is(1, b"undecided")
@@ -206,20 +219,29 @@ fn is_verdict_line(bytes: &[u8]) -> bool {
     }
 }
 
-/// Whether the bytes are groups of six with `_` between them, of entries that name only those states.
+/// Whether the bytes are groups of one length with `_` between them, of entries that name only those states
+/// and symbols.
 fn is_machine(bytes: &[u8]) -> bool {
     let states = bytes.split(|byte| *byte == b'_').count();
-    states <= 7
+    let symbols = bytes.split(|byte| *byte == b'_').next().map_or(0, |group| group.len() / 3);
+    states <= 25
+        && 2 <= symbols
+        && symbols <= 10
         && bytes.split(|byte| *byte == b'_').all(|group| {
-            group.len() == 6 && group.chunks(3).all(|entry| is_entry(entry, states))
+            group.len() == 3 * symbols
+                && group
+                    .chunks(3)
+                    .all(|entry| is_entry(entry, states, symbols))
         })
 }
 
-fn is_entry(bytes: &[u8], states: usize) -> bool {
+fn is_entry(bytes: &[u8], states: usize, symbols: usize) -> bool {
     match bytes {
         b"---" => true,
-        [b'0' | b'1', b'L' | b'R', b'Z'] => true,
-        [b'0' | b'1', b'L' | b'R', letter @ b'A'..=b'G'] => ((*letter - b'A') as usize) < states,
+        [digit @ b'0'..=b'9', b'L' | b'R', letter @ b'A'..=b'Z'] => {
+            ((*digit - b'0') as usize) < symbols
+                && (*letter == b'Z' || ((*letter - b'A') as usize) < states)
+        }
         _ => false,
     }
 }
@@ -307,10 +329,20 @@ fn other_bytes_are_no_line(rt: HostRuntime) {
 
 #[test]
 fn the_longest_line_is_read_and_written(rt: HostRuntime) -> Result<(), Fail> {
-    assert_eq!(rt; LONG.len(), 103);
-    assert_eq!(rt; LONG.len(), LONGEST);
-    let out = printed(&rt, LONG).ok_or("no verdict line")?;
-    assert_eq!(rt; out.as_slice(), LONG);
+    let mut line = ArrayVec::<u8, LINE_BUFFER>::new();
+    for state in 0..25 {
+        if state > 0 {
+            line.try_push(b'_')?;
+        }
+        for _ in 0..10 {
+            line.try_extend_from_slice(b"0RA")?;
+        }
+    }
+    line.try_extend_from_slice(b" translated R 18446744073709551615 18446744073709551615")?;
+    assert_eq!(rt; line.len(), 829);
+    assert_eq!(rt; line.len(), LONGEST);
+    let out = printed(&rt, line.as_slice()).ok_or("no verdict line")?;
+    assert_eq!(rt; out.as_slice(), line.as_slice());
     Ok(())
 }
 

@@ -5,7 +5,7 @@ use Rattle.std.proofs.lemmas.List.Elements.{All-from_recursion}
 use Rattle.std.proofs.Math.Seq.{drop-append-add}
 use Rattle.std.proofs.Math.Nat.{mul-le-mul}
 use Rattle.std.specs.List.{AllByRecursion}
-use Rattle.bb_machine.specs.declared.machine.TheConstants.{MAX_STATES, MAX_SYMBOLS, SLOTS}
+use Rattle.bb_machine.specs.declared.machine.TheConstants.{MAX_STATES, MAX_SYMBOLS, SLOTS, STRIDE}
 use Rattle.bb_machine.specs.declared.machine.Slot.{Slot}
 use Rattle.bb_machine.specs.declared.entry.Entry.{Entry}
 use Rattle.bb_machine.specs.declared.entry.Entry.TheVariants.{Undefined}
@@ -72,38 +72,38 @@ group_stands s k (g ∷ gs) (suc q) below p =
 pub row_grows : (ps : List Slot) (row symbols symbol : ℕ) (p : Slot) (g : List Entry) → length ps ≡ SLOTS
     → row < MAX_STATES → symbols ≤ MAX_SYMBOLS → symbol < symbols → length g ≡ symbols
     → entry_in p ≡ get_or g symbol Undefined
-    → take symbol (drop (row * MAX_SYMBOLS) (entries_in ps)) ≡ take symbol g
-    → take (symbol + 1) (drop (row * MAX_SYMBOLS) (entries_in (set ps (row * MAX_SYMBOLS + symbol) p)))
+    → take symbol (drop (row * STRIDE) (entries_in ps)) ≡ take symbol g
+    → take (symbol + 1) (drop (row * STRIDE) (entries_in (set ps (row * STRIDE + symbol) p)))
     ≡ take (symbol + 1) g
 row_grows ps row symbols symbol p g all below few inside long is so_far =
     let count : length (entries_in ps) ≡ SLOTS = length-map ps entry_in ∙ all in
-    let room : row * MAX_SYMBOLS + symbol < length (entries_in ps) = omega arith in
-    let entries : entries_in (set ps (row * MAX_SYMBOLS + symbol) p)
-    ≡ set (entries_in ps) (row * MAX_SYMBOLS + symbol) (entry_in p) =
-    map-set entry_in ps (row * MAX_SYMBOLS + symbol) p in
+    let room : row * STRIDE + symbol < length (entries_in ps) = omega arith in
+    let entries : entries_in (set ps (row * STRIDE + symbol) p)
+    ≡ set (entries_in ps) (row * STRIDE + symbol) (entry_in p) =
+    map-set entry_in ps (row * STRIDE + symbol) p in
     rw (
       entries,
-      row-more (row * MAX_SYMBOLS) symbol (entries_in ps) (entry_in p) room,
+      row-more (row * STRIDE) symbol (entries_in ps) (entry_in p) room,
       so_far,
       is,
       take_more g symbol Undefined (omega arith),
     ) refl
 
 pub rows_stay : (ps : List Slot) (row symbols symbol : ℕ) (p : Slot) → symbols ≤ MAX_SYMBOLS
-    → table_in row symbols (set ps (row * MAX_SYMBOLS + symbol) p) ≡ table_in row symbols ps
+    → table_in row symbols (set ps (row * STRIDE + symbol) p) ≡ table_in row symbols ps
 rows_stay ps row symbols symbol p few =
-    let entries : entries_in (set ps (row * MAX_SYMBOLS + symbol) p)
-    ≡ set (entries_in ps) (row * MAX_SYMBOLS + symbol) (entry_in p) =
-    map-set entry_in ps (row * MAX_SYMBOLS + symbol) p in
-    rw (entries, rows-set MAX_SYMBOLS row symbols (entries_in ps) symbol (entry_in p) few) refl
+    let entries : entries_in (set ps (row * STRIDE + symbol) p)
+    ≡ set (entries_in ps) (row * STRIDE + symbol) (entry_in p) =
+    map-set entry_in ps (row * STRIDE + symbol) p in
+    rw (entries, rows-set STRIDE row symbols (entries_in ps) symbol (entry_in p) (omega arith)) refl
 
 -- one more row of a table
 pub table_grows : (old new : List Slot) (row symbols : ℕ) (gs : List (List Entry)) → row < length gs
     → table_in row symbols old ≡ take row gs → table_in row symbols new ≡ table_in row symbols old
-    → take symbols (drop (row * MAX_SYMBOLS) (entries_in new)) ≡ get_or gs row []
+    → take symbols (drop (row * STRIDE) (entries_in new)) ≡ get_or gs row []
     → table_in (row + 1) symbols new ≡ take (row + 1) gs
 table_grows old new row symbols gs below so_far stays filled =
-    rw (rows-more MAX_SYMBOLS row symbols (entries_in new), stays, so_far, filled, take_more gs row [] below)
+    rw (rows-more STRIDE row symbols (entries_in new), stays, so_far, filled, take_more gs row [] below)
     refl
 
 module _ (gs : List (List Entry)) (states symbols : ℕ) (table : IsTable states symbols gs) where

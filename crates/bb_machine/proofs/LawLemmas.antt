@@ -5,7 +5,7 @@ use Rattle.std.proofs.lemmas.Bool.{cases_lt}
 use Rattle.std.specs.List.{AllByRecursion}
 use Rattle.bb_machine.specs.declared.machine.TheConstants.{MAX_STATES, MAX_SYMBOLS, LINE}
 use Rattle.bb_machine.specs.declared.entry.Entry.{Entry}
-use Rattle.bb_machine.specs.Machine.{IsMachine, text}
+use Rattle.bb_machine.specs.Machine.{IsMachine, IsMachineWithin, text}
 use Rattle.bb_machine.specs.Column.{IsViable, IsLongestPrefix, IsColumn}
 use Rattle.bb_machine.specs.Draft.{Begun, begun_text, table_of}
 use Rattle.bb_machine.specs.Laws.{PrefixIsEnough}
@@ -113,3 +113,14 @@ pub text_unique : (gs hs : List (List Entry)) → IsMachine gs → IsMachine hs 
 text_unique gs [] p q same = absurd (omega (arith, q.some_state))
 text_unique gs (h ∷ hs) p q same =
     text_unique_of (before_last h hs) gs (h ∷ hs) (table_of-before_last h hs) p q same
+
+pub machine_of_smaller : (most_states most_symbols : ℕ) (gs : List (List Entry)) → most_states ≤ MAX_STATES
+    → most_symbols ≤ MAX_SYMBOLS → IsMachineWithin most_states most_symbols gs → IsMachine gs
+machine_of_smaller most_states most_symbols gs few_states few_symbols machine =
+    record {
+      some_state = machine.some_state;
+      states = omega (arith, machine.states);
+      two_symbols = machine.two_symbols;
+      symbols = omega (arith, machine.symbols);
+      groups = machine.groups;
+    }

@@ -3,7 +3,7 @@ use Rattle.std.proofs.Common.{◌≡◌, ℕ, zero, suc, ◌+◌, ◌*◌, ◌<�
 use Rattle.std.proofs.lemmas.List.{length-drop, take-set-le, drop-set-add, drop-drop, take_more_set, get_or-take, get_or-drop, get_or_default}
 use Rattle.std.specs.Prelude.{map}
 use Rattle.std.proofs.lemmas.List.Elements.{All-from_recursion}
-use Rattle.bb_machine.specs.declared.machine.TheConstants.{MAX_SYMBOLS}
+use Rattle.bb_machine.specs.declared.machine.TheConstants.{STRIDE}
 use Rattle.bb_machine.specs.declared.machine.Slot.{Slot}
 use Rattle.bb_machine.specs.declared.entry.Entry.{Entry}
 use Rattle.bb_machine.specs.declared.entry.Entry.TheVariants.{Undefined}
@@ -74,7 +74,7 @@ get_or-map f (x ∷ xs) (suc i) d = get_or-map f xs i d
 -- the entry of a table, where it stands
 pub entry_of-table_in : (n k : ℕ) (ps : List Slot) (gs : List (List Entry)) (q i : ℕ) (d : Slot)
     → table_in n k ps ≡ gs → IsTable n k (table_in n k ps) → q < length gs → i < symbols_of gs
-    → entry_in (get_or ps (q * MAX_SYMBOLS + i) d) ≡ entry_of gs q i
+    → entry_in (get_or ps (q * STRIDE + i) d) ≡ entry_of gs q i
 entry_of-table_in n k ps gs q i d is table below inside =
     let group : IsGroup (length gs) (symbols_of gs) (get_or gs q []) =
     All-from_recursion (IsGroup (length gs) (symbols_of gs)) gs (rw is at table.machine.groups) q [] below in
@@ -82,10 +82,10 @@ entry_of-table_in n k ps gs q i d is table below inside =
     let symbols : symbols_of gs ≡ k =
     subst (λ (x : List (List Entry)). symbols_of x ≡ k) is table.symbols_is in
     let there : get_or (get_or (table_in n k ps) q []) i (entry_in d)
-    ≡ get_or (entries_in ps) (q * MAX_SYMBOLS + i) (entry_in d) =
-    row-get MAX_SYMBOLS n k (entries_in ps) q i (entry_in d) (omega arith) (omega arith) in
-    let offset : get_or (entries_in ps) (q * MAX_SYMBOLS + i) (entry_in d)
-    ≡ entry_in (get_or ps (q * MAX_SYMBOLS + i) d) = get_or-map entry_in ps (q * MAX_SYMBOLS + i) d in
+    ≡ get_or (entries_in ps) (q * STRIDE + i) (entry_in d) =
+    row-get STRIDE n k (entries_in ps) q i (entry_in d) (omega arith) (omega arith) in
+    let offset : get_or (entries_in ps) (q * STRIDE + i) (entry_in d)
+    ≡ entry_in (get_or ps (q * STRIDE + i) d) = get_or-map entry_in ps (q * STRIDE + i) d in
     sym offset
     ∙ (sym there
     ∙ (ap (λ (x : List (List Entry)). get_or (get_or x q []) i (entry_in d)) is

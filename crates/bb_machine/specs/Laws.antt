@@ -1,7 +1,7 @@
 -- Laws of texts and columns.
-use Rattle.std.specs.Prelude.{◌≡◌, ℕ, ◌<◌, ◌↔◌, List, take}
-use Rattle.bb_machine.specs.declared.machine.TheConstants.{LINE}
-use Rattle.bb_machine.specs.Machine.{Table, IsMachine, text}
+use Rattle.std.specs.Prelude.{◌≡◌, ℕ, ◌<◌, ◌≤◌, ◌↔◌, List, take}
+use Rattle.bb_machine.specs.declared.machine.TheConstants.{LINE, MAX_STATES, MAX_SYMBOLS}
+use Rattle.bb_machine.specs.Machine.{Table, IsMachine, IsMachineWithin, text}
 use Rattle.bb_machine.specs.Column.{IsColumn}
 
 -- different machines have different texts
@@ -20,3 +20,9 @@ pub record PrefixIsEnough (line : List ℕ) (kept : ℕ) : Type 0 where
 
 abbrev pub LongPrefixesAreEnough : Type 0
 LongPrefixesAreEnough = (line : List ℕ) (kept : ℕ) → LINE < kept → PrefixIsEnough line kept
+
+-- a machine of fewer states and symbols than are allowed is a machine; so one of at most 7 states and 2
+-- symbols is one, and its text is the same
+abbrev pub SmallerMachinesAreMachines : Type 0
+SmallerMachinesAreMachines = (most_states most_symbols : ℕ) (gs : Table) → most_states ≤ MAX_STATES
+    → most_symbols ≤ MAX_SYMBOLS → IsMachineWithin most_states most_symbols gs → IsMachine gs

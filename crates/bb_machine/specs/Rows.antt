@@ -1,6 +1,6 @@
 -- How a table stands in a flat list: each row at a multiple of the stride, in its first slots.
 use Rattle.std.specs.Prelude.{◌≡◌, ℕ, zero, suc, List, [], ◌∷◌, length, map, take, drop, ℤ, pos, negsuc}
-use Rattle.bb_machine.specs.declared.machine.TheConstants.{MAX_SYMBOLS}
+use Rattle.bb_machine.specs.declared.machine.TheConstants.{STRIDE}
 use Rattle.bb_machine.specs.declared.machine.Kind.{Kind}
 use Rattle.bb_machine.specs.declared.machine.Kind.TheVariants as kind
 use Rattle.bb_machine.specs.declared.machine.Slot.{Slot}
@@ -36,7 +36,7 @@ entries_in slots = map entry_in slots
 
 -- the table of so many states and symbols that stands in the slots
 abbrev pub table_in : ℕ → ℕ → List Slot → List (List Entry)
-table_in states symbols slots = rows MAX_SYMBOLS states symbols (entries_in slots)
+table_in states symbols slots = rows STRIDE states symbols (entries_in slots)
 
 -- a machine's table, with as many states and symbols as are counted
 pub record IsTable (states symbols : ℕ) (gs : List (List Entry)) : Type 0 where

@@ -1,5 +1,5 @@
 //! A machine: its table of entries, and the line that is its text.
-ghost use Rattle.std.specs.Prelude.{◌≡◌, ℕ, ◌+◌, ◌*◌, ◌≤◌, ◌<◌, List, ◌++◌, length, IfOk, IfErr, Ok};
+ghost use Rattle.std.specs.Prelude.{◌≡◌, ℕ, ◌+◌, ◌*◌, ◌≤◌, ◌<◌, List, ◌++◌, length, codes, IfOk, IfErr, Ok};
 ghost use Rattle.std.specs.Int.RustNames.{unsigned_abs};
 ghost use Rattle.arrayvec.specs.ArrayVec.{array_vec_len};
 
@@ -8,20 +8,22 @@ mod writer;
 
 use crate::entry::{Dir, Entry, Next};
 use arrayvec::ArrayVec;
-use reader::read_prefix;
 use std::marker::Model;
 use thiserror::Error;
 
 /// The most states of a machine. At most 25, since `Z` is the halting state's letter.
-pub const MAX_STATES: usize = 7;
+pub const MAX_STATES: usize = 25;
 
 /// The most tape symbols of a machine. At most 10, since a symbol is written as one digit.
-pub const MAX_SYMBOLS: usize = 2;
+pub const MAX_SYMBOLS: usize = 10;
 
 /// The bytes of the longest text: three for each entry, and one between groups.
 pub const LINE: usize = MAX_STATES * (3 * MAX_SYMBOLS + 1) - 1;
 
-const SLOTS: usize = MAX_STATES * MAX_SYMBOLS;
+/// How many slots of a table belong to one state: a power of two, so that a step finds its entry by a shift.
+const STRIDE: usize = 16;
+
+const SLOTS: usize = MAX_STATES * STRIDE;
 
 /// A line that is no machine's text. The column is 1 plus the number of the line's first bytes with
 /// which some machine's text begins.
@@ -134,8 +136,7 @@ pub struct Step {
     pub state: u8,
 }
 
-/// A Turing machine. Its table stands row by row in an array, each row at a multiple of
-/// `MAX_SYMBOLS`.
+/// A Turing machine. Its table stands row by row in an array, each row at a multiple of `STRIDE`.
 #[derive(Drop)]
 pub struct Machine {
     slots: [Slot; SLOTS],
@@ -162,20 +163,29 @@ impl Machine {
     ghost use Rattle.bb_machine.specs.Machine.{Table, IsMachine, symbols_of, entry_of, text};
     ghost use Rattle.bb_machine.specs.Column.{IsColumn};
 
+    /// The machine of one state and two symbols with no defined entry, `------`.
+    pub fn blank() -> Machine
+        ensures { text result ≡ codes "------" }
+    {
+        Machine {
+            slots: [Slot::undefined(); SLOTS],
+            state_count: 1,
+            symbol_count: 2,
+        }
+    }
+
     /// The machine whose text the line is, or the column of the line where there is none. Nothing
     /// may stand beside the text, no carriage return either.
-    #[inline]
     pub fn read(line: &[u8]) -> Result<Machine, Refused>
         ensures found { IfOk result (λ machine. IsMachine machine × (text machine ≡ line.now)) }
         ensures only { (machine : Table) → IsMachine machine → text machine ≡ line.now → result ≡ Ok machine }
         ensures column { IfErr result (λ refused. IsColumn line.now refused.column) }
         ensures bounded { IfErr result (λ refused. refused.column ≤ LINE + 1) }
     {
-        match read_prefix(line) {
-            Ok(machine) => Ok(machine),
-            Err(prefix) => Err(Refused {
-                column: prefix as u32 + 1,
-            }),
+        let mut machine = Machine::blank();
+        match machine.read_anew(line) {
+            Ok(()) => Ok(machine),
+            Err(refused) => Err(refused),
         }
     }
 
@@ -203,7 +213,7 @@ impl Machine {
         ensures named { IsEntryOf (length self.now) (symbols_of self.now) result }
         ensures machine { IsMachine self.now }
     {
-        self.slots[state as usize * MAX_SYMBOLS + symbol as usize].entry()
+        self.slots[state as usize * STRIDE + symbol as usize].entry()
     }
 
     /// What the entry for a state and a symbol does, where it goes to a state; none where it is
@@ -216,7 +226,7 @@ impl Machine {
         ensures named { IsEntryOf (length self.now) (symbols_of self.now) (entry_of self.now state symbol) }
         ensures machine { IsMachine self.now }
     {
-        self.slots[state as usize * MAX_SYMBOLS + symbol as usize].step()
+        self.slots[state as usize * STRIDE + symbol as usize].step()
     }
 
     /// How many states the machine has, the halting state not counted.

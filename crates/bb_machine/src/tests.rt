@@ -1,13 +1,14 @@
 //! Worked lines, and a comparison with a second reader that only tries each prefix of a line.
 ghost use Rattle.std.specs.Prelude.{◌≤◌};
 
-use crate::{Dir, Entry, LimitFault, Limits, MAX_STATES, MAX_SYMBOLS, Machine, Next, Step};
+use crate::{Dir, Entry, LINE, LimitFault, Limits, MAX_STATES, MAX_SYMBOLS, Machine, Next, Step};
 use arrayvec::ArrayVec;
+use std::process::Abort;
 use std::test::Fail;
 
 const CHAMPION: &[u8] = b"1RB1LC_1RC1RB_1RD0LE_1LA1LD_1RZ0LA";
 
-const MACHINES: [&[u8]; 13] = [
+const MACHINES: [&[u8]; 18] = [
     b"1RB1LB_1LA1RZ",
     b"1RB1LB_1LA---",
     b"------",
@@ -21,9 +22,28 @@ const MACHINES: [&[u8]; 13] = [
     b"1RB0RA_1LA---",
     b"1LB0LA_1RA---",
     b"0RA0RA_0RA0RA_0RA0RA_0RA0RA_0RA0RA_0RA0RA_0RA0RA",
+    b"0RA0RA_0RA0RA_0RA0RA_0RA0RA_0RA0RA_0RA0RA_0RA0RA_0RA0RA",
+    b"1RB2LB1RZ_2LA2RB1LB",
+    b"0RA0RA0RA",
+    b"2LZ------",
+    b"2RA---1LA",
 ];
 
-const REFUSED: [(&[u8], u32); 25] = [
+/// A line of so many groups, each of so many entries `0RA`.
+fn groups_alike(groups: usize, entries: usize) -> Result<ArrayVec<u8, 1024>, Fail> {
+    let mut line = ArrayVec::new();
+    for group in 0..groups {
+        if group > 0 {
+            line.try_push(b'_')?;
+        }
+        for _ in 0..entries {
+            line.try_extend_from_slice(b"0RA")?;
+        }
+    }
+    Ok(line)
+}
+
+const REFUSED: [(&[u8], u32); 26] = [
     (b"", 1),
     (b"_", 1),
     (b"A", 1),
@@ -31,11 +51,12 @@ const REFUSED: [(&[u8], u32); 25] = [
     (b"0RA_", 4),
     (b"0RA--", 6),
     (b"0RA-RA", 5),
-    (b"0RA0RA0RA", 7),
     (b"0RA0RA_", 8),
-    (b"2RA---", 1),
-    (b"2RA---1LA", 1),
-    (b"1RH1LA", 3),
+    (b"2RA---", 7),
+    (b"2RA---_", 7),
+    (b"1RH1LA", 7),
+    (b"0RY0RA", 7),
+    (b"0RA0RA0RA0RA0RA0RA0RA0RA0RA0RA0RA", 31),
     (b"1RB1LB_2LA0RA", 8),
     (b"0RA0RA_0RA0RA0RA", 14),
     (b"1RB1LB_1LA1RC", 14),
@@ -43,8 +64,8 @@ const REFUSED: [(&[u8], u32); 25] = [
     (b"1rB1LB", 2),
     (b"1RB1LB_1LA1RZ\r", 14),
     (
-        b"0RA0RA_0RA0RA_0RA0RA_0RA0RA_0RA0RA_0RA0RA_0RA0RA_0RA0RA",
-        49,
+        b"0RA0RA_0RA0RA_0RA0RA_0RA0RA_0RA0RA_0RA0RA_0RA0RA_0RA0RAx",
+        56,
     ),
     (b"\xff", 1),
     (b"1RB\xc3\xa9", 4),
@@ -104,15 +125,23 @@ fn expected(line: &[u8]) -> usize {
             }
         }
     }
-    let mut column = 1;
-    for prefix in 0..line.len() + 1 {
-        for symbols in 2..MAX_SYMBOLS + 1 {
-            if begins_text(&line[..prefix], MAX_STATES, symbols) {
-                column = prefix + 1;
-            }
-        }
+    let mut column = 0;
+    for symbols in 2..MAX_SYMBOLS + 1 {
+        column = column.max(prefixes(line, symbols));
     }
     column
+}
+
+/// How many prefixes of the line, the empty one counted, begin some text of a machine with so many symbols.
+fn prefixes(line: &[u8], symbols: usize) -> usize
+    requires { symbols ≤ MAX_SYMBOLS }
+{
+    for prefix in 0..line.len() + 1 {
+        if !begins_text(&line[..prefix], MAX_STATES, symbols) {
+            return prefix;
+        }
+    }
+    line.len() + 1
 }
 
 fn answer(line: &[u8]) -> usize {
@@ -126,12 +155,24 @@ fn answer(line: &[u8]) -> usize {
 fn machines_are_read_and_written(rt: HostRuntime) -> Result<(), Fail> {
     for line in MACHINES {
         let machine = Machine::read(line).map_err(|_| "refused")?;
-        let mut text = ArrayVec::<u8, 64>::new();
+        let mut text = ArrayVec::<u8, LINE>::new();
         machine.text_into(&mut text);
         assert_eq!(rt; text.as_slice(), line);
-        assert_eq!(rt; machine.states() as usize * 7, line.len() + 1);
-        assert_eq!(rt; machine.symbols(), 2);
+        let width = 3 * machine.symbols() as usize + 1;
+        assert_eq!(rt; machine.states() as usize * width, line.len() + 1);
     }
+    Ok(())
+}
+
+#[test]
+fn the_longest_machine_is_read_and_written(rt: HostRuntime) -> Result<(), Fail> {
+    let line = groups_alike(25, 10)?;
+    let machine = Machine::read(line.as_slice()).map_err(|_| "refused")?;
+    assert!(rt; machine.states() == 25 && machine.symbols() == 10);
+    let mut text = ArrayVec::<u8, LINE>::new();
+    machine.text_into(&mut text);
+    assert_eq!(rt; text.len(), 774);
+    assert_eq!(rt; text.as_slice(), line.as_slice());
     Ok(())
 }
 
@@ -143,6 +184,19 @@ fn other_lines_are_refused_with_their_column(rt: HostRuntime) {
             Err(refused) => assert_eq!(rt; refused.column, column, "{line:?}"),
         }
     }
+}
+
+/// More states or symbols than a machine has, and lines that go on after the longest one.
+#[test]
+fn larger_machines_are_refused(rt: HostRuntime) -> Result<(), Fail> {
+    for (groups, entries, column) in [(26, 10, 775), (26, 2, 175), (1, 11, 31), (25, 11, 31)] {
+        let line = groups_alike(groups, entries)?;
+        assert_eq!(rt; answer(line.as_slice()), column);
+    }
+    let mut line = groups_alike(25, 10)?;
+    line.try_push(b'x')?;
+    assert_eq!(rt; answer(line.as_slice()), 775);
+    Ok(())
 }
 
 #[test]
@@ -168,13 +222,22 @@ fn entries_are_the_table(rt: HostRuntime) -> Result<(), Fail> {
     };
     assert_eq!(rt; machine.step(0, 1), Some(step));
     assert_eq!(rt; machine.step(4, 0), None);
+    let machine = Machine::read(b"1RB2LB1RZ_2LA2RB1LB").map_err(|_| "refused")?;
+    assert!(rt; machine.states() == 2 && machine.symbols() == 3);
+    let to_b = Entry::Go {
+        write: 2,
+        dir: Dir::R,
+        next: Next::State(1),
+    };
+    assert_eq!(rt; machine.entry(0, 2), to_halt);
+    assert_eq!(rt; machine.entry(1, 1), to_b);
     Ok(())
 }
 
-#[test]
-fn each_changed_byte_is_refused_where_no_prefix_goes_on(rt: HostRuntime) {
-    for machine in MACHINES {
-        let mut line = [0; 48];
+/// Each byte of each line, changed to each other byte.
+fn are_read_with_each_byte(rt: &impl Abort, machines: &[&[u8]]) {
+    for machine in machines {
+        let mut line = [0; 64];
         let length = machine.len();
         assert!(rt; length <= line.len());
         line[..length].copy_from_slice(machine);
@@ -187,6 +250,16 @@ fn each_changed_byte_is_refused_where_no_prefix_goes_on(rt: HostRuntime) {
             line[index] = machine[index];
         }
     }
+}
+
+#[test]
+fn each_changed_byte_is_refused_where_no_prefix_goes_on(rt: HostRuntime) {
+    are_read_with_each_byte(&rt, &MACHINES[..12]);
+}
+
+#[test]
+fn each_changed_byte_of_larger_machines_is_too(rt: HostRuntime) {
+    are_read_with_each_byte(&rt, &MACHINES[12..]);
 }
 
 #[test]

@@ -8,12 +8,12 @@ ghost use Rattle.bb_run.specs.CheckSeen.{is_fine};
 
 use crate::summary::Summary;
 use arrayvec::ArrayVec;
-use bb_cert::{Answer, LINE_BUFFER, Line, Pair, Path, check, read_line};
+use bb_cert::{Answer, LINE_BUFFER, Pair, Path, Said, check, read_line_anew};
 use bb_lines::fault::Fault;
 use bb_lines::lines::run;
 use bb_lines::responder::{REPLY, Responder};
 use bb_lines::watched::Watched;
-use bb_machine::Limits;
+use bb_machine::{Limits, Machine};
 use bb_sim::Meter;
 use bb_tape::Tape;
 use std::alloc::AllocError;
@@ -25,6 +25,8 @@ struct Checker<'a, T> {
     limits: Limits,
     pair: &'a mut Pair<T>,
     path: &'a mut Path,
+    // The machine of the last line that had one. Each is read in its place.
+    machine: Machine,
     summary: Summary,
     // The steps and the nodes that the last line cost; 0 where nothing was run, and before the first line.
     last_effort: u64,
@@ -78,9 +80,9 @@ impl<T: Tape> Responder for Checker<'_, T> {
     }
 
     fn respond(&mut self, line: &[u8], text: &mut ArrayVec<u8, REPLY>) -> Result<u64, AllocError> {
-        let (machine, verdict) = match read_line(line) {
-            Some(Line::Claim(machine, verdict)) => (machine, verdict),
-            Some(Line::Refusal(_)) => {
+        let verdict = match read_line_anew(line, &mut self.machine) {
+            Some(Said::Claim(verdict)) => verdict,
+            Some(Said::Refusal(_)) => {
                 self.last_effort = 0;
                 put(Answer::Open.word(), text);
                 return Ok(0);
@@ -95,7 +97,7 @@ impl<T: Tape> Responder for Checker<'_, T> {
         let _accepted = self.limits.steps();
         let mut meter = Meter::new();
         let Ok(answer) = check(
-            &machine,
+            &self.machine,
             &verdict,
             &self.limits,
             self.pair,
@@ -165,6 +167,7 @@ pub fn run_check<R: Read, W: Write, T: Tape>(
         limits: *limits,
         pair,
         path,
+        machine: Machine::blank(),
         summary: Summary {
             clean: true,
             peak: Meter::new(),

@@ -27,6 +27,8 @@ struct Decider<'a, T> {
     limits: Limits,
     plan: Plan,
     bench: &'a mut Bench<T>,
+    // The machine of the last line that was one. Each is read in its place.
+    machine: Machine,
     summary: Summary,
     // The steps and the nodes that the last line cost; 0 where it was refused, and before the first line.
     last_effort: u64,
@@ -81,22 +83,22 @@ impl<T: Tape> Responder for Decider<'_, T> {
     }
 
     fn respond(&mut self, line: &[u8], text: &mut ArrayVec<u8, REPLY>) -> Result<u64, AllocError> {
-        let machine = match Machine::read(line) {
-            Ok(machine) => machine,
+        match self.machine.read_anew(line) {
+            Ok(()) => {}
             Err(refused) => {
                 self.summary.clean = false;
                 self.last_effort = 0;
                 refusal_into(refused.column, text);
                 return Ok(0);
             }
-        };
+        }
         let _accepted = self.limits.steps();
         let mut meter = Meter::new();
-        let Ok(verdict) = decide(&machine, &self.limits, self.plan, self.bench, &mut meter) else {
+        let Ok(verdict) = decide(&self.machine, &self.limits, self.plan, self.bench, &mut meter) else {
             return Err(AllocError);
         };
         lines_are_short();
-        line_into(&machine, &verdict, text);
+        line_into(&self.machine, &verdict, text);
         self.summary.peak = self.summary.peak.greatest(meter);
         self.last_effort = meter.steps + meter.nodes;
         Ok(self.last_effort)
@@ -139,6 +141,7 @@ pub fn run_decide<R: Read, W: Write, T: Tape>(
         limits: *limits,
         plan,
         bench,
+        machine: Machine::blank(),
         summary: Summary {
             clean: true,
             peak: Meter::new(),

@@ -5,6 +5,7 @@ mod check;
 mod forged;
 mod growing;
 mod streams;
+mod symbols;
 mod trace;
 
 use crate::{Summary, run_decide};
@@ -97,7 +98,7 @@ static HALTS: [Row; 12] = [
     (DEFAULTS, b"", b"", true),
 ];
 
-static UNDECIDED: [Row; 12] = [
+static UNDECIDED: [Row; 13] = [
     (
         [5, 4, 2, 1_000_000],
         b"1RB1LB_1LA1RZ\n",
@@ -160,6 +161,12 @@ static UNDECIDED: [Row; 12] = [
         true,
     ),
     (
+        DEFAULTS,
+        b"0RA0RA_0RA0RA_0RA0RA_0RA0RA_0RA0RA_0RA0RA_0RA0RA_0RA0RA\n",
+        b"0RA0RA_0RA0RA_0RA0RA_0RA0RA_0RA0RA_0RA0RA_0RA0RA_0RA0RA undecided cells\n",
+        true,
+    ),
+    (
         [1_000_000, 599, 300, 1_000_000],
         b"1RA1RA\n",
         b"1RA1RA undecided cells\n",
@@ -175,8 +182,8 @@ static REFUSED: [Row; 9] = [
     (DEFAULTS, b"1RB1LB_1LA1RZ\r\n", b"refused 14\n", false),
     (
         DEFAULTS,
-        b"0RA0RA_0RA0RA_0RA0RA_0RA0RA_0RA0RA_0RA0RA_0RA0RA_0RA0RA\n",
-        b"refused 49\n",
+        b"0RA0RA_0RA0RA_0RA0RA_0RA0RA_0RA0RA_0RA0RA_0RA0RA_0RA0RAx\n",
+        b"refused 56\n",
         false,
     ),
     (

@@ -1,9 +1,9 @@
 //! The reader of machine texts.
-ghost use Rattle.std.specs.Prelude.{◌≡◌, ℕ, ◌+◌, ◌*◌, ◌≤◌, ◌<◌, ◌↔◌, List, [], ◌∷◌};
-ghost use Rattle.std.specs.Prelude.{◌++◌, length, take, drop, IsTrue, IfOk, IfErr, Ok};
+ghost use Rattle.std.specs.Prelude.{◌≡◌, ◌≢◌, ℕ, ◌+◌, ◌*◌, ◌≤◌, ◌<◌, ◌↔◌, List, [], ◌∷◌};
+ghost use Rattle.std.specs.Prelude.{◌++◌, length, take, drop, IsTrue, IfOk, IfErr, OnOk, OnErr};
 
 use crate::entry::Entry;
-use crate::machine::{LINE, MAX_STATES, MAX_SYMBOLS, Machine, SLOTS, Slot};
+use crate::machine::{LINE, MAX_STATES, MAX_SYMBOLS, Machine, Refused, SLOTS, STRIDE, Slot};
 
 /// How much was read of a text so far: `states` counts the groups, with the one at work, and `filled`
 /// the entries of that one; `symbols` is the most that can be, until a `_` has closed the first group.
@@ -104,24 +104,53 @@ impl Draft {
     }
 }
 
+impl Machine {
+    ghost use Rattle.bb_machine.specs.Machine.{Table, IsMachine, text};
+    ghost use Rattle.bb_machine.specs.Column.{IsColumn};
+
+    /// Reads the machine whose text the line is in place of this one, as `read` does; where there is none, this
+    /// one stays. What it costs goes with the line: no table is cleared or moved.
+    #[inline]
+    pub fn read_anew(&mut self, line: &[u8]) -> Result<(), Refused>
+        ensures found { OnOk result (IsMachine self.new × (text self.new ≡ line.now)) }
+        ensures none { OnErr result ((machine : Table) → IsMachine machine → text machine ≢ line.now) }
+        ensures stays { OnErr result (self.new ≡ self.old) }
+        ensures column { IfErr result (λ refused. IsColumn line.now refused.column) }
+        ensures bounded { IfErr result (λ refused. refused.column ≤ LINE + 1) }
+    {
+        match read_counts(line) {
+            Ok((states, symbols)) => {
+                fill(&mut self.slots, line, states, symbols);
+                self.state_count = states as u8;
+                self.symbol_count = symbols as u8;
+                Ok(())
+            }
+            Err(prefix) => Err(Refused {
+                column: prefix as u32 + 1,
+            }),
+        }
+    }
+}
+
 ghost use Rattle.bb_machine.specs.declared.entry.Entry.{Entry};
 ghost use Rattle.bb_machine.specs.Machine.{IsMachine, IsGroup, group_text, text};
 ghost use Rattle.bb_machine.specs.Rows.{IsTable, entries_in, table_in};
 ghost use Rattle.bb_machine.specs.Column.{BeginsWith, IsViable, IsLongestPrefix};
 ghost use Rattle.bb_machine.specs.Draft.{Begun, IsDraft, begun_text, IsStop};
 
-/// The machine whose text the line is, or how many of its first bytes begin some machine's text.
+/// How many states and symbols the machine has whose text the line is, or how many of the line's first bytes
+/// begin some machine's text.
 #[inline]
-pub(super) fn read_prefix(line: &[u8]) -> Result<Machine, usize>
-    ensures found { IfOk result (λ machine. IsMachine machine × (text machine ≡ line.now)) }
-    ensures only { (machine : List (List Entry)) → IsMachine machine → text machine ≡ line.now
-        → result ≡ Ok machine }
+fn read_counts(line: &[u8]) -> Result<(usize, usize), usize>
+    ensures found { IfOk result (λ counts. (gs : List (List Entry)) × IsTable counts.0 counts.1 gs
+        × (text gs ≡ line.now)) }
+    ensures none { IfErr result (λ n. (gs : List (List Entry)) → IsMachine gs → text gs ≢ line.now) }
     ensures prefix { IfErr result (IsLongestPrefix IsViable line.now) }
     ensures bounded { IfErr result (λ n. n ≤ LINE) }
 {
     let draft = scan(line)?;
     if draft.is_machine() {
-        Ok(machine_of(line, draft.states, draft.filled))
+        Ok((draft.states, draft.filled))
     } else {
         Err(line.len())
     }
@@ -129,8 +158,7 @@ pub(super) fn read_prefix(line: &[u8]) -> Result<Machine, usize>
 
 /// How much was read of the whole line, or how many of its first bytes begin some machine's text.
 ///
-/// It isn't inlined, and neither is `machine_of`, so that `read` stays small and is: a refusal then
-/// copies no machine.
+/// It isn't inlined, and neither is `fill`, so that what reads a line stays small and is.
 #[inline(never)]
 fn scan(line: &[u8]) -> Result<Draft, usize>
     ensures text { IfOk result (λ draft. (b : Begun) × IsDraft draft b × (begun_text b ≡ line.now)) }
@@ -147,20 +175,16 @@ fn scan(line: &[u8]) -> Result<Draft, usize>
     Ok(draft)
 }
 
-/// The machine with so many states and symbols whose text the line is.
+/// Puts the entries of the machine with so many states and symbols whose text the line is into the slots.
+/// Slots that the machine doesn't have stay as they are, and cost nothing.
 #[inline(never)]
-fn machine_of(line: &[u8], states: usize, symbols: usize) -> Machine
+fn fill(slots: &mut [Slot; SLOTS], line: &[u8], states: usize, symbols: usize)
     requires { (gs : List (List Entry)) × IsTable states symbols gs × (text gs ≡ line.now) }
-    ensures { (gs : List (List Entry)) → IsTable states symbols gs → text gs ≡ line.now → result ≡ gs }
+    ensures { (gs : List (List Entry)) → IsTable states symbols gs → text gs ≡ line.now
+        → table_in states symbols slots.new ≡ gs }
 {
-    let mut slots = [Slot::undefined(); SLOTS];
     for row in 0..states {
-        fill_row(&mut slots, row, symbols, &line[row * (3 * symbols + 1)..]);
-    }
-    Machine {
-        slots,
-        state_count: states as u8,
-        symbol_count: symbols as u8,
+        fill_row(slots, row, symbols, &line[row * (3 * symbols + 1)..]);
     }
 }
 
@@ -170,10 +194,10 @@ fn fill_row(slots: &mut [Slot; SLOTS], row: usize, symbols: usize, bytes: &[u8])
     requires symbols { symbols ≤ MAX_SYMBOLS }
     requires group { (g : List Entry) × IsGroup MAX_STATES symbols g × BeginsWith bytes.now (group_text g) }
     ensures row { (g : List Entry) → IsGroup MAX_STATES symbols g → BeginsWith bytes.now (group_text g)
-        → take symbols (drop (row * MAX_SYMBOLS) (entries_in slots.new)) ≡ g }
+        → take symbols (drop (row * STRIDE) (entries_in slots.new)) ≡ g }
     ensures before { table_in row symbols slots.new ≡ table_in row symbols slots.old }
 {
     for symbol in 0..symbols {
-        slots[row * MAX_SYMBOLS + symbol] = Slot::new(Entry::at_first(&bytes[3 * symbol..]));
+        slots[row * STRIDE + symbol] = Slot::new(Entry::at_first(&bytes[3 * symbol..]));
     }
 }

@@ -143,7 +143,7 @@ fn checked_on_rings<R: Read + Drop>(
     (end, sink)
 }
 
-pub fn answers(rt: &(impl Abort + AllocGlobal), rows: &[Row]) {
+pub(super) fn answers(rt: &(impl Abort + AllocGlobal), rows: &[Row]) {
     for (four, input, output, clean) in rows {
         let limits = Limits::new(four[0], four[1], four[2], four[3]).expect(rt, "limits");
         let (end, written) = checked_on_maps(rt, &limits, input);

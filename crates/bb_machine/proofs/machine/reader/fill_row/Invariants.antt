@@ -1,5 +1,5 @@
 use Rattle.std.proofs.Common.{◌≡◌, ◌*◌, List, length, take, drop}
-use Rattle.bb_machine.specs.declared.machine.TheConstants.{MAX_STATES, MAX_SYMBOLS, SLOTS}
+use Rattle.bb_machine.specs.declared.machine.TheConstants.{MAX_STATES, SLOTS, STRIDE}
 use Rattle.bb_machine.specs.declared.entry.Entry.{Entry}
 use Rattle.bb_machine.specs.Machine.{IsGroup, group_text}
 use Rattle.bb_machine.specs.Rows.{entries_in, table_in}
@@ -11,6 +11,6 @@ abbrev pub invariant-loop-symbol : goal.invariant-loop-symbol
 invariant-loop-symbol l = record {
   count : length l.slots ≡ SLOTS;
   row : (g : List Entry) → IsGroup MAX_STATES l.symbols g → BeginsWith l.bytes (group_text g)
-      → take l.symbol (drop (l.row * MAX_SYMBOLS) (entries_in l.slots)) ≡ take l.symbol g;
+      → take l.symbol (drop (l.row * STRIDE) (entries_in l.slots)) ≡ take l.symbol g;
   before : table_in l.row l.symbols l.slots ≡ table_in l.row l.symbols l.initial.slots;
 }

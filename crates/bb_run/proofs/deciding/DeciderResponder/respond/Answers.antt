@@ -1,9 +1,11 @@
-use Rattle.std.proofs.Common.{rules, refl, sym, inl, inr}
+use Rattle.std.proofs.Common.{rules, refl, sym, ap, inl, inr, arith, length}
+use Rattle.bb_machine.specs.declared.machine.TheConstants.{MAX_STATES, MAX_SYMBOLS}
+use Rattle.bb_machine.proofs.Facts.{text_short}
 use Rattle.bb_run.proofs.deciding.DeciderResponder.respond.Goals as goal
 
 pub returns-in-Err-clause-reply : goal.returns-in-Err-clause-reply
 returns-in-Err-clause-reply g c = inr (record {
-  no_machine = λ m. let found = c.in-Err.ensures.only m.0 m.1.machine m.1.is_text in cc;
+  no_machine = λ m. c.in-Err.ensures.none m.0 m.1.machine m.1.is_text;
   column = c.in-Err.refused.column;
   is_column = c.in-Err.ensures.column;
   is_reply = c.refusal_into.ensures;
@@ -14,16 +16,22 @@ returns-in-Err-clause-saw g c = (
   refl,
   refl,
   inr (record {
-    no_machine = λ m. let found = c.in-Err.ensures.only m.0 m.1.machine m.1.is_text in cc;
+    no_machine = λ m. c.in-Err.ensures.none m.0 m.1.machine m.1.is_text;
     clean = refl;
     peak = refl;
     no_effort = refl;
   }),
 )
 
+pub line_into-requires : goal.line_into-requires
+line_into-requires g c =
+    let short = text_short MAX_STATES MAX_SYMBOLS c.read_anew.new.self c.in-Ok.ensures.found.0 in
+    let long = c.lines_are_short.ensures c.read_anew.new.self c.in-Ok-decide.verdict (omega (arith, short)) c.in-Ok-decide.ensures.numbers in
+    omega (arith, long, ap length c.requires.empty)
+
 pub returns-clause-reply : goal.returns-clause-reply
 returns-clause-reply g c = inl (record {
-  table = c.in-Ok.machine;
+  table = c.read_anew.new.self;
   of = record { machine = c.in-Ok.ensures.found.0; is_text = c.in-Ok.ensures.found.1 };
   verdict = c.in-Ok-decide.verdict;
   is_verdict = c.in-Ok-decide.ensures.verdict;
@@ -35,7 +43,7 @@ returns-clause-saw g c = (
   refl,
   refl,
   inl (record {
-    table = c.in-Ok.machine;
+    table = c.read_anew.new.self;
     of = record { machine = c.in-Ok.ensures.found.0; is_text = c.in-Ok.ensures.found.1 };
     cost = _;
     counts = c.in-Ok-decide.ensures.counted;

@@ -1,10 +1,15 @@
-use Rattle.std.proofs.Common.{◌≡◌, ◌∙◌, IsTrue, Ok, ap, sym, rules}
+use Rattle.std.proofs.Common.{◌≡◌, ◌∙◌, IsTrue, rules}
 use Rattle.std.proofs.lemmas.Result.{err_from_is_err_and}
 use Rattle.bb_machine.specs.Machine.{IsMachine}
 use Rattle.bb_machine.specs.Draft.{table_of}
 use Rattle.bb_machine.proofs.Drafts.{draft_table}
 use Rattle.bb_machine.proofs.Prefixes.{longest_prefix, prefix_bounded, whole_prefix, whole_table, text-table_of}
-use Rattle.bb_machine.proofs.machine.reader.read_prefix.Goals as goal
+use Rattle.bb_machine.proofs.machine.reader.read_counts.Goals as goal
+
+pub returns-in_err-draft-clause-none : goal.returns-in_err-draft-clause-none
+returns-in_err-draft-clause-none c =
+    let p = err_from_is_err_and c.from_residual.result c.from_residual.ensures.1 in
+    rw p.1 c.in_err-draft.ensures.stop.none
 
 pub returns-in_err-draft-clause-prefix : goal.returns-in_err-draft-clause-prefix
 returns-in_err-draft-clause-prefix c =
@@ -18,32 +23,14 @@ returns-in_err-draft-clause-bounded c =
     (prefix_bounded c.args.line.now c.in_err-draft.field-0.0
     (longest_prefix c.args.line.now c.in_err-draft.field-0.0 c.in_err-draft.ensures.stop))
 
-pub machine_of-requires : goal.machine_of-requires
-machine_of-requires c =
-    let read = c.in_ok-draft.ensures.text in
-    let machine : IsMachine (table_of read.0) = (c.is_machine.ensures read.0 read.1).0 (search rules) in
-    (table_of read.0, draft_table c.in_ok-draft.draft read.0 read.1 machine, text-table_of read.0 ∙ read.2)
-
 pub returns-then-is_machine-clause-found : goal.returns-then-is_machine-clause-found
 returns-then-is_machine-clause-found c =
     let read = c.in_ok-draft.ensures.text in
     let machine : IsMachine (table_of read.0) = (c.is_machine.ensures read.0 read.1).0 (search rules) in
-    let is : c.machine_of.result ≡ table_of read.0 =
-    c.machine_of.ensures (table_of read.0) (draft_table c.in_ok-draft.draft read.0 read.1 machine)
-    (text-table_of read.0 ∙ read.2) in
-    rw is (machine, text-table_of read.0 ∙ read.2)
+    (table_of read.0, draft_table c.in_ok-draft.draft read.0 read.1 machine, text-table_of read.0 ∙ read.2)
 
-pub returns-then-is_machine-clause-only : goal.returns-then-is_machine-clause-only
-returns-then-is_machine-clause-only c other is same =
-    let read = c.in_ok-draft.ensures.text in
-    let machine : IsMachine (table_of read.0) = (c.is_machine.ensures read.0 read.1).0 (search rules) in
-    let found : c.machine_of.result ≡ table_of read.0 =
-    c.machine_of.ensures (table_of read.0) (draft_table c.in_ok-draft.draft read.0 read.1 machine)
-    (text-table_of read.0 ∙ read.2) in
-    ap Ok (found ∙ sym (whole_table c.args.line.now read.0 other read.1.begun read.2 is same))
-
-pub returns-else-is_machine-clause-only : goal.returns-else-is_machine-clause-only
-returns-else-is_machine-clause-only c machine is same =
+pub returns-else-is_machine-clause-none : goal.returns-else-is_machine-clause-none
+returns-else-is_machine-clause-none c machine is same =
     let read = c.in_ok-draft.ensures.text in
     let table = whole_table c.args.line.now read.0 machine read.1.begun read.2 is same in
     let yes : IsTrue c.is_machine.result = (c.is_machine.ensures read.0 read.1).1 (rw table at is) in
