@@ -171,5 +171,5 @@ module _ (table : Table) (side : Side) (first second : ℕ) (old new : Course) (
       → AgreeingRecords table side first second → ⊥
   no_pair_at less none pair =
       let seen = course_of_pair table runner run saved new stands known_on first (rw here less) keeps_first
-          (turned_back pair) in
+      (turned_back pair) in
       none seen.0 seen.1

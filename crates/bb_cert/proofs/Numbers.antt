@@ -72,7 +72,7 @@ second_split b None prefix rest bytes fits none parts is =
     absurd (no_space_within prefix rest (decimal b) (decimal_no_space b fits) (parts ∙ sym is))
 second_split b (Some told) prefix rest bytes fits none parts is =
     let split = same_split (decimal b) prefix (pair_text told.shift told.length) rest (decimal_no_space b fits) none
-        (is ∙ sym parts) in
+    (is ∙ sym parts) in
     (told, refl, split.0, split.1)
 
 pub pair_apart : (a b c d : ℕ) → a < 2 ^ 64 → b < 2 ^ 64 → c < 2 ^ 64 → d < 2 ^ 64 → pair_text a b ≡ pair_text c d → (a ≡ c) × (b ≡ d)

@@ -80,16 +80,17 @@ seconds_apart b d (Some e) None p q _ _ is =
     absurd (no_space_within (decimal b) (pair_text e.shift e.length) (decimal d) (decimal_no_space d q) is)
 seconds_apart b d (Some e) (Some f) p q r s is =
     let parts = same_split (decimal b) (decimal d) (pair_text e.shift e.length) (pair_text f.shift f.length)
-        (decimal_no_space b p) (decimal_no_space d q) is in
-    let pair = pair_apart e.shift e.length f.shift f.length r.0 r.1 s.0 s.1 parts.1 in
-    (decimal_injective b d p q parts.0,
-      ap Some (ap (λ n. record e { shift = n }) pair.0 ∙ ap (λ n. record f { length = n }) pair.1))
+    (decimal_no_space b p) (decimal_no_space d q) is in
+    let pair = pair_apart e.shift e.length f.shift f.length r.0 r.1 s.0 s.1 parts.1 in (
+      decimal_injective b d p q parts.0,
+      ap Some (ap (λ n. record e { shift = n }) pair.0 ∙ ap (λ n. record f { length = n }) pair.1),
+    )
 
 records_apart : (a b c d : ℕ) (e f : Option Extent) → a < 2 ^ 64 → b < 2 ^ 64 → c < 2 ^ 64 → d < 2 ^ 64
     → HasExtentNumbers e → HasExtentNumbers f → records_text a b e ≡ records_text c d f → (a ≡ c) × (b ≡ d) × (e ≡ f)
 records_apart a b c d e f p q r s first second is =
     let parts = same_split (decimal a) (decimal c) (second_text b e) (second_text d f) (decimal_no_space a p)
-        (decimal_no_space c r) is in
+    (decimal_no_space c r) is in
     let others = seconds_apart b d e f q s first second parts.1 in
     (decimal_injective a c p r parts.0, others.0, others.1)
 

@@ -45,10 +45,10 @@ impl Course {
             → IsComparable self.now.records (T.strip saved.old) (T.strip run.now) }
         ensures agree { MatchOption result
             (IsTrue self.now.is_record
-                → AgreesWithKept self.now.records runner.now (T.strip saved.old) (T.strip run.now) → ⊥)
+            → AgreesWithKept self.now.records runner.now (T.strip saved.old) (T.strip run.now) → ⊥)
             (λ extent. IsTrue self.now.is_record
-                × AgreesWithKept self.now.records runner.now (T.strip saved.old) (T.strip run.now)
-                × LiesAs self.now.records extent) }
+            × AgreesWithKept self.now.records runner.now (T.strip saved.old) (T.strip run.now)
+            × LiesAs self.now.records extent) }
         ensures limit { (T.strip saved.new).limit ≡ (T.strip saved.old).limit }
     {
         if !self.is_record {

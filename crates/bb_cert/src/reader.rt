@@ -132,9 +132,9 @@ fn read_pair(words: &[u8], bytes: &[u8]) -> Option<(u64, u64)>
 fn read_records(words: &[u8], bytes: &[u8]) -> Option<(u64, u64, Option<Extent>)>
     ensures { MatchOption result
         ((a b : ℕ) (extent : Option Extent) → a < 2 ^ 64 → b < 2 ^ 64 → HasExtentNumbers extent
-            → words.now ++ records_text a b extent ≢ bytes.now)
+        → words.now ++ records_text a b extent ≢ bytes.now)
         (λ found. (found.0 < 2 ^ 64) × (found.1 < 2 ^ 64) × HasExtentNumbers found.2
-            × (words.now ++ records_text found.0 found.1 found.2 ≡ bytes.now)) }
+        × (words.now ++ records_text found.0 found.1 found.2 ≡ bytes.now)) }
 {
     let numbers = bytes.strip_prefix(words)?;
     let (first, others) = split_at_space(numbers)?;
@@ -147,7 +147,7 @@ fn read_records(words: &[u8], bytes: &[u8]) -> Option<(u64, u64, Option<Extent>)
 fn read_second(bytes: &[u8]) -> Option<(u64, Option<Extent>)>
     ensures { MatchOption result
         ((b : ℕ) (extent : Option Extent) → b < 2 ^ 64 → HasExtentNumbers extent
-            → second_text b extent ≢ bytes.now)
+        → second_text b extent ≢ bytes.now)
         (λ found. (found.0 < 2 ^ 64) × HasExtentNumbers found.1 × (second_text found.0 found.1 ≡ bytes.now)) }
 {
     let Some((second, extent)) = split_at_space(bytes) else {

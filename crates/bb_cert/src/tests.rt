@@ -1,7 +1,7 @@
 //! Worked lines, and a comparison with a second reader that splits a line at every space.
 ghost use Rattle.std.specs.Prelude.{◌+◌, ◌≤◌, length};
 
-use crate::{LINE_BUFFER, LONGEST, Line, Side, Verdict, Why, line_into, read_line};
+use crate::{Extent, LINE_BUFFER, LONGEST, Line, Side, Verdict, Why, line_into, read_line};
 use arrayvec::ArrayVec;
 use itoa::Buffer;
 use std::process::Abort;
@@ -15,7 +15,7 @@ mod walk;
 const LONG: &[u8] =
     b"0RA0RA_0RA0RA_0RA0RA_0RA0RA_0RA0RA_0RA0RA_0RA0RA translated R 18446744073709551615 18446744073709551615";
 
-const CLAIMS: [(&[u8], Verdict); 10] = [
+const CLAIMS: [(&[u8], Verdict); 12] = [
     (
         b"1RB1LB_1LA1RZ halt 6 4",
         Verdict::Halt { steps: 6, score: 4 },
@@ -40,6 +40,7 @@ const CLAIMS: [(&[u8], Verdict); 10] = [
             side: Side::R,
             first: 4,
             second: 8,
+            extent: None,
         },
     ),
     (
@@ -48,6 +49,31 @@ const CLAIMS: [(&[u8], Verdict); 10] = [
             side: Side::L,
             first: 4,
             second: 8,
+            extent: None,
+        },
+    ),
+    (
+        b"1LB0LA_1RA--- translated L 4 8 2 1",
+        Verdict::Translated {
+            side: Side::L,
+            first: 4,
+            second: 8,
+            extent: Some(Extent {
+                shift: 2,
+                length: 1,
+            }),
+        },
+    ),
+    (
+        b"1RA1RA translated R 1 2 18446744073709551615 0",
+        Verdict::Translated {
+            side: Side::R,
+            first: 1,
+            second: 2,
+            extent: Some(Extent {
+                shift: 18_446_744_073_709_551_615,
+                length: 0,
+            }),
         },
     ),
     (
@@ -87,7 +113,7 @@ const REFUSALS: [(&[u8], u32); 6] = [
     (b"refused 775", 775),
 ];
 
-const NO_LINES: [&[u8]; 28] = [
+const NO_LINES: [&[u8]; 34] = [
     b"",
     b" ",
     b"refused",
@@ -109,6 +135,12 @@ const NO_LINES: [&[u8]; 28] = [
     b"1RA1RA undecided",
     b"1RA1RA undecided nodes",
     b"1RA1RA translated 1 2",
+    b"1RA1RA translated R 1 2 1",
+    b"1RA1RA translated R 1 2 1 1 1",
+    b"1RA1RA translated R 1 2 1 1 ",
+    b"1RA1RA translated R 1 2  1 1",
+    b"1RA1RA translated R 1 2 01 1",
+    b"1RA1RA translated R 1 2 18446744073709551616 1",
     b"1RA1RA translated r 1 2",
     b"1RB1LB_1LA1RC halt 1 1",
     b"------ halt 00 0",
@@ -118,7 +150,7 @@ const NO_LINES: [&[u8]; 28] = [
     b"------ halt 18446744073709551616 0",
 ];
 
-const LINES: [&[u8]; 44] = [
+const LINES: [&[u8]; 46] = [
     b"1RB1LB_1LA1RZ halt 6 4",
     b"1RB1LB_1LA--- halt 5 4",
     b"1RB1LB_1LA1RZ undecided steps",
@@ -158,6 +190,8 @@ const LINES: [&[u8]; 44] = [
     b"0RB---_0LA--- cycler 2 2",
     b"------ cycler 0 1",
     b"1RA1RA translated R 2 5",
+    b"1RA1RA translated R 2 5 3 1",
+    b"1LB0LA_1RA--- translated L 4 8 2 1",
     b"1RB1RZ_1LB0RC_1LC1LA translated R 6 17",
     b"1RA1RA undecided cells",
     b"------ halt 18446744073709551615 0",
@@ -195,6 +229,13 @@ fn field(line: &[u8], index: usize) -> &[u8] {
 fn is_verdict_line(bytes: &[u8]) -> bool {
     let is_number = |index: usize| number(field(bytes, index)).is_some();
     let is = |index: usize, word: &[u8]| field(bytes, index) == word;
+    let is_pair_of_records = || {
+        is_machine(field(bytes, 0))
+            && is(1, b"translated")
+            && (is(2, b"L") || is(2, b"R"))
+            && is_number(3)
+            && is_number(4)
+    };
     match bytes.split(|byte| *byte == b' ').count() {
         2 => is(0, b"refused") && matches!(number(field(bytes, 1)), Some(1..=775)),
         3 => {
@@ -208,13 +249,8 @@ fn is_verdict_line(bytes: &[u8]) -> bool {
                 && is_number(2)
                 && is_number(3)
         }
-        5 => {
-            is_machine(field(bytes, 0))
-                && is(1, b"translated")
-                && (is(2, b"L") || is(2, b"R"))
-                && is_number(3)
-                && is_number(4)
-        }
+        5 => is_pair_of_records(),
+        7 => is_pair_of_records() && is_number(5) && is_number(6),
         _ => false,
     }
 }
@@ -223,7 +259,10 @@ fn is_verdict_line(bytes: &[u8]) -> bool {
 /// and symbols.
 fn is_machine(bytes: &[u8]) -> bool {
     let states = bytes.split(|byte| *byte == b'_').count();
-    let symbols = bytes.split(|byte| *byte == b'_').next().map_or(0, |group| group.len() / 3);
+    let symbols = bytes
+        .split(|byte| *byte == b'_')
+        .next()
+        .map_or(0, |group| group.len() / 3);
     states <= 25
         && 2 <= symbols
         && symbols <= 10
@@ -338,8 +377,11 @@ fn the_longest_line_is_read_and_written(rt: HostRuntime) -> Result<(), Fail> {
             line.try_extend_from_slice(b"0RA")?;
         }
     }
-    line.try_extend_from_slice(b" translated R 18446744073709551615 18446744073709551615")?;
-    assert_eq!(rt; line.len(), 829);
+    line.try_extend_from_slice(b" translated R")?;
+    for _ in 0..4 {
+        line.try_extend_from_slice(b" 18446744073709551615")?;
+    }
+    assert_eq!(rt; line.len(), 871);
     assert_eq!(rt; line.len(), LONGEST);
     let out = printed(&rt, line.as_slice()).ok_or("no verdict line")?;
     assert_eq!(rt; out.as_slice(), line.as_slice());

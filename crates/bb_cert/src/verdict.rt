@@ -25,9 +25,15 @@ pub struct Extent {
 #[derive(Clone, Copy, Debug, PartialEq, Eq)]
 pub enum Verdict {
     /// It halts after so many steps, with so many cells that aren't 0.
-    Halt { steps: u64, score: u64 },
+    Halt {
+        steps: u64,
+        score: u64,
+    },
     /// The configurations at two steps are the same.
-    Cycler { first: u64, second: u64 },
+    Cycler {
+        first: u64,
+        second: u64,
+    },
     /// The records of a side at two steps agree; a claim may tell how they lie.
     Translated {
         side: Side,
@@ -36,7 +42,10 @@ pub enum Verdict {
         extent: Option<Extent>,
     },
     /// The tree of what could come before a halt ends in so many levels, with so many nodes.
-    Backward { levels: u64, nodes: u64 },
+    Backward {
+        levels: u64,
+        nodes: u64,
+    },
     /// Nothing was found within the limits.
     Undecided(Why),
 }

@@ -22,15 +22,17 @@ pub verdicts_hold : VerdictsHold
 verdicts_hold table bounds plan (Halt steps score) is = (is.0.halts, is.1)
 verdicts_hold table bounds plan (Cycler first second) is = (is.2.cycle.partner.below, is.2.cycle.same)
 verdicts_hold table bounds plan (Translated side first second extent) is =
-    let pair = is.3.translation.pair in
-    (record {
-      in_order = later table side first second pair;
-      first_number = pair.first_number;
-      second_number = pair.second_number;
-      first_record = pair.first_record;
-      second_record = pair.second_record;
-      agree = pair.agree;
-    }, told_is_said table side first second extent is.4)
+    let pair = is.3.translation.pair in (
+      record {
+        in_order = later table side first second pair;
+        first_number = pair.first_number;
+        second_number = pair.second_number;
+        first_record = pair.first_record;
+        second_record = pair.second_record;
+        agree = pair.agree;
+      },
+      told_is_said table side first second extent is.4,
+    )
 verdicts_hold table bounds plan (Backward levels nodes) is = (is.4.ends, is.4.clear)
 verdicts_hold table bounds plan (Undecided Steps) is = tt
 verdicts_hold table bounds plan (Undecided Cells) is = tt

@@ -3,7 +3,7 @@ ghost use Rattle.std.specs.Prelude.{◌≡◌};
 ghost use Rattle.bb_cert.specs.Pair.{HasCells};
 ghost use Rattle.bb_cert.specs.Path.{depth_of};
 
-use crate::{Answer, Line, Pair, Path, Side, Verdict, check, read_line};
+use crate::{Answer, Extent, Line, Pair, Path, Side, Verdict, check, read_line};
 use bb_machine::{LimitFault, Limits, Machine};
 use bb_sim::Meter;
 use bb_tape::{MapTape, RingTape, Tape};
@@ -17,7 +17,7 @@ const DEPTH: u64 = 32;
 /// A line, the limits of steps, cells, levels and nodes, what is answered, and the steps, nodes and levels counted.
 type Row = (&'static [u8], [u64; 4], Answer, [u64; 3]);
 
-static ROWS: [Row; 70] = [
+static ROWS: [Row; 78] = [
     // Halts.
     (
         b"1RB1LB_1LA1RZ halt 6 4",
@@ -336,6 +336,54 @@ static ROWS: [Row; 70] = [
         [12, 0, 0],
     ),
     (
+        b"1RA1RA translated R 1 2 1 1",
+        [1000, 64, 32, 1000],
+        Answer::Ok,
+        [2, 0, 0],
+    ),
+    (
+        b"1RA1RA translated R 2 5 3 1",
+        [1000, 64, 32, 1000],
+        Answer::Ok,
+        [5, 0, 0],
+    ),
+    (
+        b"1RA1RA translated R 1 2 1 2",
+        [1000, 64, 32, 1000],
+        Answer::Bad,
+        [2, 0, 0],
+    ),
+    (
+        b"1RA1RA translated R 1 2 2 1",
+        [1000, 64, 32, 1000],
+        Answer::Bad,
+        [2, 0, 0],
+    ),
+    (
+        b"1RA1RA translated R 1 2 18446744073709551615 1",
+        [1000, 64, 32, 1000],
+        Answer::Bad,
+        [2, 0, 0],
+    ),
+    (
+        b"1RA1RA translated R 2 2 0 1",
+        [1000, 64, 32, 1000],
+        Answer::Bad,
+        [0, 0, 0],
+    ),
+    (
+        b"1RB0RA_1LA--- translated R 1 5 2 2",
+        [1000, 64, 32, 1000],
+        Answer::Ok,
+        [5, 0, 0],
+    ),
+    (
+        b"1RB0RA_1LA--- translated R 1 5 2 1",
+        [1000, 64, 32, 1000],
+        Answer::Bad,
+        [5, 0, 0],
+    ),
+    (
         b"0LB---_0RC1RC_1RA--- translated R 3 6",
         [1000, 64, 32, 1000],
         Answer::Ok,
@@ -519,6 +567,7 @@ fn answer_to_pair<T: Tape>(
     side: Option<Side>,
     first: u64,
     second: u64,
+    extent: Option<Extent>,
     pair: &mut Pair<T>,
     path: &mut Path,
 ) -> Result<Answer, Fail>
@@ -533,6 +582,7 @@ fn answer_to_pair<T: Tape>(
             side,
             first,
             second,
+            extent,
         },
     };
     let mut meter = Meter::new();
@@ -553,13 +603,50 @@ fn pairs_are_answered<T: Tape>(
         for step in 0..289 {
             let (first, second) = (step / 17, step % 17);
             assert!(rt; pair.run.limit() == CELLS && pair.saved.limit() == CELLS);
-            let answer = answer_to_pair(&machine, *side, first, second, pair, path)?;
+            let answer = answer_to_pair(&machine, *side, first, second, None, pair, path)?;
             let holds = is_right(index, first, second);
             assert_eq!(rt; answer == Answer::Ok, holds, "{first} {second} of {text:?}");
             assert!(rt; holds || answer == Answer::Bad);
             right = right.saturating_add(u64::from(holds));
         }
         assert_eq!(rt; right, *count, "{text:?}");
+    }
+    Ok(())
+}
+
+/// Checks each pair of steps up to 16 of a machine that makes a record with each step, with its extent, and with those
+/// that are wrong by one.
+fn extents_are_answered<T: Tape>(
+    rt: &impl Abort,
+    pair: &mut Pair<T>,
+    path: &mut Path,
+) -> Result<(), Fail>
+    requires tapes { HasCells T.strip CELLS pair.old }
+{
+    let machine = Machine::read(b"1RA1RA")?;
+    for step in 0..289 {
+        let (first, second): (u64, u64) = (step / 17, step % 17);
+        let right = second.saturating_sub(first);
+        for wrong in 0..9 {
+            let (shift, length) = ((right + wrong / 3).saturating_sub(1), wrong % 3);
+            assert!(rt; pair.run.limit() == CELLS && pair.saved.limit() == CELLS);
+            let extent = Some(Extent { shift, length });
+            let answer = answer_to_pair(
+                &machine,
+                Some(Side::R),
+                first,
+                second,
+                extent,
+                pair,
+                path,
+            )?;
+            let holds = 1 <= first && first < second && shift == right && length == 1;
+            assert_eq!(rt;
+                answer == Answer::Ok,
+                holds,
+                "{first} {second} {shift} {length}"
+            );
+        }
     }
     Ok(())
 }
@@ -571,7 +658,8 @@ fn pairs_are_answered_on_maps(rt: HostRuntime) -> Result<(), Fail> {
         saved: MapTape::new(rt.alloc(), CELLS),
     };
     let mut path = Path::new(rt.alloc(), DEPTH)?;
-    pairs_are_answered(&rt, &mut pair, &mut path)
+    pairs_are_answered(&rt, &mut pair, &mut path)?;
+    extents_are_answered(&rt, &mut pair, &mut path)
 }
 
 #[test]
@@ -581,7 +669,8 @@ fn pairs_are_answered_on_rings(rt: HostRuntime) -> Result<(), Fail> {
         saved: RingTape::new(rt.alloc(), CELLS)?,
     };
     let mut path = Path::new(rt.alloc(), DEPTH)?;
-    pairs_are_answered(&rt, &mut pair, &mut path)
+    pairs_are_answered(&rt, &mut pair, &mut path)?;
+    extents_are_answered(&rt, &mut pair, &mut path)
 }
 
 #[test]

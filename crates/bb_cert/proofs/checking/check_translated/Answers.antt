@@ -33,8 +33,7 @@ returns-in_default-agreement-clause-checks g c =
     let goes = rw (c.in-None-2.is, first.at) at c.in_ok-answer-2.ensures.follows in
     let kept = kept_at _ _ _ _ _ _ _ _ _ c.new.ensures begun first.under_way.stands first.at
     c.keep.ensures in
-    let saved = rw (sym c.in-Ok.ensures.ok) at kept in
-    (
+    let saved = rw (sym c.in-Ok.ensures.ok) at kept in (
       fits_there _ c.args.limits.now _ _ _ _ second,
       λ claim. no_pair_at _ _ _ _ _ _ _ _ _ saved goes second.under_way.stands second.at c.requires.order
           c.in_default-agreement.ensures.agree claim.0,
