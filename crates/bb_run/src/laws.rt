@@ -17,8 +17,8 @@ pub fn check_reply_is_unique()
     ensures long { LongLinesAreUnread }
 {}
 
-/// A verdict that says never means never, the checker confirms each that is decided, and deciding makes no more than
-/// three times the limit of steps.
+/// Where a verdict says never, no number of steps halts; the checker confirms each that isn't undecided; and
+/// deciding makes no more than three times the limit of steps.
 pub fn verdicts_are_borne_out()
     ensures { AllVerdictsAreBorneOut }
 {}

@@ -11,8 +11,8 @@ use bb_sim::Meter;
 use bb_tape::{MapTape, RingTape, Tape};
 use std::process::Abort;
 
-/// The limits, a machine, and the most writes that deciding it makes, on all tapes together: one for each step, two
-/// for each node.
+/// The limits, a machine, and the most writes that deciding it makes, on all tapes together: one for each
+/// step, two for each node.
 static DECIDED: [(Four, &[u8], u64); 4] = [
     (DEFAULTS, b"0RB---_0LA---", 1_000_004),
     ([3, 65_536, 300, 1_000_000], b"0RB---_0LA---", 17),

@@ -1,4 +1,4 @@
-//! What deciding writes is read by checking, at the same limits: each decided line is ok, and all others are open.
+//! What deciding writes is checked at the same limits: each decided line is ok, and all others are open.
 
 use crate::tests::check::{checked_on_maps, checked_on_rings};
 use crate::tests::{Four, decided_on_maps, decided_on_rings};

@@ -1,5 +1,5 @@
-//! Engines over tapes that are refused memory: what is written by then, and that the same tapes give all lines once there
-//! is memory.
+//! Engines over tapes that are refused memory: what is written by then, and that the same tapes give all
+//! lines once there is memory.
 ghost use Rattle.std.specs.Prelude.{◌≡◌};
 
 use crate::Summary;

@@ -3,7 +3,8 @@ ghost use Rattle.std.specs.Prelude.{◌≡◌};
 
 use bb_tape::{Tape, TapeFault};
 
-/// A tape that hands each call on to another. To take over a whole tape, or to reset it, isn't counted as a write.
+/// A tape that hands each call on to another. To take over a whole tape, or to reset it, isn't counted as a
+/// write.
 #[derive(Drop)]
 pub struct Tallied<T> {
     inner: T,
