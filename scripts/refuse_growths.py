@@ -5,7 +5,9 @@
 
 For each command line below and each k, the k-th call of malloc, calloc or realloc answers null.
 The program must then end as ever, or with status 3, a beginning of its output and the text of a
-fault. It stops at the first k that no call reaches. Needs cc and Linux.
+fault. It stops at the first k that no call reaches. The last growths are those of the tapes and of the
+path, before a byte is read: where one of them is refused, nothing is written and memory is the cause.
+The last line is `N passed, M failed`; the status is 1 where any failed. Needs cc and Linux.
 """
 
 import os
@@ -58,9 +60,34 @@ int posix_memalign(void **p, size_t a, size_t n) {
 LIMITS = ["--steps=1000", "--cells=64", "--depth=10", "--nodes=100"]
 LINES = b"1RB1LB_1LA1RZ\n1RB0RA_1LA---\n0RB---_0LA---\n"
 
-CLAIMS = b"1RB1LB_1LA1RZ halt 6 4\n1RB0RA_1LA--- translated R 4 8\n0RB---_0LA--- backward 2 4\n0RB---_0LA--- cycler 2 4\n"
+CLAIMS = (
+    b"1RB1LB_1LA1RZ halt 6 4\n1RB0RA_1LA--- translated R 4 8\n"
+    b"0RB---_0LA--- backward 2 4\n0RB---_0LA--- cycler 2 4\n"
+)
 
 FAULTS = {b"bb: out of memory\n", b"bb: read failed\n", b"bb: write failed\n"}
+
+NOT_BEGUN = (3, b"", b"bb: out of memory\n")
+
+# The words, and how many growths the tapes and the path take.
+RUNS = [
+    (["decide"], 4),
+    (["decide", *LIMITS], 4),
+    (["decide", *LIMITS, "{list}"], 4),
+    (["decide", "--no-cyclers", "--no-translated", *LIMITS], 4),
+    (["decide", "--cells=4"], 0),
+    (["decide", "--steps=x"], 0),
+    (["check"], 3),
+    (["check", *LIMITS], 3),
+    (["check", *LIMITS, "{claims}"], 3),
+    (["check", "--cells=4"], 0),
+    (["check", "--steps=x"], 0),
+    (["trace", "--upto=10", "1RB1LB_1LA1RZ"], 1),
+    (["trace", "--upto=10", "--cells=2", "1RA1RA"], 1),
+    (["trace", "--upto=10", "1RB1LB_1LA1RC"], 1),
+    (["trace", "--upto=10"], 0),
+    (["--help"], 0),
+]
 
 
 def run(program, words, environment):
@@ -69,23 +96,26 @@ def run(program, words, environment):
     return end.returncode, end.stdout, end.stderr
 
 
-def tried(program, words, library, folder):
-    """How many growths were refused in turn, and the ends that are wrong."""
-    fine = run(program, words, dict(os.environ))
-    wrong = []
-    k = 0
+def ends_of(program, words, library, folder):
+    """How it ends with each growth refused in turn."""
+    ends = []
+    told = os.path.join(folder, "told")
     while True:
-        k += 1
-        told = os.path.join(folder, "told")
-        if os.path.lexists(told):
-            os.unlink(told)
-        end = run(program, words, {**os.environ, "LD_PRELOAD": library, "REFUSE_AT": str(k), "REFUSE_TOLD": told})
+        refusal = {"LD_PRELOAD": library, "REFUSE_AT": str(len(ends) + 1), "REFUSE_TOLD": told}
+        end = run(program, words, {**os.environ, **refusal})
         if not os.path.lexists(told):
-            return k - 1, wrong
-        as_ever = end == fine
+            return ends
+        os.unlink(told)
+        ends.append(end)
+
+
+def wrong_ends(ends, fine, makers):
+    """The ends that are wrong, each with its number."""
+    for k, end in enumerate(ends, 1):
         faulted = end[0] == 3 and fine[1].startswith(end[1]) and end[2] in FAULTS
-        if not (as_ever or faulted):
-            wrong.append((k, end))
+        made = k <= len(ends) - makers or end == NOT_BEGUN
+        if not (made and (end == fine or faulted)):
+            yield k, end
 
 
 def main():
@@ -93,39 +123,25 @@ def main():
     with tempfile.TemporaryDirectory() as folder:
         source = os.path.join(folder, "refuser.c")
         library = os.path.join(folder, "refuser.so")
-        listed = os.path.join(folder, "list")
+        files = {"{list}": os.path.join(folder, "list"), "{claims}": os.path.join(folder, "claims")}
         with open(source, "w") as file:
             file.write(REFUSER)
-        with open(listed, "wb") as file:
+        with open(files["{list}"], "wb") as file:
             file.write(LINES)
-        claimed = os.path.join(folder, "claims")
-        with open(claimed, "wb") as file:
+        with open(files["{claims}"], "wb") as file:
             file.write(CLAIMS)
         subprocess.run(["cc", "-shared", "-fPIC", "-O1", "-o", library, source, "-ldl"], check=True)
-        failed = 0
-        for words in (
-            ["decide"],
-            ["decide", *LIMITS],
-            ["decide", *LIMITS, listed],
-            ["decide", "--cells=4"],
-            ["check"],
-            ["check", *LIMITS],
-            ["check", *LIMITS, claimed],
-            ["check", "--cells=4"],
-            ["check", "--steps=x"],
-            ["trace", "--upto=10", "1RB1LB_1LA1RZ"],
-            ["trace", "--upto=10", "--cells=2", "1RA1RA"],
-            ["trace", "--upto=10", "1RB1LB_1LA1RC"],
-            ["trace", "--upto=10"],
-            ["decide", "--steps=x"],
-            ["decide", "--no-cyclers", "--no-translated", *LIMITS],
-            ["--help"],
-        ):
-            count, wrong = tried(program, words, library, folder)
+        passed, failed = 0, 0
+        for words, makers in RUNS:
+            named = [files.get(word, word) for word in words]
+            ends = ends_of(program, named, library, folder)
+            wrong = list(wrong_ends(ends, run(program, named, dict(os.environ)), makers))
+            passed += len(ends) - len(wrong)
             failed += len(wrong)
-            print("%s: %d growths refused in turn, %d wrong ends" % (" ".join(words).replace(folder, "."), count, len(wrong)))
+            print("%s: %d growths refused in turn, %d wrong ends" % (" ".join(words), len(ends), len(wrong)))
             for k, end in wrong[:3]:
                 print("    the %d-th: %r" % (k, end))
+    print("%d passed, %d failed" % (passed, failed))
     return 1 if failed else 0
 
 

@@ -4,6 +4,8 @@ ghost use Rattle.bb_cert.specs.Pair.{HasCells as HasPairCells};
 ghost use Rattle.bb_cert.specs.Path.{depth_of};
 ghost use Rattle.bb_decide.specs.Bench.{HasCells};
 ghost use Rattle.bb_lines.specs.Watched.{is_marked, watched_inner};
+ghost use Rattle.bb_decide.specs.declared.plan.Plan.{Plan};
+ghost use Rattle.bb_run.specs.BorneOut.{VerdictsAreBorneOut};
 ghost use Rattle.bb.specs.Ends.{IsNotBegun, ServeEnds, end_status};
 
 use crate::command::{Asked, Work};
@@ -12,6 +14,7 @@ use bb_decide::Bench;
 use bb_lines::fault::Fault;
 use bb_lines::watched::Watched;
 use bb_machine::Limits;
+use bb_run::laws::verdicts_are_borne_out;
 use bb_run::{Summary, run_check, run_decide, run_trace};
 use bb_tape::{Memory, RingTape, Tape};
 use std::alloc::Global;
@@ -32,6 +35,10 @@ pub fn serve<R: Read, W: Write>(
         (R.remaining (watched_inner reader.old)) (R.remaining (watched_inner reader.new))
         (W.contents (watched_inner writer.old)) (W.contents (watched_inner writer.new)) result }
 
+    // What stands behind each verdict that deciding writes.
+    ensures borne_out { (plan : Plan) → asked.now.work ≡ Work.Decide plan
+        → VerdictsAreBorneOut asked.now.limits plan }
+
     // Want of memory comes only where the tapes or the path could not be made.
     ensures memory { result ≡ Err Fault.Memory → IsNotBegun
         (R.remaining (watched_inner reader.old)) (R.remaining (watched_inner reader.new))
@@ -40,6 +47,7 @@ pub fn serve<R: Read, W: Write>(
     ensures read { (result ≡ Err Fault.Read) ↔ (is_marked reader.new ≡ true) }
     ensures write { (result ≡ Err Fault.Write) ↔ (is_marked writer.new ≡ true) }
 {
+    verdicts_are_borne_out();
     let limits = asked.limits;
     match &asked.work {
         Work::Decide(plan) => match bench_of(alloc, &limits) {

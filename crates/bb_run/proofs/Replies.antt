@@ -9,8 +9,7 @@ use Rattle.bb_decide.specs.declared.plan.Plan.{Plan}
 use Rattle.bb_decide.specs.Verdict.{IsVerdict}
 use Rattle.bb_decide.proofs.Facts.{verdict_is_unique, verdicts_are_confirmed, verdicts_hold, work_is_bounded}
 use Rattle.bb_cert.proofs.Facts.{claims_never_halt}
-use Rattle.bb_run.specs.BorneOut.{VerdictsAreBorneOut}
-use Rattle.bb_run.specs.Laws.{ReplyIsUnique}
+use Rattle.bb_run.specs.Laws.{AllVerdictsAreBorneOut, ReplyIsUnique}
 use Rattle.bb_run.specs.Reply.{IsVerdictReply, IsRefusal}
 
 module _ (bounds : Bounds) (plan : Plan) (line a b : List ℕ) where
@@ -33,7 +32,7 @@ reply_is_unique bounds plan line a b (inl first) (inr second) = absurd (second.n
 reply_is_unique bounds plan line a b (inr first) (inl second) = absurd (first.no_machine (second.table, second.of))
 reply_is_unique bounds plan line a b (inr first) (inr second) = refusals bounds plan line a b first second
 
-pub verdicts_are_borne_out : (bounds : Bounds) (plan : Plan) → VerdictsAreBorneOut bounds plan
+pub verdicts_are_borne_out : AllVerdictsAreBorneOut
 verdicts_are_borne_out bounds plan = record {
   verdicts = λ table verdict machine is. record {
     never = λ says. claims_never_halt table verdict machine says (verdicts_hold table bounds plan verdict is);

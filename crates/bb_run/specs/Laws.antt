@@ -3,6 +3,7 @@ use Rattle.std.specs.Prelude.{◌≡◌, ℕ, ◌<◌, List, length}
 use Rattle.bb_machine.specs.Limits.{Bounds}
 use Rattle.bb_decide.specs.declared.plan.Plan.{Plan}
 use Rattle.bb_cert.specs.declared.line.TheConstants.{LINE_BUFFER}
+use Rattle.bb_run.specs.BorneOut.{VerdictsAreBorneOut}
 use Rattle.bb_run.specs.CheckReply.{IsCheckReply, unread_text}
 use Rattle.bb_run.specs.Reply.{IsReply}
 
@@ -20,3 +21,7 @@ CheckReplyIsUnique = (bounds : Bounds) (line a b : List ℕ)
 abbrev pub LongLinesAreUnread : Type 0
 LongLinesAreUnread = (bounds : Bounds) (line reply : List ℕ) → LINE_BUFFER < length line
     → IsCheckReply bounds line reply → reply ≡ unread_text
+
+-- the verdicts are borne out, whatever the bounds and the plan
+abbrev pub AllVerdictsAreBorneOut : Type 0
+AllVerdictsAreBorneOut = (bounds : Bounds) (plan : Plan) → VerdictsAreBorneOut bounds plan

@@ -1,5 +1,10 @@
 //! Laws of replies, as contracts: a call of each does nothing.
-ghost use Rattle.bb_run.specs.Laws.{CheckReplyIsUnique, LongLinesAreUnread, ReplyIsUnique};
+ghost use Rattle.bb_run.specs.Laws.{
+  AllVerdictsAreBorneOut,
+  CheckReplyIsUnique,
+  LongLinesAreUnread,
+  ReplyIsUnique,
+};
 
 /// A line has one reply under one set of limits and one plan.
 pub fn reply_is_unique()
@@ -10,4 +15,10 @@ pub fn reply_is_unique()
 pub fn check_reply_is_unique()
     ensures unique { CheckReplyIsUnique }
     ensures long { LongLinesAreUnread }
+{}
+
+/// Where a verdict says never, no number of steps halts; the checker confirms each that isn't undecided; and
+/// deciding makes no more than three times the limit of steps.
+pub fn verdicts_are_borne_out()
+    ensures { AllVerdictsAreBorneOut }
 {}

@@ -1,11 +1,19 @@
 //! Engines over bytes in memory, with answers that were worked out by hand.
 
+ghost use Rattle.std.specs.Prelude.{◌≡◌};
+ghost use Rattle.bb_cert.specs.Path.{depth_of};
+ghost use Rattle.bb_decide.specs.Bench.{HasCells};
+
 mod broken;
 mod check;
+mod counting;
 mod forged;
 mod growing;
+mod loops;
+mod refusing;
 mod streams;
 mod symbols;
+mod tallied;
 mod trace;
 
 use crate::{Summary, run_decide};
@@ -13,10 +21,8 @@ use bb_decide::{Bench, Plan};
 use bb_lines::fault::Fault;
 use bb_lines::watched::Watched;
 use bb_machine::Limits;
-use bb_tape::{MapTape, RingTape};
-use linked_list_allocator::LocalHeap;
+use bb_tape::{MapTape, RingTape, Tape};
 use std::process::Abort;
-use std::test::Fail;
 
 /// Limits of steps, cells, levels and nodes.
 type Four = [u64; 4];
@@ -455,6 +461,25 @@ static BY_ALL: [Row; 8] = [
     ),
 ];
 
+/// Decides a list, and answers what was written, too.
+fn decided<T: Tape>(
+    rt: &(impl Abort + AllocGlobal),
+    bench: &mut Bench<T>,
+    limits: &Limits,
+    plan: Plan,
+    input: &[u8],
+) -> (Result<Summary, Fault>, Vec<u8>)
+    requires tapes { HasCells T.strip limits.now.cells bench.old }
+    requires path { depth_of bench.old.path ≡ limits.now.depth }
+    ensures tapes { HasCells T.strip limits.now.cells bench.new }
+    ensures path { depth_of bench.new.path ≡ limits.now.depth }
+{
+    let mut reader = Watched::new(input);
+    let mut writer = Watched::new(Vec::new(rt.alloc()));
+    let end = run_decide(&mut reader, &mut writer, limits, plan, bench);
+    (end, writer.into_inner())
+}
+
 /// Decides a list on maps.
 fn decided_on_maps(
     rt: &(impl Abort + AllocGlobal),
@@ -466,10 +491,7 @@ fn decided_on_maps(
     let right = MapTape::new(rt.alloc(), limits.cells());
     let left = MapTape::new(rt.alloc(), limits.cells());
     let mut bench = Bench::new(rt.alloc(), run, right, left, limits).expect(rt, "a bench");
-    let mut reader = Watched::new(input);
-    let mut writer = Watched::new(Vec::new(rt.alloc()));
-    let end = run_decide(&mut reader, &mut writer, limits, plan, &mut bench);
-    (end, writer.into_inner())
+    decided(rt, &mut bench, limits, plan, input)
 }
 
 /// The same on rings.
@@ -483,10 +505,7 @@ fn decided_on_rings(
     let right = RingTape::new(rt.alloc(), limits.cells()).expect(rt, "memory");
     let left = RingTape::new(rt.alloc(), limits.cells()).expect(rt, "memory");
     let mut bench = Bench::new(rt.alloc(), run, right, left, limits).expect(rt, "a bench");
-    let mut reader = Watched::new(input);
-    let mut writer = Watched::new(Vec::new(rt.alloc()));
-    let end = run_decide(&mut reader, &mut writer, limits, plan, &mut bench);
-    (end, writer.into_inner())
+    decided(rt, &mut bench, limits, plan, input)
 }
 
 fn answers(rt: &(impl Abort + AllocGlobal), plan: Plan, rows: &[Row]) {
@@ -557,71 +576,4 @@ fn finds_trees(rt: HostRuntime) {
 #[test]
 fn refuses_lines(rt: HostRuntime) {
     answers(&rt, SIMULATION, REFUSED.as_slice());
-}
-
-/// How much of a heap is left for the tapes, in turn. Where a growth is refused, the replies to the first lines are
-/// written; the same bench answers all lines once there is memory.
-fn each_growth_refused(
-    rt: &(impl Abort + AllocGlobal),
-    plan: Plan,
-    input: &[u8],
-    output: &[u8],
-) -> Result<(), Fail> {
-    let limits = Limits::new(1000, 64, 10, 100).expect(rt, "limits");
-    let heap = LocalHeap::new(rt.alloc(), 1 << 13)?;
-    let (mut refused, mut fitted) = (0, 0);
-    for left in 0..1024usize {
-        let run = MapTape::new_in(&heap, limits.cells());
-        let right = MapTape::new_in(&heap, limits.cells());
-        let left_tape = MapTape::new_in(&heap, limits.cells());
-        let mut bench = Bench::new(rt.alloc(), run, right, left_tape, &limits).expect(
-            rt, "a bench",
-        );
-        let rest: Vec<u8, &LocalHeap> = Vec::with_capacity(&heap, (1 << 13) - left)?;
-        let mut writer = Watched::new(Vec::new(rt.alloc()));
-        let end = run_decide(
-            &mut Watched::new(input),
-            &mut writer,
-            &limits,
-            plan,
-            &mut bench,
-        );
-        drop(rest);
-        let written = writer.into_inner();
-        if end == Err(Fault::Memory) {
-            assert!(rt;
-                output.starts_with(written.as_slice()) && written.len() < output.len(),
-                "{left} bytes left"
-            );
-            refused |= 1;
-        } else {
-            assert!(rt; written.as_slice() == output, "{left} bytes left");
-            fitted |= 1;
-        }
-        let mut writer = Watched::new(Vec::new(rt.alloc()));
-        let end = run_decide(
-            &mut Watched::new(input),
-            &mut writer,
-            &limits,
-            plan,
-            &mut bench,
-        );
-        assert!(rt;
-            end.is_ok() && writer.into_inner().as_slice() == output,
-            "again"
-        );
-    }
-    assert!(rt; refused == 1 && fitted == 1);
-    Ok(())
-}
-
-#[test]
-fn each_growth_of_a_run_refused(rt: HostRuntime) -> Result<(), Fail> {
-    let input = b"1RB1LB_1LA1RZ\n1RB0RA_1LA---\n0RB---_0LA---\n".as_slice();
-    let by_pairs =
-        b"1RB1LB_1LA1RZ halt 6 4\n1RB0RA_1LA--- translated R 4 8\n0RB---_0LA--- cycler 2 4\n".as_slice();
-    let by_trees =
-        b"1RB1LB_1LA1RZ halt 6 4\n1RB0RA_1LA--- undecided cells\n0RB---_0LA--- backward 2 4\n".as_slice();
-    each_growth_refused(&rt, PAIRS, input, by_pairs)?;
-    each_growth_refused(&rt, TREES, input, by_trees)
 }

@@ -1,4 +1,7 @@
 //! Answers to lists of verdict lines, which were worked out by hand, and to the lists that deciding writes.
+ghost use Rattle.std.specs.Prelude.{◌≡◌, ◌≤◌};
+ghost use Rattle.bb_cert.specs.Pair.{HasCells};
+ghost use Rattle.bb_cert.specs.Path.{depth_of};
 
 use crate::tests::streams::{Pieces, Sink};
 use crate::tests::{Four, Row, decided_on_rings};
@@ -8,8 +11,7 @@ use bb_decide::Plan;
 use bb_lines::fault::Fault;
 use bb_lines::watched::Watched;
 use bb_machine::Limits;
-use bb_tape::{MapTape, RingTape};
-use linked_list_allocator::LocalHeap;
+use bb_tape::{MapTape, RingTape, Tape};
 use std::io::{ErrorKind, Read};
 use std::process::Abort;
 use std::test::Fail;
@@ -106,8 +108,27 @@ static PAIRS_AND_OTHERS: [Row; 8] = [
     ),
 ];
 
+/// Checks a list, and answers what was written, too.
+pub fn checked<T: Tape>(
+    rt: &(impl Abort + AllocGlobal),
+    pair: &mut Pair<T>,
+    path: &mut Path,
+    limits: &Limits,
+    input: &[u8],
+) -> (Result<Summary, Fault>, Vec<u8>)
+    requires tapes { HasCells T.strip limits.now.cells pair.old }
+    requires path { limits.now.depth ≤ depth_of path.old }
+    ensures tapes { HasCells T.strip limits.now.cells pair.new }
+    ensures path { depth_of path.new ≡ depth_of path.old }
+{
+    let mut reader = Watched::new(input);
+    let mut writer = Watched::new(Vec::new(rt.alloc()));
+    let end = run_check(&mut reader, &mut writer, limits, pair, path);
+    (end, writer.into_inner())
+}
+
 /// Checks a list on maps.
-fn checked_on_maps(
+pub fn checked_on_maps(
     rt: &(impl Abort + AllocGlobal),
     limits: &Limits,
     input: &[u8],
@@ -117,14 +138,25 @@ fn checked_on_maps(
         saved: MapTape::new(rt.alloc(), limits.cells()),
     };
     let mut path = Path::new(rt.alloc(), limits.depth()).expect(rt, "a path");
-    let mut reader = Watched::new(input);
-    let mut writer = Watched::new(Vec::new(rt.alloc()));
-    let end = run_check(&mut reader, &mut writer, limits, &mut pair, &mut path);
-    (end, writer.into_inner())
+    checked(rt, &mut pair, &mut path, limits, input)
 }
 
-/// Checks what a reader gives on rings, and answers what was written, too.
-fn checked_on_rings<R: Read + Drop>(
+/// The same on rings.
+pub fn checked_on_rings(
+    rt: &(impl Abort + AllocGlobal),
+    limits: &Limits,
+    input: &[u8],
+) -> (Result<Summary, Fault>, Vec<u8>) {
+    let mut pair = Pair {
+        run: RingTape::new(rt.alloc(), limits.cells()).expect(rt, "memory"),
+        saved: RingTape::new(rt.alloc(), limits.cells()).expect(rt, "memory"),
+    };
+    let mut path = Path::new(rt.alloc(), limits.depth()).expect(rt, "a path");
+    checked(rt, &mut pair, &mut path, limits, input)
+}
+
+/// Checks what a reader gives, on rings, into a sink.
+fn checked_over<R: Read + Drop>(
     rt: &(impl Abort + AllocGlobal),
     limits: &Limits,
     reader: R,
@@ -148,8 +180,8 @@ pub(super) fn answers(rt: &(impl Abort + AllocGlobal), rows: &[Row]) {
         let limits = Limits::new(four[0], four[1], four[2], four[3]).expect(rt, "limits");
         let (end, written) = checked_on_maps(rt, &limits, input);
         assert_eq!(rt; written.as_slice(), *output);
-        let (ring_end, sink) = checked_on_rings(rt, &limits, *input, Sink::of(128, 128));
-        assert_eq!(rt; sink.bytes.as_slice(), *output);
+        let (ring_end, ring_written) = checked_on_rings(rt, &limits, input);
+        assert_eq!(rt; ring_written.as_slice(), *output);
         assert_eq!(rt; ring_end, end);
         assert_eq!(rt; end.expect(rt, "no fault").clean, *clean);
     }
@@ -166,8 +198,8 @@ fn sums_up_claims(rt: HostRuntime) {
     let limits = Limits::new(1_000, 64, 10, 100).expect(&rt, "limits");
     let input =
         b"1RB1LB_1LA1RZ halt 6 4\n0RB---_0LA--- backward 2 4\n1RA1RA undecided cells\n".as_slice();
-    let (end, sink) = checked_on_rings(&rt, &limits, input, Sink::of(128, 128));
-    assert_eq!(rt; sink.bytes.as_slice(), b"ok\nok\nopen\n".as_slice());
+    let (end, written) = checked_on_rings(&rt, &limits, input);
+    assert_eq!(rt; written.as_slice(), b"ok\nok\nopen\n".as_slice());
     let summary = end.expect(&rt, "no fault");
     assert!(rt; summary.clean);
     assert_eq!(rt; summary.peak.steps, 6);
@@ -199,25 +231,40 @@ fn what_was_decided_is_ok(rt: HostRuntime) {
         };
         let limits = Limits::new(1_000, 64, 10, 100).expect(&rt, "limits");
         let (_, written) = decided_on_rings(&rt, &limits, plan, machines);
-        let (end, sink) = checked_on_rings(&rt, &limits, written.as_slice(), Sink::of(128, 128));
-        assert_eq!(rt; sink.bytes.as_slice(), output);
-        assert!(rt; end.expect(&rt, "no fault").clean);
-        let (end, answered) = checked_on_maps(&rt, &limits, written.as_slice());
-        assert_eq!(rt; answered.as_slice(), output);
-        assert!(rt; end.expect(&rt, "no fault").clean);
+        for (end, answered) in [
+            checked_on_rings(&rt, &limits, written.as_slice()),
+            checked_on_maps(&rt, &limits, written.as_slice()),
+        ] {
+            assert_eq!(rt; answered.as_slice(), output);
+            assert!(rt; end.expect(&rt, "no fault").clean);
+        }
     }
 }
 
-/// A line of so many bytes that begins as a verdict line does is unread, and the next line is answered.
+/// How a line begins, the byte that follows, and the length of the line.
+static UNREAD: [(&[u8], u8, usize); 10] = [
+    (b"------ halt 0 0", b'0', 104),
+    (b"------ halt 0 0", b'0', 1_022),
+    (b"------ halt 0 0", b'0', 1_023),
+    (b"------ halt 0 0", b'0', 1_024),
+    (b"------ halt 0 0", b'0', 1_025),
+    (b"------ halt 0 0", b'0', 20_000),
+    (b"------ halt 0 0", b' ', 1_000_015),
+    (b"", b'x', 1_023),
+    (b"", b'x', 1_024),
+    (b"1RZ--- halt 1 1", 255, 16),
+];
+
+/// Such a line is unread, and the next line is answered.
 #[test]
-fn long_lines_are_unread(rt: HostRuntime) -> Result<(), Fail> {
+fn other_lines_are_unread(rt: HostRuntime) -> Result<(), Fail> {
     let limits = Limits::new(9, 9, 5, 9).expect(&rt, "limits");
-    for long in [104, 1_022, 1_023, 1_024, 1_025, 20_000] {
-        let mut input: Vec<u8> = b"------ halt 0 0".to_vec(rt.alloc())?;
-        input.resize(long, b'0')?;
+    for (begin, filler, long) in &UNREAD {
+        let mut input: Vec<u8> = begin.to_vec(rt.alloc())?;
+        input.resize(*long, *filler)?;
         input.extend_from_slice(b"\n------ halt 0 0")?;
-        let (end, sink) = checked_on_rings(&rt, &limits, input.as_slice(), Sink::of(128, 128));
-        assert_eq!(rt; sink.bytes.as_slice(), b"unread\nok\n".as_slice());
+        let (end, written) = checked_on_rings(&rt, &limits, input.as_slice());
+        assert_eq!(rt; written.as_slice(), b"unread\nok\n".as_slice(), "{long}");
         assert!(rt; !end.expect(&rt, "no fault").clean);
     }
     Ok(())
@@ -228,23 +275,38 @@ const LIST: &[u8; 40] = b"------ halt 0 0\nrefused 1\n\n1RZ--- halt 0";
 const WORDS: &[u8; 22] = b"ok\nopen\nunread\nunread\n";
 
 #[test]
+fn claims_come_in_any_pieces(rt: HostRuntime) {
+    let limits = Limits::new(9, 9, 5, 9).expect(&rt, "limits");
+    for most in [1, 40] {
+        for first in 1..41 {
+            let reader = Pieces::of(LIST, first, most);
+            let (end, sink) = checked_over(&rt, &limits, reader, Sink::of(128, 128));
+            assert!(rt; end.is_ok_and(|summary| !summary.clean));
+            assert_eq!(rt; sink.bytes.as_slice(), WORDS.as_slice(), "{first}");
+        }
+    }
+}
+
+#[test]
 fn a_read_fails(rt: HostRuntime) {
     let limits = Limits::new(9, 9, 5, 9).expect(&rt, "limits");
-    for k in 1..42 {
-        let reader = Pieces {
-            before_failure: k - 1,
-            error: ErrorKind::BrokenPipe,
-            ..Pieces::of(LIST, 1, 1)
-        };
-        let (end, sink) = checked_on_rings(&rt, &limits, reader, Sink::of(128, 128));
-        let written = match k {
-            1..=16 => 0,
-            17..=26 => 3,
-            27 => 8,
-            _ => 15,
-        };
-        assert_eq!(rt; end, Err(Fault::Read), "read {k}");
-        assert_eq!(rt; sink.bytes.as_slice(), &WORDS[..written], "read {k}");
+    for error in [ErrorKind::Interrupted, ErrorKind::BrokenPipe] {
+        for k in 1..42 {
+            let reader = Pieces {
+                before_failure: k - 1,
+                error,
+                ..Pieces::of(LIST, 1, 1)
+            };
+            let (end, sink) = checked_over(&rt, &limits, reader, Sink::of(128, 128));
+            let written = match k {
+                1..=16 => 0,
+                17..=26 => 3,
+                27 => 8,
+                _ => 15,
+            };
+            assert_eq!(rt; end, Err(Fault::Read), "read {k}");
+            assert_eq!(rt; sink.bytes.as_slice(), &WORDS[..written], "read {k}");
+        }
     }
 }
 
@@ -252,68 +314,17 @@ fn a_read_fails(rt: HostRuntime) {
 fn a_write_fails(rt: HostRuntime) {
     let limits = Limits::new(9, 9, 5, 9).expect(&rt, "limits");
     for room in 0..WORDS.len() {
-        let (end, sink) = checked_on_rings(&rt, &limits, LIST.as_slice(), Sink::of(128, room));
+        let (end, sink) = checked_over(&rt, &limits, LIST.as_slice(), Sink::of(128, room));
         assert_eq!(rt; end, Err(Fault::Write), "room {room}");
         assert_eq!(rt; sink.bytes.as_slice(), &WORDS[..room], "room {room}");
     }
-    let (end, sink) = checked_on_rings(&rt, &limits, LIST.as_slice(), Sink::without_flush());
+    let (end, sink) = checked_over(&rt, &limits, LIST.as_slice(), Sink::of(0, 128));
+    assert_eq!(rt; end, Err(Fault::Write), "no byte taken");
+    assert!(rt; sink.bytes.is_empty());
+    let (end, sink) = checked_over(&rt, &limits, LIST.as_slice(), Sink::without_flush());
     assert_eq!(rt; end, Err(Fault::Write), "no flush");
     assert_eq!(rt; sink.bytes.as_slice(), WORDS.as_slice());
-    let (end, sink) = checked_on_rings(&rt, &limits, Pieces::of(LIST, 3, 7), Sink::of(1, 128));
-    assert!(rt; end.is_ok_and(|summary| !summary.clean), "in pieces");
+    let (end, sink) = checked_over(&rt, &limits, LIST.as_slice(), Sink::of(1, 128));
+    assert!(rt; end.is_ok_and(|summary| !summary.clean), "one byte a call");
     assert_eq!(rt; sink.bytes.as_slice(), WORDS.as_slice());
-}
-
-/// How much of a heap is left for the tapes, in turn. Where a growth is refused, the answers to the first lines are
-/// written; the same tapes answer all lines once there is memory.
-#[test]
-fn each_growth_of_a_check_refused(rt: HostRuntime) -> Result<(), Fail> {
-    let input =
-        b"1RB1LB_1LA1RZ halt 6 4\n1RB0RA_1LA--- translated R 4 8\n0RB---_0LA--- backward 2 4\n".as_slice();
-    let output = b"ok\nok\nok\n".as_slice();
-    let limits = Limits::new(1000, 64, 10, 100).expect(&rt, "limits");
-    let heap = LocalHeap::new(rt.alloc(), 1 << 13)?;
-    let (mut refused, mut fitted) = (0, 0);
-    for left in 0..1024usize {
-        let mut pair = Pair {
-            run: MapTape::new_in(&heap, limits.cells()),
-            saved: MapTape::new_in(&heap, limits.cells()),
-        };
-        let mut path = Path::new(rt.alloc(), limits.depth()).expect(&rt, "a path");
-        let rest: Vec<u8, &LocalHeap> = Vec::with_capacity(&heap, (1 << 13) - left)?;
-        let mut writer = Watched::new(Vec::new(rt.alloc()));
-        let end = run_check(
-            &mut Watched::new(input),
-            &mut writer,
-            &limits,
-            &mut pair,
-            &mut path,
-        );
-        drop(rest);
-        let written = writer.into_inner();
-        if end == Err(Fault::Memory) {
-            assert!(rt;
-                output.starts_with(written.as_slice()) && written.len() < output.len(),
-                "{left} bytes left"
-            );
-            refused |= 1;
-        } else {
-            assert!(rt; written.as_slice() == output, "{left} bytes left");
-            fitted |= 1;
-        }
-        let mut writer = Watched::new(Vec::new(rt.alloc()));
-        let end = run_check(
-            &mut Watched::new(input),
-            &mut writer,
-            &limits,
-            &mut pair,
-            &mut path,
-        );
-        assert!(rt;
-            end.is_ok() && writer.into_inner().as_slice() == output,
-            "again"
-        );
-    }
-    assert!(rt; refused == 1 && fitted == 1);
-    Ok(())
 }

@@ -1,14 +1,13 @@
 //! Traces, with lines that were worked out by hand.
+ghost use Rattle.std.specs.Prelude.{◌≡◌};
 
 use crate::{Summary, run_trace};
 use bb_lines::fault::Fault;
 use bb_lines::watched::Watched;
 use bb_machine::Limits;
 use bb_sim::Meter;
-use bb_tape::{MapTape, RingTape};
-use linked_list_allocator::LocalHeap;
+use bb_tape::{MapTape, RingTape, Tape};
 use std::process::Abort;
-use std::test::Fail;
 
 /// A line, the limits of steps and cells, the output, and whether the summary is clean.
 type Row = (&'static [u8], u64, u64, &'static [u8], bool);
@@ -55,16 +54,29 @@ const NOTHING_COUNTED: Meter = Meter {
     most_levels: 0,
 };
 
-/// Traces a line on a ring, and answers what was written, too.
-fn traced_on_a_ring(
+/// Traces a line, and answers what was written, too.
+pub fn traced<T: Tape>(
+    rt: &(impl Abort + AllocGlobal),
+    tape: &mut T,
+    limits: &Limits,
+    line: &[u8],
+) -> (Result<Summary, Fault>, Vec<u8>)
+    requires { (T.strip tape.old).limit ≡ limits.now.cells }
+    ensures { (T.strip tape.new).limit ≡ limits.now.cells }
+{
+    let mut writer = Watched::new(Vec::new(rt.alloc()));
+    let end = run_trace(line, limits, tape, &mut writer);
+    (end, writer.into_inner())
+}
+
+/// Traces a line on a ring.
+pub fn traced_on_a_ring(
     rt: &(impl Abort + AllocGlobal),
     line: &[u8],
     limits: &Limits,
 ) -> (Result<Summary, Fault>, Vec<u8>) {
     let mut tape = RingTape::new(rt.alloc(), limits.cells()).expect(rt, "memory");
-    let mut writer = Watched::new(Vec::new(rt.alloc()));
-    let end = run_trace(line, limits, &mut tape, &mut writer);
-    (end, writer.into_inner())
+    traced(rt, &mut tape, limits, line)
 }
 
 /// The same on an ordered map.
@@ -74,9 +86,7 @@ fn traced_on_a_map(
     limits: &Limits,
 ) -> (Result<Summary, Fault>, Vec<u8>) {
     let mut tape = MapTape::new(rt.alloc(), limits.cells());
-    let mut writer = Watched::new(Vec::new(rt.alloc()));
-    let end = run_trace(line, limits, &mut tape, &mut writer);
-    (end, writer.into_inner())
+    traced(rt, &mut tape, limits, line)
 }
 
 #[test]
@@ -94,42 +104,4 @@ fn traces_on_both_tapes(rt: HostRuntime) {
         assert_eq!(rt; written.as_slice(), *output);
         assert_eq!(rt; end, Ok(summary));
     }
-}
-
-/// How much of a heap is left for the tape, in turn. Where a growth is refused, the first lines are
-/// written, not all; the same tape gives all lines once there is memory.
-#[test]
-fn each_growth_of_a_trace_refused(rt: HostRuntime) -> Result<(), Fail> {
-    let line = b"1RB1RB_1RC1RC_1RD1RD_1RA1RA".as_slice();
-    let output = b"0 A 0 0\n1 B 1 10\n2 C 2 110\n3 D 3 1110\n4 A 4 11110\n".as_slice();
-    let limits = Limits::new(4, 64, 0, 0).expect(&rt, "limits");
-    let heap = LocalHeap::new(rt.alloc(), 1 << 13)?;
-    let (mut refused, mut fitted) = (0, 0);
-    for left in 0..1024usize {
-        let mut tape = MapTape::new_in(&heap, limits.cells());
-        let rest: Vec<u8, &LocalHeap> = Vec::with_capacity(&heap, (1 << 13) - left)?;
-        let mut writer = Watched::new(Vec::new(rt.alloc()));
-        let end = run_trace(line, &limits, &mut tape, &mut writer);
-        drop(rest);
-        let written = writer.into_inner();
-        if end == Err(Fault::Memory) {
-            assert!(rt;
-                output.starts_with(written.as_slice()) && written.len() < output.len(),
-                "{left} bytes left"
-            );
-            assert!(rt; written.as_slice().ends_with(b"\n"), "{left} bytes left");
-            refused |= 1;
-        } else {
-            assert!(rt; written.as_slice() == output, "{left} bytes left");
-            fitted |= 1;
-        }
-        let mut writer = Watched::new(Vec::new(rt.alloc()));
-        let end = run_trace(line, &limits, &mut tape, &mut writer);
-        assert!(rt;
-            end.is_ok() && writer.into_inner().as_slice() == output,
-            "again"
-        );
-    }
-    assert!(rt; refused == 1 && fitted == 1);
-    Ok(())
 }

@@ -1,0 +1,124 @@
+//! A tape that counts its writes, and refuses a call if it is told to.
+ghost use Rattle.std.specs.Prelude.{◌≡◌};
+
+use bb_tape::{Tape, TapeFault};
+
+/// A tape that hands each call on to another. To take over a whole tape, or to reset it, isn't counted as a
+/// write.
+#[derive(Drop)]
+pub struct Tallied<T> {
+    inner: T,
+    pub writes: u64,
+    /// How many calls that may take memory come before one that is refused.
+    before_refusal: u64,
+}
+
+/// So many calls are never made.
+pub const NEVER: u64 = u64::MAX;
+
+/// A tape that refuses one call that may take memory, the one after so many.
+pub fn tallied_tape<T>(inner: T, before_refusal: u64) -> Tallied<T>
+    ensures { result.inner ≡ inner }
+{
+    Tallied {
+        inner,
+        writes: 0,
+        before_refusal,
+    }
+}
+
+impl<T> Tallied<T> {
+    /// Whether a call is still going to be refused.
+    pub fn will_refuse(&self) -> bool {
+        self.before_refusal != NEVER
+    }
+
+    /// Whether the next call that may take memory is refused.
+    fn refuses(&mut self) -> bool
+        ensures { self.new.inner ≡ self.old.inner }
+    {
+        if self.before_refusal == 0 {
+            self.before_refusal = NEVER;
+            return true;
+        }
+        if self.will_refuse() {
+            self.before_refusal -= 1;
+        }
+        false
+    }
+}
+
+impl<T: Tape> Tape for Tallied<T> {
+    ghost use Rattle.std.specs.Prelude.{true};
+
+    ghost strip = { λ t. T.strip t.inner };
+
+    ghost GROWS = { true };
+
+    const GROWS: bool = true;
+
+    ghost sound = { λ t. T.sound t.inner };
+
+    fn reset(&mut self) {
+        self.inner.reset();
+    }
+
+    fn visit(&mut self, p: i64) -> Result<(), TapeFault> {
+        self.inner.visit(p)
+    }
+
+    fn widen_low(&mut self, p: i64) {
+        self.inner.widen_low(p);
+    }
+
+    fn widen_high(&mut self, p: i64) {
+        self.inner.widen_high(p);
+    }
+
+    fn read(&self, p: i64) -> u8 {
+        self.inner.read(p)
+    }
+
+    fn read_inside(&self, p: i64) -> u8 {
+        self.inner.read_inside(p)
+    }
+
+    fn write(&mut self, p: i64, v: u8) -> Result<(), TapeFault> {
+        self.writes = self.writes.saturating_add(1);
+        if self.refuses() {
+            return Err(TapeFault::Memory);
+        }
+        self.inner.write(p, v)
+    }
+
+    fn copy_from(&mut self, other: &Self) -> Result<(), TapeFault> {
+        if self.refuses() {
+            return Err(TapeFault::Memory);
+        }
+        self.inner.copy_from(&other.inner)
+    }
+
+    fn agrees(&self, from: i64, other: &Self, other_from: i64, len: u64) -> bool {
+        self.inner.agrees(from, &other.inner, other_from, len)
+    }
+
+    fn same(&self, other: &Self) -> bool {
+        self.inner.same(&other.inner)
+    }
+
+    fn score(&self) -> u64 {
+        self.inner.score()
+    }
+
+    fn low(&self) -> i64 {
+        self.inner.low()
+    }
+
+    fn high(&self) -> i64 {
+        self.inner.high()
+    }
+
+    fn limit(&self) -> u64 {
+        self.inner.limit()
+    }
+}

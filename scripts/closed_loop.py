@@ -1,0 +1,122 @@
+#!/usr/bin/env python3
+"""Decides random machines with the built program, and lets it check what it wrote.
+
+    scripts/closed_loop.py crates/bb/out/bb [--machines N] [--seed S]
+
+The machines have 1 to 7 states and come from a seed. At each of some limits, every decided line must be
+answered `ok` and every other line `open`; at limits of which none is smaller, every decided machine must
+stay decided: with the same verdict, or a cycler or a translated cycler where backward reasoning had
+decided it. The last line is `N passed, M failed`; the status is 1 where any failed.
+"""
+
+import argparse
+import os
+import random
+import subprocess
+import sys
+
+# Steps, cells, levels and nodes. Where none of the four is smaller than those of an earlier row, what was
+# decided there has to stay decided.
+LIMITS = [
+    (0, 1, 0, 0),
+    (5, 4, 1, 2),
+    (20, 9, 5, 10),
+    (20, 64, 5, 100),
+    (100, 64, 5, 10),
+    (100, 64, 20, 100),
+    (1_000, 64, 20, 100),
+    (1_000, 599, 300, 1_000),
+    (10_000, 4_096, 300, 1_000),
+]
+
+PLANS = [[], ["--no-backward"], ["--no-cyclers", "--no-translated"]]
+
+
+def entry(source, states):
+    """One entry of a machine: undefined, into the halting state, or into a state."""
+    if source.random() < 0.08:
+        return "---"
+    state = "Z" if source.random() < 0.08 else source.choice("ABCDEFG"[:states])
+    return source.choice("01") + source.choice("LR") + state
+
+
+def machines(count, seed):
+    """The texts of so many machines of 1 to 7 states, in turn."""
+    source = random.Random(seed)
+    for k in range(count):
+        states = k % 7 + 1
+        yield "_".join(entry(source, states) + entry(source, states) for _ in range(states))
+
+
+def run(program, words, lines):
+    """The lines that the program answers to these. The status is 1 where an answer is neither ok nor open."""
+    given = "".join(line + "\n" for line in lines).encode()
+    ended = subprocess.run([program, *words], input=given, capture_output=True)
+    if ended.returncode not in (0, 1) or ended.stderr:
+        sys.exit("%s: status %d, %r" % (words, ended.returncode, ended.stderr))
+    return ended.stdout.decode().splitlines()
+
+
+def options(limits):
+    """The options that ask for these limits."""
+    return ["--%s=%d" % pair for pair in zip(("steps", "cells", "depth", "nodes"), limits)]
+
+
+def kind_of(line):
+    """The kind of a verdict line."""
+    return line.split(" ")[1]
+
+
+def is_right(machine, line, answer):
+    """Whether a line is the machine's, and the checker's answer to it the one that it must be."""
+    expected = "open" if kind_of(line) == "undecided" else "ok"
+    return line.startswith(machine + " ") and answer == expected
+
+
+def has_stayed(before, after):
+    """Whether a machine that was decided is still decided, as it may be."""
+    turned = kind_of(before) == "backward" and kind_of(after) in ("cycler", "translated")
+    return before == after or turned
+
+
+def tried(program, lists, plan):
+    """For each comparison under one plan, what is wrong, or None."""
+    decided = []
+    for limits in LIMITS:
+        lines = run(program, ["decide", *options(limits), *plan], lists)
+        answers = run(program, ["check", *options(limits)], lines)
+        if not len(lines) == len(answers) == len(lists):
+            yield "%d lines and %d answers under %s" % (len(lines), len(answers), limits)
+        for machine, line, answer in zip(lists, lines, answers):
+            yield None if is_right(machine, line, answer) else "%s: %s under %s" % (line, answer, limits)
+        for smaller, before in decided:
+            if all(a <= b for a, b in zip(smaller, limits)):
+                for old, new in zip(before, lines):
+                    if kind_of(old) != "undecided":
+                        yield None if has_stayed(old, new) else "%s, then %s" % (old, new)
+        decided.append((limits, lines))
+
+
+def main():
+    parser = argparse.ArgumentParser()
+    parser.add_argument("program")
+    parser.add_argument("--machines", type=int, default=7_000)
+    parser.add_argument("--seed", type=int, default=1)
+    asked = parser.parse_args()
+    program = os.path.abspath(asked.program)
+    lists = list(machines(asked.machines, asked.seed))
+    passed, failed = 0, 0
+    for plan in PLANS:
+        for wrong in tried(program, lists, plan):
+            if wrong is None:
+                passed += 1
+            else:
+                failed += 1
+                if failed <= 10:
+                    print("failed:", wrong)
+    print("%d passed, %d failed" % (passed, failed))
+    return 1 if failed else 0
+
+
+if __name__ == "__main__":
+    sys.exit(main())
