@@ -223,7 +223,10 @@ fn is_verdict_line(bytes: &[u8]) -> bool {
 /// and symbols.
 fn is_machine(bytes: &[u8]) -> bool {
     let states = bytes.split(|byte| *byte == b'_').count();
-    let symbols = bytes.split(|byte| *byte == b'_').next().map_or(0, |group| group.len() / 3);
+    let symbols = bytes
+        .split(|byte| *byte == b'_')
+        .next()
+        .map_or(0, |group| group.len() / 3);
     states <= 25
         && 2 <= symbols
         && symbols <= 10
