@@ -42,20 +42,19 @@ pub(crate) struct Rules {
 }
 
 impl Rules {
-    pub(crate) fn new(machine: &Machine) -> Rules
-        ensures rules { AreRules machine.now result.list.items result.starts.items }
+    /// Takes in the entries of a machine, where there are none yet: in place, since a move of all that a
+    /// machine can have would cost more than a small tree.
+    pub(crate) fn gather(&mut self, machine: &Machine)
+        requires no_list { self.old.list.items ≡ [] }
+        requires no_starts { self.old.starts.items ≡ [] }
+        ensures rules { AreRules machine.now self.new.list.items self.new.starts.items }
         ensures machine { IsMachine machine.now }
     {
-        let mut rules = Rules {
-            list: ArrayVec::new(),
-            starts: ArrayVec::new(),
-        };
-        rules.starts.push(0);
+        self.starts.push(0);
         for state in 0..machine.states() {
-            rules.add(machine, Next::State(state));
+            self.add(machine, Next::State(state));
         }
-        rules.add(machine, Next::Halt);
-        rules
+        self.add(machine, Next::Halt);
     }
 
     /// Appends the rules that lead to a state, or those that halt, and where they end.

@@ -16,6 +16,7 @@ ghost use Rattle.bb_cert.specs.Steps.{Enters, Explores, HasTable, IsFirstBranch,
 
 use crate::path::{Frame, Path};
 use crate::rules::Rules;
+use arrayvec::ArrayVec;
 use bb_machine::limits::MOST_LEVELS;
 use bb_machine::{Dir, Entry, Machine};
 use bb_sim::Meter;
@@ -102,7 +103,11 @@ fn explore_all<T: Tape>(
     ensures depth { depth_of path.new ≡ depth_of path.old }
     ensures memory { OnErr result (IsTrue T.GROWS) }
 {
-    let rules = Rules::new(machine);
+    let mut rules = Rules {
+        list: ArrayVec::new(),
+        starts: ArrayVec::new(),
+    };
+    rules.gather(machine);
     let halting = machine.states() as usize;
     for index in rules.starts[halting]..rules.starts[halting + 1] {
         let rule = rules.list[index as usize];

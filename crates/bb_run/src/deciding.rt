@@ -94,7 +94,13 @@ impl<T: Tape> Responder for Decider<'_, T> {
         }
         let _accepted = self.limits.steps();
         let mut meter = Meter::new();
-        let Ok(verdict) = decide(&self.machine, &self.limits, self.plan, self.bench, &mut meter) else {
+        let Ok(verdict) = decide(
+            &self.machine,
+            &self.limits,
+            self.plan,
+            self.bench,
+            &mut meter,
+        ) else {
             return Err(AllocError);
         };
         lines_are_short();

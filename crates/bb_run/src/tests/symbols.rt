@@ -2,7 +2,9 @@
 //! plainly, on both tapes.
 
 use crate::tests::check::answers as check_answers;
-use crate::tests::{CYCLERS, DEFAULTS, Four, PAIRS, Row, SIMULATION, TREES, answers, decided_on_rings};
+use crate::tests::{
+    CYCLERS, DEFAULTS, Four, PAIRS, Row, SIMULATION, TREES, answers, decided_on_rings,
+};
 use bb_machine::Limits;
 use std::test::Fail;
 
@@ -34,7 +36,12 @@ static BY_RUNS: [Row; 11] = [
         true,
     ),
     (DEFAULTS, b"2LZ------\n", b"2LZ------ halt 1 1\n", true),
-    (DEFAULTS, b"2RA---\n2RA---_\n", b"refused 7\nrefused 7\n", false),
+    (
+        DEFAULTS,
+        b"2RA---\n2RA---_\n",
+        b"refused 7\nrefused 7\n",
+        false,
+    ),
     (
         SMALL,
         b"0RC3RB0LE3RF_3LF---3RC2RC_0RB2LA2RF1LD_2LA2RE0LA3RB_3RE---0RC1RB_1LD2LF0RA2RC\n",
@@ -151,7 +158,12 @@ static BY_TREES: [Row; 5] = [
 ];
 
 static CLAIMS: [Row; 4] = [
-    (SMALL, b"refused 775\nrefused 776\n", b"open\nunread\n", false),
+    (
+        SMALL,
+        b"refused 775\nrefused 776\n",
+        b"open\nunread\n",
+        false,
+    ),
     (
         SMALL,
         b"1RB2LB1RZ_2LA2RB1LB halt 38 9\n1RB2LB1RZ_2LA2RB1LB halt 38 8\n",

@@ -1,5 +1,5 @@
 use Rattle.bb_cert.proofs.SortedRules.{room_for_state, room_for_halt, room_for_start, rules_gathered}
-use Rattle.bb_cert.proofs.rules.Rules.new.Goals as goal
+use Rattle.bb_cert.proofs.rules.Rules.gather.Goals as goal
 
 pub add-requires-clause-rules : goal.add-requires-clause-rules
 add-requires-clause-rules c = room_for_state c.args.machine.now c.states-state-end.ensures.machine _ _ c.loop-state.state _ c.loop-state.invariant.list c.loop-state.invariant.starts c.states-state-end.ensures.value
