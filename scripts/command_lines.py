@@ -14,7 +14,7 @@ import sys
 import tempfile
 
 MACHINES = b"1RB1LB_1LA1RZ\n0RB---_0LA---\n1RA1RA\n"
-VERDICTS = b"1RB1LB_1LA1RZ halt 6 4\n0RB---_0LA--- cycler 2 4\n1RA1RA translated R 1 2\n"
+VERDICTS = b"1RB1LB_1LA1RZ halt 6 4\n0RB---_0LA--- cycler 2 4\n1RA1RA translated R 1 2 1 1\n"
 BY_TREES = b"1RB1LB_1LA1RZ halt 6 4\n0RB---_0LA--- backward 2 4\n1RA1RA backward 0 0\n"
 
 

@@ -61,7 +61,7 @@ LIMITS = ["--steps=1000", "--cells=64", "--depth=10", "--nodes=100"]
 LINES = b"1RB1LB_1LA1RZ\n1RB0RA_1LA---\n0RB---_0LA---\n"
 
 CLAIMS = (
-    b"1RB1LB_1LA1RZ halt 6 4\n1RB0RA_1LA--- translated R 4 8\n"
+    b"1RB1LB_1LA1RZ halt 6 4\n1RB0RA_1LA--- translated R 4 8 2 1\n"
     b"0RB---_0LA--- backward 2 4\n0RB---_0LA--- cycler 2 4\n"
 )
 

@@ -77,7 +77,7 @@ fn asks_all_deciders(rt: HostRuntime) {
     let end = serve(rt.alloc(), &asked, &mut reader, &mut writer);
     assert_eq!(rt;
         writer.into_inner().as_slice(),
-        b"1RB1LB_1LA1RZ halt 6 4\n0RB---_0LA--- cycler 2 4\n1RA1RA translated R 1 2\n".as_slice()
+        b"1RB1LB_1LA1RZ halt 6 4\n0RB---_0LA--- cycler 2 4\n1RA1RA translated R 1 2 1 1\n".as_slice()
     );
     assert_eq!(rt; status(&end), 0);
 }

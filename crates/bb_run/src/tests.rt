@@ -274,19 +274,19 @@ static RECORDS: [Row; 9] = [
     (
         [1_000, 1_000, 10, 0],
         b"1RA1RA\n",
-        b"1RA1RA translated R 1 2\n",
+        b"1RA1RA translated R 1 2 1 1\n",
         true,
     ),
     (
         [1_000, 1_000, 10, 0],
         b"0LA0LA\n",
-        b"0LA0LA translated L 1 2\n",
+        b"0LA0LA translated L 1 2 1 1\n",
         true,
     ),
     (
         [1_000, 1_000, 10, 0],
         b"1RB---_1RC---_1RA---\n",
-        b"1RB---_1RC---_1RA--- translated R 4 7\n",
+        b"1RB---_1RC---_1RA--- translated R 4 7 3 1\n",
         true,
     ),
     (
@@ -298,13 +298,13 @@ static RECORDS: [Row; 9] = [
     (
         [1_000, 1_000, 10, 0],
         b"0LB---_0RC1RC_1RA---\n",
-        b"0LB---_0RC1RC_1RA--- translated R 3 6\n",
+        b"0LB---_0RC1RC_1RA--- translated R 3 6 1 2\n",
         true,
     ),
     (
         [1_000, 1_000, 10, 0],
         b"0RB---_0LC1LC_1LA---\n",
-        b"0RB---_0LC1LC_1LA--- translated L 3 6\n",
+        b"0RB---_0LC1LC_1LA--- translated L 3 6 1 2\n",
         true,
     ),
     (
@@ -316,7 +316,7 @@ static RECORDS: [Row; 9] = [
     (
         [1_000, 1_000, 10, 0],
         b"1RB0RA_1LA---\n1LB0LA_1RA---\n",
-        b"1RB0RA_1LA--- translated R 4 8\n1LB0LA_1RA--- translated L 4 8\n",
+        b"1RB0RA_1LA--- translated R 4 8 2 1\n1LB0LA_1RA--- translated L 4 8 2 1\n",
         true,
     ),
     (
@@ -444,13 +444,13 @@ static BY_ALL: [Row; 8] = [
     (
         [1_000, 599, 300, 1_000],
         b"1RA1RA\n",
-        b"1RA1RA translated R 1 2\n",
+        b"1RA1RA translated R 1 2 1 1\n",
         true,
     ),
     (
         [1_000, 599, 300, 1_000],
         b"1RB0RA_1LA---\n",
-        b"1RB0RA_1LA--- translated R 4 8\n",
+        b"1RB0RA_1LA--- translated R 4 8 2 1\n",
         true,
     ),
     (

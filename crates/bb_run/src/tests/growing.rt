@@ -37,7 +37,7 @@ static DECIDED: [Row; 9] = [
     (
         [7, 65_536, 300, 1_000_000],
         b"1RB---_1RC---_1RA---\n",
-        b"1RB---_1RC---_1RA--- translated R 4 7\n",
+        b"1RB---_1RC---_1RA--- translated R 4 7 3 1\n",
         true,
     ),
     (
@@ -64,7 +64,12 @@ static DECIDED: [Row; 9] = [
         b"1RA1RA backward 0 0\n",
         true,
     ),
-    (DEFAULTS, b"1RA1RA\n", b"1RA1RA translated R 1 2\n", true),
+    (
+        DEFAULTS,
+        b"1RA1RA\n",
+        b"1RA1RA translated R 1 2 1 1\n",
+        true,
+    ),
 ];
 
 static NOT_REACHED: [Row; 1] = [(

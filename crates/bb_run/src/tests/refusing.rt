@@ -41,7 +41,7 @@ const MACHINES: &[u8] = b"1RB1LB_1LA1RZ
 ";
 
 const BY_PAIRS: &[u8] = b"1RB1LB_1LA1RZ halt 6 4
-1RB0RA_1LA--- translated R 4 8
+1RB0RA_1LA--- translated R 4 8 2 1
 0RB---_0LA--- cycler 2 4
 ";
 
@@ -124,7 +124,7 @@ fn deciding_ends_at_each_refusal(rt: HostRuntime) {
 }
 
 const CLAIMS: &[u8] = b"1RB1LB_1LA1RZ halt 6 4
-1RB0RA_1LA--- translated R 4 8
+1RB0RA_1LA--- translated R 4 8 2 1
 0RB---_0LA--- cycler 2 4
 0RB---_0LA--- backward 2 4
 ";

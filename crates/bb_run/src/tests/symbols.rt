@@ -97,29 +97,34 @@ static BY_REPEATS: [Row; 4] = [
 ];
 
 static BY_RECORDS: [Row; 5] = [
-    (SMALL, b"2RA---1LA\n", b"2RA---1LA translated R 1 2\n", true),
+    (
+        SMALL,
+        b"2RA---1LA\n",
+        b"2RA---1LA translated R 1 2 1 1\n",
+        true,
+    ),
     (
         SMALL,
         b"1LB1RA0LC3RA_2RC2RB0RA3RC_2LB2RA1RC3RA\n",
-        b"1LB1RA0LC3RA_2RC2RB0RA3RC_2LB2RA1RC3RA translated R 10 35\n",
+        b"1LB1RA0LC3RA_2RC2RB0RA3RC_2LB2RA1RC3RA translated R 10 35 3 5\n",
         true,
     ),
     (
         SMALL,
         b"4RB4LA2LB3LA0LB_2LA4LA4RB0RB1RB\n",
-        b"4RB4LA2LB3LA0LB_2LA4LA4RB0RB1RB translated L 140 169\n",
+        b"4RB4LA2LB3LA0LB_2LA4LA4RB0RB1RB translated L 140 169 3 8\n",
         true,
     ),
     (
         SMALL,
         b"5LB4RA1LA0LB4LB0RA0RA_2RB3RB1LB0RA5LA2RA3LA\n",
-        b"5LB4RA1LA0LB4LB0RA0RA_2RB3RB1LB0RA5LA2RA3LA translated R 154 178\n",
+        b"5LB4RA1LA0LB4LB0RA0RA_2RB3RB1LB0RA5LA2RA3LA translated R 154 178 2 10\n",
         true,
     ),
     (
         SMALL,
         b"0LB4RA4RA2LB2LB9LB7LB8RA4RB8LA_2RA5RB8LB6RA8LA9LZ1RZ1RB0LB0LB\n",
-        b"0LB4RA4RA2LB2LB9LB7LB8RA4RB8LA_2RA5RB8LB6RA8LA9LZ1RZ1RB0LB0LB translated L 74 98\n",
+        b"0LB4RA4RA2LB2LB9LB7LB8RA4RB8LA_2RA5RB8LB6RA8LA9LZ1RZ1RB0LB0LB translated L 74 98 2 5\n",
         true,
     ),
 ];
