@@ -3,8 +3,8 @@ ghost use Rattle.std.specs.Prelude.{◌≡◌, ◌↔◌, false, true, IfOk};
 ghost use Rattle.bb_cert.specs.Pair.{HasCells as HasPairCells};
 ghost use Rattle.bb_cert.specs.Path.{depth_of};
 ghost use Rattle.bb_decide.specs.Bench.{HasCells};
-ghost use Rattle.bb_lines.specs.Watched.{is_marked, watched_inner};
 ghost use Rattle.bb_decide.specs.declared.plan.Plan.{Plan};
+ghost use Rattle.bb_lines.specs.Watched.{is_marked, watched_inner};
 ghost use Rattle.bb_run.specs.BorneOut.{VerdictsAreBorneOut};
 ghost use Rattle.bb.specs.Ends.{IsNotBegun, ServeEnds, end_status};
 

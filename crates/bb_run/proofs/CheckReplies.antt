@@ -1,18 +1,14 @@
 -- Why a line has one answer.
-use Rattle.std.proofs.Common.{◌≡◌, ℕ, ◌<◌, List, length, inl, inr, sym, subst, ap, ◌∙◌}
+use Rattle.std.proofs.Common.{◌≡◌, ℕ, List, inl, inr, sym, subst, ap, ◌∙◌}
 use Rattle.bb_machine.specs.Limits.{Bounds}
 use Rattle.bb_machine.specs.Machine.{Table}
-use Rattle.bb_cert.specs.declared.line.TheConstants.{LINE_BUFFER}
 use Rattle.bb_cert.specs.declared.answer.Answer.{Answer}
-use Rattle.bb_cert.specs.declared.reader.Line.{Line}
 use Rattle.bb_cert.specs.declared.reader.Line.TheVariants.{Claim, Refusal}
 use Rattle.bb_cert.specs.declared.verdict.Verdict.{Verdict}
-use Rattle.bb_cert.specs.declared.verdict.Verdict.TheVariants.{Backward}
 use Rattle.bb_cert.specs.Answer.{IsAnswer, answer_text}
 use Rattle.bb_cert.specs.Line.{IsLineOf}
 use Rattle.bb_cert.proofs.Facts.{answer_is_unique, line_unique}
 use Rattle.bb_run.specs.CheckKept.{long_line}
-use Rattle.bb_run.specs.CheckReply.{IsAnswerReply, IsOpenReply, IsUnread}
 use Rattle.bb_run.specs.Laws.{CheckReplyIsUnique, LongLinesAreUnread}
 
 same_table : (s t : Table) (v w : Verdict) → Claim s v ≡ Claim t w → s ≡ t

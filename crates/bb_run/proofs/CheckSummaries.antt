@@ -7,8 +7,7 @@ use Rattle.bb_sim.specs.declared.meter.Meter.{Meter}
 use Rattle.bb_sim.specs.Meter.{zero_meter}
 use Rattle.bb_cert.specs.declared.answer.Answer.{Answer}
 use Rattle.bb_cert.specs.declared.answer.Answer.TheVariants as answer
-use Rattle.bb_cert.specs.declared.reader.Line.TheVariants.{Claim, Refusal}
-use Rattle.bb_cert.specs.declared.verdict.Verdict.{Verdict}
+use Rattle.bb_cert.specs.declared.reader.Line.TheVariants.{Claim}
 use Rattle.bb_cert.specs.Answer.{answer_text}
 use Rattle.bb_cert.specs.ClaimMeter.{last_step, levels_of, nodes_of}
 use Rattle.bb_run.specs.declared.summary.Summary.{Summary}

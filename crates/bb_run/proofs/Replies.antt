@@ -1,9 +1,7 @@
 -- Why a line has one reply, and what stands behind it.
 use Rattle.std.proofs.Common.{◌≡◌, ℕ, List, inl, inr, sym, subst, ap, ◌∙◌}
-use Rattle.bb_machine.specs.Machine.{Table, text}
 use Rattle.bb_machine.specs.Limits.{Bounds}
 use Rattle.bb_machine.proofs.Facts.{column_unique, text_unique}
-use Rattle.bb_cert.specs.declared.verdict.Verdict.{Verdict}
 use Rattle.bb_cert.specs.Line.{line_text, refusal_text}
 use Rattle.bb_decide.specs.declared.plan.Plan.{Plan}
 use Rattle.bb_decide.specs.Verdict.{IsVerdict}
