@@ -1,12 +1,16 @@
 -- What a parse of the program's command line gives.
-use Rattle.std.proofs.Common.{◌≡◌, ◌⊎◌, ◌∙◌, ◌∷◌, Bool, true, false, List, [], Option, Some, None, refl, sym, subst, ap, inl, inr, codes, option_map}
+use Rattle.std.proofs.Common.{◌≡◌, ◌⊎◌, ◌∙◌, ◌∷◌, Bool, true, false, List, [], Option, Some, None, refl, sym}
+use Rattle.std.proofs.Common.{subst, ap, inl, inr, codes, option_map}
 use Rattle.std.specs.Prelude.{Box, find}
 use Rattle.std.specs.Box.{box_value}
 use Rattle.clap.specs.declared.parser.matches.SubCommand.{SubCommand}
 use Rattle.std.specs.Option.{option_map_or}
 use Rattle.clap.specs.Walk.{answers_to, stop_after}
-use Rattle.clap.specs.Simple.{argument_words, built, built_leaf, entered, inherited, marked_built, with_leaf_noted, label_of, names_of, rows_at, subcommand_rows}
-use Rattle.clap.specs.Words.{App, HasMatchesOf, IsAmong, Row, Shape, Text, HasKind, fault_of, is_simple, is_simple_and_free, kind_of, subcommand_name_of, subcommand_of, subcommand_rows_of}
+use Rattle.clap.specs.Simple.{argument_words, built, built_leaf, entered, inherited, marked_built}
+use Rattle.clap.specs.Simple.{with_leaf_noted, label_of, names_of, rows_at, subcommand_rows}
+use Rattle.clap.specs.Words.{App, HasMatchesOf, IsAmong, Row, Shape, Text, HasKind, fault_of, is_simple}
+use Rattle.clap.specs.Words.{is_simple_and_free, kind_of, subcommand_name_of, subcommand_of}
+use Rattle.clap.specs.Words.{subcommand_rows_of}
 use Rattle.clap.specs.declared.error.Error.{Error}
 use Rattle.clap.specs.declared.error.kind.ErrorKind.{ErrorKind}
 use Rattle.clap.specs.declared.parser.matches.ArgMatches.{ArgMatches}

@@ -1,6 +1,7 @@
 -- How a command's shape grows by an argument.
 use Rattle.std.proofs.Common.{◌≡◌, ◌∙◌, ◌++◌, ◌∷◌, [], false, ap, ap₂, refl}
-use Rattle.clap.specs.Words.{AddsArg, AddsSubcommand, Rule, Shape, App, app_of, rule_of, shape_of, with_subcommand}
+use Rattle.clap.specs.Words.{AddsArg, AddsSubcommand, Rule, Shape, App, app_of, rule_of, shape_of}
+use Rattle.clap.specs.Words.{with_subcommand}
 use Rattle.clap.specs.declared.builder.arg.Arg.{Arg}
 use Rattle.clap.specs.declared.builder.command.Command.{Command}
 use Rattle.clap.specs.declared.builder.command.Command.TheViews.{out-Command as fields_of}

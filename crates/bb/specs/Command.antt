@@ -1,5 +1,6 @@
 -- What a command line asks for, and why one leads to no work: this project's own.
-use Rattle.std.specs.Prelude.{◌≡◌, ◌≢◌, ◌⊎◌, ℕ, Bool, false, not, List, [], Some, None, codes, unwrap_or, option_map, if◌then◌else◌}
+use Rattle.std.specs.Prelude.{◌≡◌, ◌≢◌, ◌⊎◌, ℕ, Bool, false, not, List, [], Some, None, codes, unwrap_or}
+use Rattle.std.specs.Prelude.{option_map, if◌then◌else◌}
 use Rattle.std.specs.Option.{option_map_or}
 use Rattle.std.specs.Str.{bytes_eq}
 use Rattle.std.specs.Str.Parse.{digits_value, without_leading_plus}
@@ -19,12 +20,14 @@ use Rattle.bb.specs.CommandLine.{command_line}
 
 -- ---- what the words say
 
--- the words are a command line and name this command, and the rows tell what they give for its options and arguments
+-- the words are a command line and name this command, and the rows tell what they give for its options and
+-- arguments
 pub record Gives (words : List Text) (command : Text) (rows : List Row) : Type 0 where
   pub no_fault : fault_of command_line words ≡ []
   pub values : subcommand_of command_line words ≡ Some (command, rows)
 
--- the number that a text says: digits, a `+` may stand in front. 0 for any other text, which no command line has there
+-- the number that a text says: digits, a `+` may stand in front. 0 for any other text, which no command line
+-- has there
 abbrev pub number_in : Text → ℕ
 number_in text =
     if is_unsigned_in 0 18446744073709551615 text then digits_value 10 (without_leading_plus text) else 0
@@ -112,8 +115,8 @@ pub record IsRefused (words : List Text) (stop : Stop) : Type 0 where
       ⊎ ((Gives words (codes "check") rows × IsLimitsStop (list_bounds rows) stop)
       ⊎ (Gives words (codes "trace") rows × IsLimitsStop (trace_bounds rows) stop))
 
--- why the words lead to no work: help is asked for, or they are no command line, or what they ask for is refused, or a
--- growth was refused
+-- why the words lead to no work: help is asked for, or they are no command line, or what they ask for is
+-- refused, or a growth was refused
 abbrev pub IsStopOf : List Text → Stop → Type 0
 IsStopOf words (Help text) = IsAmong DisplayHelp (fault_of command_line words)
 IsStopOf words (Words text) =

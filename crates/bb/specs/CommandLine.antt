@@ -1,6 +1,6 @@
--- The program's command line, as the command-line crate sees a command: a rule for each option and argument, and a
--- shape for each command. How words are read by it is that crate's `fault_of` and `subcommand_of`. The commands, their
--- options and the defaults are this project's own.
+-- The program's command line, as the command-line crate sees a command: a rule for each option and argument,
+-- and a shape for each command. How words are read by it is that crate's `fault_of` and `subcommand_of`. The
+-- commands, their options and the defaults are this project's own.
 use Rattle.std.specs.Prelude.{[], ◌∷◌, Some, true, false, codes}
 use Rattle.clap.specs.Words.{App, Rule, Shape, Text, new_rule}
 use Rattle.clap.specs.Simple.{new_shape}
@@ -47,7 +47,8 @@ positional_rule name = record (new_rule name) { value_names = 1 }
 abbrev pub must : Rule → Rule
 must rule = record rule { required = true }
 
--- bb decide [--steps N] [--cells N] [--depth N] [--nodes N] [--no-cyclers] [--no-translated] [--no-backward] [FILE]
+-- bb decide [--steps N] [--cells N] [--depth N] [--nodes N] [--no-cyclers] [--no-translated] [--no-backward]
+-- [FILE]
 abbrev pub decide_shape : Shape
 decide_shape = record (new_shape (codes "decide")) {
   rules = steps_rule

@@ -20,7 +20,8 @@ use bb_tape::{Memory, RingTape, Tape};
 use std::alloc::Global;
 use std::io::{Read, Write};
 
-/// Does the work on rings and a path of its own, which take no memory once they are made. For a trace nothing is read.
+/// Does the work on rings and a path of its own, which take no memory once they are made. For a trace nothing
+/// is read.
 pub fn serve<R: Read, W: Write>(
     alloc: Global,
     asked: &Asked,

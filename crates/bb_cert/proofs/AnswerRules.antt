@@ -7,8 +7,10 @@ use Rattle.bb_cert.specs.declared.answer.Answer.{Answer}
 use Rattle.bb_cert.specs.declared.answer.Answer.TheVariants as answer
 use Rattle.bb_cert.specs.declared.verdict.Verdict.{Verdict}
 use Rattle.bb_cert.specs.declared.verdict.Verdict.TheVariants.{Halt, Cycler, Translated, Backward, Undecided}
-use Rattle.bb_cert.specs.Answer.{Applies, IsAnswer, IsOutOfOrder, IsSettled, IsUndecided, NamesTooMuch, Rule, answer_by, rank}
-use Rattle.bb_cert.specs.Answer.Rule.{undecided, too_much_named, out_of_order, too_much_needed, claim_holds, all_else}
+use Rattle.bb_cert.specs.Answer.{Applies, IsAnswer, IsOutOfOrder, IsSettled, IsUndecided, NamesTooMuch, Rule}
+use Rattle.bb_cert.specs.Answer.{answer_by, rank}
+use Rattle.bb_cert.specs.Answer.Rule.{undecided, too_much_named, out_of_order, too_much_needed, claim_holds}
+use Rattle.bb_cert.specs.Answer.Rule.{all_else}
 use Rattle.bb_cert.specs.Checks.{Checks, Settles}
 use Rattle.bb_cert.specs.Laws.{AnswerIsUnique}
 

@@ -1,12 +1,15 @@
 -- What is left of the tree when a walk enters a node and leaves one.
-use Rattle.std.proofs.Common.{◌≡◌, ◌≢◌, ℕ, zero, suc, ◌+◌, ◌-◌, ◌<◌, ◌≤◌, max, inl, inr, List, [], ◌∷◌, ◌++◌, length, refl, ap, sym, subst, ◌∙◌, length-append, arith}
+use Rattle.std.proofs.Common.{◌≡◌, ◌≢◌, ℕ, zero, suc, ◌+◌, ◌-◌, ◌<◌, ◌≤◌, max, inl, inr, List, [], ◌∷◌, ◌++◌}
+use Rattle.std.proofs.Common.{length, refl, ap, sym, subst, ◌∙◌, length-append, arith}
 use Rattle.std.specs.List.{flat_map}
 use Rattle.std.proofs.lemmas.Bool.{cases_lt}
 use Rattle.std.proofs.lemmas.List.Concat.{flat_map-append}
 use Rattle.bb_machine.specs.Machine.{Table}
 use Rattle.bb_sim.specs.Configuration.{start}
-use Rattle.bb_cert.specs.Tree.{Node, Matches, MatchesOne, before, grown, level, grown_below, Ends, Clear, EndsNowhere}
-use Rattle.bb_cert.specs.Walk.{comb_below, CombMatches, IsPart, IsWalked, Refused, too_deep, too_many, matched}
+use Rattle.bb_cert.specs.Tree.{Node, Matches, MatchesOne, before, grown, level, grown_below, Ends, Clear}
+use Rattle.bb_cert.specs.Tree.{EndsNowhere}
+use Rattle.bb_cert.specs.Walk.{comb_below, CombMatches, IsPart, IsWalked, Refused, too_deep, too_many}
+use Rattle.bb_cert.specs.Walk.{matched}
 use Rattle.bb_cert.proofs.OneOf.{one-append_right, one-append_cases}
 use Rattle.bb_cert.proofs.TreeEnds.{empty_levels_stay}
 

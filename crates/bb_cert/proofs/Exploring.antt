@@ -1,5 +1,7 @@
 -- What a walk knows between its steps, and why each step keeps it.
-use Rattle.std.proofs.Common.{◌≡◌, ℕ, ◌+◌, ◌-◌, ◌<◌, ◌≤◌, max, true, false, List, [], ◌∷◌, ◌++◌, length, reverse, slice_index, slice_range, ℤ, pos, neg_ℤ, ◌+ℤ◌, ◌≤ℤ◌, refl, ap, sym, subst, ◌∙◌, length-append, arith}
+use Rattle.std.proofs.Common.{◌≡◌, ℕ, ◌+◌, ◌-◌, ◌<◌, ◌≤◌, max, true, false, List, [], ◌∷◌, ◌++◌, length}
+use Rattle.std.proofs.Common.{reverse, slice_index, slice_range, ℤ, pos, neg_ℤ, ◌+ℤ◌, ◌≤ℤ◌, refl, ap, sym}
+use Rattle.std.proofs.Common.{subst, ◌∙◌, length-append, arith}
 use Rattle.std.specs.Int.{int_min, int_max}
 use Rattle.std.specs.List.{flat_map}
 use Rattle.std.proofs.lemmas.Int.{ints, clamps}
@@ -15,7 +17,8 @@ use Rattle.bb_cert.specs.declared.rules.Rule.{Rule}
 use Rattle.bb_cert.specs.declared.walk.Branch.{Branch}
 use Rattle.bb_cert.specs.declared.walk.Count.{Count}
 use Rattle.bb_cert.specs.Tree.{Node, before, before_by}
-use Rattle.bb_cert.specs.Walk.{AreRules, AreFrames, IsFrame, IsBranch, IsRange, IsWalked, HasOthers, Refused, shown_node, branches, comb_of, content_in, branch_node}
+use Rattle.bb_cert.specs.Walk.{AreRules, AreFrames, IsFrame, IsBranch, IsRange, IsWalked, HasOthers, Refused}
+use Rattle.bb_cert.specs.Walk.{shown_node, branches, comb_of, content_in, branch_node}
 use Rattle.bb_cert.specs.Steps.{HasTable, Enters, Explores, IsFirstBranch, entered_on}
 use Rattle.bb_cert.proofs.Comb.{walk_enters, walk_leaves, walk_refused}
 

@@ -14,7 +14,8 @@ use Rattle.bb_cert.specs.Checks.{GoesOn, IsCourse, KeepsStep, MakesRecord}
 use Rattle.bb_cert.specs.Extent.{IsExtent}
 use Rattle.bb_cert.specs.Follow.{AgreesWithKept, IsComparable, IsKeptInStateOf, LiesAs, with_last_kept}
 use Rattle.bb_cert.specs.Record.{IsRecord}
-use Rattle.bb_cert.proofs.Comparing.{agree_of_cells, cells_of_agree, comparable, extent_of_records, keeps, keeps_step}
+use Rattle.bb_cert.proofs.Comparing.{agree_of_cells, cells_of_agree, comparable, extent_of_records, keeps}
+use Rattle.bb_cert.proofs.Comparing.{keeps_step}
 use Rattle.bb_cert.proofs.Comparing.{numbered, some_number}
 use Rattle.bb_cert.proofs.Courses.{course_at_first, keeps_on}
 

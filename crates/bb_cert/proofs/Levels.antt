@@ -1,5 +1,7 @@
 -- What the levels of the tree say of configurations.
-use Rattle.std.proofs.Common.{◌≡◌, ◌≢◌, ℕ, zero, suc, ◌<◌, ◌≤◌, Bool, true, false, cond, inl, inr, Option, Some, None, List, [], ◌∷◌, length, get_or, option_and_then, ℤ, pos, neg_ℤ, ◌+ℤ◌, refl, ap, sym, subst, ◌∙◌, arith}
+use Rattle.std.proofs.Common.{◌≡◌, ◌≢◌, ℕ, zero, suc, ◌<◌, ◌≤◌, Bool, true, false, cond, inl, inr, Option}
+use Rattle.std.proofs.Common.{Some, None, List, [], ◌∷◌, length, get_or, option_and_then, ℤ, pos, neg_ℤ, ◌+ℤ◌}
+use Rattle.std.proofs.Common.{refl, ap, sym, subst, ◌∙◌, arith}
 use Rattle.std.specs.List.{flat_map}
 use Rattle.std.specs.Ordering.{int_eq}
 use Rattle.std.proofs.lemmas.Bool.{cases_lt, cases_Bool, eqb-true, eq-eqb, cond-true, cond-false}
@@ -18,7 +20,9 @@ use Rattle.bb_sim.specs.Configuration.{Configuration, beside, followed, entry_at
 use Rattle.bb_sim.specs.Run.{after}
 use Rattle.bb_sim.proofs.Facts.{led}
 use Rattle.bb_cert.specs.declared.rules.Rule.{Rule}
-use Rattle.bb_cert.specs.Tree.{Node, Matches, OneOf, MatchesOne, goes_to, rules_to, with_known, halting_node, left_cell, may_be, seen_from, before_by_entry, before_by, before, level, IsAtHaltingEntry, HaltsNextAfter}
+use Rattle.bb_cert.specs.Tree.{Node, Matches, OneOf, MatchesOne, goes_to, rules_to, with_known, halting_node}
+use Rattle.bb_cert.specs.Tree.{left_cell, may_be, seen_from, before_by_entry, before_by, before, level}
+use Rattle.bb_cert.specs.Tree.{IsAtHaltingEntry, HaltsNextAfter}
 use Rattle.bb_cert.specs.Laws.{LevelsComeBeforeHalts}
 use Rattle.bb_cert.proofs.OneOf.{one_more, one-flat_map, one-in_flat_map, one-map, one-in_map}
 use Rattle.bb_cert.proofs.RuleEntries.{rule, one-in_table, one-table}

@@ -40,7 +40,8 @@ line_unique (Refusal c) (Refusal d) bytes p q =
     let digits : decimal c ≡ decimal d = cc in
     ap Refusal (decimal_injective c d (omega (arith, p.1)) (omega (arith, q.1)) digits)
 
--- bytes that are no refusal's line, and that fall into no machine's text and verdict at their first space, are no verdict line
+-- bytes that are no refusal's line, and that fall into no machine's text and verdict at their first space,
+-- are no verdict line
 pub no_line : (prefix rest bytes : List ℕ) → HasNoSpace prefix → prefix ++ 32 ∷ rest ≡ bytes → ((column : ℕ) → 0 < column → column ≤ LINE + 1 → refusal_text column ≢ bytes)
     → ((table : List (List Entry)) (verdict : Verdict) → IsMachine table → text table ≡ prefix → HasNumbers verdict → verdict_text verdict ≡ 32 ∷ rest → ⊥) → (line : Line) → IsLineOf line bytes → ⊥
 no_line prefix rest bytes none parts no_refusal no_claim (Claim table verdict) is =

@@ -1,5 +1,6 @@
 -- Where two records agree, all later ones exist, and those at the same distance agree.
-use Rattle.std.proofs.Common.{◌≡◌, ℕ, zero, suc, ◌+◌, ◌-◌, ◌<◌, ◌≤◌, inl, inr, ℤ, pos, ◌+ℤ◌, ◌-ℤ◌, ◌≤ℤ◌, ap, sym, subst, ◌∙◌, arith}
+use Rattle.std.proofs.Common.{◌≡◌, ℕ, zero, suc, ◌+◌, ◌-◌, ◌<◌, ◌≤◌, inl, inr, ℤ, pos, ◌+ℤ◌, ◌-ℤ◌, ◌≤ℤ◌, ap}
+use Rattle.std.proofs.Common.{sym, subst, ◌∙◌, arith}
 use Rattle.std.proofs.lemmas.Bool.{cases_lt}
 use Rattle.std.proofs.lemmas.Int.{ints}
 use Rattle.bb_machine.specs.Machine.{Table}
@@ -105,7 +106,8 @@ module _ (table : Table) (side : Side) (i r a b : ℕ) (some : 0 < r) (first : I
   apart : out side (distance table a b) ≡ out side (head_at table b) -ℤ out side (head_at table a)
   apart = out-subtract side (head_at table b) (head_at table a)
 
-  -- the head is on record j's position u steps after a if it is on that of record j + r u steps after b, and so back
+  -- the head is on record j's position u steps after a if it is on that of record j + r u steps after b, and
+  -- so back
   on_later : (j u : ℕ) → out side (head_at table (a + u)) ≡ pos j → out side (head_at table (b + u)) ≡ pos (j + r)
   on_later j u at = exactly_out _ _ _ _ _ i j r (farther_by table side a b records u) apart at_a at_b at
 

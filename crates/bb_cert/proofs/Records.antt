@@ -1,5 +1,6 @@
 -- Records of a side: their numbers and their steps.
-use Rattle.std.proofs.Common.{◌≡◌, ◌≢◌, ℕ, zero, suc, ◌<◌, ◌≤◌, ◌⊎◌, inl, inr, Some, ℤ, pos, ◌+ℤ◌, ◌≤ℤ◌, ap, sym, subst, ◌∙◌, arith}
+use Rattle.std.proofs.Common.{◌≡◌, ◌≢◌, ℕ, zero, suc, ◌<◌, ◌≤◌, ◌⊎◌, inl, inr, Some, ℤ, pos, ◌+ℤ◌, ◌≤ℤ◌, ap}
+use Rattle.std.proofs.Common.{sym, subst, ◌∙◌, arith}
 use Rattle.std.specs.Prelude.{◌<ℤ◌}
 use Rattle.std.proofs.lemmas.Bool.{cases_lt, cases_order}
 use Rattle.std.proofs.lemmas.Int.{ints, by_lt_z}
@@ -11,7 +12,8 @@ use Rattle.bb_sim.specs.Run.{conf, Exists}
 use Rattle.bb_sim.proofs.Facts.{conf-start}
 use Rattle.bb_cert.specs.declared.verdict.Side.{Side}
 use Rattle.bb_cert.specs.Record.{out, head_at, IsRecord}
-use Rattle.bb_cert.specs.Laws.{RecordHasOneStep, RecordsInOrder, LowerRecordsExist, ShortOfRecord, RecordTakesSteps}
+use Rattle.bb_cert.specs.Laws.{RecordHasOneStep, RecordsInOrder, LowerRecordsExist, ShortOfRecord}
+use Rattle.bb_cert.specs.Laws.{RecordTakesSteps}
 use Rattle.bb_cert.proofs.Runs.{moves, earlier}
 use Rattle.bb_cert.proofs.Positions.{out-zero, led_by, head_at-is, head_at-start, climbs}
 

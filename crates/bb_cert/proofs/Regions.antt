@@ -1,5 +1,5 @@
--- Runs that go alike on a region of positions: two configurations with one state, whose cells in the region are
--- the same, as far apart as their heads, lead to two such ones, where the head stands in the region.
+-- Runs that go alike on a region of positions: two configurations with one state, whose cells in the region
+-- are the same, as far apart as their heads, lead to two such ones, where the head stands in the region.
 use Rattle.std.proofs.Common.{◌≡◌, ◌≢◌, ℕ, Some, None, ℤ, ◌+ℤ◌, refl, ap, sym, ◌∙◌, arith}
 use Rattle.std.proofs.lemmas.Int.{ints}
 use Rattle.bb_machine.specs.declared.entry.Dir.{Dir}

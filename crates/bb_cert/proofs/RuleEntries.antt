@@ -1,5 +1,6 @@
 -- The rules of a table are its entries.
-use Rattle.std.proofs.Common.{◌≡◌, ℕ, zero, suc, ◌+◌, ◌<◌, true, inl, inr, List, [], ◌∷◌, length, get_or, refl, ap, subst, arith}
+use Rattle.std.proofs.Common.{◌≡◌, ℕ, zero, suc, ◌+◌, ◌<◌, true, inl, inr, List, [], ◌∷◌, length, get_or}
+use Rattle.std.proofs.Common.{refl, ap, subst, arith}
 use Rattle.std.proofs.lemmas.Bool.{eqb-true, eq-eqb}
 use Rattle.bb_machine.specs.declared.entry.Next.{Next}
 use Rattle.bb_machine.specs.declared.entry.Next.TheVariants.{State, Halt}
@@ -8,7 +9,8 @@ use Rattle.bb_machine.specs.declared.entry.Entry.TheVariants.{Undefined}
 use Rattle.bb_machine.specs.Machine.{Table, entry_of}
 use Rattle.bb_cert.specs.declared.rules.Rule.{Rule}
 use Rattle.bb_cert.specs.Tree.{OneOf, rules_in, rules_from, goes_to, is_same, rules_to}
-use Rattle.bb_cert.proofs.OneOf.{one-append_left, one-append_right, one-append_cases, one-filter, one-in_filter}
+use Rattle.bb_cert.proofs.OneOf.{one-append_left, one-append_right, one-append_cases, one-filter}
+use Rattle.bb_cert.proofs.OneOf.{one-in_filter}
 
 pub is_same-true : (a b : Next) → is_same a b ≡ true → a ≡ b
 is_same-true (State p) (State q) e = ap State (eqb-true p q e)

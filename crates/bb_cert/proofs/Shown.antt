@@ -1,5 +1,7 @@
 -- What a tape shows of a node, and what changes where a branch is entered and left.
-use Rattle.std.proofs.Common.{◌≡◌, ◌≢◌, ℕ, zero, suc, ◌+◌, ◌-◌, ◌<◌, ◌≤◌, min, true, false, inl, inr, Option, Some, None, List, [], ◌∷◌, ◌++◌, length, get_or, take, drop, slice_range, ℤ, pos, neg_ℤ, ◌+ℤ◌, ◌≤ℤ◌, refl, ap, sym, subst, ◌∙◌, arith}
+use Rattle.std.proofs.Common.{◌≡◌, ◌≢◌, ℕ, zero, suc, ◌+◌, ◌-◌, ◌<◌, ◌≤◌, min, true, false, inl, inr, Option}
+use Rattle.std.proofs.Common.{Some, None, List, [], ◌∷◌, ◌++◌, length, get_or, take, drop, slice_range, ℤ}
+use Rattle.std.proofs.Common.{pos, neg_ℤ, ◌+ℤ◌, ◌≤ℤ◌, refl, ap, sym, subst, ◌∙◌, arith}
 use Rattle.std.proofs.Math.Path.{fun_ext}
 use Rattle.std.specs.List.{AllByRecursion, flat_map}
 use Rattle.std.proofs.lemmas.Bool.{cases_eq, eq-eqb, ne_eqb, cond-true, cond-false}
@@ -14,11 +16,13 @@ use Rattle.bb_machine.specs.declared.entry.Entry.TheVariants.{Undefined, Go}
 use Rattle.bb_machine.specs.declared.machine.TheConstants.{MAX_SYMBOLS}
 use Rattle.bb_machine.specs.Entry.{IsEntryOf}
 use Rattle.bb_tape.specs.Content.{Content, blank, cell, with_cell, score}
-use Rattle.bb_tape.proofs.Facts.{cell-blank, cell-with_cell-same, cell-with_cell-other, by_position, same_content, score-blank, score-with_cell}
+use Rattle.bb_tape.proofs.Facts.{cell-blank, cell-with_cell-same, cell-with_cell-other, by_position}
+use Rattle.bb_tape.proofs.Facts.{same_content, score-blank, score-with_cell}
 use Rattle.bb_sim.specs.Configuration.{start}
 use Rattle.bb_cert.specs.declared.path.Frame.{Frame}
 use Rattle.bb_cert.specs.declared.rules.Rule.{Rule}
-use Rattle.bb_cert.specs.Tree.{Node, Matches, with_known, halting_node, left_cell, may_be, seen_from, before_by_entry, before_by}
+use Rattle.bb_cert.specs.Tree.{Node, Matches, with_known, halting_node, left_cell, may_be, seen_from}
+use Rattle.bb_cert.specs.Tree.{before_by_entry, before_by}
 use Rattle.bb_cert.specs.Walk.{shown_symbol, shown, shown_node, HasOthers, branches, IsRule}
 use Rattle.bb_cert.specs.Steps.{IsFirstBranch}
 use Rattle.bb_cert.proofs.Levels.{known-here, known-other}

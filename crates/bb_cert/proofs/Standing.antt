@@ -1,5 +1,6 @@
 -- Runners that stand at the same configuration.
-use Rattle.std.proofs.Common.{◌≡◌, ℕ, ◌+◌, Some, ℤ, pos, ◌+ℤ◌, ◌-ℤ◌, ap, sym, ◌∙◌, add-one, option_and_then, arith}
+use Rattle.std.proofs.Common.{◌≡◌, ℕ, ◌+◌, Some, ℤ, pos, ◌+ℤ◌, ◌-ℤ◌, ap, sym, ◌∙◌, add-one, option_and_then}
+use Rattle.std.proofs.Common.{arith}
 use Rattle.std.proofs.lemmas.Int.{ints}
 use Rattle.bb_machine.specs.declared.entry.Dir.{Dir}
 use Rattle.bb_machine.specs.declared.entry.Dir.TheVariants.{L, R}

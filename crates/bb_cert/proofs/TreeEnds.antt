@@ -1,5 +1,6 @@
 -- Where the tree ends, and what follows where the start matches no node of it.
-use Rattle.std.proofs.Common.{◌≡◌, ℕ, zero, suc, ◌+◌, ◌-◌, ◌<◌, inl, inr, Some, None, List, [], ◌∷◌, length, get_or, map, ℤ, refl, ap, sym, subst, ◌∙◌, arith}
+use Rattle.std.proofs.Common.{◌≡◌, ℕ, zero, suc, ◌+◌, ◌-◌, ◌<◌, inl, inr, Some, None, List, [], ◌∷◌, length}
+use Rattle.std.proofs.Common.{get_or, map, ℤ, refl, ap, sym, subst, ◌∙◌, arith}
 use Rattle.std.specs.List.{AllByRecursion, flat_map}
 use Rattle.std.proofs.lemmas.Bool.{cases_lt, cases_order}
 use Rattle.bb_machine.specs.declared.entry.Next.{Next}
@@ -13,7 +14,8 @@ use Rattle.bb_tape.proofs.Facts.{cell-blank, cell-with_cell-same, cell-with_cell
 use Rattle.bb_sim.specs.Configuration.{Configuration, start, followed, entry_at, next}
 use Rattle.bb_sim.specs.Run.{conf, HaltsAt}
 use Rattle.bb_sim.proofs.Facts.{led}
-use Rattle.bb_cert.specs.Tree.{Node, MatchesOne, goes_to, rules_to, halting_node, before, grown, level, nodes_below, Ends, Clear, IsAtHaltingEntry}
+use Rattle.bb_cert.specs.Tree.{Node, MatchesOne, goes_to, rules_to, halting_node, before, grown, level}
+use Rattle.bb_cert.specs.Tree.{nodes_below, Ends, Clear, IsAtHaltingEntry}
 use Rattle.bb_cert.specs.Laws.{EmptyLevelsStay, ClearTreesNeverHalt, TreeHasOneEnd}
 use Rattle.bb_cert.proofs.Runs.{moves}
 use Rattle.bb_cert.proofs.Levels.{matches_level, stands_in}

@@ -36,7 +36,8 @@ Checks table bounds verdict answer.Bad =
     (NeedsTooMuch table bounds verdict → ⊥) × (Claim table verdict → ⊥)
 Checks table bounds verdict answer.Open = ⊥
 
--- why a run can't come to its limit of steps: there is no such step, though its span fits; or the span does not
+-- why a run can't come to its limit of steps: there is no such step, though its span fits; or the span does
+-- not
 abbrev pub IsCut : Table → Bounds → Answer → Type 0
 IsCut table bounds answer.Bad = (Exists table bounds.steps → ⊥) × (span table bounds.steps ≤ bounds.cells)
 IsCut table bounds answer.Over = bounds.cells < span table bounds.steps

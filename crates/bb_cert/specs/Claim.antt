@@ -9,9 +9,10 @@ use Rattle.bb_cert.specs.Extent.{SaysExtent}
 use Rattle.bb_cert.specs.Repeat.{Same}
 use Rattle.bb_cert.specs.Tree.{Clear, Ends}
 
--- the machine halts after so many steps with so many cells that aren't 0; or its configuration at the first step comes
--- again at the second; or both steps are records of the side and agree, and their extent is right, if it is told; or the tree of what could come before a halt
--- ends in so many levels with so many nodes, none of which the start matches. An undecided verdict claims nothing
+-- the machine halts after so many steps with so many cells that aren't 0; or its configuration at the first
+-- step comes again at the second; or both steps are records of the side and agree, and their extent is right,
+-- if it is told; or the tree of what could come before a halt ends in so many levels with so many nodes, none
+-- of which the start matches. An undecided verdict claims nothing
 abbrev pub Claim : Table → Verdict → Type 0
 Claim table (Halt steps score) = HaltsAt table steps × IsScore table steps score
 Claim table (Cycler first second) = (first < second) × Same table first second

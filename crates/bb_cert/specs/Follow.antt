@@ -93,7 +93,8 @@ abbrev pub AgreesWithKept : Records → Runner → Strip → Strip → Type 0
 AgreesWithKept records runner saved run =
     IsKeptInStateOf records runner × HasSameCells records saved.content run.content
 
--- how far the last record is beyond the kept one, and how many positions there are from there back to the farthest point
+-- how far the last record is beyond the kept one, and how many positions there are from there back to the
+-- farthest point
 pub record LiesAs (records : Records) (extent : Extent) : Type 0 where
   pub shift : pos extent.shift ≡ records.top -ℤ records.number
   pub length : pos extent.length ≡ (records.number -ℤ records.far) +ℤ pos 1

@@ -1,5 +1,6 @@
 -- How a walk in depth holds the nodes of the tree. No public contract speaks of it.
-use Rattle.std.specs.Prelude.{◌≡◌, ◌≢◌, ℕ, zero, suc, ◌+◌, ◌-◌, ◌*◌, ◌<◌, ◌≤◌, ◌⊎◌, Option, Some, None, List, [], ◌∷◌, ◌++◌, length, slice_index, slice_range, ℤ, pos, neg_ℤ, ◌+ℤ◌, ◌≤ℤ◌}
+use Rattle.std.specs.Prelude.{◌≡◌, ◌≢◌, ℕ, zero, suc, ◌+◌, ◌-◌, ◌*◌, ◌<◌, ◌≤◌, ◌⊎◌, Option, Some, None, List}
+use Rattle.std.specs.Prelude.{[], ◌∷◌, ◌++◌, length, slice_index, slice_range, ℤ, pos, neg_ℤ, ◌+ℤ◌, ◌≤ℤ◌}
 use Rattle.std.specs.List.{flat_map, AllByRecursion}
 use Rattle.bb_machine.specs.declared.entry.Next.{Next}
 use Rattle.bb_machine.specs.declared.entry.Next.TheVariants.{State, Halt}
@@ -12,7 +13,8 @@ use Rattle.bb_sim.specs.Configuration.{start}
 use Rattle.bb_cert.specs.declared.path.Frame.{Frame}
 use Rattle.bb_cert.specs.declared.rules.Rule.{Rule}
 use Rattle.bb_cert.specs.declared.walk.Branch.{Branch}
-use Rattle.bb_cert.specs.Tree.{Node, Matches, MatchesOne, before_by, grown, level, grown_below, nodes_below, rules_to}
+use Rattle.bb_cert.specs.Tree.{Node, Matches, MatchesOne, before_by, grown, level, grown_below, nodes_below}
+use Rattle.bb_cert.specs.Tree.{rules_to}
 
 -- a tape shows the symbol r as r + 1, and an unknown cell as 0
 abbrev pub shown_symbol : ℕ → Option ℕ
@@ -39,7 +41,8 @@ branches rules content f =
     flat_map (before_by (shown_node content f.position f.state)) (slice_range rules f.next f.end)
 
 -- The nodes that are still to be entered: before each frame's node, the deepest frame first, with the tape as
--- it was when that node was entered last; and then the halting nodes. Those before a list are a level further.
+-- it was when that node was entered last; and then the halting nodes. Those before a list are a level
+-- further.
 abbrev pub comb_of : List Rule → List Node → Content → List Frame → List (List Node)
 comb_of rules roots content [] = roots ∷ []
 comb_of rules roots content (f ∷ fs) =

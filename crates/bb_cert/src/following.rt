@@ -33,7 +33,8 @@ impl Course {
         }
     }
 
-    /// How the kept record and that of the last step, where the runner stands, lie, if it makes one that agrees.
+    /// How the kept record and that of the last step, where the runner stands, lie, if it makes one that
+    /// agrees.
     pub(crate) fn agreement<T: Tape>(
         &self,
         runner: &Runner,

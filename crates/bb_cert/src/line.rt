@@ -4,7 +4,8 @@ ghost use Rattle.bb_machine.specs.declared.entry.Entry.{Entry};
 ghost use Rattle.bb_machine.specs.Machine.{text};
 ghost use Rattle.bb_cert.specs.declared.verdict.Verdict.{Verdict};
 ghost use Rattle.bb_cert.specs.Verdict.{HasNumbers};
-ghost use Rattle.bb_cert.specs.Line.{line_text, pair_text, records_text, refusal_text, side_text, verdict_text};
+ghost use Rattle.bb_cert.specs.Line.{line_text, pair_text, records_text, refusal_text, side_text};
+ghost use Rattle.bb_cert.specs.Line.{verdict_text};
 
 use crate::verdict::{Extent, Side, Verdict, Why};
 use arrayvec::ArrayVec;
@@ -69,7 +70,8 @@ fn records_into(
     extent: Option<Extent>,
     out: &mut ArrayVec<u8, LINE_BUFFER>,
 )
-    requires { array_vec_len out.old + length (side_text side ++ records_text first second extent) ≤ LINE_BUFFER }
+    requires { array_vec_len out.old + length (side_text side ++ records_text first second extent)
+        ≤ LINE_BUFFER }
     ensures { out.new.items ≡ out.old.items ++ (side_text side ++ records_text first second extent) }
 {
     pair_into(side_words(side), first, second, out);

@@ -45,8 +45,8 @@ pub fn read_line(bytes: &[u8]) -> Option<Line>
     }
 }
 
-/// The same, the machine being read in place of another one, so that no table is cleared or moved. Where a line
-/// has no machine, nothing is said of what stands there.
+/// The same, the machine being read in place of another one, so that no table is cleared or moved. Where a
+/// line has no machine, nothing is said of what stands there.
 pub fn read_line_anew(bytes: &[u8], machine: &mut Machine) -> Option<Said>
     ensures found { IfSome result (λ said. IsLineOf (line_said machine.new said) bytes.now) }
     ensures none { IfNone result ((line : Line) → ¬ (IsLineOf line bytes.now)) }

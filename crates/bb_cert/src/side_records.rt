@@ -3,7 +3,8 @@ ghost use Rattle.std.specs.Prelude.{◌≡◌, ◌≢◌, ◌↔◌, ◌+ℤ◌,
 ghost use Rattle.bb_tape.specs.Strip.{IsInside};
 ghost use Rattle.bb_sim.specs.Runner.{state_of};
 ghost use Rattle.bb_cert.specs.Record.{out};
-ghost use Rattle.bb_cert.specs.Follow.{AgreesWithKept, HasSameCells, IsComparable, IsKeptInStateOf, IsWidened};
+ghost use Rattle.bb_cert.specs.Follow.{AgreesWithKept, HasSameCells, IsComparable, IsKeptInStateOf};
+ghost use Rattle.bb_cert.specs.Follow.{IsWidened};
 ghost use Rattle.bb_cert.specs.Follow.{IsNarrow, LiesAs, lesser_of, taken, with_last_kept};
 
 use crate::verdict::{Extent, Side};
@@ -103,7 +104,8 @@ impl Records {
         }
     }
 
-    /// Whether the cells from the farthest point out to the kept record are those that lie as far before the last one.
+    /// Whether the cells from the farthest point out to the kept record are those that lie as far before the
+    /// last one.
     fn has_same_cells<T: Tape>(&self, run: &T, saved: &T) -> bool
         requires comparable { IsComparable self.now (T.strip saved.now) (T.strip run.now) }
         requires far { IsInside (T.strip saved.now) (out self.now.side self.now.far) }

@@ -1,7 +1,8 @@
 //! The walk through the tree of what could come before a halt, in depth, on one tape.
 //!
 //! The tape shows what a node knows: a known symbol `r` as `r + 1`, and an unknown cell as 0.
-ghost use Rattle.std.specs.Prelude.{◌≡◌, ◌<◌, ◌≤◌, ◌+◌, ◌-◌, ◌*◌, ◌^◌, [], length, max, min, pos, neg_ℤ, ◌+ℤ◌, ◌≤ℤ◌, slice_index, IfOk, IfSome, IsTrue, MatchOption, OnErr, OnOk};
+ghost use Rattle.std.specs.Prelude.{◌≡◌, ◌<◌, ◌≤◌, ◌+◌, ◌-◌, ◌*◌, ◌^◌, [], length, max, min, pos, neg_ℤ};
+ghost use Rattle.std.specs.Prelude.{◌+ℤ◌, ◌≤ℤ◌, slice_index, IfOk, IfSome, IsTrue, MatchOption, OnErr, OnOk};
 ghost use Rattle.std.specs.List.{AllByRecursion};
 ghost use Rattle.bb_machine.specs.Machine.{IsMachine};
 ghost use Rattle.bb_tape.specs.Content.{blank};
@@ -12,7 +13,8 @@ ghost use Rattle.bb_cert.specs.Tree as tree;
 ghost use Rattle.bb_cert.specs.WalkMeter.{IsWithinWalk, walked};
 ghost use Rattle.bb_cert.specs.Tree.{EndsWithin, EndsNowhere};
 ghost use Rattle.bb_cert.specs.Walk.{HasRoom, IsBranch, IsRule, Refused, branch_node, branches};
-ghost use Rattle.bb_cert.specs.Steps.{Enters, Explores, HasTable, IsFirstBranch, IsWithin, WalksAll, entered_on};
+ghost use Rattle.bb_cert.specs.Steps.{Enters, Explores, HasTable, IsFirstBranch, IsWithin, WalksAll};
+ghost use Rattle.bb_cert.specs.Steps.{entered_on};
 
 use crate::path::{Frame, Path};
 use crate::rules::Rules;

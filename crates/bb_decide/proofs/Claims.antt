@@ -6,7 +6,9 @@ use Rattle.bb_cert.specs.declared.verdict.Side.{Side}
 use Rattle.bb_cert.specs.declared.verdict.Why.TheVariants.{Steps, Cells}
 use Rattle.bb_cert.specs.declared.verdict.Verdict.{Verdict}
 use Rattle.bb_cert.specs.declared.verdict.Verdict.TheVariants.{Halt, Cycler, Translated, Backward, Undecided}
-use Rattle.bb_cert.specs.Answer.{Applies, IsOutOfOrder, IsUndecided, NamesTooMuch, NeedsTooMuch, Rule, rank, undecided, too_much_named, out_of_order, too_much_needed, claim_holds, all_else}
+use Rattle.bb_cert.specs.Answer.{Applies, IsOutOfOrder, IsUndecided, NamesTooMuch, NeedsTooMuch, Rule, rank}
+use Rattle.bb_cert.specs.Answer.{undecided, too_much_named, out_of_order, too_much_needed, claim_holds}
+use Rattle.bb_cert.specs.Answer.{all_else}
 use Rattle.bb_cert.proofs.Facts.{records_in_order, told_is_said}
 use Rattle.bb_decide.specs.declared.plan.Plan.{Plan}
 use Rattle.bb_decide.specs.Laws.{VerdictsAreConfirmed, VerdictsHold}

@@ -13,7 +13,9 @@ use Rattle.bb_cert.specs.declared.verdict.Verdict.TheVariants.{Halt, Cycler, Tra
 use Rattle.bb_cert.specs.Agree.{Agree}
 use Rattle.bb_cert.specs.Repeat.{Same}
 use Rattle.bb_cert.specs.Tree.{Back}
-use Rattle.bb_cert.proofs.Facts.{agreeing_records_never_halt, agreeing_records_never_repeat, clear_trees_never_halt, record_has_one_step, record_pair, repeats_keep_distance, repeats_never_halt, tree_has_one_end}
+use Rattle.bb_cert.proofs.Facts.{agreeing_records_never_halt, agreeing_records_never_repeat}
+use Rattle.bb_cert.proofs.Facts.{clear_trees_never_halt, record_has_one_step, record_pair}
+use Rattle.bb_cert.proofs.Facts.{repeats_keep_distance, repeats_never_halt, tree_has_one_end}
 use Rattle.bb_decide.specs.Cycle.{FindsCycle, IsCycle, IsFirstCycle}
 use Rattle.bb_decide.specs.Laws.{AgreeingRecordsAreFound, LargerLimitsKeep, RepeatsAreFound}
 use Rattle.bb_decide.specs.Partner.{IsPartner}

@@ -17,7 +17,8 @@ use Rattle.bb_decide.specs.Cycle.{IsFirstCycle}
 use Rattle.bb_decide.specs.Partner.{IsPartner}
 use Rattle.bb_decide.specs.Translation.{IsFirstTranslation}
 use Rattle.bb_decide.specs.Laws.{VerdictIsUnique, WorkIsBounded, WorkIsUnique}
-use Rattle.bb_decide.specs.Work.{CycleSteps, MakesCycleSearch, MakesTranslationSearch, StepsIfMade, TranslationSteps}
+use Rattle.bb_decide.specs.Work.{CycleSteps, MakesCycleSearch, MakesTranslationSearch, StepsIfMade}
+use Rattle.bb_decide.specs.Work.{TranslationSteps}
 use Rattle.bb_decide.proofs.Partners.{partner_is_unique}
 
 -- there is one first cycle

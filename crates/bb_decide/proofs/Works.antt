@@ -1,5 +1,6 @@
 -- What deciding a machine has counted.
-use Rattle.std.proofs.Common.{◌≡◌, ℕ, ◌+◌, ◌≤◌, max, Option, Some, None, Result, Ok, Err, IsTrue, inl, inr, refl, ap, ◌∙◌, arith}
+use Rattle.std.proofs.Common.{◌≡◌, ℕ, ◌+◌, ◌≤◌, max, Option, Some, None, Result, Ok, Err, IsTrue, inl, inr}
+use Rattle.std.proofs.Common.{refl, ap, ◌∙◌, arith}
 use Rattle.std.specs.Prelude.{IfOk, OnOk}
 use Rattle.bb_machine.specs.Limits.{Bounds}
 use Rattle.bb_machine.specs.Machine.{Table}
@@ -18,7 +19,9 @@ use Rattle.bb_decide.specs.Cycle.{CountsSearch, FindsCycle}
 use Rattle.bb_decide.specs.Translation.{FindsTranslation}
 use Rattle.bb_decide.specs.Backward.{HasNoTree, without_nodes}
 use Rattle.bb_decide.specs.Verdict.{IsVerdict, PassesCycles, PassesTranslations}
-use Rattle.bb_decide.specs.Search.{Adds, BackwardCounts, BackwardFinds, CyclersCount, DecidersCount, DecidersFind, ReachesWalk, SearchesCount, SearchesFind, TranslatedCount, TranslatedFind}
+use Rattle.bb_decide.specs.Search.{Adds, BackwardCounts, BackwardFinds, CyclersCount, DecidersCount}
+use Rattle.bb_decide.specs.Search.{DecidersFind, ReachesWalk, SearchesCount, SearchesFind, TranslatedCount}
+use Rattle.bb_decide.specs.Search.{TranslatedFind}
 use Rattle.bb_decide.specs.Work.{CountsWalk, CountsWork, CycleSteps, MakesWalk, StepsIfMade, TranslationSteps}
 
 -- what the simulation has counted, from a meter that was begun at 0

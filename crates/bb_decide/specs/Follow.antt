@@ -6,7 +6,8 @@ use Rattle.bb_tape.specs.Strip.{Strip}
 use Rattle.bb_sim.specs.declared.runner.Runner.{Runner}
 use Rattle.bb_sim.specs.Runner.{position_of, steps_of}
 use Rattle.bb_cert.specs.declared.side_records.Records.{Records}
-use Rattle.bb_cert.specs.Follow.{AgreesWithKept, IsComparable, IsFollowed, IsKeptInStateOf, IsNarrow, IsWidened}
+use Rattle.bb_cert.specs.Follow.{AgreesWithKept, IsComparable, IsFollowed, IsKeptInStateOf, IsNarrow}
+use Rattle.bb_cert.specs.Follow.{IsWidened}
 use Rattle.bb_cert.specs.Follow.{LiesAs, taken, with_last_kept}
 use Rattle.bb_cert.specs.Record.{out}
 use Rattle.bb_decide.specs.declared.keeping.Partner.{Partner}

@@ -43,18 +43,19 @@ abbrev pub VerdictsAreConfirmed : Type 0
 VerdictsAreConfirmed = (table : Table) (bounds : Bounds) (plan : Plan) (verdict : Verdict)
     → IsVerdict table bounds plan verdict → (IsUndecided verdict → ⊥) → IsAnswer table bounds verdict Ok
 
--- where the configuration of step a comes again p steps later, that of the least power of two not below a and p does
--- too; so a search that gets p steps past that power finds a pair
+-- where the configuration of step a comes again p steps later, that of the least power of two not below a and
+-- p does too; so a search that gets p steps past that power finds a pair
 abbrev pub RepeatsAreFound : Type 0
 RepeatsAreFound = (table : Table) (bounds : Bounds) (a p power : ℕ) → 0 < p → Same table a (a + p)
     → IsLeastPower power a p → Inside table bounds (power + p) → IsCycle table bounds power (power + p)
 
--- where records i and i + r of a side agree, so do that of the least power of two not below i and r, and the r-th after
--- it; so a search that gets there finds a pair
+-- where records i and i + r of a side agree, so do that of the least power of two not below i and r, and the
+-- r-th after it; so a search that gets there finds a pair
 abbrev pub AgreeingRecordsAreFound : Type 0
 AgreeingRecordsAreFound = (table : Table) (bounds : Bounds) (side : Side) (i r a b power n : ℕ) → 0 < r
     → IsRecord table side i a → IsRecord table side (i + r) b → Agree table side a b → IsLeastPower power i r
-    → IsRecord table side (power + r) n → Inside table bounds n → (m : ℕ) × IsTranslation table bounds side m n
+    → IsRecord table side (power + r) n → Inside table bounds n
+    → (m : ℕ) × IsTranslation table bounds side m n
 
 -- a machine that was decided stays decided within limits none of which is smaller
 abbrev pub LargerLimitsKeep : Type 0

@@ -1,4 +1,5 @@
--- What the deciders that are on find, as the functions of this crate tell one another; no public contract cites it.
+-- What the deciders that are on find, as the functions of this crate tell one another; no public contract
+-- cites it.
 use Rattle.std.specs.Prelude.{◌≡◌, ℕ, ◌+◌, ◌*◌, ◌≤◌, ◌⊎◌, max, false, IsTrue, Option, Some, None}
 use Rattle.bb_machine.specs.Limits.{Bounds}
 use Rattle.bb_machine.specs.Machine.{Table}
@@ -26,7 +27,8 @@ CyclersCount table bounds plan old new found =
     (IsTrue plan.cyclers × CountsSearch table bounds old new found × FindsCycle table bounds found)
     ⊎ ((plan.cyclers ≡ false) × (new ≡ old))
 
--- a record that agrees with its partner is found, where that search is on; none where it is off, or there is none
+-- a record that agrees with its partner is found, where that search is on; none where it is off, or there is
+-- none
 abbrev pub TranslatedFind : Table → Bounds → Plan → Option Verdict → Type 0
 TranslatedFind table bounds plan None = PassesTranslations table bounds plan
 TranslatedFind table bounds plan (Some verdict) =
@@ -38,7 +40,8 @@ TranslatedCount table bounds plan old new found =
     (IsTrue plan.translated × CountsSearch table bounds old new found × FindsTranslation table bounds found)
     ⊎ ((plan.translated ≡ false) × (new ≡ old))
 
--- the tree's levels and nodes are found, where backward reasoning is on; none where it is off, or there are none
+-- the tree's levels and nodes are found, where backward reasoning is on; none where it is off, or there are
+-- none
 abbrev pub BackwardFinds : Table → Bounds → Plan → Option Verdict → Type 0
 BackwardFinds table bounds plan None = PassesTrees table bounds plan
 BackwardFinds table bounds plan (Some verdict) = IsTrue plan.backward × FindsTree table bounds (Some verdict)

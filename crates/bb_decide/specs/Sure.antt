@@ -1,4 +1,5 @@
--- What is surely found where limits reach it, and what larger limits keep. These promises are this project's own.
+-- What is surely found where limits reach it, and what larger limits keep. These promises are this project's
+-- own.
 use Rattle.std.specs.Prelude.{◌≡◌, ℕ, ◌+◌, ◌^◌, ◌<◌, ◌≤◌, ◌⊎◌, Option, Some, None}
 use Rattle.bb_machine.specs.Limits.{Bounds}
 use Rattle.bb_machine.specs.Machine.{Table}
@@ -29,17 +30,17 @@ IsFoundBy latest (Some (Halt steps score)) = ⊥
 IsFoundBy latest (Some (Backward levels nodes)) = ⊥
 IsFoundBy latest (Some (Undecided why)) = ⊥
 
--- where the configuration of step a comes again p steps later, and step `power + p` is inside, a pair is found, no
--- later than there
+-- where the configuration of step a comes again p steps later, and step `power + p` is inside, a pair is
+-- found, no later than there
 abbrev pub FindsRepeats : Table → Bounds → Option Verdict → Type 0
 FindsRepeats table bounds found = (a p power : ℕ) → 0 < p → Same table a (a + p) → IsLeastPower power a p
     → Inside table bounds (power + p) → IsFoundBy (power + p) found
 
--- where records i and i + r of a side agree, and the step n of its record `power + r` is inside, a pair is found, no
--- later than there
+-- where records i and i + r of a side agree, and the step n of its record `power + r` is inside, a pair is
+-- found, no later than there
 abbrev pub FindsAgreeingRecords : Table → Bounds → Option Verdict → Type 0
-FindsAgreeingRecords table bounds found = (side : Side) (i r a b power n : ℕ) → 0 < r → IsRecord table side i a
-    → IsRecord table side (i + r) b → Agree table side a b → IsLeastPower power i r
+FindsAgreeingRecords table bounds found = (side : Side) (i r a b power n : ℕ) → 0 < r
+    → IsRecord table side i a → IsRecord table side (i + r) b → Agree table side a b → IsLeastPower power i r
     → IsRecord table side (power + r) n → Inside table bounds n → IsFoundBy n found
 
 -- none of the limits is smaller
@@ -57,8 +58,8 @@ IsPair (Halt steps score) = ⊥
 IsPair (Backward levels nodes) = ⊥
 IsPair (Undecided why) = ⊥
 
--- what a verdict is later: the same, if it is a halt or a pair; a tree may become a pair, and anything may come of an
--- undecided one
+-- what a verdict is later: the same, if it is a halt or a pair; a tree may become a pair, and anything may
+-- come of an undecided one
 abbrev pub StaysAs : Verdict → Verdict → Type 0
 StaysAs (Halt steps score) later = later ≡ Halt steps score
 StaysAs (Cycler first second) later = later ≡ Cycler first second

@@ -1,5 +1,5 @@
--- What the search for agreeing records finds. It is named after bbchallenge's Translated Cyclers; that a record is
--- compared with its partner is this project's own.
+-- What the search for agreeing records finds. It is named after bbchallenge's Translated Cyclers; that a
+-- record is compared with its partner is this project's own.
 use Rattle.std.specs.Prelude.{ℕ, ◌≤◌, Option, Some, None}
 use Rattle.bb_machine.specs.Limits.{Bounds}
 use Rattle.bb_machine.specs.Machine.{Table}
@@ -12,8 +12,8 @@ use Rattle.bb_cert.specs.Extent.{TellsExtent}
 use Rattle.bb_cert.specs.Record.{IsRecord}
 use Rattle.bb_decide.specs.Partner.{IsPartner}
 
--- a record of a side is made at step b, and agrees with the record of that side, at step a, whose number is the
--- partner of its own
+-- a record of a side is made at step b, and agrees with the record of that side, at step a, whose number is
+-- the partner of its own
 pub record AgreesWithPartner (table : Table) (side : Side) (a b : ℕ) : Type 0 where
   pub first_number : ℕ
   pub second_number : ℕ

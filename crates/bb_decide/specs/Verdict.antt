@@ -31,9 +31,9 @@ abbrev pub PassesAll : Table → Bounds → Plan → Type 0
 PassesAll table bounds plan =
     PassesCycles table bounds plan × PassesTranslations table bounds plan × PassesTrees table bounds plan
 
--- the first that applies, deciders that are off being passed over: a halt inside the bounds; the first cycle; the first
--- record that agrees with its partner, with the extent of the two; the tree of what could come before a halt, if it ends; else which limit the
--- simulation met
+-- the first that applies, deciders that are off being passed over: a halt inside the bounds; the first cycle;
+-- the first record that agrees with its partner, with the extent of the two; the tree of what could come
+-- before a halt, if it ends; else which limit the simulation met
 abbrev pub IsVerdict : Table → Bounds → Plan → Verdict → Type 0
 IsVerdict table bounds plan (Halt n ones) = IsOutcome table bounds (Halts n ones)
 IsVerdict table bounds plan (Cycler first second) =

@@ -40,8 +40,8 @@ TranslationSteps table bounds n = SearchSteps table bounds
     (λ b. (side : Side) × (a : ℕ) × IsFirstTranslation table bounds side a b)
     (HasNoTranslation table bounds) n
 
--- the steps that deciding a machine makes: those of the simulation, up to the last step inside, and those of the two
--- searches
+-- the steps that deciding a machine makes: those of the simulation, up to the last step inside, and those of
+-- the two searches
 pub record IsWork (table : Table) (bounds : Bounds) (plan : Plan) (work : ℕ) : Type 0 where
   pub run : ℕ
   pub is_run : IsLastInside table bounds run
@@ -57,8 +57,8 @@ abbrev pub MakesWalk : Table → Bounds → Plan → Type 0
 MakesWalk table bounds plan = HaltsNowhere table bounds × PassesCycles table bounds plan
     × PassesTranslations table bounds plan × IsTrue plan.backward
 
--- the nodes and levels counted where a walk is made: those of the tree if it ends within the bounds, else no more than
--- the bounds; none where it isn't made
+-- the nodes and levels counted where a walk is made: those of the tree if it ends within the bounds, else no
+-- more than the bounds; none where it isn't made
 pub record CountsWalk (Made : Type 0) (table : Table) (bounds : Bounds) (meter : Meter) : Type 0 where
   pub of_tree : Made → (levels nodes : ℕ) → Back table bounds levels nodes
       → (meter.most_levels ≡ levels) × (meter.nodes ≡ nodes)
@@ -66,8 +66,8 @@ pub record CountsWalk (Made : Type 0) (table : Table) (bounds : Bounds) (meter :
   pub within_nodes : meter.nodes ≤ bounds.nodes
   pub not_made : (Made → ⊥) → (meter.most_levels ≡ 0) × (meter.nodes ≡ 0)
 
--- deciding a machine has counted its steps, the span at the last step inside as its widest window, and the nodes and
--- levels of its walk
+-- deciding a machine has counted its steps, the span at the last step inside as its widest window, and the
+-- nodes and levels of its walk
 pub record CountsWork (table : Table) (bounds : Bounds) (plan : Plan) (meter : Meter) : Type 0 where
   pub steps : IsWork table bounds plan meter.steps
   pub last : ℕ

@@ -18,8 +18,8 @@ pub struct Bench<T> {
 }
 
 impl<T: Tape> Bench<T> {
-    /// A bench of three tapes for machines under these limits, with a path as deep as they allow, for which it takes
-    /// memory once.
+    /// A bench of three tapes for machines under these limits, with a path as deep as they allow, for which
+    /// it takes memory once.
     pub fn new(
         alloc: Global,
         run: T,

@@ -14,8 +14,8 @@ use bb_machine::{Limits, Machine};
 use bb_sim::{Meter, Moved, Runner};
 use bb_tape::{Memory, Tape, TapeFault};
 
-/// The pair of the first step, from step 2 on, whose configuration is that of its partner, the greatest power of two
-/// below it. None where there is none inside the limits.
+/// The pair of the first step, from step 2 on, whose configuration is that of its partner, the greatest power
+/// of two below it. None where there is none inside the limits.
 ///
 /// After an error nothing is said of what the tapes hold; the next call resets them.
 #[inline(never)]
@@ -95,7 +95,8 @@ fn run<T: Tape>(
     }
 }
 
-/// Takes over the cells and the window of another tape. It is out of line, so that the search keeps its registers.
+/// Takes over the cells and the window of another tape. It is out of line, so that the search keeps its
+/// registers.
 #[cold]
 #[inline(never)]
 fn save<T: Tape>(saved: &mut T, run: &T) -> Result<(), TapeFault>

@@ -18,8 +18,8 @@ pub struct Partner {
     pub extent: Extent,
 }
 
-/// Takes in the configuration that the runner has come to. Where it makes a record that agrees with the kept one, that
-/// one; else the record is kept, if it is its turn.
+/// Takes in the configuration that the runner has come to. Where it makes a record that agrees with the kept
+/// one, that one; else the record is kept, if it is its turn.
 #[inline(always)]
 pub fn take_in<T: Tape>(
     records: &mut Records,

@@ -1,6 +1,7 @@
 //! Laws of verdicts, as contracts: a call of each does nothing.
 ghost use Rattle.bb_decide.specs.Laws.{AgreeingRecordsAreFound, LargerLimitsKeep, RepeatsAreFound};
-ghost use Rattle.bb_decide.specs.Laws.{VerdictIsUnique, VerdictsAreConfirmed, VerdictsHold, WorkIsBounded, WorkIsUnique};
+ghost use Rattle.bb_decide.specs.Laws.{VerdictIsUnique, VerdictsAreConfirmed, VerdictsHold, WorkIsBounded};
+ghost use Rattle.bb_decide.specs.Laws.{WorkIsUnique};
 
 /// A machine has one verdict under one set of limits and one plan.
 pub fn verdict_is_unique()

@@ -72,8 +72,8 @@ static ROWS: [Row; 12] = [
     (b"0RA0RA", 1000, Verdict::Undecided(Why::Cells), 126),
 ];
 
-/// Rows where the search for records that agree is on too, each machine's mirror image among them. The two machines with
-/// 300 steps go, between their records, beyond what they had visited at the first of them.
+/// Rows where the search for records that agree is on too, each machine's mirror image among them. The two
+/// machines with 300 steps go, between their records, beyond what they had visited at the first of them.
 static TRANSLATED_ROWS: [Row; 20] = [
     (
         b"1RA1RA",

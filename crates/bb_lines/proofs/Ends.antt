@@ -1,5 +1,6 @@
 -- How a run ends, from what was kept of its lines.
-use Rattle.std.proofs.Common.{◌≡◌, ℕ, ◌<◌, List, [], ◌∷◌, ◌++◌, length, take, ◌∙◌, ap, refl, arith, Option, Result, Ok, Err}
+use Rattle.std.proofs.Common.{◌≡◌, ℕ, ◌<◌, List, [], ◌∷◌, ◌++◌, length, take, ◌∙◌, ap, refl, arith, Option}
+use Rattle.std.proofs.Common.{Result, Ok, Err}
 use Rattle.std.specs.List.{FoldsTo}
 use Rattle.std.proofs.lemmas.List.{append-nil}
 use Rattle.std.specs.Io.KnownBytes.{Consumes, IsAtEnd}
@@ -8,7 +9,8 @@ use Rattle.bb_lines.specs.declared.fault.Fault.TheVariants.{Memory, Read, Write}
 use Rattle.bb_lines.specs.Lines.{complete, lines, unfinished, unless_empty}
 use Rattle.bb_lines.specs.Ends.{MatchEnd, ListEnds, AppendsReplies, AppendsSome, AppendsPrefixOfReplies}
 use Rattle.bb_lines.specs.Progress.{prefixes, AreAnswered}
-use Rattle.bb_lines.proofs.Replies.{AppendsReplies-prefixes, AppendsSome-prefixes, AppendsPrefixOfReplies-prefixes, FoldsTo-prefixes}
+use Rattle.bb_lines.proofs.Replies.{AppendsReplies-prefixes, AppendsSome-prefixes}
+use Rattle.bb_lines.proofs.Replies.{AppendsPrefixOfReplies-prefixes, FoldsTo-prefixes}
 use Rattle.bb_lines.proofs.Prefixes.{prefixes-lines}
 
 pub unless_empty-some : (line : List ℕ) → 0 < length line → unless_empty line ≡ line ∷ []

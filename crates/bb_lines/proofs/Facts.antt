@@ -1,3 +1,5 @@
 -- What other crates' proofs cite of this one: what one call after another sends, and what is written by then.
-pub use Rattle.bb_lines.proofs.Sends.{AppendsPrefix-more, AppendsPrefix-sent, AppendsPrefix-after, AppendsPrefix-further, Appends-after, Appends-further, Appends-sent, Sends-none, Sends-trans, Sends-written}
+pub use Rattle.bb_lines.proofs.Sends.{AppendsPrefix-more, AppendsPrefix-sent, AppendsPrefix-after}
+pub use Rattle.bb_lines.proofs.Sends.{AppendsPrefix-further, Appends-after, Appends-further, Appends-sent}
+pub use Rattle.bb_lines.proofs.Sends.{Sends-none, Sends-trans, Sends-written}
 pub use Rattle.bb_lines.proofs.Replies.{AreReplies-append, AreReplies-weaker, FoldsTo-append}

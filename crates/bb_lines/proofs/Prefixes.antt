@@ -1,5 +1,6 @@
 -- The first bytes of each line, as pieces of the input come in.
-use Rattle.std.proofs.Common.{◌≡◌, ℕ, zero, suc, ◌+◌, ◌<◌, ◌≤◌, Bool, true, false, List, [], ◌∷◌, ◌++◌, length, get_or, take, drop, append_assoc, sym, ◌∙◌, ap, refl, arith}
+use Rattle.std.proofs.Common.{◌≡◌, ℕ, zero, suc, ◌+◌, ◌<◌, ◌≤◌, Bool, true, false, List, [], ◌∷◌, ◌++◌}
+use Rattle.std.proofs.Common.{length, get_or, take, drop, append_assoc, sym, ◌∙◌, ap, refl, arith}
 use Rattle.std.specs.Prelude.{◌==◌}
 use Rattle.std.proofs.Math.Seq.{drop-cons}
 use Rattle.std.proofs.Math.Numerals.{add-one}
@@ -7,7 +8,8 @@ use Rattle.std.proofs.lemmas.Bool.{eqb-true}
 use Rattle.std.proofs.lemmas.List.{append-nil, map-append, take-append-drop, take-take}
 use Rattle.bb_lines.specs.Lines.{complete, unfinished, lines, unless_empty}
 use Rattle.bb_lines.specs.Progress.{HasNoNewline, none, other, prefixes}
-use Rattle.bb_lines.proofs.Pieces.{LinesAre-newline, LinesAre-other, LinesAre-one, LinesAre-line, LinesAre-more, lines-parts}
+use Rattle.bb_lines.proofs.Pieces.{LinesAre-newline, LinesAre-other, LinesAre-one, LinesAre-line}
+use Rattle.bb_lines.proofs.Pieces.{LinesAre-more, lines-parts}
 
 pub HasNoNewline-append : {xs ys : List ℕ} → HasNoNewline xs → HasNoNewline ys → HasNoNewline (xs ++ ys)
 HasNoNewline-append none more = more

@@ -1,5 +1,6 @@
 -- What the engine's calls come to, one after another.
-use Rattle.std.proofs.Common.{◌≡◌, ℕ, ◌+◌, ◌≤◌, List, [], ◌∷◌, ◌++◌, length, take, append_assoc, sym, ◌∙◌, subst, refl, arith, length-append, Option, Result, Ok, Err}
+use Rattle.std.proofs.Common.{◌≡◌, ℕ, ◌+◌, ◌≤◌, List, [], ◌∷◌, ◌++◌, length, take, append_assoc, sym, ◌∙◌}
+use Rattle.std.proofs.Common.{subst, refl, arith, length-append, Option, Result, Ok, Err}
 use Rattle.std.specs.Prelude.{OnOk, OnErr, IsOkUnless}
 use Rattle.std.specs.List.{FoldsTo}
 use Rattle.std.proofs.lemmas.List.{append-nil, take-append-le}
@@ -12,7 +13,8 @@ use Rattle.bb_lines.specs.Ends.{MatchEnd, AppendsPrefix, AppendsReplies, Appends
 use Rattle.bb_lines.specs.Output.{Sends}
 use Rattle.bb_lines.specs.Progress.{AreAnswered, WritesSome, WritesPrefix}
 use Rattle.bb_lines.proofs.Replies.{AreReplies-append, AreReplies-weaker, FoldsTo-append}
-use Rattle.bb_lines.proofs.Sends.{Sends-none, Sends-trans, Sends-written, AppendsPrefix-after, AppendsPrefix-further, Appends-further, Appends-sent}
+use Rattle.bb_lines.proofs.Sends.{Sends-none, Sends-trans, Sends-written, AppendsPrefix-after}
+use Rattle.bb_lines.proofs.Sends.{AppendsPrefix-further, Appends-further, Appends-sent}
 
 -- how a call over some lines ends, with what is so without fault
 abbrev pub CallEnds : {S : Type 0} → Result S Fault → (S → Type 0) → (List ℕ → List ℕ → Type 0)

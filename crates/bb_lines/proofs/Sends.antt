@@ -1,5 +1,6 @@
 -- What one call after another sends.
-use Rattle.std.proofs.Common.{◌≡◌, ℕ, ◌-◌, List, [], ◌++◌, length, take, drop, append_assoc, sym, ◌∙◌, subst, ap, refl, arith, Option}
+use Rattle.std.proofs.Common.{◌≡◌, ℕ, ◌-◌, List, [], ◌++◌, length, take, drop, append_assoc, sym, ◌∙◌, subst}
+use Rattle.std.proofs.Common.{ap, refl, arith, Option}
 use Rattle.std.proofs.lemmas.Grind.{common_steps}
 use Rattle.std.proofs.lemmas.List.{append-nil, take-append-drop}
 use Rattle.std.proofs.KnownBytes.{Appends-nil, Appends-trans, Appends-kept}

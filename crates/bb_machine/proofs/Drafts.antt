@@ -1,5 +1,6 @@
 -- What a draft counts, after each of its changes.
-use Rattle.std.proofs.Common.{◌≡◌, ℕ, ◌+◌, ◌<◌, ◌≤◌, ◌↔◌, List, [], ◌∷◌, ◌++◌, length, max, refl, sym, ◌∙◌, ap, subst, append_assoc, arith}
+use Rattle.std.proofs.Common.{◌≡◌, ℕ, ◌+◌, ◌<◌, ◌≤◌, ◌↔◌, List, [], ◌∷◌, ◌++◌, length, max, refl, sym, ◌∙◌}
+use Rattle.std.proofs.Common.{ap, subst, append_assoc, arith}
 use Rattle.std.proofs.lemmas.List.{append-nil, length-append}
 use Rattle.std.proofs.lemmas.List.Concat.{flat_map-append}
 use Rattle.std.specs.List.{AllByRecursion, flat_map}
@@ -9,8 +10,10 @@ use Rattle.bb_machine.specs.declared.entry.Entry.{Entry}
 use Rattle.bb_machine.specs.Entry.{IsEntryOf}
 use Rattle.bb_machine.specs.Machine.{IsGroup, IsMachine, symbols_of}
 use Rattle.bb_machine.specs.Rows.{IsTable}
-use Rattle.bb_machine.specs.Draft.{Begun, begun_entries, symbols_limit, IsBegunWithin, IsDraft, IsWhole, IsWholeWithin, table_of}
-use Rattle.bb_machine.proofs.Groups.{every-append, every-prefix, every-at, every-weaker, entries_weaker, machine_by}
+use Rattle.bb_machine.specs.Draft.{Begun, begun_entries, symbols_limit, IsBegunWithin, IsDraft, IsWhole}
+use Rattle.bb_machine.specs.Draft.{IsWholeWithin, table_of}
+use Rattle.bb_machine.proofs.Groups.{every-append, every-prefix, every-at, every-weaker, entries_weaker}
+use Rattle.bb_machine.proofs.Groups.{machine_by}
 use Rattle.bb_machine.proofs.Viable.{begun_push, begun_close}
 
 every-back : {X : Type 0} (P : X → Type 0) (xs ys : List X) → AllByRecursion P (xs ++ ys)

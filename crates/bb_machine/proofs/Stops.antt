@@ -1,5 +1,6 @@
 -- Where no machine's text goes on.
-use Rattle.std.proofs.Common.{◌≡◌, ◌≢◌, ℕ, ◌+◌, ◌<◌, ◌≤◌, List, [], ◌∷◌, ◌++◌, length, take, drop, get_or, refl, sym, ◌∙◌, ap, subst, inl, inr, append_assoc, add-one, arith}
+use Rattle.std.proofs.Common.{◌≡◌, ◌≢◌, ℕ, ◌+◌, ◌<◌, ◌≤◌, List, [], ◌∷◌, ◌++◌, length, take, drop, get_or}
+use Rattle.std.proofs.Common.{refl, sym, ◌∙◌, ap, subst, inl, inr, append_assoc, add-one, arith}
 use Rattle.std.proofs.lemmas.List.{append-nil, length-append, take-append-drop, take-take, length-take-le}
 use Rattle.std.proofs.lemmas.Bool.{cases_lt}
 use Rattle.std.specs.List.{AllByRecursion}
@@ -8,9 +9,11 @@ use Rattle.bb_machine.specs.declared.entry.Entry.TheVariants.{Undefined, Go}
 use Rattle.bb_machine.specs.Entry.{entry_text, IsEntryOf}
 use Rattle.bb_machine.specs.Machine.{symbols_of, IsGroup, IsMachineWithin, group_text, text}
 use Rattle.bb_machine.specs.Column.{BeginsWith, IsViableWithin}
-use Rattle.bb_machine.specs.Draft.{Begun, begun_text, symbols_limit, IsBegunWithin, IsWholeWithin, table_of, IsStopWithin, IsEntryStop}
+use Rattle.bb_machine.specs.Draft.{Begun, begun_text, symbols_limit, IsBegunWithin, IsWholeWithin, table_of}
+use Rattle.bb_machine.specs.Draft.{IsStopWithin, IsEntryStop}
 use Rattle.bb_machine.proofs.Texts.{tail_text, GoesOn, text_peel, bar_peel}
-use Rattle.bb_machine.proofs.Groups.{every-at, entry_weaker, entries_weaker, groups_plain, machine_plain, symbols_within}
+use Rattle.bb_machine.proofs.Groups.{every-at, entry_weaker, entries_weaker, groups_plain, machine_plain}
+use Rattle.bb_machine.proofs.Groups.{symbols_within}
 use Rattle.bb_machine.proofs.Viable.{viable_begun, viable_prefix, begun_push, begun_text-push}
 
 pub entry_length : (e : Entry) → length (entry_text e) ≡ 3

@@ -1,6 +1,8 @@
 -- A table that stands row by row in a flat list.
-use Rattle.std.proofs.Common.{◌≡◌, ℕ, zero, suc, ◌+◌, ◌*◌, ◌<◌, ◌≤◌, List, [], ◌∷◌, ◌++◌, length, take, drop, get_or, set, refl, sym, ◌∙◌, ap, subst, zero-mul, arith}
-use Rattle.std.proofs.lemmas.List.{length-drop, take-set-le, drop-set-add, drop-drop, take_more_set, get_or-take, get_or-drop, get_or_default}
+use Rattle.std.proofs.Common.{◌≡◌, ℕ, zero, suc, ◌+◌, ◌*◌, ◌<◌, ◌≤◌, List, [], ◌∷◌, ◌++◌, length, take, drop}
+use Rattle.std.proofs.Common.{get_or, set, refl, sym, ◌∙◌, ap, subst, zero-mul, arith}
+use Rattle.std.proofs.lemmas.List.{length-drop, take-set-le, drop-set-add, drop-drop, take_more_set}
+use Rattle.std.proofs.lemmas.List.{get_or-take, get_or-drop, get_or_default}
 use Rattle.std.specs.Prelude.{map}
 use Rattle.std.proofs.lemmas.List.Elements.{All-from_recursion}
 use Rattle.bb_machine.specs.declared.machine.TheConstants.{STRIDE}

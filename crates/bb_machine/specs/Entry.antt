@@ -40,7 +40,8 @@ abbrev pub offset_of : Dir → ℤ
 offset_of L = neg_ℤ (pos 1)
 offset_of R = pos 1
 
--- what an entry that goes to a state does: its symbol, its direction as a number, its state; none for other entries
+-- what an entry that goes to a state does: its symbol, its direction as a number, its state; none for other
+-- entries
 abbrev pub step_of : Entry → Option Step
 step_of Undefined = None
 step_of (Go write dir (State state)) = Some (record { write = write; offset = offset_of dir; state = state })

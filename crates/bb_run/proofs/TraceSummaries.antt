@@ -1,5 +1,6 @@
 -- What a trace comes to, by whether the line is a machine's text.
-use Rattle.std.proofs.Common.{◌≡◌, ℕ, ◌+◌, ◌≤◌, ◌↔◌, IsTrue, Bool, false, List, [], ◌∷◌, ◌++◌, sym, ◌∙◌, subst, refl, inl, inr, Option, Result, Ok, Err}
+use Rattle.std.proofs.Common.{◌≡◌, ℕ, ◌+◌, ◌≤◌, ◌↔◌, IsTrue, Bool, false, List, [], ◌∷◌, ◌++◌, sym, ◌∙◌}
+use Rattle.std.proofs.Common.{subst, refl, inl, inr, Option, Result, Ok, Err}
 use Rattle.std.proofs.lemmas.List.{append-nil}
 use Rattle.bb_machine.specs.Laws.{TextsDiffer}
 use Rattle.bb_machine.specs.Limits.{Bounds}

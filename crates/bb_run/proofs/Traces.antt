@@ -1,5 +1,6 @@
 -- The lines of a trace, one after another, as they are sent.
-use Rattle.std.proofs.Common.{◌≡◌, ℕ, ◌+◌, ◌≤◌, List, [], ◌∷◌, ◌++◌, append_assoc, take, drop, sym, ◌∙◌, subst, ap, arith, Option, ℤ, pos, ◌+ℤ◌}
+use Rattle.std.proofs.Common.{◌≡◌, ℕ, ◌+◌, ◌≤◌, List, [], ◌∷◌, ◌++◌, append_assoc, take, drop, sym, ◌∙◌}
+use Rattle.std.proofs.Common.{subst, ap, arith, Option, ℤ, pos, ◌+ℤ◌}
 use Rattle.std.proofs.lemmas.List.{take-append-drop}
 use Rattle.std.proofs.lemmas.List.FromFn.{map-range_with_len_more, take-map-range_with_len}
 use Rattle.bb_machine.specs.Machine.{Table}

@@ -1,5 +1,6 @@
--- Why the first bytes of a line, one more than the buffer of a verdict line has, decide the answer to it: laws that the
--- engine asks for. They are proofs; they stand here, since a trait's law may cite nothing of `proofs/`.
+-- Why the first bytes of a line, one more than the buffer of a verdict line has, decide the answer to it:
+-- laws that the engine asks for. They are proofs; they stand here, since a trait's law may cite nothing of
+-- `proofs/`.
 use Rattle.std.proofs.Common.{◌≡◌, ℕ, ◌+◌, ◌<◌, ◌⊎◌, List, take, length, inl, inr, subst, arith}
 use Rattle.std.proofs.lemmas.Bool.{cases_lt}
 use Rattle.std.proofs.lemmas.List.{take_all, length-take}

@@ -1,4 +1,5 @@
--- What checking one line does to the summary so far, and how much effort it was: the steps and the nodes that it made.
+-- What checking one line does to the summary so far, and how much effort it was: the steps and the nodes that
+-- it made.
 use Rattle.std.specs.Prelude.{◌≡◌, ℕ, ◌+◌, ◌⊎◌, Bool, true, false, ◌&&◌, List}
 use Rattle.bb_machine.specs.Limits.{Bounds}
 use Rattle.bb_machine.specs.Machine.{Table}

@@ -16,8 +16,8 @@ abbrev pub DecideEnds : Bounds → Plan → Option (List ℕ) → Option (List �
 DecideEnds bounds plan left left_then held held_then end =
     ListEnds (IsReply bounds plan) (IsSummary bounds plan) left left_then held held_then end
 
--- how a trace ends: without fault all its lines are written; after an allocation failure the first few, not all; after
--- a failed write a prefix
+-- how a trace ends: without fault all its lines are written; after an allocation failure the first few, not
+-- all; after a failed write a prefix
 abbrev pub TraceEnds : Bounds → List ℕ → Option (List ℕ) → Option (List ℕ) → Result Summary Fault → Type 0
 TraceEnds bounds line held held_then end = (lines : List (List ℕ)) × IsTrace bounds line lines × MatchEnd end
     (λ summary. Appends held held_then (lines_text lines) × IsTraceSummary bounds line summary)

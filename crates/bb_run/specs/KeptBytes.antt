@@ -1,5 +1,5 @@
--- Why the first bytes of a line, one more than the longest text has, decide the reply to it: laws that the engine asks
--- for. They are proofs; they stand here, since a trait's law may cite nothing of `proofs/`.
+-- Why the first bytes of a line, one more than the longest text has, decide the reply to it: laws that the
+-- engine asks for. They are proofs; they stand here, since a trait's law may cite nothing of `proofs/`.
 use Rattle.std.proofs.Common.{◌≡◌, ℕ, ◌+◌, List, take, inl, inr, subst, arith}
 use Rattle.bb_machine.specs.declared.machine.TheConstants.{LINE}
 use Rattle.bb_machine.specs.Laws.{PrefixIsEnough}

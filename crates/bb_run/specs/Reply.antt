@@ -9,7 +9,8 @@ use Rattle.bb_cert.specs.Line.{IsLineOf, refusal_text}
 use Rattle.bb_decide.specs.declared.plan.Plan.{Plan}
 use Rattle.bb_decide.specs.Verdict.{IsVerdict}
 
--- the line is a machine's text, and the reply is the line of the machine and its verdict; so reading it gives them back
+-- the line is a machine's text, and the reply is the line of the machine and its verdict; so reading it gives
+-- them back
 pub record IsVerdictReply (bounds : Bounds) (plan : Plan) (line reply : List ℕ) : Type 0 where
   pub table : Table
   pub of : IsTextOf table line

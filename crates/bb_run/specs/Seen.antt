@@ -1,4 +1,5 @@
--- What one line does to the summary so far, and how much effort it was: the steps and the nodes that deciding it made.
+-- What one line does to the summary so far, and how much effort it was: the steps and the nodes that deciding
+-- it made.
 use Rattle.std.specs.Prelude.{◌≡◌, ℕ, ◌+◌, ◌⊎◌, false, List}
 use Rattle.bb_machine.specs.Limits.{Bounds}
 use Rattle.bb_machine.specs.Machine.{Table, IsMachineLine, IsTextOf}

@@ -45,8 +45,8 @@ pub record IsPeak (Count : List ℕ → ℕ → Type 0) (lines : List (List ℕ)
   pub bound : AllByRecursion (λ line. (n : ℕ) → Count line n → n ≤ peak) lines
   pub reached : (peak ≡ 0) ⊎ SomeHas Count lines peak
 
--- `clean` says that each line is a machine's text; the peaks are those of the machines' steps and spans; those of
--- levels and nodes are within the bounds, and no less than those of each tree that is a verdict
+-- `clean` says that each line is a machine's text; the peaks are those of the machines' steps and spans;
+-- those of levels and nodes are within the bounds, and no less than those of each tree that is a verdict
 pub record IsSummary (bounds : Bounds) (plan : Plan) (lines : List (List ℕ)) (summary : Summary)
     : Type 0 where
   pub clean : IsTrue summary.clean ↔ AllByRecursion IsMachineLine lines

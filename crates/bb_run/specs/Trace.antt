@@ -1,5 +1,6 @@
 -- What `trace` prints: this project's own.
-use Rattle.std.specs.Prelude.{◌≡◌, ℕ, ◌+◌, ◌<◌, ◌≤◌, ◌⊎◌, ◌↔◌, IsTrue, List, [], ◌∷◌, ◌++◌, length, take, map, Option, Some, None, ℤ, pos, ◌+ℤ◌, decimal}
+use Rattle.std.specs.Prelude.{◌≡◌, ℕ, ◌+◌, ◌<◌, ◌≤◌, ◌⊎◌, ◌↔◌, IsTrue, List, [], ◌∷◌, ◌++◌, length, take, map}
+use Rattle.std.specs.Prelude.{Option, Some, None, ℤ, pos, ◌+ℤ◌, decimal}
 use Rattle.std.specs.Fmt.{signed_decimal}
 use Rattle.std.specs.Io.KnownBytes.{Appends}
 use Rattle.std.specs.List.{flat_map, range_with_len}
@@ -29,8 +30,8 @@ text_at table n None = []
 text_at table n (Some c) =
     head_text n c.state c.head ++ cells_text c.tape (least (counted_head table) n) (span table n)
 
--- the line of a step: its number, and the state, the position of the head and the cells of that configuration, over the
--- positions of the span up to there
+-- the line of a step: its number, and the state, the position of the head and the cells of that
+-- configuration, over the positions of the span up to there
 abbrev pub step_text : Table → ℕ → List ℕ
 step_text table n = text_at table n (conf table n)
 
@@ -73,7 +74,8 @@ pub record IsUncut (bounds : Bounds) (line : List ℕ) : Type 0 where
   pub of : IsTextOf table line
   pub fits : span table bounds.steps ≤ bounds.cells
 
--- `clean` says that the line is a machine's text and its run not cut by the limit of cells; nothing is counted
+-- `clean` says that the line is a machine's text and its run not cut by the limit of cells; nothing is
+-- counted
 pub record IsTraceSummary (bounds : Bounds) (line : List ℕ) (summary : Summary) : Type 0 where
   pub clean : IsTrue summary.clean ↔ IsUncut bounds line
   pub peak : summary.peak ≡ zero_meter

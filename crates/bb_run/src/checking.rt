@@ -133,8 +133,8 @@ fn put(word: &[u8], text: &mut ArrayVec<u8, REPLY>)
     let _room = text.try_extend_from_slice(word);
 }
 
-/// Writes the answer to each verdict line of a list, `open` for each line of a refusal, and `unread` for each line that
-/// is no verdict line.
+/// Writes the answer to each verdict line of a list, `open` for each line of a refusal, and `unread` for each
+/// line that is no verdict line.
 ///
 /// A line ends at a newline; a last line without one counts if it isn't empty. After a fault the
 /// reader and the writer are not to be used again.

@@ -1,5 +1,5 @@
-//! Engines over readers and writers: verdicts on the machines of a list, answers to verdict lines, and the trace of one
-//! machine.
+//! Engines over readers and writers: verdicts on the machines of a list, answers to verdict lines, and the
+//! trace of one machine.
 #![tactic(auto)]
 
 mod checking;

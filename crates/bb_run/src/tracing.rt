@@ -1,5 +1,6 @@
 //! The first configurations of one machine, a line each.
-ghost use Rattle.std.specs.Prelude.{◌≡◌, ◌≢◌, ◌+◌, ◌+ℤ◌, ◌++◌, ◌∷◌, ◌<◌, ◌≤◌, ◌≤ℤ◌, ◌↔◌, ℕ, [], false, is_err, length, pos, true, IsOkUnless, IsTrue, List, OnErr, OnOk};
+ghost use Rattle.std.specs.Prelude.{◌≡◌, ◌≢◌, ◌+◌, ◌+ℤ◌, ◌++◌, ◌∷◌, ◌<◌, ◌≤◌, ◌≤ℤ◌, ◌↔◌, ℕ, [], false};
+ghost use Rattle.std.specs.Prelude.{is_err, length, pos, true, IsOkUnless, IsTrue, List, OnErr, OnOk};
 ghost use Rattle.bb_tape.specs.Content.{cell};
 ghost use Rattle.bb_tape.specs.declared.tape.TheConstants.{MOST_CELLS};
 ghost use Rattle.bb_sim.specs.CellsBetween.{cells_between};
@@ -12,7 +13,8 @@ ghost use Rattle.bb_lines.specs.Ends.{AppendsPrefix, MatchEnd};
 ghost use Rattle.bb_lines.specs.Output.{Sends};
 ghost use Rattle.bb_lines.specs.Watched.{is_marked, watched_inner};
 ghost use Rattle.bb_run.specs.Ends.{TraceEnds};
-ghost use Rattle.bb_run.specs.Trace.{AppendsSomeLines, IsTrace, IsUncut, cells_text, head_text, lines_text, step_lines, step_text};
+ghost use Rattle.bb_run.specs.Trace.{AppendsSomeLines, IsTrace, IsUncut, cells_text, head_text, lines_text};
+ghost use Rattle.bb_run.specs.Trace.{step_lines, step_text};
 
 use crate::summary::Summary;
 use arrayvec::ArrayVec;

@@ -1,7 +1,11 @@
 -- What the proofs of other crates may cite of runs.
 pub use Rattle.bb_sim.proofs.LawLemmas.{last_step_exists}
-pub use Rattle.bb_sim.proofs.Outcomes.{halt_is_last, span_grows, span-start, halts_last, steps_last, cells_last, next_inside, fits_at_halt, wide_at_end, inside_here}
-pub use Rattle.bb_sim.proofs.RunLaws.{earlier_exists, earlier_is_inside, halt_is_unique, last_step_is_unique, score_is_unique, outcome_is_unique, span_is_reached, count_is_within, least_bounds, greatest_bounds}
-pub use Rattle.bb_sim.proofs.Positions.{least-next, greatest-next, least_last, greatest_last, cells_between-is}
+pub use Rattle.bb_sim.proofs.Outcomes.{halt_is_last, span_grows, span-start, halts_last, steps_last}
+pub use Rattle.bb_sim.proofs.Outcomes.{cells_last, next_inside, fits_at_halt, wide_at_end, inside_here}
+pub use Rattle.bb_sim.proofs.RunLaws.{earlier_exists, earlier_is_inside, halt_is_unique, last_step_is_unique}
+pub use Rattle.bb_sim.proofs.RunLaws.{score_is_unique, outcome_is_unique, span_is_reached, count_is_within}
+pub use Rattle.bb_sim.proofs.RunLaws.{least_bounds, greatest_bounds}
+pub use Rattle.bb_sim.proofs.Positions.{least-next, greatest-next, least_last, greatest_last}
+pub use Rattle.bb_sim.proofs.Positions.{cells_between-is}
 pub use Rattle.bb_sim.proofs.Steps.{led, conf-start, conf-next, counted_head-at}
 pub use Rattle.bb_sim.proofs.Counting.{counts_start, counts_next, counts_stopped, Stopped, stopped}

@@ -1,5 +1,6 @@
 -- What the end of a run within limits says of all its steps.
-use Rattle.std.proofs.Common.{◌≡◌, ◌≢◌, ℕ, zero, suc, ◌+◌, ◌-◌, ◌<◌, ◌≤◌, max, Option, Some, None, option_and_then, ℤ, ◌≤ℤ◌, pos, refl, ap, sym, subst, ◌∙◌, add-one, arith}
+use Rattle.std.proofs.Common.{◌≡◌, ◌≢◌, ℕ, zero, suc, ◌+◌, ◌-◌, ◌<◌, ◌≤◌, max, Option, Some, None}
+use Rattle.std.proofs.Common.{option_and_then, ℤ, ◌≤ℤ◌, pos, refl, ap, sym, subst, ◌∙◌, add-one, arith}
 use Rattle.std.specs.Int.{int_min, int_max}
 use Rattle.std.proofs.lemmas.Int.{ints, clamps}
 use Rattle.bb_tape.specs.Content.{score}
@@ -15,7 +16,8 @@ use Rattle.bb_sim.specs.Span.{counted_position_in, counted_head, least, greatest
 use Rattle.bb_sim.specs.Meter.{stepped, counted, CountsRun}
 use Rattle.bb_sim.specs.Outcome.{HaltsInside}
 use Rattle.bb_sim.specs.Runner.{Stands}
-use Rattle.bb_sim.proofs.Positions.{least_last, greatest_last, cells_between-is, cells_between_wider, min-same, max-same}
+use Rattle.bb_sim.proofs.Positions.{least_last, greatest_last, cells_between-is, cells_between_wider}
+use Rattle.bb_sim.proofs.Positions.{min-same, max-same}
 use Rattle.bb_sim.proofs.Steps.{counted_head-start}
 
 -- from a step that doesn't exist on, none does

@@ -1,5 +1,6 @@
 -- Why the laws of runs hold.
-use Rattle.std.proofs.Common.{◌≡◌, ◌≢◌, ℕ, zero, suc, ◌+◌, ◌-◌, ◌≤◌, ◌⊎◌, inl, inr, max, Option, Some, None, ℤ, pos, negsuc, ◌<ℤ◌, ◌≤ℤ◌, refl, ap, sym, subst, ◌∙◌, arith}
+use Rattle.std.proofs.Common.{◌≡◌, ◌≢◌, ℕ, zero, suc, ◌+◌, ◌-◌, ◌≤◌, ◌⊎◌, inl, inr, max, Option, Some, None}
+use Rattle.std.proofs.Common.{ℤ, pos, negsuc, ◌<ℤ◌, ◌≤ℤ◌, refl, ap, sym, subst, ◌∙◌, arith}
 use Rattle.std.specs.Int.{int_min, int_max}
 use Rattle.std.proofs.lemmas.Bool.{cases_lt}
 use Rattle.std.proofs.lemmas.Int.{ints, clamps}
@@ -11,10 +12,13 @@ use Rattle.bb_sim.specs.declared.simulation.Outcome.TheVariants.{Halt as Halted,
 use Rattle.bb_sim.specs.Configuration.{Configuration}
 use Rattle.bb_sim.specs.Run.{conf, Exists, IsScore}
 use Rattle.bb_sim.specs.Span.{counted_position, counted_head, least, greatest, span}
-use Rattle.bb_sim.specs.Laws.{EarlierExists, HaltIsLast, HaltIsUnique, LastStepIsUnique, ScoreIsUnique, OutcomeIsUnique, SpanGrows, EarlierIsInside, IsRunningAt, SpanIsReached, CountIsWithin}
+use Rattle.bb_sim.specs.Laws.{EarlierExists, HaltIsLast, HaltIsUnique, LastStepIsUnique, ScoreIsUnique}
+use Rattle.bb_sim.specs.Laws.{OutcomeIsUnique, SpanGrows, EarlierIsInside, IsRunningAt, SpanIsReached}
+use Rattle.bb_sim.specs.Laws.{CountIsWithin}
 use Rattle.bb_sim.proofs.Positions.{least_last, greatest_last}
 use Rattle.bb_sim.proofs.Steps.{conf-start, counted_head-at}
-use Rattle.bb_sim.proofs.Outcomes.{none_on, halt_is_last, span_grows, least_falls, greatest_rises, counted_head-none}
+use Rattle.bb_sim.proofs.Outcomes.{none_on, halt_is_last, span_grows, least_falls, greatest_rises}
+use Rattle.bb_sim.proofs.Outcomes.{counted_head-none}
 
 pub earlier_exists : EarlierExists
 earlier_exists table m n few there = found (conf table m) refl where

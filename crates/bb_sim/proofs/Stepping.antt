@@ -1,5 +1,6 @@
 -- A runner's step, from what it stands on to what it stands on next.
-use Rattle.std.proofs.Common.{◌≡◌, ◌≢◌, ℕ, ◌+◌, ◌<◌, ◌≤◌, ℤ, ◌+ℤ◌, ◌≤ℤ◌, pos, Some, length, refl, ap, sym, ◌∙◌, arith}
+use Rattle.std.proofs.Common.{◌≡◌, ◌≢◌, ℕ, ◌+◌, ◌<◌, ◌≤◌, ℤ, ◌+ℤ◌, ◌≤ℤ◌, pos, Some, length, refl, ap, sym}
+use Rattle.std.proofs.Common.{◌∙◌, arith}
 use Rattle.std.specs.Int.{int_min, int_max}
 use Rattle.std.proofs.lemmas.Int.{ints, clamps}
 use Rattle.bb_machine.specs.declared.entry.Dir.{Dir}
@@ -20,7 +21,8 @@ use Rattle.bb_sim.specs.Configuration.{beside, entry_at}
 use Rattle.bb_sim.specs.Run.{HaltsAt}
 use Rattle.bb_sim.specs.CellsBetween.{cells_between}
 use Rattle.bb_sim.specs.Span.{counted_position, counted_head, span}
-use Rattle.bb_sim.specs.Runner.{Stands, Answers, Moves, Reaches, state_of, position_of, steps_of, low_of, high_of}
+use Rattle.bb_sim.specs.Runner.{Stands, Answers, Moves, Reaches, state_of, position_of, steps_of, low_of}
+use Rattle.bb_sim.specs.Runner.{high_of}
 use Rattle.bb_sim.specs.Widening.{GoesNowhere, IsWidened, StepsTo}
 use Rattle.bb_sim.specs.Meter.{stepped}
 use Rattle.bb_sim.specs.declared.meter.Meter.{Meter}

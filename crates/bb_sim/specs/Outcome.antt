@@ -16,8 +16,8 @@ pub record HaltsInside (table : Table) (bounds : Bounds) (n : ℕ) : Type 0 wher
 abbrev pub HaltsNowhere : Table → Bounds → Type 0
 HaltsNowhere table bounds = (n : ℕ) → HaltsInside table bounds n → ⊥
 
--- a halt with its steps and its score just where the machine halts inside the limits; else the limit of steps, where
--- that many steps stay within the cells; else the limit of cells
+-- a halt with its steps and its score just where the machine halts inside the limits; else the limit of
+-- steps, where that many steps stay within the cells; else the limit of cells
 abbrev pub IsOutcome : Table → Bounds → Outcome → Type 0
 IsOutcome table bounds (Halt n ones) = HaltsInside table bounds n × IsScore table n ones
 IsOutcome table bounds NoSteps = HaltsNowhere table bounds × (span table bounds.steps ≤ bounds.cells)

@@ -72,8 +72,8 @@ Moves table old new strip_old strip_new meter_old meter_new NoSteps =
 Moves table old new strip_old strip_new meter_old meter_new NoCells =
     Stays old new strip_old strip_new meter_old meter_new
 
--- where a runner stands after a call: after a step at a step inside, its head in the window or next to it; where it
--- did not step, at the last step inside
+-- where a runner stands after a call: after a step at a step inside, its head in the window or next to it;
+-- where it did not step, at the last step inside
 abbrev pub Reaches : Table → Bounds → Runner → Strip → Moved → Type 0
 Reaches table bounds runner strip Stepped =
     Inside table bounds (steps_of runner) × IsBeside strip (position_of runner)

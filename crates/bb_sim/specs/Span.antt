@@ -1,4 +1,5 @@
--- How many cells a run has needed, and which steps are inside given limits. These are this project's own notions.
+-- How many cells a run has needed, and which steps are inside given limits. These are this project's own
+-- notions.
 use Rattle.std.specs.Prelude.{◌≡◌, ℕ, zero, suc, ◌≤◌, Option, Some, None, ℤ, pos}
 use Rattle.std.specs.Int.{int_min, int_max}
 use Rattle.bb_machine.specs.declared.entry.Next.{Next}
@@ -18,8 +19,8 @@ abbrev pub counted_position_in : Option Configuration → ℤ
 counted_position_in None = pos 0
 counted_position_in (Some c) = counted_position c.state c.head
 
--- the head's position at step n as it counts for the span: 0 for no such step and for Z. Step 0 stands at 0, so this
--- changes neither end of the span (`SpanIsReached`)
+-- the head's position at step n as it counts for the span: 0 for no such step and for Z. Step 0 stands at 0,
+-- so this changes neither end of the span (`SpanIsReached`)
 unfoldable pub counted_head : Table → ℕ → ℤ
 counted_head table n = counted_position_in (conf table n)
 

@@ -1,9 +1,11 @@
 -- What users of any tape need to know of its cells.
-use Rattle.std.proofs.Common.{◌≡◌, ◌≢◌, ℕ, zero, suc, ◌+◌, ◌-◌, min, ℤ, Bool, true, false, cond, Option, Some, None, is_some, refl, ap, sym, ◌∙◌, arith}
+use Rattle.std.proofs.Common.{◌≡◌, ◌≢◌, ℕ, zero, suc, ◌+◌, ◌-◌, min, ℤ, Bool, true, false, cond, Option, Some}
+use Rattle.std.proofs.Common.{None, is_some, refl, ap, sym, ◌∙◌, arith}
 use Rattle.std.specs.Bool.{Decides}
 use Rattle.std.specs.Ordering.{int_cmp, int_eq}
 use Rattle.std.specs.Cmp.{int_cmp_total, signed_Decides}
-use Rattle.std.specs.FinMap.{get, len, get-empty, get-insert, get-remove, len-empty, len-insert, len-remove, empty_of_len, same_map, int_cmp-IsAntisymmetric}
+use Rattle.std.specs.FinMap.{get, len, get-empty, get-insert, get-remove, len-empty, len-insert, len-remove}
+use Rattle.std.specs.FinMap.{empty_of_len, same_map, int_cmp-IsAntisymmetric}
 use Rattle.bb_tape.specs.Content.{Content, symbol_of, blank, cell, with_cell, score}
 
 symbol-cond-none : (b : Bool) (o : Option ℕ) → symbol_of (cond b None o) ≡ cond b 0 (symbol_of o)

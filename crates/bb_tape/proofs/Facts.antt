@@ -1,10 +1,14 @@
--- What users of any tape need to know of its cells and its window. Proofs of other crates cite this file alone.
+-- What users of any tape need to know of its cells and its window. Proofs of other crates cite this file
+-- alone.
 use Rattle.std.proofs.Common.{◌≡◌, ℤ, ◌≤ℤ◌, arith}
 use Rattle.std.proofs.lemmas.Int.{ints, clamps}
 use Rattle.std.specs.Int.{int_min, int_max}
 use Rattle.bb_tape.specs.Strip.{Strip, visited}
-pub use Rattle.bb_tape.proofs.Content.{cell-blank, cell-with_cell, cell-with_cell-same, cell-with_cell-other, same_content, by_position, with_cell-with_cell, with_cell-apart, with_cell-cell, put_back, score-blank, score-with_cell}
-pub use Rattle.bb_tape.proofs.Strips.{cell-written-same, cell-written-other, written-cell, written-written, written_back}
+pub use Rattle.bb_tape.proofs.Content.{cell-blank, cell-with_cell, cell-with_cell-same, cell-with_cell-other}
+pub use Rattle.bb_tape.proofs.Content.{same_content, by_position, with_cell-with_cell, with_cell-apart}
+pub use Rattle.bb_tape.proofs.Content.{with_cell-cell, put_back, score-blank, score-with_cell}
+pub use Rattle.bb_tape.proofs.Strips.{cell-written-same, cell-written-other, written-cell, written-written}
+pub use Rattle.bb_tape.proofs.Strips.{written_back}
 
 -- a position further out, below or above, takes in the one before
 pub visited-visited-low : (s : Strip) (p q : ℤ) → q ≤ℤ p → p ≤ℤ s.high → visited (visited s p) q ≡ visited s q

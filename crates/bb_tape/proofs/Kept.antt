@@ -1,5 +1,6 @@
 -- The cells of which an ordered map's entries tell.
-use Rattle.std.proofs.Common.{arith, refl, ◌≡◌, ℕ, suc, ◌+◌, ℤ, List, [], ◌∷◌, length, Bool, true, false, cond, Option, Some, None, is_some, sym, ◌∙◌, ap}
+use Rattle.std.proofs.Common.{arith, refl, ◌≡◌, ℕ, suc, ◌+◌, ℤ, List, [], ◌∷◌, length, Bool, true, false}
+use Rattle.std.proofs.Common.{cond, Option, Some, None, is_some, sym, ◌∙◌, ap}
 use Rattle.std.specs.Ordering.{int_cmp, int_eq}
 use Rattle.std.specs.Cmp.{int_cmp_total, int_eq_equiv}
 use Rattle.std.specs.Map.{keys_of, lookup, update_all}

@@ -1,11 +1,13 @@
 -- The cells of symbols that are laid on a blank tape, and how many aren't 0.
-use Rattle.std.proofs.Common.{◌≡◌, ◌≢◌, ℕ, zero, suc, ◌+◌, min, cond, ℤ, pos, ◌+ℤ◌, ◌<ℤ◌, List, [], ◌∷◌, get_or, count_by, sym, ap, ◌∙◌, arith}
+use Rattle.std.proofs.Common.{◌≡◌, ◌≢◌, ℕ, zero, suc, ◌+◌, min, cond, ℤ, pos, ◌+ℤ◌, ◌<ℤ◌, List, [], ◌∷◌}
+use Rattle.std.proofs.Common.{get_or, count_by, sym, ap, ◌∙◌, arith}
 use Rattle.std.proofs.lemmas.Int.{ints}
 use Rattle.std.proofs.lemmas.List.Sums.{sum_by-append}
 use Rattle.std.proofs.lemmas.Bool.Decides.{nat_tests}
 use Rattle.bb_tape.specs.Content.{cell, with_cell, score}
 use Rattle.bb_tape.specs.Ring.{laid}
-use Rattle.bb_tape.proofs.Content.{cell-blank, cell-with_cell-same, cell-with_cell-other, score-blank, score-with_cell}
+use Rattle.bb_tape.proofs.Content.{cell-blank, cell-with_cell-same, cell-with_cell-other, score-blank}
+use Rattle.bb_tape.proofs.Content.{score-with_cell}
 use Rattle.bb_tape.proofs.Slices.{nonzero}
 
 pub cell-laid-below : (from : ℤ) (xs : List ℕ) (p : ℤ) → p <ℤ from → cell (laid from xs) p ≡ 0

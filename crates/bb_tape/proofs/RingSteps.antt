@@ -1,5 +1,6 @@
 -- What the calls on a ring do to its cells.
-use Rattle.std.proofs.Common.{◌≡◌, ◌≢◌, ◌⊎◌, inl, inr, ℕ, ◌<◌, ◌≤◌, ℤ, pos, ◌+ℤ◌, ◌≤ℤ◌, ◌<ℤ◌, List, get_or, set, length, sym, ap, ◌∙◌, arith, get_or-set_same, get_or-set_other}
+use Rattle.std.proofs.Common.{◌≡◌, ◌≢◌, ◌⊎◌, inl, inr, ℕ, ◌<◌, ◌≤◌, ℤ, pos, ◌+ℤ◌, ◌≤ℤ◌, ◌<ℤ◌, List, get_or}
+use Rattle.std.proofs.Common.{set, length, sym, ap, ◌∙◌, arith, get_or-set_same, get_or-set_other}
 use Rattle.std.proofs.lemmas.Int.{ints, clamps, by_lt_z}
 use Rattle.std.proofs.lemmas.Bool.{cases_lt}
 use Rattle.std.specs.Prelude.{unsigned_abs}
@@ -8,7 +9,8 @@ use Rattle.bb_tape.specs.declared.window.Window.{Window}
 use Rattle.bb_tape.specs.Content.{blank, cell, with_cell}
 use Rattle.bb_tape.specs.RingIndex.{ring_index}
 use Rattle.bb_tape.specs.Ring.{IsClear, ring_content}
-use Rattle.bb_tape.proofs.Content.{by_position, same_content, cell-blank, cell-with_cell-same, cell-with_cell-other}
+use Rattle.bb_tape.proofs.Content.{by_position, same_content, cell-blank, cell-with_cell-same}
+use Rattle.bb_tape.proofs.Content.{cell-with_cell-other}
 use Rattle.bb_tape.proofs.RingIndex.{index_in, index_below, index_from_zero, index_apart}
 use Rattle.bb_tape.proofs.Rings.{by_window, cell-ring-inside, cell-ring-below, cell-ring-above}
 

@@ -2,7 +2,8 @@
 use Rattle.std.proofs.Common.{◌≡◌, ◌≢◌, ℕ, ℤ, ap}
 use Rattle.bb_tape.specs.Content.{cell}
 use Rattle.bb_tape.specs.Strip.{Strip, written}
-use Rattle.bb_tape.proofs.Content.{cell-with_cell-same, cell-with_cell-other, with_cell-cell, with_cell-with_cell, put_back}
+use Rattle.bb_tape.proofs.Content.{cell-with_cell-same, cell-with_cell-other, with_cell-cell}
+use Rattle.bb_tape.proofs.Content.{with_cell-with_cell, put_back}
 
 pub cell-written-same : (s : Strip) (p : ℤ) (v : ℕ) → cell (written s p v).content p ≡ v
 cell-written-same s p v = cell-with_cell-same s.content p v

@@ -1,5 +1,7 @@
 -- A ring's score, cells that are all 0, and lists that stand in two pieces each.
-use Rattle.std.proofs.Common.{◌≡◌, ◌⊎◌, inl, inr, ℕ, zero, suc, ◌+◌, ◌<◌, cond, ℤ, pos, ◌+ℤ◌, ◌-ℤ◌, ◌<ℤ◌, List, [], ◌∷◌, ◌++◌, get_or, take, drop, length, count_by, refl, sym, ap, ◌∙◌, arith}
+use Rattle.std.proofs.Common.{◌≡◌, ◌⊎◌, inl, inr, ℕ, zero, suc, ◌+◌, ◌<◌, cond, ℤ, pos, ◌+ℤ◌, ◌-ℤ◌, ◌<ℤ◌}
+use Rattle.std.proofs.Common.{List, [], ◌∷◌, ◌++◌, get_or, take, drop, length, count_by, refl, sym, ap, ◌∙◌}
+use Rattle.std.proofs.Common.{arith}
 use Rattle.std.proofs.Math.Seq.{take-append_seam, drop-append_seam}
 use Rattle.std.proofs.lemmas.Int.{ints, clamps, by_lt_z}
 use Rattle.std.specs.Int.{int_min, int_max}
@@ -14,7 +16,8 @@ use Rattle.bb_tape.specs.Content.{Content, cell, score}
 use Rattle.bb_tape.specs.RingIndex.{ring_index}
 use Rattle.bb_tape.specs.Ring.{ring_content, symbols}
 use Rattle.bb_tape.proofs.Content.{same_content}
-use Rattle.bb_tape.proofs.Rings.{cell-ring-inside, cell-ring-below, cell-ring-above, by_window, symbols_of, length_of, abs_is}
+use Rattle.bb_tape.proofs.Rings.{cell-ring-inside, cell-ring-below, cell-ring-above, by_window, symbols_of}
+use Rattle.bb_tape.proofs.Rings.{length_of, abs_is}
 use Rattle.bb_tape.proofs.Laying.{score-laid, count_next}
 use Rattle.bb_tape.proofs.Pieces.{length-symbols, get_or-symbols}
 use Rattle.bb_tape.proofs.Slices.{nonzero}

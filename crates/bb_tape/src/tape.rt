@@ -27,10 +27,11 @@ pub enum TapeFault {
     Memory,
 }
 
-/// A tape that is endless both ways, of which a window of a limited number of cells may be visited.
-/// Positions are signed, and a new tape's window is the cell 0 alone. A cell has a symbol from 0 to `MOST_SYMBOL`.
+/// A tape that is endless both ways, of which a window of a limited number of cells may be visited. Positions
+/// are signed, and a new tape's window is the cell 0 alone. A cell has a symbol from 0 to `MOST_SYMBOL`.
 ///
-/// There is no way to make a tape here, nor to clone one: who is generic over it has only the tapes that it was lent.
+/// There is no way to make a tape here, nor to clone one: who is generic over it has only the tapes that it
+/// was lent.
 pub trait Tape: Drop {
     /// The cells, the window and the limit.
     ghost strip: { Self → Strip };

@@ -134,7 +134,8 @@ fn a_ring_is_made_or_refused(rt: HostRuntime) {
     }
 }
 
-/// Puts symbols into the cells from `from` on, below `cells`, and gives the first that was refused, or `cells`.
+/// Puts symbols into the cells from `from` on, below `cells`, and gives the first that was refused, or
+/// `cells`.
 fn write_upwards<T: Tape>(tape: &mut T, from: u8, cells: u8) -> u8
     requires { IsBeside (T.strip tape.old) (pos from) }
     ensures { (T.strip tape.new).limit ≡ (T.strip tape.old).limit }

@@ -100,7 +100,8 @@ impl Window {
         (self.high + 1) as usize
     }
 
-    /// The index from which on its positions below 0 stand, in a ring of as many cells as the window may have.
+    /// The index from which on its positions below 0 stand, in a ring of as many cells as the window may
+    /// have.
     pub(crate) fn lower_at(&self) -> usize
         ensures { pos result ≡ self.now.low +ℤ pos self.now.limit }
     {

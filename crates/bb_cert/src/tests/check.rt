@@ -14,7 +14,8 @@ const CELLS: u64 = 64;
 
 const DEPTH: u64 = 32;
 
-/// A line, the limits of steps, cells, levels and nodes, what is answered, and the steps, nodes and levels counted.
+/// A line, the limits of steps, cells, levels and nodes, what is answered, and the steps, nodes and levels
+/// counted.
 type Row = (&'static [u8], [u64; 4], Answer, [u64; 3]);
 
 static ROWS: [Row; 78] = [
@@ -538,7 +539,8 @@ fn claims_are_answered_on_rings(rt: HostRuntime) -> Result<(), Fail> {
     Ok(())
 }
 
-/// Machines, the kind of claim, by its side where it is of records, and how many pairs of steps up to 16 it is true of.
+/// Machines, the kind of claim, by its side where it is of records, and how many pairs of steps up to 16 it
+/// is true of.
 static FAMILIES: [(&'static [u8], Option<Side>, u64); 5] = [
     (b"0RB---_0LA---", None, 64),
     (b"1RB0RB_1LA1LA", None, 21),
@@ -614,8 +616,8 @@ fn pairs_are_answered<T: Tape>(
     Ok(())
 }
 
-/// Checks each pair of steps up to 16 of a machine that makes a record with each step, with its extent, and with those
-/// that are wrong by one.
+/// Checks each pair of steps up to 16 of a machine that makes a record with each step, with its extent, and
+/// with those that are wrong by one.
 fn extents_are_answered<T: Tape>(
     rt: &impl Abort,
     pair: &mut Pair<T>,

@@ -84,8 +84,8 @@ impl Tape for Counting {
     }
 }
 
-/// Machines, and the bounds of levels and nodes of their walks: trees that end, and walks that give up at a bound or at
-/// the start.
+/// Machines, and the bounds of levels and nodes of their walks: trees that end, and walks that give up at a
+/// bound or at the start.
 static WALKS: [(&[u8], u64, u64); 6] = [
     (b"0RB---_0LA---", 10, 100),
     (b"0RB---_0LA---", 2, 3),

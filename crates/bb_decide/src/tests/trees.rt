@@ -11,8 +11,8 @@ use bb_tape::{MapTape, RingTape, Tape};
 use std::process::Abort;
 use std::test::Fail;
 
-/// A machine; the limits of steps, cells, levels and nodes; its verdict by all deciders; the steps that it costs, and
-/// how many nodes are entered at most.
+/// A machine; the limits of steps, cells, levels and nodes; its verdict by all deciders; the steps that it
+/// costs, and how many nodes are entered at most.
 type Row = (&'static [u8], [u64; 4], Verdict, u64, u64);
 
 const ALL: Plan = Plan {

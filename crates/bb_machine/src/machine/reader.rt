@@ -108,8 +108,8 @@ impl Machine {
     ghost use Rattle.bb_machine.specs.Machine.{Table, IsMachine, text};
     ghost use Rattle.bb_machine.specs.Column.{IsColumn};
 
-    /// Reads the machine whose text the line is in place of this one, as `read` does; where there is none, this
-    /// one stays. What it costs goes with the line: no table is cleared or moved.
+    /// Reads the machine whose text the line is in place of this one, as `read` does; where there is none,
+    /// this one stays. What it costs goes with the line: no table is cleared or moved.
     #[inline]
     pub fn read_anew(&mut self, line: &[u8]) -> Result<(), Refused>
         ensures found { OnOk result (IsMachine self.new × (text self.new ≡ line.now)) }

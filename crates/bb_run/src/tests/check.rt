@@ -208,7 +208,8 @@ fn sums_up_claims(rt: HostRuntime) {
     assert_eq!(rt; summary.peak.most_levels, 2);
 }
 
-/// All plans over four machines: each decided line is answered ok at the same limits, and all others are open.
+/// All plans over four machines: each decided line is answered ok at the same limits, and all others are
+/// open.
 #[test]
 fn what_was_decided_is_ok(rt: HostRuntime) {
     let machines =

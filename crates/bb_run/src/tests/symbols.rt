@@ -1,5 +1,5 @@
-//! Machines of three to ten symbols and up to 25 states, with answers of a second program that reads the definitions
-//! plainly, on both tapes.
+//! Machines of three to ten symbols and up to 25 states, with answers of a second program that reads the
+//! definitions plainly, on both tapes.
 
 use crate::tests::check::answers as check_answers;
 use crate::tests::{

@@ -3,7 +3,8 @@ use Rattle.std.specs.Prelude.{Some}
 use Rattle.std.proofs.lemmas.Result.{IfErr-weaker, IfOk-weaker}
 use Rattle.clap.specs.Words.{Text, found_of, rows_of}
 use Rattle.bb.specs.Command.{Gives}
-use Rattle.bb.proofs.CommandLines.{gives, names_decide, stops_a_check, stops_a_trace, stops_by_kind, stops_deciding}
+use Rattle.bb.proofs.CommandLines.{gives, names_decide, stops_a_check, stops_a_trace, stops_by_kind}
+use Rattle.bb.proofs.CommandLines.{stops_deciding}
 use Rattle.bb.proofs.command.ask.Goals.{Joined-matches, Joined-matches-2, Joined-matches-3}
 use Rattle.bb.proofs.command.ask.Goals as goal
 

@@ -1,4 +1,5 @@
-use Rattle.bb_cert.proofs.Records.{record_has_one_step, records_in_order, lower_records_exist, short_of_record, record_takes_steps}
+use Rattle.bb_cert.proofs.Records.{record_has_one_step, records_in_order, lower_records_exist}
+use Rattle.bb_cert.proofs.Records.{short_of_record, record_takes_steps}
 use Rattle.bb_cert.proofs.laws.records_in_order.Goals as goal
 
 pub returns-clause-one_step : goal.returns-clause-one_step

@@ -1,4 +1,5 @@
-use Rattle.std.proofs.Common.{rules, ◌≡◌, ◌≢◌, ◌<◌, length, get_or, decimal, ◌∙◌, ap, sym, subst, inl, inr, arith}
+use Rattle.std.proofs.Common.{rules, ◌≡◌, ◌≢◌, ◌<◌, length, get_or, decimal, ◌∙◌, ap, sym, subst, inl, inr}
+use Rattle.std.proofs.Common.{arith}
 use Rattle.std.specs.Str.{IsUtf8}
 use Rattle.std.specs.Str.Parse.{ParsesUnsigned}
 use Rattle.std.proofs.lemmas.Fmt.{decimal_nonempty}
@@ -7,7 +8,8 @@ use Rattle.std.proofs.lemmas.Result.{MatchResult-weaker}
 use Rattle.bb_cert.proofs.Numbers.{decimal_no_plus, decimal_no_zero, decimal_utf8, number_parsed}
 use Rattle.bb_cert.proofs.Options.{MatchOption-result_ok}
 use Rattle.bb_cert.proofs.reader.read_number.Goals as goal
-use Rattle.bb_cert.proofs.reader.read_number.Goals.{then-first-eq43-via-then-first-eq43, then-first-eq43-via-else-first-eq43+then-digits-gt1}
+use Rattle.bb_cert.proofs.reader.read_number.Goals.{then-first-eq43-via-then-first-eq43}
+use Rattle.bb_cert.proofs.reader.read_number.Goals.{then-first-eq43-via-else-first-eq43+then-digits-gt1}
 
 pub returns-in_err-first : goal.returns-in_err-first
 returns-in_err-first c =

@@ -4,7 +4,8 @@ use Rattle.std.proofs.lemmas.Fmt.{decimal_injective}
 use Rattle.std.proofs.lemmas.List.{append_cancel_left}
 use Rattle.std.proofs.lemmas.Slice.Eq.{strip_prefix_is}
 use Rattle.bb_cert.proofs.reader.read_refusal.Goals as goal
-use Rattle.bb_cert.proofs.reader.read_refusal.Goals.{then-column-eq0-via-then-column-eq0, then-column-eq0-via-else-column-eq0+then-column}
+use Rattle.bb_cert.proofs.reader.read_refusal.Goals.{then-column-eq0-via-then-column-eq0}
+use Rattle.bb_cert.proofs.reader.read_refusal.Goals.{then-column-eq0-via-else-column-eq0+then-column}
 
 pub returns-then-column-eq0 : goal.returns-then-column-eq0
 returns-then-column-eq0 c = λ column some few is.

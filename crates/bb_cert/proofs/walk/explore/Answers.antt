@@ -3,7 +3,9 @@ use Rattle.bb_machine.specs.declared.limits.TheConstants.{MOST_LEVELS}
 use Rattle.bb_cert.specs.Walk.{HasRoom, IsBranch, Refused, branch_node}
 use Rattle.bb_cert.specs.Path.{frames_of}
 use Rattle.bb_cert.proofs.Entering.{room_written}
-use Rattle.bb_cert.proofs.Exploring.{IsExploring, exploring_begins, top_is, top_low, top_high, top_inside, branch_is, branch_beside, branch_refused, exploring_descends, explored, exploring_returns, root_refused}
+use Rattle.bb_cert.proofs.Exploring.{IsExploring, exploring_begins, top_is, top_low, top_high, top_inside}
+use Rattle.bb_cert.proofs.Exploring.{branch_is, branch_beside, branch_refused, exploring_descends, explored}
+use Rattle.bb_cert.proofs.Exploring.{exploring_returns, root_refused}
 use Rattle.bb_cert.proofs.walk.explore.Goals as goal
 
 pub returns-in_default-clause-explores : goal.returns-in_default-clause-explores

@@ -1,7 +1,9 @@
-use Rattle.std.proofs.Common.{◌≡◌, ◌+◌, false, true, [], ◌∷◌, length, get_or, map, slice_index, slice_range, ap, sym, refl, subst, ◌∙◌, rules}
+use Rattle.std.proofs.Common.{◌≡◌, ◌+◌, false, true, [], ◌∷◌, length, get_or, map, slice_index, slice_range}
+use Rattle.std.proofs.Common.{ap, sym, refl, subst, ◌∙◌, rules}
 use Rattle.bb_cert.specs.Tree.{halting_node}
 use Rattle.bb_cert.specs.Walk.{IsWalked}
-use Rattle.bb_cert.proofs.Roots.{root_is, root_explored, root_stops, roots_begin, roots_end, end_at, no_more, before_end, past_end}
+use Rattle.bb_cert.proofs.Roots.{root_is, root_explored, root_stops, roots_begin, roots_end, end_at, no_more}
+use Rattle.bb_cert.proofs.Roots.{before_end, past_end}
 use Rattle.bb_cert.proofs.walk.explore_all.Goals as goal
 
 pub loop-index-init : goal.loop-index-init

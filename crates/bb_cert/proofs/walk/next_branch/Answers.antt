@@ -1,9 +1,11 @@
 use Rattle.std.proofs.Common.{◌≡◌, ◌+ℤ◌, FitsSigned, to_z, of_z, w64, refl, ◌∙◌, rules}
 use Rattle.std.proofs.lemmas.Int.{to_z-of_z}
 use Rattle.bb_cert.specs.Tree.{left_cell}
-use Rattle.bb_cert.proofs.Shown.{no_rule, undefined_else, skips_undefined, skips_unfit, first_unknown, first_written, branches_none}
+use Rattle.bb_cert.proofs.Shown.{no_rule, undefined_else, skips_undefined, skips_unfit, first_unknown}
+use Rattle.bb_cert.proofs.Shown.{first_written, branches_none}
 use Rattle.bb_cert.proofs.walk.next_branch.Goals as goal
-use Rattle.bb_cert.proofs.walk.next_branch.Goals.{then-held-eq0-via-then-held-eq0, then-held-eq0-via-else-held-eq0+then-held-write}
+use Rattle.bb_cert.proofs.walk.next_branch.Goals.{then-held-eq0-via-then-held-eq0}
+use Rattle.bb_cert.proofs.walk.next_branch.Goals.{then-held-eq0-via-else-held-eq0+then-held-write}
 
 pub loop-index-init : goal.loop-index-init
 loop-index-init g c = refl

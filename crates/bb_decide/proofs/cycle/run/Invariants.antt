@@ -6,8 +6,8 @@ use Rattle.bb_decide.specs.Cycle.{IsCycle}
 use Rattle.bb_decide.specs.Partner.{IsKept}
 use Rattle.bb_decide.proofs.cycle.run.Given as goal
 
--- both runners stand within the limits, the kept one at the partner of the next step, which is kept up to the step
--- that is twice its own; no step up to here is a cycle
+-- both runners stand within the limits, the kept one at the partner of the next step, which is kept up to the
+-- step that is twice its own; no step up to here is a cycle
 abbrev pub invariant-loop-runner : goal.invariant-loop-runner
 invariant-loop-runner g l = record {
   stands : Stands l.machine l.runner (g.T.Tape.strip l.bench.run);

@@ -1,4 +1,5 @@
-use Rattle.bb_decide.proofs.Works.{counts_all, counts_searches, found_by_all, if_ok_map, if_ok_on, search_of_all}
+use Rattle.bb_decide.proofs.Works.{counts_all, counts_searches, found_by_all, if_ok_map, if_ok_on}
+use Rattle.bb_decide.proofs.Works.{search_of_all}
 use Rattle.bb_decide.proofs.decision.find.Goals as goal
 
 pub returns-in-Some-clause-found : goal.returns-in-Some-clause-found

@@ -1,4 +1,5 @@
-use Rattle.bb_decide.proofs.Works.{counts_both, counts_cycles, cycle_of_searches, found_by_searches, if_ok_map, if_ok_on, not_passed}
+use Rattle.bb_decide.proofs.Works.{counts_both, counts_cycles, cycle_of_searches, found_by_searches}
+use Rattle.bb_decide.proofs.Works.{if_ok_map, if_ok_on, not_passed}
 use Rattle.bb_decide.proofs.decision.search.Goals as goal
 
 pub returns-in-Some-clause-found : goal.returns-in-Some-clause-found

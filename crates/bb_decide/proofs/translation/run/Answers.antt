@@ -7,8 +7,10 @@ use Rattle.bb_cert.specs.declared.verdict.Side.TheVariants.{L, R}
 use Rattle.bb_cert.proofs.Facts.{agreeing_records_never_halt}
 use Rattle.bb_cert.specs.declared.side_records.Records.{Records}
 use Rattle.bb_decide.proofs.Halting.{halts_in_Z, in_no_state}
-use Rattle.bb_decide.proofs.TakingIn.{extent_found, no_pair, pair_found, ready, searched_at_first, searched_on}
-use Rattle.bb_decide.proofs.Translations.{first_translation, no_pair_at_end, none_at_first, none_next, pair_agrees}
+use Rattle.bb_decide.proofs.TakingIn.{extent_found, no_pair, pair_found, ready, searched_at_first}
+use Rattle.bb_decide.proofs.TakingIn.{searched_on}
+use Rattle.bb_decide.proofs.Translations.{first_translation, no_pair_at_end, none_at_first, none_next}
+use Rattle.bb_decide.proofs.Translations.{pair_agrees}
 use Rattle.bb_decide.proofs.translation.run.Goals as goal
 
 pub loop-runner-init : goal.loop-runner-init

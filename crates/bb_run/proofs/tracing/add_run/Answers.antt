@@ -4,7 +4,8 @@ use Rattle.bb_sim.specs.declared.meter.Meter.{Meter}
 use Rattle.bb_sim.specs.Runner.{steps_of}
 use Rattle.bb_sim.proofs.Facts.{inside_here}
 use Rattle.bb_lines.proofs.Facts.{Appends-after, AppendsPrefix-after, AppendsPrefix-further, Sends-trans}
-use Rattle.bb_run.proofs.TraceEnds.{ended_by_halt, ended_by_steps, ended_by_cells, ended_early, ended_by_write, Sends-next, AppendsPrefix-next}
+use Rattle.bb_run.proofs.TraceEnds.{ended_by_halt, ended_by_steps, ended_by_cells, ended_early}
+use Rattle.bb_run.proofs.TraceEnds.{ended_by_write, Sends-next, AppendsPrefix-next}
 use Rattle.bb_run.proofs.tracing.add_run.Goals as goal
 
 pub advance-requires-clause-room : goal.advance-requires-clause-room

@@ -3,7 +3,8 @@ use Rattle.bb_tape.specs.Content.{score}
 use Rattle.bb_tape.specs.Strip.{Strip}
 use Rattle.bb_sim.specs.Meter.{stepped}
 use Rattle.bb_sim.specs.Span.{span}
-use Rattle.bb_sim.proofs.Outcomes.{inside_here, halts_last, steps_last, cells_last, no_halt_inside, wide_at_end, span_grows, counted-next, halted_end, counts_end}
+use Rattle.bb_sim.proofs.Outcomes.{inside_here, halts_last, steps_last, cells_last, no_halt_inside}
+use Rattle.bb_sim.proofs.Outcomes.{wide_at_end, span_grows, counted-next, halted_end, counts_end}
 use Rattle.bb_sim.proofs.simulation.run.Goals as goal
 
 pub loop-runner-preserved : goal.loop-runner-preserved

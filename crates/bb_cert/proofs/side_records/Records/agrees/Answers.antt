@@ -1,4 +1,5 @@
-use Rattle.std.proofs.Common.{◌≡◌, ◌<ℤ◌, ◌≤ℤ◌, ℤ, pos, inr, Err, arith, ap, sym, subst, ◌∙◌, w64, of_z, rules, FitsSigned}
+use Rattle.std.proofs.Common.{◌≡◌, ◌<ℤ◌, ◌≤ℤ◌, ℤ, pos, inr, Err, arith, ap, sym, subst, ◌∙◌, w64, of_z, rules}
+use Rattle.std.proofs.Common.{FitsSigned}
 use Rattle.std.proofs.lemmas.Int.{ints, to_z-of_z}
 use Rattle.bb_tape.specs.Strip.{Strip, IsInside, visited, width}
 use Rattle.bb_cert.specs.Record.{out}

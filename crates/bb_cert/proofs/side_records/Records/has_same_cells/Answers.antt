@@ -1,6 +1,8 @@
 use Rattle.std.proofs.Common.{◌+ℤ◌, ◌-ℤ◌, w64, rules, FitsSigned}
 use Rattle.std.proofs.lemmas.Int.{to_z-of_z}
-use Rattle.bb_cert.proofs.Stretches.{are_narrow, narrow_fits, difference_fits, shifted_fits, stretch_inside, between_inside, moved_order, moved_length, moved_from, told_by_out, told_by_offset}
+use Rattle.bb_cert.proofs.Stretches.{are_narrow, narrow_fits, difference_fits, shifted_fits, stretch_inside}
+use Rattle.bb_cert.proofs.Stretches.{between_inside, moved_order, moved_length, moved_from, told_by_out}
+use Rattle.bb_cert.proofs.Stretches.{told_by_offset}
 use Rattle.bb_cert.proofs.side_records.Records.has_same_cells.Goals as goal
 
 pub overflow_sub-shift : goal.overflow_sub-shift

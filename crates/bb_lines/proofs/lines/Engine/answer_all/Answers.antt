@@ -2,10 +2,12 @@ use Rattle.std.proofs.Common.{◌≡◌, ◌<◌, [], length, ◌∙◌, sym, re
 use Rattle.std.proofs.lemmas.Grind.{common_steps}
 use Rattle.std.proofs.lemmas.List.{append-nil}
 use Rattle.std.proofs.lemmas.Result.{err_from_is_err_and}
-use Rattle.bb_lines.proofs.Ends.{fault_of_prefixes, end_of_prefixes, answered_of_written, prefixes-some, prefixes-no_more}
+use Rattle.bb_lines.proofs.Ends.{fault_of_prefixes, end_of_prefixes, answered_of_written, prefixes-some}
+use Rattle.bb_lines.proofs.Ends.{prefixes-no_more}
 use Rattle.bb_lines.proofs.Progress.{answered_more, fault_after_none, ends_at_last}
 use Rattle.bb_lines.proofs.lines.Engine.answer_all.Goals as goal
-use Rattle.bb_lines.proofs.lines.Engine.answer_all.Goals.{then-not-is_empty+in_ok-answer_kept, else-not-is_empty}
+use Rattle.bb_lines.proofs.lines.Engine.answer_all.Goals.{then-not-is_empty+in_ok-answer_kept}
+use Rattle.bb_lines.proofs.lines.Engine.answer_all.Goals.{else-not-is_empty}
 
 pub returns-in_err-answer_reads-clause-ends : goal.returns-in_err-answer_reads-clause-ends
 returns-in_err-answer_reads-clause-ends g c =

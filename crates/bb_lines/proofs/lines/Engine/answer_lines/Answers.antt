@@ -1,9 +1,12 @@
-use Rattle.std.proofs.Common.{rules, ◌≡◌, ◌+◌, [], ◌∷◌, ◌++◌, length, take, drop, ◌∙◌, ap, sym, subst, refl, append_assoc, arith}
+use Rattle.std.proofs.Common.{rules, ◌≡◌, ◌+◌, [], ◌∷◌, ◌++◌, length, take, drop, ◌∙◌, ap, sym, subst, refl}
+use Rattle.std.proofs.Common.{append_assoc, arith}
 use Rattle.std.proofs.lemmas.Result.{err_from_is_err_and}
 use Rattle.std.proofs.Math.Seq.{take-length}
 use Rattle.bb_lines.specs.Lines.{complete, unfinished}
 use Rattle.bb_lines.specs.Progress.{HasNoNewline, none, prefixes}
-use Rattle.bb_lines.proofs.Prefixes.{HasNoNewline-append, HasNoNewline-take, no_newline_before, line_split, kept_more, kept_at_first, prefixes_line, kept_after_line, prefixes_after_line, prefixes_none, kept_none}
+use Rattle.bb_lines.proofs.Prefixes.{HasNoNewline-append, HasNoNewline-take, no_newline_before, line_split}
+use Rattle.bb_lines.proofs.Prefixes.{kept_more, kept_at_first, prefixes_line, kept_after_line}
+use Rattle.bb_lines.proofs.Prefixes.{prefixes_after_line, prefixes_none, kept_none}
 use Rattle.bb_lines.proofs.Progress.{answered_none, answered_more, fault_after}
 use Rattle.bb_lines.proofs.Sends.{slice_from}
 use Rattle.bb_lines.proofs.lines.Engine.answer_lines.Given.{Over}

@@ -8,7 +8,8 @@ use Rattle.bb_sim.specs.Meter.{stepped}
 use Rattle.bb_sim.specs.Widening.{StepsTo, IsWidened}
 use Rattle.bb_sim.proofs.Outcomes.{inside_here, halts_last, steps_last, cells_last}
 use Rattle.bb_sim.proofs.Standing.{near_head, head_inside}
-use Rattle.bb_sim.proofs.Stepping.{halts_undefined, running, moves_on, next-span, wanted, made, into_state, cells_stay, goes, inside_visited}
+use Rattle.bb_sim.proofs.Stepping.{halts_undefined, running, moves_on, next-span, wanted, made, into_state}
+use Rattle.bb_sim.proofs.Stepping.{cells_stay, goes, inside_visited}
 use Rattle.bb_sim.proofs.runner.Runner.advance.Goals as goal
 
 pub returns-in_default-clause-before : goal.returns-in_default-clause-before

@@ -6,7 +6,8 @@ use Rattle.bb_sim.specs.Meter.{stepped}
 use Rattle.bb_sim.specs.Widening.{StepsTo, GoesNowhere}
 use Rattle.bb_sim.proofs.Outcomes.{inside_here, halts_last, steps_last}
 use Rattle.bb_sim.proofs.Standing.{near_head, head_inside}
-use Rattle.bb_sim.proofs.Stepping.{halts_undefined, running, moves_on, wanted, made, Made, into_Z, fits_Z, cells_stay}
+use Rattle.bb_sim.proofs.Stepping.{halts_undefined, running, moves_on, wanted, made, Made, into_Z, fits_Z}
+use Rattle.bb_sim.proofs.Stepping.{cells_stay}
 use Rattle.bb_sim.proofs.runner.Runner.advance_to_halt.Goals as goal
 use Rattle.bb_sim.proofs.runner.Runner.advance_to_halt.Given as given
 

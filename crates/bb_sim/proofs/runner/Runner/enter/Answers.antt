@@ -3,7 +3,8 @@ use Rattle.std.proofs.lemmas.Int.{to_z-of_z}
 use Rattle.bb_tape.specs.Strip.{IsInside}
 use Rattle.bb_sim.specs.Runner.{low_of, high_of}
 use Rattle.bb_sim.proofs.Positions.{min-same, max-same}
-use Rattle.bb_sim.proofs.Standing.{inside_fits, inside_stays, room_left, fits_next, next_above, low_grows, high_stays, low_stays, high_grows}
+use Rattle.bb_sim.proofs.Standing.{inside_fits, inside_stays, room_left, fits_next, next_above, low_grows}
+use Rattle.bb_sim.proofs.Standing.{high_stays, low_stays, high_grows}
 use Rattle.bb_sim.proofs.runner.Runner.enter.Goals as goal
 
 pub returns-then-is_inside : goal.returns-then-is_inside
