@@ -87,16 +87,16 @@ before_part : (table : Table) (node : Node) (rest : List Node) (i : ℕ) → IsP
 before_part table node rest i part =
     let step = flat_map (before table) in
     record {
-      front = step part.front;
+      earlier = step part.earlier;
       rest = step (rest ++ part.rest);
-      is = ap step part.is ∙ flat_map-append (before table) part.front ((node ∷ rest) ++ part.rest);
+      is = ap step part.is ∙ flat_map-append (before table) part.earlier ((node ∷ rest) ++ part.rest);
     }
 
 rest_part : (node : Node) (rest whole : List Node) → IsPart (node ∷ rest) whole → IsPart rest whole
 rest_part node rest whole part = record {
-  front = part.front ++ (node ∷ []);
+  earlier = part.earlier ++ (node ∷ []);
   rest = part.rest;
-  is = part.is ∙ regroup node part.front rest part.rest;
+  is = part.is ∙ regroup node part.earlier rest part.rest;
 }
 
 part_of_none : (node : Node) (front rest : List Node) → [] ≡ front ++ (node ∷ rest) → ⊥
@@ -105,7 +105,7 @@ part_of_none node (n ∷ front) rest e = cc
 
 -- a level that has a node
 has_node : (table : Table) (node : Node) (rest : List Node) (i : ℕ) → IsPart (node ∷ rest) (level table i) → level table i ≢ []
-has_node table node rest i part none = part_of_none node part.front (rest ++ part.rest) (sym none ∙ part.is)
+has_node table node rest i part none = part_of_none node part.earlier (rest ++ part.rest) (sym none ∙ part.is)
 
 pub walk_enters : (table : Table) (node : Node) (rest : List Node) (comb : List (List Node)) (nodes levels : ℕ) → IsWalked table ((node ∷ rest) ∷ comb) nodes levels → (Matches node start → ⊥) → IsWalked table (before table node ∷ rest ∷ comb) (nodes + 1) (max levels (length comb + 1))
 walk_enters table node rest comb nodes levels walked apart = record {
@@ -161,7 +161,7 @@ module _ (table : Table) (node : Node) (rest : List Node) (comb : List (List Nod
   pub never_clear : Matches node start → Clear table h → ⊥
   never_clear here clear =
       let part = walked.parts.0 in
-      let one : MatchesOne (part.front ++ ((node ∷ rest) ++ part.rest)) start = one-append_right (λ n. Matches n start) part.front ((node ∷ rest) ++ part.rest) (inl here) in
+      let one : MatchesOne (part.earlier ++ ((node ∷ rest) ++ part.rest)) start = one-append_right (λ n. Matches n start) part.earlier ((node ∷ rest) ++ part.rest) (inl here) in
       clear.clear (length comb) goes_deeper (subst (λ ns. MatchesOne ns start) (sym part.is) one)
 
 pub walk_refused : (table : Table) (node : Node) (rest : List Node) (comb : List (List Node)) (nodes levels most_nodes most_levels : ℕ) → IsWalked table ((node ∷ rest) ∷ comb) nodes levels → Refused node (length comb) nodes most_nodes most_levels → EndsNowhere table most_levels most_nodes
@@ -190,7 +190,7 @@ walk_begins table = record {
       let e = ap (grown_below table (level table 0)) n in
       omega (arith, e);
   reached = λ i less. absurd (omega arith);
-  parts = (record { front = []; rest = []; is = sym (one_node (level table 0)) }, tt);
+  parts = (record { earlier = []; rest = []; is = sym (one_node (level table 0)) }, tt);
   matches = λ i one.
       let n : i ≡ i - 0 = omega arith in
       inl (omega arith, subst (λ j. MatchesOne (grown table (level table 0) j) start) n one);

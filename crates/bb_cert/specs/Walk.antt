@@ -61,9 +61,9 @@ CombMatches table (nodes ∷ comb) i =
 
 -- a stretch of a list
 pub record IsPart (part whole : List Node) : Type 0 where
-  pub front : List Node
+  pub earlier : List Node
   pub rest : List Node
-  pub is : whole ≡ front ++ (part ++ rest)
+  pub is : whole ≡ earlier ++ (part ++ rest)
 
 -- each list is a part of its level
 abbrev pub AreParts : Table → List (List Node) → Type 0

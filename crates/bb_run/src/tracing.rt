@@ -182,25 +182,25 @@ fn add_step<W: Write, T: Tape>(
     ensures mark { is_marked writer.new ≡ is_err result }
 {
     let _states = machine.states();
-    add(writer, waiting, front_of(runner).as_slice())?;
+    add(writer, waiting, head_of(runner).as_slice())?;
     add_cells(runner, tape, writer, waiting)?;
     add(writer, waiting, b"\n")
 }
 
 /// The number of steps, the state and the position of the head, each with a space behind it.
-fn front_of(runner: &Runner) -> ArrayVec<u8, 64>
+fn head_of(runner: &Runner) -> ArrayVec<u8, 64>
     requires { IsNextOf MAX_STATES (state_of runner.now) }
     ensures text { result.items
         ≡ head_text (steps_of runner.now) (state_of runner.now) (position_of runner.now) }
     ensures short { length result.items ≤ 64 }
 {
     let mut digits = Buffer::new();
-    let mut front = ArrayVec::new();
-    let _steps = front.try_extend_from_slice(digits.format(runner.steps()).as_bytes());
-    let _state = front.try_extend_from_slice(&[b' ', letter_of(runner), b' ']);
-    let _position = front.try_extend_from_slice(digits.format(runner.position()).as_bytes());
-    front.push(b' ');
-    front
+    let mut head = ArrayVec::new();
+    let _steps = head.try_extend_from_slice(digits.format(runner.steps()).as_bytes());
+    let _state = head.try_extend_from_slice(&[b' ', letter_of(runner), b' ']);
+    let _position = head.try_extend_from_slice(digits.format(runner.position()).as_bytes());
+    head.push(b' ');
+    head
 }
 
 /// The letter of the state at which a runner stands.
