@@ -3,7 +3,8 @@
 
     scripts/closed_loop.py crates/bb/out/bb [--machines N] [--seed S]
 
-The machines have 1 to 7 states and come from a seed. At each of some limits, every decided line must be
+The machines come from a seed: most have 1 to 7 states and 2 symbols, the others up to 25 states and 10 symbols.
+At each of some limits, every decided line must be
 answered `ok` and every other line `open`; at limits of which none is smaller, every decided machine must
 stay decided: with the same verdict, or a cycler or a translated cycler where backward reasoning had
 decided it. The last line is `N passed, M failed`; the status is 1 where any failed.
@@ -32,20 +33,30 @@ LIMITS = [
 PLANS = [[], ["--no-backward"], ["--no-cyclers", "--no-translated"]]
 
 
-def entry(source, states):
+def entry(source, states, symbols):
     """One entry of a machine: undefined, into the halting state, or into a state."""
     if source.random() < 0.08:
         return "---"
-    state = "Z" if source.random() < 0.08 else source.choice("ABCDEFG"[:states])
-    return source.choice("01") + source.choice("LR") + state
+    state = "Z" if source.random() < 0.08 else source.choice("ABCDEFGHIJKLMNOPQRSTUVWXY"[:states])
+    return source.choice("0123456789"[:symbols]) + source.choice("LR") + state
+
+
+def machine(source, states, symbols):
+    """A machine's text: a group for each state, with an entry for each symbol."""
+    return "_".join("".join(entry(source, states, symbols) for _ in range(symbols)) for _ in range(states))
 
 
 def machines(count, seed):
-    """The texts of so many machines of 1 to 7 states, in turn."""
+    """The texts of so many machines: of each ten, seven of 1 to 7 states and 2 symbols, two of up to 4 states and 10
+    symbols, and one of up to 25 states and 10 symbols."""
     source = random.Random(seed)
     for k in range(count):
-        states = k % 7 + 1
-        yield "_".join(entry(source, states) + entry(source, states) for _ in range(states))
+        if k % 10 < 7:
+            yield machine(source, k % 10 + 1, 2)
+        elif k % 10 < 9:
+            yield machine(source, source.randint(1, 4), source.randint(3, 10))
+        else:
+            yield machine(source, source.randint(1, 25), source.randint(2, 10))
 
 
 def run(program, words, lines):
@@ -100,7 +111,7 @@ def tried(program, lists, plan):
 def main():
     parser = argparse.ArgumentParser()
     parser.add_argument("program")
-    parser.add_argument("--machines", type=int, default=7_000)
+    parser.add_argument("--machines", type=int, default=10_000)
     parser.add_argument("--seed", type=int, default=1)
     asked = parser.parse_args()
     program = os.path.abspath(asked.program)
