@@ -3,10 +3,9 @@
 
     scripts/closed_loop.py crates/bb/out/bb [--machines N] [--seed S]
 
-The machines come from a seed: most have 1 to 7 states and 2 symbols, the others up to 25 states and 10 symbols.
-At each of some limits, every decided line must be
-answered `ok` and every other line `open`; at limits of which none is smaller, every decided machine must
-stay decided: with the same verdict, or a cycler or a translated cycler where backward reasoning had
+The machines come from a seed: most have 1 to 7 states and 2 symbols, the others up to 25 states and 10
+symbols. At each of some limits, every decided line must be answered `ok` and every other line `open`; at
+limits of which none is smaller, every decided machine must stay decided: with the same verdict, or a cycler or a translated cycler where backward reasoning had
 decided it. The last line is `N passed, M failed`; the status is 1 where any failed.
 """
 
