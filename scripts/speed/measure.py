@@ -26,6 +26,7 @@ DRAWN = 800_000
 HALTING_LIST = 1_000_000
 REFUSED_BYTES = 50_000_000
 TREES = 4_000
+CHECKED = 2_000
 
 
 def machine(draw, states):
@@ -159,6 +160,19 @@ def measure_search(program, name, options, switch, file, runs):
     print(f"{name}: simulation {best[0]:.3f} s, the search adds {added:.3f} s, ratio {ratio:.2f}", flush=True)
 
 
+def measure_checking(program, draw, file, runs):
+    """Prints what checking costs beside deciding, in processor time: of random machines at the default limits,
+    and of the lines that deciding them wrote."""
+    machines = "".join(machine(draw, 5) for _ in range(CHECKED))
+    verdicts = subprocess.run([program, "decide"], input=machines.encode(), stdout=subprocess.PIPE, check=False).stdout
+    best = []
+    for command, text in (("decide", machines.encode()), ("check", verdicts)):
+        with open(file, "wb") as written:
+            written.write(text)
+        best.append(min(spent([program, command], file) for _ in range(runs)))
+    print(f"checking the lines of {CHECKED} machines of five states: {best[1]:.3f} s, deciding them {best[0]:.3f} s")
+
+
 def main():
     words = argparse.ArgumentParser(description="Measures the program beside a plain Rust program.")
     words.add_argument("program", nargs="?", default=PROGRAM)
@@ -183,6 +197,7 @@ def main():
             with open(file, "w", encoding="ascii") as written:
                 written.write(text)
             measure_search(asked.program, name, options, switch, file, asked.runs)
+        measure_checking(asked.program, random.Random(asked.seed), file, asked.runs)
     return 0 if agreed else 1
 
 
