@@ -3,7 +3,7 @@
 
     scripts/four_states.py crates/bb/out/bb
 
-It takes some minutes. The times are processor times of the program, in seconds. The last line is
+It takes one or two minutes. The times are processor times of the program, in seconds. The last line is
 `N passed, M failed`: what must hold, as that each line is confirmed; the status is 1 where any failed.
 """
 
@@ -66,8 +66,7 @@ def decided(program, limits, machines):
     answers, checking = run([program, "check", *options(limits)], lines)
     for line, answer in zip(lines, answers):
         expected = "open" if kind(line).startswith("undecided") else "ok"
-        if answer != expected:
-            hold("%s: %s" % (line, answer), False)
+        hold("%s: %s" % (line, answer), answer == expected)
     hold("an answer for each line", len(answers) == len(lines))
     print(" ".join(options(limits)), "over %d machines" % len(machines))
     for name, count in sorted(collections.Counter(map(kind, lines)).items()):
@@ -88,11 +87,11 @@ def tell_greatest(lines):
     print("  steps between both:", ", ".join("%d: %d" % pair for pair in sorted(lengths.items())))
     moved = [words for words in fields if words[1] == "translated"]
     print("  the latest second step of a translated cycler:", max(int(words[4]) for words in moved))
-    if len(moved[0]) > 5:
-        print("  the greatest shift:", max(int(words[5]) for words in moved))
-        print("  the greatest length:", max(int(words[6]) for words in moved))
+    print("  the greatest shift:", max(int(words[5]) for words in moved))
+    print("  the greatest length:", max(int(words[6]) for words in moved))
     trees = [words for words in fields if words[1] == "backward"]
-    print("  the most levels and nodes of a tree:", max(int(words[2]) for words in trees), max(int(words[3]) for words in trees))
+    print("  the most levels of a tree:", max(int(words[2]) for words in trees))
+    print("  the most nodes of a tree:", max(int(words[3]) for words in trees))
 
 
 def tell_widths(program, machines):
@@ -107,6 +106,8 @@ def tell_widths(program, machines):
 
 
 def main():
+    if len(sys.argv) != 2:
+        sys.exit("usage: scripts/four_states.py PROGRAM")
     program = os.path.abspath(sys.argv[1])
     listing = [os.path.join(TOP, "scripts", "tree_normal_form.py"), "4"]
     machines, taken = run([sys.executable, *listing], [])
@@ -118,8 +119,8 @@ def main():
         left = [line.split(" ")[0] for line in lines if kind(line).startswith("undecided")]
         lines = decided(program, limits, left)
         for line in lines:
-            if not kind(line).startswith("undecided") and limits["steps"] == LATER[0]["steps"]:
-                print("  ", line)
+            if not kind(line).startswith("undecided"):
+                print("  newly decided:", line)
     left = [line.split(" ")[0] for line in lines if kind(line).startswith("undecided")]
     tell_widths(program, left)
     print("%d passed, %d failed" % (passed, failed))

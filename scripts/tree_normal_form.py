@@ -7,7 +7,8 @@ From the table with no entry on, each machine is run on the blank tape. One that
 is listed as it stands, halting there; and while more than one entry is undefined, each entry that could
 stand there gives a machine of its own. States and symbols are first used in order, and the first move is
 to the right. A machine that meets no undefined entry within T steps (200 where not said) is listed and
-left. The program doesn't need this script, and nothing proves it.
+left. Of two symbols there are 3, 61, 5,417 and 858,909 machines of one to four states. The program doesn't
+need this script, and nothing proves it.
 """
 
 import argparse
