@@ -64,7 +64,7 @@ pub struct Asked {
 /// Why a command line leads to no work.
 #[derive(Debug, Drop)]
 pub enum Stop {
-    /// Help was asked for; this is its text.
+    /// Help or the version was asked for; this is its text.
     Help(String),
     /// The words are no command line; this says why.
     Words(String),
@@ -75,7 +75,7 @@ pub enum Stop {
 }
 
 impl Stop {
-    /// The program's exit status: 0 after help, 3 for want of memory, 2 for what was refused.
+    /// The program's exit status: 0 after help or the version, 3 for want of memory, 2 for what was refused.
     pub fn status(&self) -> u8
         ensures { result ≡ stop_status self.now }
     {
@@ -184,6 +184,7 @@ fn program<'a>(alloc: Global) -> Result<Command<'a>, AllocError>
     Command::new(alloc, "bb")
         .about("Simulates and decides Turing machines of up to 25 states and 10 symbols")
         .after_help(ABOUT_ALL)
+        .version("0.1.0")
         .disable_help_subcommand(true)
         .subcommand_required(true)
         .subcommand(decide_command(alloc)?)?
@@ -354,7 +355,9 @@ fn stop_of(alloc: Global, error: &Error) -> Result<Stop, AllocError>
 {
     match error.kind() {
         ErrorKind::OutOfMemory => Ok(Stop::Memory),
-        ErrorKind::DisplayHelp => Ok(Stop::Help(error.to_string(alloc)?)),
+        ErrorKind::DisplayHelp | ErrorKind::DisplayVersion => Ok(Stop::Help(error.to_string(
+            alloc,
+        )?)),
         _ => Ok(Stop::Words(error.to_string(alloc)?)),
     }
 }
