@@ -1,5 +1,5 @@
 #!/bin/sh
-# Builds the program on first use and after a change, and runs it.
+# Builds the program on first use and after a change, and runs it. What building does is told on standard error.
 set -eu
 here=$(cd "$(dirname "$0")" && pwd)
 program=$here/crates/bb/out/bb
@@ -8,15 +8,58 @@ stale() {
     [ ! -x "$program" ] || [ -n "$(find "$here/crates.txt" "$here/crates" -path '*/out' -prune -o -type f -newer "$program" -print | head -n 1)" ]
 }
 
-if stale; then
-    echo 'bb: building, which proves every crate first and takes some minutes' >&2
-    log=$(mktemp)
-    if ! (cd "$here/crates/bb" && rt run -- --help </dev/null) >"$log" 2>&1; then
-        cat "$log" >&2
-        rm -f "$log"
+# Begins `rt` with these words in a crate; its process is then `$!`.
+begin() {
+    echo "bb: proving $1" >&2
+    crate=$1
+    shift
+    (cd "$here/crates/$crate" && exec rt "$@") </dev/null >"$logs/$crate" 2>&1 &
+    begun="$begun $!"
+}
+
+# Waits for the process of a crate.
+end() {
+    if ! wait "$2"; then
+        cat "$logs/$1" >&2
         exit 3
     fi
-    rm -f "$log"
+    proved=$((proved + 1))
+    echo "bb: proved $1, $proved of $crates" >&2
+}
+
+# Proves the crates that stand on none of the others side by side, then the others in their order.
+build() {
+    logs=$(mktemp -d)
+    begun=
+    proved=0
+    crates=$(grep -c '^bb' "$here/crates.txt")
+    trap 'kill $begun 2>/dev/null || true; rm -rf "$logs"' EXIT
+    trap 'exit 130' INT
+    trap 'exit 143' TERM
+    echo 'bb: building, which proves every crate first and takes some minutes' >&2
+    lowest=$(sed -n '/: .*bb_/d; s/^\([a-z_]*\):.*/\1/p' "$here/crates.txt")
+    for crate in $lowest; do
+        begin "$crate" lib --jobs 2
+    done
+    set -- $begun
+    for crate in $lowest; do
+        end "$crate" "$1"
+        shift
+    done
+    for crate in $(sed -n 's/^\(bb_[a-z]*\): .*bb_.*/\1/p' "$here/crates.txt"); do
+        begun=
+        begin "$crate" lib
+        end "$crate" "$!"
+    done
+    begun=
+    begin bb run -- --help
+    end bb "$!"
     touch "$program"
+    rm -rf "$logs"
+    trap - EXIT INT TERM
+}
+
+if stale; then
+    build
 fi
 exec "$program" "$@"

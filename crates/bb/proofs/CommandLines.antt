@@ -137,9 +137,13 @@ stops_by_kind app is words error kinds stop kind =
     by_kind stop kind (subst (λ (a : App). HasKind (fault_of a words) error) is (kinds (ap is_simple_and_free is ∙ simple_and_free)))
   where
     by_kind : (stop : Stop) → IsKindStop (kind_of error) stop → HasKind (fault_of command_line words) error → IsStopOf words stop
-    by_kind (Help text) is_help (inl memory) = cc
-    by_kind (Help text) is_help (inr among) = subst (λ (k : ErrorKind). IsAmong k (fault_of command_line words)) is_help among
-    by_kind (Words text) is_other (inl memory) = absurd (is_other.1 memory)
-    by_kind (Words text) is_other (inr among) = (kind_of error, among, is_other.0)
+    by_kind (Help text) (inl is_help) (inl memory) = cc
+    by_kind (Help text) (inr is_version) (inl memory) = cc
+    by_kind (Help text) (inl is_help) (inr among) =
+        inl (subst (λ (k : ErrorKind). IsAmong k (fault_of command_line words)) is_help among)
+    by_kind (Help text) (inr is_version) (inr among) =
+        inr (subst (λ (k : ErrorKind). IsAmong k (fault_of command_line words)) is_version among)
+    by_kind (Words text) is_other (inl memory) = absurd (is_other.2 memory)
+    by_kind (Words text) is_other (inr among) = (kind_of error, among, is_other.0, is_other.1)
     by_kind (Limits fault) never h = absurd never
     by_kind Memory is_memory h = tt

@@ -8,7 +8,7 @@ use Rattle.std.specs.String.{string_bytes}
 use Rattle.clap.specs.Words.{IsAmong, Row, Text, fault_of, first_of, one_of, subcommand_of}
 use Rattle.clap.specs.ValueTests.{is_unsigned_in}
 use Rattle.clap.specs.declared.error.kind.ErrorKind.{ErrorKind}
-use Rattle.clap.specs.declared.error.kind.ErrorKind.TheVariants.{DisplayHelp, OutOfMemory}
+use Rattle.clap.specs.declared.error.kind.ErrorKind.TheVariants.{DisplayHelp, DisplayVersion, OutOfMemory}
 use Rattle.bb_machine.specs.Limits.{Bounds, IsFirstFault}
 use Rattle.bb_decide.specs.declared.plan.Plan.{Plan}
 use Rattle.bb.specs.declared.command.Asked.{Asked}
@@ -115,19 +115,21 @@ pub record IsRefused (words : List Text) (stop : Stop) : Type 0 where
       ⊎ ((Gives words (codes "check") rows × IsLimitsStop (list_bounds rows) stop)
       ⊎ (Gives words (codes "trace") rows × IsLimitsStop (trace_bounds rows) stop))
 
--- why the words lead to no work: help is asked for, or they are no command line, or what they ask for is
--- refused, or a growth was refused
+-- why the words lead to no work: help or the version is asked for, or they are no command line, or what they
+-- ask for is refused, or a growth was refused
 abbrev pub IsStopOf : List Text → Stop → Type 0
-IsStopOf words (Help text) = IsAmong DisplayHelp (fault_of command_line words)
+IsStopOf words (Help text) =
+    IsAmong DisplayHelp (fault_of command_line words) ⊎ IsAmong DisplayVersion (fault_of command_line words)
 IsStopOf words (Words text) =
     (kind : ErrorKind) × IsAmong kind (fault_of command_line words) × (kind ≢ DisplayHelp)
+    × (kind ≢ DisplayVersion)
 IsStopOf words (Limits fault) = IsRefused words (Limits fault)
 IsStopOf words Memory = Unit {0}
 
 -- the stop that an error of this kind is
 abbrev pub IsKindStop : ErrorKind → Stop → Type 0
-IsKindStop kind (Help text) = kind ≡ DisplayHelp
-IsKindStop kind (Words text) = (kind ≢ DisplayHelp) × (kind ≢ OutOfMemory)
+IsKindStop kind (Help text) = (kind ≡ DisplayHelp) ⊎ (kind ≡ DisplayVersion)
+IsKindStop kind (Words text) = (kind ≢ DisplayHelp) × (kind ≢ DisplayVersion) × (kind ≢ OutOfMemory)
 IsKindStop kind (Limits fault) = ⊥
 IsKindStop kind Memory = kind ≡ OutOfMemory
 

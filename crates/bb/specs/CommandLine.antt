@@ -79,12 +79,13 @@ trace_shape = record (new_shape (codes "trace")) {
   rules = must (number_rule (codes "upto")) ∷ cells_rule ∷ must (positional_rule (codes "machine")) ∷ [];
 }
 
--- bb, with one of the three commands
+-- bb, with one of the three commands, or --version
 abbrev pub command_line : App
 command_line = record {
   top = record (new_shape (codes "bb")) {
     is_leaf = false;
     disable_help_subcommand = true;
+    has_version = true;
     subcommand_required = true;
   };
   subs = decide_shape ∷ check_shape ∷ trace_shape ∷ [];

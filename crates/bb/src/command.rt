@@ -64,7 +64,7 @@ pub struct Asked {
 /// Why a command line leads to no work.
 #[derive(Debug, Drop)]
 pub enum Stop {
-    /// Help was asked for; this is its text.
+    /// Help or the version was asked for; this is its text.
     Help(String),
     /// The words are no command line; this says why.
     Words(String),
@@ -75,7 +75,7 @@ pub enum Stop {
 }
 
 impl Stop {
-    /// The program's exit status: 0 after help, 3 for want of memory, 2 for what was refused.
+    /// The program's exit status: 0 after help or the version, 3 for want of memory, 2 for what was refused.
     pub fn status(&self) -> u8
         ensures { result ≡ stop_status self.now }
     {
@@ -121,11 +121,70 @@ pub fn ask(alloc: Global, words: &[&str]) -> Result<Asked, Stop>
     }
 }
 
+/// What the program's help says after the commands.
+const ABOUT_ALL: &str = "\
+A machine is a text such as 1RB1LB_1LA1RZ: a group for each state, A first, and in it
+an entry for each symbol that is read: the symbol that is written, L or R, and the next
+state, Z for the halting one. --- is an undefined entry.
+
+Status: 0 all went well, 1 a line was refused, an answer is neither ok nor open, or a
+trace was cut, 2 the command line was refused, 3 memory, reading or writing failed.
+
+Example:
+  printf '1RB1LB_1LA1RZ\\n' | bb decide      writes  1RB1LB_1LA1RZ halt 6 4";
+
+/// What the help of `decide` says after its options.
+const ABOUT_DECIDE: &str = "\
+In: a machine on each line of FILE or of standard input.
+Out: for each line, in order, the machine and one of
+  halt STEPS SCORE               it halts after so many steps, with so many cells not 0
+  cycler FIRST SECOND            it never halts: at both steps all is the same
+  translated L|R FIRST SECOND    it never halts: the same farther out on that side
+  backward LEVELS NODES          it never halts: all ways back from a halt end elsewhere
+  undecided steps|cells          a limit came first
+or, where the line is no machine: refused COLUMN.
+
+Status: 0 every line was a machine, 1 a line was refused, 2 the command line was refused,
+3 memory, reading or writing failed.
+
+Example:
+  printf '1RB1LB_1LA1RZ\\n' | bb decide      writes  1RB1LB_1LA1RZ halt 6 4";
+
+/// What the help of `check` says after its options.
+const ABOUT_CHECK: &str = "\
+In: a verdict, as decide writes them, on each line of FILE or of standard input.
+Out: for each line, in order, one of
+  ok        its claim holds
+  bad       its claim doesn't hold
+  over      its claim needs more than the limits
+  open      it claims nothing: it is undecided or a refusal
+  unread    it is no verdict
+
+Status: 0 every answer is ok or open, 1 another answer is among them, 2 the command line
+was refused, 3 memory, reading or writing failed.
+
+Example:
+  echo '1RB1LB_1LA1RZ halt 6 4' | bb check     writes  ok";
+
+/// What the help of `trace` says after its options.
+const ABOUT_TRACE: &str = "\
+In: a machine's text, as an argument. Out: a line for each step, from 0 to the halt or to
+the last step that is asked for: STEP STATE POSITION CELLS, the cells one digit each, over
+the positions that were visited. A text that is no machine: refused COLUMN.
+
+Status: 0 all went well, 1 the text was refused or the cells cut the trace, 2 the command
+line was refused, 3 memory or writing failed.
+
+Example:
+  bb trace --upto 1 1RB1LB_1LA1RZ     writes  0 A 0 0  and  1 B 1 10";
+
 fn program<'a>(alloc: Global) -> Result<Command<'a>, AllocError>
     ensures { IfOk result (λ command. app_of command ≡ command_line) }
 {
     Command::new(alloc, "bb")
         .about("Simulates and decides Turing machines of up to 25 states and 10 symbols")
+        .after_help(ABOUT_ALL)
+        .version("0.1.0")
         .disable_help_subcommand(true)
         .subcommand_required(true)
         .subcommand(decide_command(alloc)?)?
@@ -143,15 +202,20 @@ fn decide_command<'a>(alloc: Global) -> Result<Command<'a>, AllocError>
         "FILE",
         "The list of machines, a line each [default: standard input]",
     );
-    command(alloc, "decide", "Decides each machine of a list")
-        .arg(steps(alloc))?
-        .arg(cells(alloc))?
-        .arg(depth(alloc))?
-        .arg(nodes(alloc))?
-        .arg(switch(alloc, "no-cyclers", "Leaves out the cyclers"))?
-        .arg(switch(alloc, "no-translated", "Leaves out the translated cyclers"))?
-        .arg(switch(alloc, "no-backward", "Leaves out backward reasoning"))?
-        .arg(file)
+    command(
+        alloc,
+        "decide",
+        "Decides each machine of a list",
+        ABOUT_DECIDE,
+    )
+    .arg(steps(alloc))?
+    .arg(cells(alloc))?
+    .arg(depth(alloc))?
+    .arg(nodes(alloc))?
+    .arg(switch(alloc, "no-cyclers", "Leaves out the cyclers"))?
+    .arg(switch(alloc, "no-translated", "Leaves out the translated cyclers"))?
+    .arg(switch(alloc, "no-backward", "Leaves out backward reasoning"))?
+    .arg(file)
 }
 
 fn check_command<'a>(alloc: Global) -> Result<Command<'a>, AllocError>
@@ -164,12 +228,17 @@ fn check_command<'a>(alloc: Global) -> Result<Command<'a>, AllocError>
         "FILE",
         "The list of verdict lines [default: standard input]",
     );
-    command(alloc, "check", "Checks each verdict line of a list")
-        .arg(steps(alloc))?
-        .arg(cells(alloc))?
-        .arg(depth(alloc))?
-        .arg(nodes(alloc))?
-        .arg(file)
+    command(
+        alloc,
+        "check",
+        "Checks each verdict line of a list",
+        ABOUT_CHECK,
+    )
+    .arg(steps(alloc))?
+    .arg(cells(alloc))?
+    .arg(depth(alloc))?
+    .arg(nodes(alloc))?
+    .arg(file)
 }
 
 fn trace_command<'a>(alloc: Global) -> Result<Command<'a>, AllocError>
@@ -182,18 +251,20 @@ fn trace_command<'a>(alloc: Global) -> Result<Command<'a>, AllocError>
         alloc,
         "trace",
         "Prints the first configurations of a machine",
+        ABOUT_TRACE,
     )
     .arg(upto)?
     .arg(cells(alloc))?
     .arg(machine)
 }
 
-fn command<'a>(alloc: Global, name: &'a str, about: &'a str) -> Command<'a>
+fn command<'a>(alloc: Global, name: &'a str, about: &'a str, more: &'a str) -> Command<'a>
     ensures shape { shape_of result ≡ new_shape name.now }
     ensures local { (fields_of result).has_globals ≡ false }
     ensures about { (fields_of result).about ≡ Some about.entry }
+    ensures more { (fields_of result).after_help ≡ Some more.entry }
 {
-    Command::new(alloc, name).about(about)
+    Command::new(alloc, name).about(about).after_help(more)
 }
 
 fn steps<'a>(alloc: Global) -> Arg<'a>
@@ -284,7 +355,9 @@ fn stop_of(alloc: Global, error: &Error) -> Result<Stop, AllocError>
 {
     match error.kind() {
         ErrorKind::OutOfMemory => Ok(Stop::Memory),
-        ErrorKind::DisplayHelp => Ok(Stop::Help(error.to_string(alloc)?)),
+        ErrorKind::DisplayHelp | ErrorKind::DisplayVersion => Ok(Stop::Help(error.to_string(
+            alloc,
+        )?)),
         _ => Ok(Stop::Words(error.to_string(alloc)?)),
     }
 }

@@ -228,9 +228,21 @@ fn refuses_words(rt: HostRuntime) {
             other => panic!(rt; "{other:?}"),
         }
     }
-    let help = stop(&rt, ["--help"].as_slice());
-    assert!(rt; matches!(&help, Stop::Help(text) if text.as_str().contains("decide")));
-    assert_eq!(rt; help.status(), 0);
+}
+
+#[test]
+fn tells_what_it_is_asked(rt: HostRuntime) {
+    for (words, told) in [
+        (["--help"].as_slice(), "| bb decide "),
+        (["decide", "--help"].as_slice(), "halt STEPS SCORE"),
+        (["check", "-h"].as_slice(), "| bb check "),
+        (["trace", "--help"].as_slice(), "STEP STATE POSITION CELLS"),
+        (["--version"].as_slice(), "bb 0.1.0\n"),
+    ] {
+        let stop = stop(&rt, words);
+        assert!(rt; matches!(&stop, Stop::Help(text) if text.as_str().contains(told)));
+        assert_eq!(rt; stop.status(), 0);
+    }
 }
 
 fn stop(rt: &(impl Abort + AllocGlobal), words: &[&'static str]) -> Stop {

@@ -8,7 +8,11 @@ use Rattle.bb.proofs.command.program.Goals as goal
 -- the command line without its commands
 abbrev bare : App
 bare = record {
-  top = record (new_shape (codes "bb")) { disable_help_subcommand = true; subcommand_required = true };
+  top = record (new_shape (codes "bb")) {
+    disable_help_subcommand = true;
+    has_version = true;
+    subcommand_required = true;
+  };
   subs = [];
 }
 
