@@ -139,7 +139,8 @@ In: a machine on each line of FILE or of standard input.
 Out: for each line, in order, the machine and one of
   halt STEPS SCORE               it halts after so many steps, with so many cells not 0
   cycler FIRST SECOND            it never halts: at both steps all is the same
-  translated L|R FIRST SECOND    it never halts: the same farther out on that side
+  translated L|R FIRST SECOND SHIFT LENGTH
+                                 it never halts: the same farther out on that side
   backward LEVELS NODES          it never halts: all ways back from a halt end elsewhere
   undecided steps|cells          a limit came first
 or, where the line is no machine: refused COLUMN.
