@@ -661,6 +661,7 @@ fn pairs_are_answered_on_maps(rt: HostRuntime) -> Result<(), Fail> {
     };
     let mut path = Path::new(rt.alloc(), DEPTH)?;
     pairs_are_answered(&rt, &mut pair, &mut path)?;
+    assert!(rt; pair.run.limit() == CELLS && pair.saved.limit() == CELLS);
     extents_are_answered(&rt, &mut pair, &mut path)
 }
 
@@ -672,6 +673,7 @@ fn pairs_are_answered_on_rings(rt: HostRuntime) -> Result<(), Fail> {
     };
     let mut path = Path::new(rt.alloc(), DEPTH)?;
     pairs_are_answered(&rt, &mut pair, &mut path)?;
+    assert!(rt; pair.run.limit() == CELLS && pair.saved.limit() == CELLS);
     extents_are_answered(&rt, &mut pair, &mut path)
 }
 
