@@ -1,5 +1,5 @@
 -- Two records have one extent.
-use Rattle.std.proofs.Common.{◌≡◌, ℕ, ◌↔◌, Option, Some, None, ℤ, pos, refl, ap, sym, subst, ◌∙◌, arith}
+use Rattle.std.proofs.Common.{◌≡◌, ℕ, ◌↔◌, Option, Some, None, ℤ, pos, ap, sym, subst, ◌∙◌, arith}
 use Rattle.std.specs.Prelude.{IfSome}
 use Rattle.std.proofs.lemmas.Int.{ints}
 use Rattle.bb_machine.specs.Machine.{Table}

@@ -1,5 +1,5 @@
 -- A course whose record is kept, and compared with a later one.
-use Rattle.std.proofs.Common.{◌≡◌, ℕ, ◌<◌, ◌↔◌, pos, IsTrue, Bool, true, false, refl, sym, subst, ap, ◌∙◌}
+use Rattle.std.proofs.Common.{◌≡◌, ℕ, ◌<◌, pos, IsTrue, Bool, true, false, refl, sym, subst, ap, ◌∙◌}
 use Rattle.std.specs.Prelude.{MatchBool}
 use Rattle.bb_machine.specs.Machine.{Table}
 use Rattle.bb_tape.specs.Strip.{Strip}

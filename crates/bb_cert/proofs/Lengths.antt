@@ -1,5 +1,5 @@
 -- How long the parts of a line are.
-use Rattle.std.proofs.Common.{◌≡◌, ℕ, ◌+◌, ◌*◌, ◌<◌, ◌≤◌, ◌^◌, Option, Some, None, List, ◌∷◌, ◌++◌, length}
+use Rattle.std.proofs.Common.{ℕ, ◌+◌, ◌*◌, ◌<◌, ◌≤◌, ◌^◌, Option, Some, None, List, ◌∷◌, ◌++◌, length}
 use Rattle.std.proofs.Common.{codes, decimal, arith, ap, length-append}
 use Rattle.std.proofs.lemmas.Fmt.{length-decimal-le}
 use Rattle.std.proofs.Math.Nat.{mul-le-mul}
@@ -16,7 +16,7 @@ use Rattle.bb_cert.specs.declared.verdict.Verdict.{Verdict}
 use Rattle.bb_cert.specs.declared.verdict.Verdict.TheVariants.{Halt, Cycler, Translated, Backward, Undecided}
 use Rattle.bb_cert.specs.Verdict.{HasExtentNumbers, HasNumbers}
 use Rattle.bb_cert.specs.Laws.{IsLineWithin}
-use Rattle.bb_cert.specs.Line.{pair_text, records_text, refusal_text, second_text, verdict_text, IsLineOf}
+use Rattle.bb_cert.specs.Line.{pair_text, records_text, second_text, verdict_text, IsLineOf}
 
 number : (n : ℕ) → n < 2 ^ 64 → length (decimal n) ≤ 20
 number n h = length-decimal-le 20 n (omega arith) (omega (arith, h)) h

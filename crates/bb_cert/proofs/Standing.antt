@@ -1,5 +1,5 @@
 -- Runners that stand at the same configuration.
-use Rattle.std.proofs.Common.{◌≡◌, ℕ, ◌+◌, Some, ℤ, pos, ◌+ℤ◌, ◌-ℤ◌, ap, sym, ◌∙◌, add-one, option_and_then}
+use Rattle.std.proofs.Common.{◌≡◌, ℕ, ◌+◌, Some, ℤ, ap, sym, ◌∙◌, add-one, option_and_then}
 use Rattle.std.proofs.Common.{arith}
 use Rattle.std.proofs.lemmas.Int.{ints}
 use Rattle.bb_machine.specs.declared.entry.Dir.{Dir}

@@ -1,5 +1,5 @@
 -- What a verdict claims of a machine: this project's own. Claims know nothing of how a verdict was found.
-use Rattle.std.specs.Prelude.{ℕ, ◌<◌}
+use Rattle.std.specs.Prelude.{◌<◌}
 use Rattle.bb_machine.specs.Machine.{Table}
 use Rattle.bb_sim.specs.Run.{HaltsAt, IsScore}
 use Rattle.bb_cert.specs.declared.verdict.Verdict.{Verdict}

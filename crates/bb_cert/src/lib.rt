@@ -19,7 +19,7 @@ pub mod walk;
 pub use answer::Answer;
 pub use checking::{Pair, check};
 pub use compare::is_same;
-pub use line::{LINE_BUFFER, LONGEST, line_into, lines_are_short, refusal_into};
+pub use line::{LINE_BUFFER, LONGEST, line_into, lines_are_short, refusal_into, verdict_into};
 pub use path::Path;
 pub use reader::{Line, Said, read_line, read_line_anew};
 pub use verdict::{Extent, Side, Verdict, Why};

@@ -25,7 +25,28 @@ pub fn line_into(machine: &Machine, verdict: &Verdict, out: &mut ArrayVec<u8, LI
     ensures { out.new.items ≡ out.old.items ++ line_text machine.now verdict.now }
 {
     machine.text_into(out);
-    verdict_into(*verdict, out);
+    verdict_into(verdict, out);
+}
+
+/// Appends what the line of a machine and a verdict has after the machine's text, the space between them
+/// included.
+pub fn verdict_into(verdict: &Verdict, out: &mut ArrayVec<u8, LINE_BUFFER>)
+    requires { array_vec_len out.old + length (verdict_text verdict.now) ≤ LINE_BUFFER }
+    ensures { out.new.items ≡ out.old.items ++ verdict_text verdict.now }
+{
+    match *verdict {
+        Verdict::Halt { steps, score } => pair_into(b" halt ", steps, score, out),
+        Verdict::Cycler { first, second } => pair_into(b" cycler ", first, second, out),
+        Verdict::Translated {
+            side,
+            first,
+            second,
+            extent,
+        } => records_into(side, first, second, extent, out),
+        Verdict::Backward { levels, nodes } => pair_into(b" backward ", levels, nodes, out),
+        Verdict::Undecided(Why::Steps) => append(b" undecided steps", out),
+        Verdict::Undecided(Why::Cells) => append(b" undecided cells", out),
+    }
 }
 
 /// No verdict line is longer than `LONGEST`, where the machine's text isn't longer than `LINE`.
@@ -42,25 +63,6 @@ pub fn refusal_into(column: u32, text: &mut ArrayVec<u8, LINE_BUFFER>)
     let mut digits = Buffer::new();
     append(b"refused ", text);
     append(digits.format(column).as_bytes(), text);
-}
-
-fn verdict_into(verdict: Verdict, out: &mut ArrayVec<u8, LINE_BUFFER>)
-    requires { array_vec_len out.old + length (verdict_text verdict) ≤ LINE_BUFFER }
-    ensures { out.new.items ≡ out.old.items ++ verdict_text verdict }
-{
-    match verdict {
-        Verdict::Halt { steps, score } => pair_into(b" halt ", steps, score, out),
-        Verdict::Cycler { first, second } => pair_into(b" cycler ", first, second, out),
-        Verdict::Translated {
-            side,
-            first,
-            second,
-            extent,
-        } => records_into(side, first, second, extent, out),
-        Verdict::Backward { levels, nodes } => pair_into(b" backward ", levels, nodes, out),
-        Verdict::Undecided(Why::Steps) => append(b" undecided steps", out),
-        Verdict::Undecided(Why::Cells) => append(b" undecided cells", out),
-    }
 }
 
 fn records_into(

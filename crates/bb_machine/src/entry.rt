@@ -37,13 +37,17 @@ impl Dir {
         }
     }
 
+    /// Either letter is as likely as the other, so what is tested holds of both: a branch between them would
+    /// be guessed wrong half the time.
     fn read(letter: u8) -> Option<Dir>
         ensures { MatchOption result ((d : Dir) → dir_letter d ≢ letter) (λ d. dir_letter d ≡ letter) }
     {
-        match letter {
-            b'L' => Some(Dir::L),
-            b'R' => Some(Dir::R),
-            _ => None,
+        const APART: u8 = b'R' - b'L';
+        let distance = letter.checked_sub(b'L')?;
+        if distance <= APART && distance % APART == 0 {
+            Some(Dir::of_letter(letter))
+        } else {
+            None
         }
     }
 

@@ -8,7 +8,7 @@ ghost use Rattle.bb_run.specs.Ends.{DecideEnds};
 
 use crate::summary::Summary;
 use arrayvec::ArrayVec;
-use bb_cert::{line_into, lines_are_short, refusal_into};
+use bb_cert::{lines_are_short, refusal_into, verdict_into};
 use bb_decide::{Bench, Plan, decide};
 use bb_lines::fault::Fault;
 use bb_lines::lines::run;
@@ -104,7 +104,9 @@ impl<T: Tape> Responder for Decider<'_, T> {
             return Err(AllocError);
         };
         lines_are_short();
-        line_into(&self.machine, &verdict, text);
+        // The line is the machine's text, so it isn't written anew.
+        text.try_extend_from_slice(line).unwrap();
+        verdict_into(&verdict, text);
         self.summary.peak = self.summary.peak.greatest(meter);
         self.last_effort = meter.steps + meter.nodes;
         Ok(self.last_effort)

@@ -1,4 +1,4 @@
-use Rattle.std.proofs.Common.{◌≡◌, ◌∙◌, IsTrue, rules}
+use Rattle.std.proofs.Common.{◌∙◌, IsTrue, rules}
 use Rattle.std.proofs.lemmas.Result.{err_from_is_err_and}
 use Rattle.bb_machine.specs.Machine.{IsMachine}
 use Rattle.bb_machine.specs.Draft.{table_of}

@@ -1,5 +1,8 @@
-use Rattle.std.proofs.Common.{rules, refl, sym, ap, inl, inr, arith, length}
+use Rattle.std.proofs.Common.{◌≡◌, ◌≤◌, ◌+◌, rules, refl, sym, ap, inl, inr, arith, length, length-append}
+use Rattle.arrayvec.specs.ArrayVec.{array_vec_len}
 use Rattle.bb_machine.specs.declared.machine.TheConstants.{MAX_STATES, MAX_SYMBOLS}
+use Rattle.bb_machine.specs.Machine.{text}
+use Rattle.bb_cert.specs.Line.{verdict_text}
 use Rattle.bb_machine.proofs.Facts.{text_short}
 use Rattle.bb_run.proofs.deciding.DeciderResponder.respond.Goals as goal
 
@@ -23,11 +26,15 @@ returns-in-Err-clause-saw g c = (
   }),
 )
 
-pub line_into-requires : goal.line_into-requires
-line_into-requires g c =
-    let short = text_short MAX_STATES MAX_SYMBOLS c.read_anew.new.self c.in-Ok.ensures.found.0 in
+pub verdict_into-requires : goal.verdict_into-requires
+verdict_into-requires g c =
+    let of = c.in-Ok.ensures.found in
+    let short = text_short MAX_STATES MAX_SYMBOLS c.read_anew.new.self of.0 in
     let long = c.lines_are_short.ensures c.read_anew.new.self c.in-Ok-decide.verdict (omega (arith, short)) c.in-Ok-decide.ensures.numbers in
-    omega (arith, long, ap length c.requires.empty)
+    let filled : array_vec_len c.try_extend_from_slice.new.self ≡ array_vec_len c.args.text.now + length c.args.line.now = search rules in
+    let fits : array_vec_len c.try_extend_from_slice.new.self + length (verdict_text c.in-Ok-decide.verdict) ≤ 1023 =
+        omega (arith, long, length-append (text c.read_anew.new.self) (verdict_text c.in-Ok-decide.verdict), filled, ap length of.1, ap length c.requires.empty) in
+    fits
 
 pub returns-clause-reply : goal.returns-clause-reply
 returns-clause-reply g c = inl (record {
