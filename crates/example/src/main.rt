@@ -1,0 +1,65 @@
+//! A program of one's own over `bb_run`: it decides a list that it holds in memory, with the contracts of the
+//! calls behind it, and prints the verdicts.
+#![tactic(auto)]
+
+ghost use Rattle.std.specs.Prelude.{◌≡◌, IfOk};
+ghost use Rattle.bb_cert.specs.Path.{depth_of};
+ghost use Rattle.bb_decide.specs.Bench.{HasCells};
+
+use bb_decide::{Bench, Plan};
+use bb_lines::fault::Fault;
+use bb_lines::watched::Watched;
+use bb_machine::Limits;
+use bb_run::{Summary, run_decide};
+use bb_tape::{Memory, RingTape, Tape};
+use std::alloc::Global;
+use std::process::ExitCode;
+
+/// Machines of two and three states that make the most steps, one that comes back to a configuration, one
+/// that goes to the right for ever, and a line that is no machine's text.
+const LIST: &[u8] = b"1RB1LB_1LA1RZ\n1RB1RZ_1LB0RC_1LC1LA\n0RB0LB_0LA1RZ\n1RA1RA\n1rB1LB\n";
+
+const ALL: Plan = Plan {
+    cyclers: true,
+    translated: true,
+    backward: true,
+};
+
+fn main(rt: HostRuntime) -> ExitCode {
+    let limits = match Limits::new(1_000, 200, 60, 1_000) {
+        Ok(limits) => limits,
+        Err(fault) => {
+            let _ = eprintln!(rt; "{fault}");
+            return ExitCode::FAILURE;
+        }
+    };
+    match decided(&rt, &limits) {
+        Ok(_) => ExitCode::SUCCESS,
+        Err(fault) => {
+            let _ = eprintln!(rt; "{fault}");
+            ExitCode::FAILURE
+        }
+    }
+}
+
+/// Decides the list, and writes the verdicts to standard output.
+fn decided(rt: &HostRuntime, limits: &Limits) -> Result<Summary, Fault> {
+    let Ok(mut bench) = bench(rt.alloc(), limits) else {
+        return Err(Fault::Memory);
+    };
+    let mut reader = Watched::new(LIST);
+    let mut writer = Watched::new(rt.stdout());
+    run_decide(&mut reader, &mut writer, limits, ALL, &mut bench)
+}
+
+/// Three tapes and a path, which take memory here and never again.
+fn bench(alloc: Global, limits: &Limits) -> Result<Bench<RingTape>, Memory>
+    ensures tapes { IfOk result (HasCells ⟦<RingTape as Tape>⟧.strip limits.now.cells) }
+    ensures path { IfOk result (λ bench. depth_of bench.path ≡ limits.now.depth) }
+{
+    let cells = limits.cells();
+    let run = RingTape::new(alloc, cells)?;
+    let right = RingTape::new(alloc, cells)?;
+    let left = RingTape::new(alloc, cells)?;
+    Bench::new(alloc, run, right, left, limits)
+}
