@@ -46,12 +46,16 @@ module _ (low high : ℤ) (limit : ℕ) (w : IsWindow low high limit)
   index_from_zero up =
       elim index_in [ inl c ↦ ap unsigned_abs (sym c.1) | inr c ↦ absurd (omega (arith, ints, c.0)) ]
 
-  pub index_under_zero : p <ℤ pos 0 → unsigned_abs (p +ℤ pos limit) ≡ ring_index limit p
+  pub index_under_zero : p <ℤ pos 0 → unsigned_abs (pos limit +ℤ p) ≡ ring_index limit p
   index_under_zero under =
-      elim index_in [ inl c ↦ absurd (omega (arith, ints, c.0)) | inr c ↦ ap unsigned_abs (sym c.1) ]
+      let turned : pos limit +ℤ p ≡ p +ℤ pos limit = omega (arith, ints) in
+      elim index_in [
+        | inl c ↦ absurd (omega (arith, ints, c.0))
+        | inr c ↦ ap unsigned_abs (turned ∙ sym c.1)
+      ]
 
-  pub sum_fits : p <ℤ pos 0 → SFits w64 (p +ℤ pos limit)
-  sum_fits under = narrow_fits (p +ℤ pos limit) (omega (arith, ints)) (omega (arith, ints))
+  pub sum_fits : p <ℤ pos 0 → SFits w64 (pos limit +ℤ p)
+  sum_fits under = narrow_fits (pos limit +ℤ p) (omega (arith, ints)) (omega (arith, ints))
 
   -- no other cell of the window has its index
   pub index_apart : (q : ℤ) → low ≤ℤ q → q ≤ℤ high → q ≢ p → ring_index limit q ≢ ring_index limit p

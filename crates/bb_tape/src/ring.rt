@@ -187,10 +187,15 @@ impl Tape for RingTape {
         }
     }
 
+    /// A step of a run waits for what is read here. So the index of a position below 0 stands in a way of its
+    /// own, the limit first: the compiler then adds the limit to where the cells begin, which waits for no step.
     #[inline]
     fn read_inside(&self, p: i64) -> u8 {
-        let at = self.window.index(p);
-        self.cells[at]
+        if p < 0 {
+            self.cells[(self.window.limit as i64 + p) as usize]
+        } else {
+            self.cells[p as usize]
+        }
     }
 
     #[inline]

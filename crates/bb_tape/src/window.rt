@@ -133,7 +133,7 @@ impl Window {
         ensures within { result < self.now.limit }
     {
         if p < 0 {
-            (p + self.limit as i64) as usize
+            (self.limit as i64 + p) as usize
         } else {
             p as usize
         }

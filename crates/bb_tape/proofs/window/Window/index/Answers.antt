@@ -11,7 +11,7 @@ returns-then-p-lt0-clause-modulo c =
     let same : to_z w64 (of_z w64 p) ≡ p = to_z-of_z w64 _ c.ranges.p in
     let size : to_z w64 a.limit ≡ pos a.limit = to_z_pos w64 a.limit (omega (arith, a.valid.limited)) in
     let under : p <ℤ pos 0 = let t = rw same at c.if-p-lt0.true in grind (arith, ints, t) in
-    ap unsigned_abs ((λ i. to_z w64 (of_z w64 (same i +ℤ size i)))
+    ap unsigned_abs ((λ i. to_z w64 (of_z w64 (size i +ℤ same i)))
     ∙ to_z-of_z w64 _ (sum_fits a.low a.high a.limit a.valid p c.requires.low c.requires.high under))
     ∙ index_under_zero a.low a.high a.limit a.valid p c.requires.low c.requires.high under
 
