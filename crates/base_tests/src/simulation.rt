@@ -1,8 +1,8 @@
 //! Runs step by step, as they were worked out by hand, and runs that meet a limit at its end.
 ghost use Rattle.std.specs.Prelude.{◌≡◌};
 
-use crate::{Meter, Moved, Outcome, Runner, simulate};
 use bb_machine::{Limits, Machine};
+use bb_sim::{Meter, Moved, Outcome, Runner, simulate};
 use bb_tape::{MapTape, RingTape, Tape};
 use std::process::Abort;
 

@@ -3,7 +3,7 @@
 ghost use Rattle.std.specs.Prelude.{◌<◌, IsTrue, pos, ◌-ℤ◌, ◌≤ℤ◌};
 ghost use Rattle.bb_tape.specs.Strip.{IsStretch};
 
-use crate::{MOST_SYMBOL, MapTape, RingTape, Tape};
+use bb_tape::{MOST_SYMBOL, MapTape, RingTape, Tape};
 use std::process::Abort;
 use std::test::Fail;
 

@@ -1,6 +1,6 @@
 use Rattle.std.proofs.Common.{◌≡◌}
 use Rattle.bb_sim.specs.Runner.{Stands}
-use Rattle.bb_sim.proofs.tests.follows.Given as goal
+use Rattle.base_tests.proofs.simulation.follows.Given as goal
 
 -- the runner stands on the tape
 abbrev pub invariant-loop-n : goal.invariant-loop-n

@@ -1,6 +1,6 @@
 use Rattle.std.proofs.Common.{arith}
 use Rattle.std.proofs.lemmas.Int.{ints}
-use Rattle.bb_tape.proofs.tests.ring.is_stretch.Goals as goal
+use Rattle.base_tests.proofs.tape.ring.is_stretch.Goals as goal
 
 pub returns-then-low-from : goal.returns-then-low-from
 returns-then-low-from g c =

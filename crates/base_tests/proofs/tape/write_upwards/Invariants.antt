@@ -1,6 +1,6 @@
 use Rattle.std.proofs.Common.{◌≡◌, pos}
 use Rattle.bb_tape.specs.Strip.{IsBeside}
-use Rattle.bb_tape.proofs.tests.write_upwards.Given as goal
+use Rattle.base_tests.proofs.tape.write_upwards.Given as goal
 
 -- the next cell may be visited
 abbrev pub invariant-loop-k : goal.invariant-loop-k

@@ -1,5 +1,5 @@
 use Rattle.std.proofs.Common.{◌≡◌}
-use Rattle.bb_tape.proofs.tests.each_growth_of_a_map_refused.Given as goal
+use Rattle.base_tests.proofs.tape.each_growth_of_a_map_refused.Given as goal
 
 -- the source keeps its limit
 abbrev pub invariant-loop-left : goal.invariant-loop-left

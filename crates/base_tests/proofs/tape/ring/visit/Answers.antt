@@ -1,6 +1,6 @@
 use Rattle.std.proofs.Common.{arith}
 use Rattle.std.proofs.lemmas.Int.{ints}
-use Rattle.bb_tape.proofs.tests.ring.visit.Goals as goal
+use Rattle.base_tests.proofs.tape.ring.visit.Goals as goal
 
 pub visit-requires : goal.visit-requires
 visit-requires g c = (

@@ -5,8 +5,8 @@ ghost use Rattle.bb_tape.specs.Strip.{fresh, IsBeside, IsInside};
 
 mod ring;
 
-use super::*;
-use crate::reach::reach;
+use bb_tape::reach::reach;
+use bb_tape::{MOST_SYMBOL, MapTape, Memory, RingTape, Tape, TapeFault};
 use linked_list_allocator::LocalHeap;
 use std::process::Abort;
 use std::test::Fail;

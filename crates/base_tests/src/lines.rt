@@ -3,11 +3,11 @@ ghost use Rattle.std.specs.Prelude.{◌≡◌, ℕ, ◌+◌, ◌^◌, ◌-◌, L
 ghost use Rattle.std.proofs.Common.{rules};
 ghost use Rattle.std.proofs.lemmas.Grind.{common_steps};
 
-use crate::fault::Fault;
-use crate::lines::run;
-use crate::responder::{LONG_WORK, REPLY, Responder};
-use crate::watched::Watched;
 use arrayvec::ArrayVec;
+use bb_lines::fault::Fault;
+use bb_lines::lines::run;
+use bb_lines::responder::{LONG_WORK, REPLY, Responder};
+use bb_lines::watched::Watched;
 use std::alloc::AllocError;
 use std::io::{Error, ErrorKind, Read, Result, Write};
 use std::test::Fail;

@@ -1,8 +1,10 @@
 //! Worked lines, and a comparison with a second reader that only tries each prefix of a line.
 ghost use Rattle.std.specs.Prelude.{◌≤◌};
 
-use crate::{Dir, Entry, LINE, LimitFault, Limits, MAX_STATES, MAX_SYMBOLS, Machine, Next, Step};
 use arrayvec::ArrayVec;
+use bb_machine::{
+    Dir, Entry, LINE, LimitFault, Limits, MAX_STATES, MAX_SYMBOLS, Machine, Next, Step,
+};
 use std::process::Abort;
 use std::test::Fail;
 

@@ -1,8 +1,8 @@
 use Rattle.std.proofs.Common.{ℤ, ap, ◌∙◌, to_z, of_z, w64}
 use Rattle.bb_tape.specs.Content.{cell}
 use Rattle.bb_tape.specs.Strip.{written}
-use Rattle.bb_tape.proofs.Strips.{cell-written-same, written_back}
-use Rattle.bb_tape.proofs.tests.written_and_undone.Goals as goal
+use Rattle.bb_tape.proofs.Facts.{cell-written-same, written_back}
+use Rattle.base_tests.proofs.tape.written_and_undone.Goals as goal
 
 pub returns-clause-value : goal.returns-clause-value
 returns-clause-value g c =
