@@ -2,8 +2,8 @@
 ghost use Rattle.std.specs.Prelude.{◌≡◌, ◌≤◌, ◌*◌, ◌+◌, ◌<◌, ◌^◌};
 ghost use Rattle.bb_cert.specs.Path.{depth_of};
 
-use crate::Path;
-use crate::walk::walk;
+use bb_cert::Path;
+use bb_cert::walk::walk;
 use bb_machine::Machine;
 use bb_sim::Meter;
 use bb_tape::{MapTape, RingTape, Tape};

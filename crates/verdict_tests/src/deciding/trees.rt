@@ -3,8 +3,8 @@ ghost use Rattle.std.specs.Prelude.{◌≡◌};
 ghost use Rattle.bb_cert.specs.Path.{depth_of};
 ghost use Rattle.bb_decide.specs.Bench.{HasCells};
 
-use crate::{Bench, Plan, backward, decide};
 use bb_cert::{Verdict, Why};
+use bb_decide::{Bench, Plan, backward, decide};
 use bb_machine::{Limits, Machine};
 use bb_sim::Meter;
 use bb_tape::{MapTape, RingTape, Tape};

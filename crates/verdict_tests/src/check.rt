@@ -3,7 +3,7 @@ ghost use Rattle.std.specs.Prelude.{◌≡◌};
 ghost use Rattle.bb_cert.specs.Pair.{HasCells};
 ghost use Rattle.bb_cert.specs.Path.{depth_of};
 
-use crate::{Answer, Extent, Line, Pair, Path, Side, Verdict, check, read_line};
+use bb_cert::{Answer, Extent, Line, Pair, Path, Side, Verdict, check, read_line};
 use bb_machine::{LimitFault, Limits, Machine};
 use bb_sim::Meter;
 use bb_tape::{MapTape, RingTape, Tape};

@@ -1,8 +1,8 @@
 use Rattle.std.proofs.Common.{◌≡◌}
 use Rattle.bb_cert.specs.Path.{depth_of}
-use Rattle.bb_decide.specs.declared.tests.TheConstants.{CELLS}
+use Rattle.verdict_tests.specs.declared.deciding.TheConstants.{CELLS}
 use Rattle.bb_decide.specs.Bench.{HasCells}
-use Rattle.bb_decide.proofs.tests.are_decided.Given as goal
+use Rattle.verdict_tests.proofs.deciding.are_decided.Given as goal
 
 abbrev pub invariant-loop-text : goal.invariant-loop-text
 invariant-loop-text g l = record {

@@ -1,6 +1,6 @@
 use Rattle.std.proofs.Common.{w64, rules, FitsSigned}
 use Rattle.std.proofs.lemmas.Int.{to_z-of_z}
-use Rattle.bb_cert.proofs.tests.counting.CountingTape.agrees.Goals as goal
+use Rattle.verdict_tests.proofs.counting.CountingTape.agrees.Goals as goal
 
 pub returns : goal.returns
 returns c =

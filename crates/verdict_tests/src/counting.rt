@@ -1,8 +1,8 @@
 //! How many writes a walk makes, on a tape that counts them.
 ghost use Rattle.std.specs.Prelude.{◌≡◌, ◌≤◌, ◌*◌, ◌+◌};
 
-use crate::Path;
-use crate::walk::walk;
+use bb_cert::Path;
+use bb_cert::walk::walk;
 use bb_machine::Machine;
 use bb_sim::Meter;
 use bb_tape::{RingTape, Tape, TapeFault};

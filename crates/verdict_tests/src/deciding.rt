@@ -5,8 +5,8 @@ ghost use Rattle.bb_decide.specs.Bench.{HasCells};
 
 mod trees;
 
-use crate::{Bench, Plan, cyclers, decide};
 use bb_cert::{Extent, Side, Verdict, Why};
+use bb_decide::{Bench, Plan, cyclers, decide};
 use bb_machine::{Limits, Machine};
 use bb_sim::Meter;
 use bb_tape::{MapTape, RingTape, Tape};

@@ -1,15 +1,11 @@
 //! Worked lines, and a comparison with a second reader that splits a line at every space.
 ghost use Rattle.std.specs.Prelude.{◌+◌, ◌≤◌, length};
 
-use crate::{Extent, LINE_BUFFER, LONGEST, Line, Side, Verdict, Why, line_into, read_line};
 use arrayvec::ArrayVec;
+use bb_cert::{Extent, LINE_BUFFER, LONGEST, Line, Side, Verdict, Why, line_into, read_line};
 use itoa::Buffer;
 use std::process::Abort;
 use std::test::Fail;
-
-mod check;
-mod counting;
-mod walk;
 
 /// A machine of seven states, and the greatest numbers.
 const LONG: &[u8] =
