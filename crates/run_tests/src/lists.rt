@@ -4,41 +4,29 @@ ghost use Rattle.std.specs.Prelude.{◌≡◌};
 ghost use Rattle.bb_cert.specs.Path.{depth_of};
 ghost use Rattle.bb_decide.specs.Bench.{HasCells};
 
-mod broken;
-mod check;
-mod counting;
-mod forged;
-mod growing;
-mod loops;
-mod refusing;
-mod streams;
-mod symbols;
-mod tallied;
-mod trace;
-
-use crate::{Summary, run_decide};
 use bb_decide::{Bench, Plan};
 use bb_lines::fault::Fault;
 use bb_lines::watched::Watched;
 use bb_machine::Limits;
+use bb_run::{Summary, run_decide};
 use bb_tape::{MapTape, RingTape, Tape};
 use std::process::Abort;
 
 /// Limits of steps, cells, levels and nodes.
-type Four = [u64; 4];
+pub type Four = [u64; 4];
 
 /// The limits, the input, the output, and whether each line is a machine's.
-type Row = (Four, &'static [u8], &'static [u8], bool);
+pub type Row = (Four, &'static [u8], &'static [u8], bool);
 
-const DEFAULTS: Four = [1_000_000, 65_536, 300, 1_000_000];
+pub const DEFAULTS: Four = [1_000_000, 65_536, 300, 1_000_000];
 
-const SIMULATION: Plan = Plan {
+pub const SIMULATION: Plan = Plan {
     cyclers: false,
     translated: false,
     backward: false,
 };
 
-const CYCLERS: Plan = Plan {
+pub const CYCLERS: Plan = Plan {
     cyclers: true,
     translated: false,
     backward: false,
@@ -264,7 +252,7 @@ static REPEATS: [Row; 9] = [
     ),
 ];
 
-const PAIRS: Plan = Plan {
+pub const PAIRS: Plan = Plan {
     cyclers: true,
     translated: true,
     backward: false,
@@ -328,7 +316,7 @@ static RECORDS: [Row; 9] = [
 ];
 
 /// Backward reasoning alone.
-const TREES: Plan = Plan {
+pub const TREES: Plan = Plan {
     cyclers: false,
     translated: false,
     backward: true,
@@ -404,7 +392,7 @@ static BY_TREES: [Row; 12] = [
     ),
 ];
 
-const ALL: Plan = Plan {
+pub const ALL: Plan = Plan {
     cyclers: true,
     translated: true,
     backward: true,
@@ -462,7 +450,7 @@ static BY_ALL: [Row; 8] = [
 ];
 
 /// Decides a list, and answers what was written, too.
-fn decided<T: Tape>(
+pub fn decided<T: Tape>(
     rt: &(impl Abort + AllocGlobal),
     bench: &mut Bench<T>,
     limits: &Limits,
@@ -481,7 +469,7 @@ fn decided<T: Tape>(
 }
 
 /// Decides a list on maps.
-fn decided_on_maps(
+pub fn decided_on_maps(
     rt: &(impl Abort + AllocGlobal),
     limits: &Limits,
     plan: Plan,
@@ -495,7 +483,7 @@ fn decided_on_maps(
 }
 
 /// The same on rings.
-fn decided_on_rings(
+pub fn decided_on_rings(
     rt: &(impl Abort + AllocGlobal),
     limits: &Limits,
     plan: Plan,
@@ -508,7 +496,7 @@ fn decided_on_rings(
     decided(rt, &mut bench, limits, plan, input)
 }
 
-fn answers(rt: &(impl Abort + AllocGlobal), plan: Plan, rows: &[Row]) {
+pub fn answers(rt: &(impl Abort + AllocGlobal), plan: Plan, rows: &[Row]) {
     for (four, input, output, clean) in rows {
         let limits = Limits::new(four[0], four[1], four[2], four[3]).expect(rt, "limits");
         let (end, written) = decided_on_maps(rt, &limits, plan, input);

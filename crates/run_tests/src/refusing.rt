@@ -2,15 +2,15 @@
 //! lines once there is memory.
 ghost use Rattle.std.specs.Prelude.{◌≡◌};
 
-use crate::Summary;
-use crate::tests::check::checked;
-use crate::tests::tallied::{NEVER, tallied_tape};
-use crate::tests::trace::{traced, traced_on_a_ring};
-use crate::tests::{PAIRS, TREES, decided};
+use crate::check::checked;
+use crate::lists::{PAIRS, TREES, decided};
+use crate::tallied::{NEVER, tallied_tape};
+use crate::trace::{traced, traced_on_a_ring};
 use bb_cert::{Pair, Path};
 use bb_decide::{Bench, Plan};
 use bb_lines::fault::Fault;
 use bb_machine::Limits;
+use bb_run::Summary;
 use bb_tape::MapTape;
 use linked_list_allocator::LocalHeap;
 use std::process::Abort;

@@ -1,12 +1,12 @@
 //! Lists and traces over broken streams: what is written by then, and which fault it is.
 
-use crate::tests::SIMULATION;
-use crate::tests::streams::{Pieces, Sink};
-use crate::{Summary, run_decide, run_trace};
+use crate::lists::SIMULATION;
+use crate::streams::{Pieces, Sink};
 use bb_decide::Bench;
 use bb_lines::fault::Fault;
 use bb_lines::watched::Watched;
 use bb_machine::Limits;
+use bb_run::{Summary, run_decide, run_trace};
 use bb_tape::{MapTape, RingTape};
 use std::io::{ErrorKind, Read};
 use std::process::Abort;

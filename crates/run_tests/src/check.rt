@@ -3,14 +3,14 @@ ghost use Rattle.std.specs.Prelude.{◌≡◌, ◌≤◌};
 ghost use Rattle.bb_cert.specs.Pair.{HasCells};
 ghost use Rattle.bb_cert.specs.Path.{depth_of};
 
-use crate::tests::streams::{Pieces, Sink};
-use crate::tests::{Four, Row, decided_on_rings};
-use crate::{Summary, run_check};
+use crate::lists::{Four, Row, decided_on_rings};
+use crate::streams::{Pieces, Sink};
 use bb_cert::{Pair, Path};
 use bb_decide::Plan;
 use bb_lines::fault::Fault;
 use bb_lines::watched::Watched;
 use bb_machine::Limits;
+use bb_run::{Summary, run_check};
 use bb_tape::{MapTape, RingTape, Tape};
 use std::io::{ErrorKind, Read};
 use std::process::Abort;

@@ -1,8 +1,8 @@
 //! Machines of three to ten symbols and up to 25 states, with answers of a second program that reads the
 //! definitions plainly, on both tapes.
 
-use crate::tests::check::answers as check_answers;
-use crate::tests::{
+use crate::check::answers as check_answers;
+use crate::lists::{
     CYCLERS, DEFAULTS, Four, PAIRS, Row, SIMULATION, TREES, answers, decided_on_rings,
 };
 use bb_machine::Limits;

@@ -1,7 +1,7 @@
 //! Claims that someone made up, at the default limits: which rule decides each.
 
-use crate::tests::check::answers;
-use crate::tests::{DEFAULTS, Four, Row};
+use crate::check::answers;
+use crate::lists::{DEFAULTS, Four, Row};
 
 const LEAST: Four = [1_000_000, 1, 1, 1_000_000];
 

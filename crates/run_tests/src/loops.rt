@@ -1,7 +1,7 @@
 //! What deciding writes is checked at the same limits: each decided line is ok, and all others are open.
 
-use crate::tests::check::{checked_on_maps, checked_on_rings};
-use crate::tests::{Four, decided_on_maps, decided_on_rings};
+use crate::check::{checked_on_maps, checked_on_rings};
+use crate::lists::{Four, decided_on_maps, decided_on_rings};
 use bb_decide::Plan;
 use bb_machine::Limits;
 use std::process::Abort;

@@ -1,6 +1,6 @@
 //! Verdicts at limits that grow: what the limits reach is found, and what was decided stays so.
 
-use crate::tests::{DEFAULTS, Row, answers};
+use crate::lists::{DEFAULTS, Row, answers};
 use bb_decide::Plan;
 
 const ALL: Plan = Plan {

@@ -1,9 +1,9 @@
 //! How many writes the engines make.
 ghost use Rattle.std.specs.Prelude.{◌≡◌};
 
-use crate::tests::check::checked;
-use crate::tests::tallied::{NEVER, tallied_tape};
-use crate::tests::{ALL, DEFAULTS, Four, decided};
+use crate::check::checked;
+use crate::lists::{ALL, DEFAULTS, Four, decided};
+use crate::tallied::{NEVER, tallied_tape};
 use bb_cert::{Pair, Path};
 use bb_decide::Bench;
 use bb_machine::Limits;

@@ -1,6 +1,6 @@
 use Rattle.std.proofs.Common.{w64, rules, FitsSigned}
 use Rattle.std.proofs.lemmas.Int.{to_z-of_z}
-use Rattle.bb_run.proofs.tests.tallied.TalliedTape.agrees.Goals as goal
+use Rattle.run_tests.proofs.tallied.TalliedTape.agrees.Goals as goal
 
 pub returns : goal.returns
 returns g c =

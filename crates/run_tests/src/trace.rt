@@ -1,10 +1,10 @@
 //! Traces, with lines that were worked out by hand.
 ghost use Rattle.std.specs.Prelude.{◌≡◌};
 
-use crate::{Summary, run_trace};
 use bb_lines::fault::Fault;
 use bb_lines::watched::Watched;
 use bb_machine::Limits;
+use bb_run::{Summary, run_trace};
 use bb_sim::Meter;
 use bb_tape::{MapTape, RingTape, Tape};
 use std::process::Abort;
