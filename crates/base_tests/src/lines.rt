@@ -10,6 +10,7 @@ use bb_lines::responder::{LONG_WORK, REPLY, Responder};
 use bb_lines::watched::Watched;
 use std::alloc::AllocError;
 use std::io::{Error, ErrorKind, Read, Result, Write};
+use std::process::Abort;
 use std::test::Fail;
 
 const INPUT: &[u8; 14] = b"------\n\n------";
@@ -231,28 +232,35 @@ fn writes_what_was_complete_before_a_failed_read(rt: HostRuntime) {
     }
 }
 
+/// Runs over a sink, and holds how it ends and what is written against what should be.
+fn written_into(
+    rt: &impl Abort,
+    sink: Sink,
+    end: std::result::Result<(), Fault>,
+    written: &[u8],
+) -> Ended {
+    let ended = shout_all(pieces_of(14, 14), sink, 9, 0);
+    assert_eq!(rt; ended.end, end, "{written:?} written");
+    assert_eq!(rt; ended.sink.bytes.as_slice(), written);
+    ended
+}
+
 #[test]
 fn writes_a_beginning_before_a_failed_write(rt: HostRuntime) {
     for room in 0..16 {
-        let ended = shout_all(pieces_of(14, 14), sink_of(64, room), 9, 0);
-        assert_eq!(rt; ended.end, Err(Fault::Write), "room {room}");
-        assert_eq!(rt; ended.sink.bytes.as_slice(), &OUTPUT[..room], "room {room}");
+        let ended = written_into(&rt, sink_of(64, room), Err(Fault::Write), &OUTPUT[..room]);
         assert_eq!(rt; ended.sink.flushes, 0);
         assert!(rt; !ended.read_failed && ended.write_failed);
     }
-    let ended = shout_all(pieces_of(14, 14), sink_of(0, 64), 9, 0);
-    assert_eq!(rt; ended.end, Err(Fault::Write), "no byte taken");
+    // a sink that takes no byte, one that takes a byte a call, and one whose flush fails
+    let ended = written_into(&rt, sink_of(0, 64), Err(Fault::Write), &[]);
     assert_eq!(rt; ended.sink.writes, 1);
-    let ended = shout_all(pieces_of(14, 14), sink_of(1, 64), 9, 0);
-    assert_eq!(rt; ended.end, Ok(()), "one byte a call");
-    assert_eq!(rt; ended.sink.bytes.as_slice(), OUTPUT.as_slice());
+    written_into(&rt, sink_of(1, 64), Ok(()), OUTPUT.as_slice());
     let stiff = Sink {
         can_flush: false,
         ..sink_of(64, 64)
     };
-    let ended = shout_all(pieces_of(14, 14), stiff, 9, 0);
-    assert_eq!(rt; ended.end, Err(Fault::Write), "no flush");
-    assert_eq!(rt; ended.sink.bytes.as_slice(), OUTPUT.as_slice());
+    let ended = written_into(&rt, stiff, Err(Fault::Write), OUTPUT.as_slice());
     assert_eq!(rt; ended.sink.flushes, 1);
 }
 

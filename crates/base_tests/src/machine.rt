@@ -264,64 +264,54 @@ fn each_changed_byte_of_larger_machines_is_too(rt: HostRuntime) {
     are_read_with_each_byte(&rt, &MACHINES[12..]);
 }
 
+/// Limits of steps, cells, levels and nodes, the fault that they have, and its text.
+const FAULTS: [([u64; 4], LimitFault, &str); 6] = [
+    (
+        [1_000_000_000_001, 0, 10_001, 1_000_000_000_001],
+        LimitFault::Steps,
+        "bb: steps out of range",
+    ),
+    (
+        [0, 0, 10_001, 1_000_000_000_001],
+        LimitFault::Cells,
+        "bb: cells out of range",
+    ),
+    (
+        [0, 67_108_865, 0, 0],
+        LimitFault::Cells,
+        "bb: cells out of range",
+    ),
+    (
+        [0, 1, 10_001, 1_000_000_000_001],
+        LimitFault::Depth,
+        "bb: depth out of range",
+    ),
+    (
+        [0, 1, 10_000, 1_000_000_000_001],
+        LimitFault::Nodes,
+        "bb: nodes out of range",
+    ),
+    (
+        [0, 4, 3, 0],
+        LimitFault::DepthCells,
+        "bb: depth does not fit in cells",
+    ),
+];
+
 #[test]
 fn limits_are_told_and_faults_are_printed(rt: HostRuntime) -> Result<(), Fail> {
     let limits = Limits::new(1_000_000, 65_536, 300, 1_000_001).map_err(|_| "refused")?;
-    assert_eq!(rt; limits.steps(), 1_000_000);
-    assert_eq!(rt; limits.cells(), 65_536);
-    assert_eq!(rt; limits.depth(), 300);
-    assert_eq!(rt; limits.nodes(), 1_000_001);
-    for (t, s, d, n, fault, text) in [
-        (
-            1_000_000_000_001,
-            0,
-            10_001,
-            1_000_000_000_001,
-            LimitFault::Steps,
-            "bb: steps out of range",
-        ),
-        (
-            0,
-            0,
-            10_001,
-            1_000_000_000_001,
-            LimitFault::Cells,
-            "bb: cells out of range",
-        ),
-        (
-            0,
-            67_108_865,
-            0,
-            0,
-            LimitFault::Cells,
-            "bb: cells out of range",
-        ),
-        (
-            0,
-            1,
-            10_001,
-            1_000_000_000_001,
-            LimitFault::Depth,
-            "bb: depth out of range",
-        ),
-        (
-            0,
-            1,
-            10_000,
-            1_000_000_000_001,
-            LimitFault::Nodes,
-            "bb: nodes out of range",
-        ),
-        (
-            0,
-            4,
-            3,
-            0,
-            LimitFault::DepthCells,
-            "bb: depth does not fit in cells",
-        ),
-    ] {
-        let refused = Limits::new(t, s, d, n).err().ok_or("accepted")?;
+    let told = [
+        limits.steps(),
+        limits.cells(),
+        limits.depth(),
+        limits.nodes(),
+    ];
+    assert_eq!(rt; told, [1_000_000, 65_536, 300, 1_000_001]);
+    for ([steps, cells, depth, nodes], fault, text) in FAULTS {
+        let refused = Limits::new(steps, cells, depth, nodes)
+            .err()
+            .ok_or("accepted")?;
         assert_eq!(rt; refused, fault);
         assert_eq!(rt; format!(in rt.alloc(); "{refused}")?.as_str(), text);
     }
