@@ -103,14 +103,14 @@ const TRACE: &[u8; 72] =
 fn traced(
     rt: &(impl Abort + AllocGlobal),
     line: &[u8],
-    mut sink: Sink,
+    sink: Sink,
 ) -> (Result<Summary, Fault>, Sink) {
     let limits = Limits::new(10, 9, 0, 0).expect(rt, "limits");
     let mut tape = MapTape::new(rt.alloc(), limits.cells());
-    let mut writer = Watched::new(&mut sink);
+    let mut writer = Watched::new(sink);
     let end = run_trace(line, &limits, &mut tape, &mut writer);
     assert_eq!(rt; writer.failed(), end == Err(Fault::Write));
-    (end, sink)
+    (end, writer.into_inner())
 }
 
 #[test]

@@ -1,6 +1,6 @@
 //! Engines over tapes that are refused memory: what is written by then, and that the same tapes give all
 //! lines once there is memory.
-ghost use Rattle.std.specs.Prelude.{◌≡◌};
+ghost use Rattle.std.specs.Prelude.{◌≡◌, ◌≤◌};
 
 use crate::check::checked;
 use crate::lists::{PAIRS, TREES, decided};
@@ -50,39 +50,53 @@ const BY_TREES: &[u8] = b"1RB1LB_1LA1RZ halt 6 4
 0RB---_0LA--- backward 2 4
 ";
 
+/// Decides a list with so many bytes left for the tapes, and, where it wanted more, again with all; whether
+/// it did.
+fn deciding_wants_more(
+    rt: &(impl Abort + AllocGlobal),
+    heap: &LocalHeap,
+    left: usize,
+    plan: Plan,
+    output: &[u8],
+) -> Result<bool, Fail>
+    requires { left ≤ HEAP }
+{
+    let limits = Limits::new(1000, 64, 10, 100).expect(rt, "limits");
+    let run = MapTape::new_in(heap, limits.cells());
+    let right = MapTape::new_in(heap, limits.cells());
+    let left_tape = MapTape::new_in(heap, limits.cells());
+    let mut bench = Bench::new(rt.alloc(), run, right, left_tape, &limits).expect(rt, "a bench");
+    let rest: Vec<u8, &LocalHeap> = Vec::with_capacity(heap, HEAP - left)?;
+    let (end, written) = decided(rt, &mut bench, &limits, plan, MACHINES);
+    drop(rest);
+    let wanted = wanted_memory(rt, &end, written.as_slice(), output);
+    if wanted {
+        let (end, written) = decided(rt, &mut bench, &limits, plan, MACHINES);
+        assert!(rt; end.is_ok() && written.as_slice() == output, "again");
+    }
+    Ok(wanted)
+}
+
 /// Decides a list with more and more bytes left for the tapes, until they are enough.
 fn deciding_on_a_heap(
     rt: &(impl Abort + AllocGlobal),
     plan: Plan,
-    input: &[u8],
     output: &[u8],
 ) -> Result<(), Fail> {
-    let limits = Limits::new(1000, 64, 10, 100).expect(rt, "limits");
     let heap = LocalHeap::new(rt.alloc(), HEAP)?;
     for left in 0..HEAP {
-        let run = MapTape::new_in(&heap, limits.cells());
-        let right = MapTape::new_in(&heap, limits.cells());
-        let left_tape = MapTape::new_in(&heap, limits.cells());
-        let mut bench = Bench::new(rt.alloc(), run, right, left_tape, &limits).expect(
-            rt, "a bench",
-        );
-        let rest: Vec<u8, &LocalHeap> = Vec::with_capacity(&heap, HEAP - left)?;
-        let (end, written) = decided(rt, &mut bench, &limits, plan, input);
-        drop(rest);
-        if !wanted_memory(rt, &end, written.as_slice(), output) {
+        if !deciding_wants_more(rt, &heap, left, plan, output)? {
             assert!(rt; left > 0);
             return Ok(());
         }
-        let (end, written) = decided(rt, &mut bench, &limits, plan, input);
-        assert!(rt; end.is_ok() && written.as_slice() == output, "again");
     }
     panic!(rt; "never enough");
 }
 
 #[test]
 fn deciding_on_heaps_that_are_too_small(rt: HostRuntime) -> Result<(), Fail> {
-    deciding_on_a_heap(&rt, PAIRS, MACHINES, BY_PAIRS)?;
-    deciding_on_a_heap(&rt, TREES, MACHINES, BY_TREES)
+    deciding_on_a_heap(&rt, PAIRS, BY_PAIRS)?;
+    deciding_on_a_heap(&rt, TREES, BY_TREES)
 }
 
 /// More calls that may take memory than a run below makes.

@@ -102,6 +102,31 @@ static ROWS: [Row; 9] = [
     ),
 ];
 
+/// Reasons backward, with a meter that others have counted in: their counts stay, and the nodes begin anew.
+fn found<T: Tape>(
+    rt: &impl Abort,
+    bench: &mut Bench<T>,
+    limits: &Limits,
+    machine: &Machine,
+    meter: &mut Meter,
+) -> Result<Option<Verdict>, Fail>
+    requires tapes { HasCells T.strip limits.now.cells bench.old }
+    requires path { depth_of bench.old.path ≡ limits.now.depth }
+    ensures tapes { HasCells T.strip limits.now.cells bench.new }
+    ensures path { depth_of bench.new.path ≡ limits.now.depth }
+{
+    *meter = Meter {
+        steps: 7,
+        most_cells: 5,
+        nodes: 3,
+        most_levels: 9,
+    };
+    let found = backward(machine, limits, bench, meter)?;
+    assert_eq!(rt; meter.steps, 7);
+    assert_eq!(rt; meter.most_cells, 5);
+    Ok(found)
+}
+
 /// Holds what backward reasoning finds, and the verdict with all it counts, against what was worked out.
 fn is_reasoned<T: Tape>(
     rt: &impl Abort,
@@ -114,15 +139,8 @@ fn is_reasoned<T: Tape>(
 {
     let (text, _, verdict, steps, most_nodes) = row;
     let machine = Machine::read(text)?;
-    let mut meter = Meter {
-        steps: 7,
-        most_cells: 5,
-        nodes: 3,
-        most_levels: 9,
-    };
-    let found = backward(&machine, limits, bench, &mut meter)?;
-    assert_eq!(rt; meter.steps, 7);
-    assert_eq!(rt; meter.most_cells, 5);
+    let mut meter = Meter::new();
+    let found = found(rt, bench, limits, &machine, &mut meter)?;
     assert!(rt; meter.nodes <= *most_nodes);
     let decided = decide(&machine, limits, ALL, bench, &mut meter)?;
     assert_eq!(rt; decided, *verdict);
