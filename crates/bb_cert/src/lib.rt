@@ -11,8 +11,6 @@ pub mod path;
 pub mod reader;
 mod rules;
 pub mod side_records;
-#[cfg(test)]
-mod tests;
 pub mod verdict;
 pub mod walk;
 

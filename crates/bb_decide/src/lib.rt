@@ -8,8 +8,6 @@ mod keeping;
 pub mod laws;
 pub mod plan;
 pub mod reasoning;
-#[cfg(test)]
-mod tests;
 pub mod translation;
 
 pub use bench::Bench;

@@ -5,6 +5,4 @@ pub mod fault;
 pub mod lines;
 pub mod output;
 pub mod responder;
-#[cfg(test)]
-mod tests;
 pub mod watched;

@@ -7,8 +7,6 @@ pub mod entry;
 pub mod laws;
 pub mod limits;
 pub mod machine;
-#[cfg(test)]
-mod tests;
 
 pub use entry::{Dir, Entry, Next};
 pub use limits::{LimitFault, Limits};

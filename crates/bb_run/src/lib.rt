@@ -6,8 +6,6 @@ mod checking;
 mod deciding;
 pub mod laws;
 mod summary;
-#[cfg(test)]
-mod tests;
 mod tracing;
 
 pub use checking::run_check;

@@ -5,8 +5,6 @@ pub mod laws;
 pub mod meter;
 pub mod runner;
 pub mod simulation;
-#[cfg(test)]
-mod tests;
 
 pub use meter::Meter;
 pub use runner::{Moved, Runner};

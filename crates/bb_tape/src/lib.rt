@@ -6,8 +6,6 @@ pub mod map;
 pub mod reach;
 pub mod ring;
 pub mod tape;
-#[cfg(test)]
-mod tests;
 mod window;
 
 pub use map::MapTape;

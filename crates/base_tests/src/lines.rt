@@ -1,0 +1,329 @@
+//! The engine over streams that come in pieces, fail or take little, with a reply that is easy to write down.
+ghost use Rattle.std.specs.Prelude.{◌≡◌, ℕ, ◌+◌, ◌^◌, ◌-◌, List, ◌∷◌, ◌++◌, [], take, min, true};
+ghost use Rattle.std.proofs.Common.{rules};
+ghost use Rattle.std.proofs.lemmas.Grind.{common_steps};
+
+use arrayvec::ArrayVec;
+use bb_lines::fault::Fault;
+use bb_lines::lines::run;
+use bb_lines::responder::{LONG_WORK, REPLY, Responder};
+use bb_lines::watched::Watched;
+use std::alloc::AllocError;
+use std::io::{Error, ErrorKind, Read, Result, Write};
+use std::process::Abort;
+use std::test::Fail;
+
+const INPUT: &[u8; 14] = b"------\n\n------";
+
+const OUTPUT: &[u8; 16] = b"-----!\n!\n-----!\n";
+
+/// Replies with the first five bytes of a line and a `!`, and counts the lines.
+#[derive(Drop)]
+struct Shout<'a> {
+    // How many lines are answered before memory is refused.
+    before_refusal: u64,
+    // How much work each answer is, and the last one was.
+    work: u64,
+    last_work: u64,
+    seen: &'a mut u64,
+}
+
+impl Responder for Shout<'_> {
+    ghost replies_with = { λ _ line text. text ≡ take 5 line ++ 33 ∷ [] };
+
+    ghost saw = { λ a _ b. b.seen.now ≡ min (a.seen.now + 1) (2 ^ 64 - 1) };
+
+    ghost work = { λ a. a.last_work };
+
+    ghost keeps = { λ a b. b.seen.ghost_name ≡ a.seen.ghost_name };
+
+    ghost is_ready = { λ _. Unit {0} };
+
+    ghost GROWS = { true };
+
+    ghost KEEP = { 5 };
+
+    ghost keeps_at_first = { Prim.search rules };
+
+    ghost keeps_on = { Prim.search rules };
+
+    ghost keeps_reply = { Prim.search rules };
+
+    ghost keeps_some = { Prim.search rules };
+
+    ghost keeps_few = { Prim.search rules };
+
+    ghost reply_by_kept = { Prim.search (rules, common_steps) };
+
+    ghost saw_by_kept = { Prim.search rules };
+
+    fn keep(&self) -> usize {
+        5
+    }
+
+    fn respond(
+        &mut self,
+        line: &[u8],
+        text: &mut ArrayVec<u8, REPLY>,
+    ) -> std::result::Result<u64, AllocError> {
+        if self.before_refusal == 0 {
+            return Err(AllocError);
+        }
+        self.before_refusal -= 1;
+        *self.seen = self.seen.saturating_add(1);
+        text.try_extend_from_slice(line).unwrap();
+        text.push(b'!');
+        self.last_work = self.work;
+        Ok(self.work)
+    }
+}
+
+/// Gives its bytes a few at a time, a first piece of its own length, and fails at one call.
+#[derive(Drop)]
+struct Pieces {
+    bytes: &'static [u8],
+    first: usize,
+    most: usize,
+    before_failure: u64,
+    error: ErrorKind,
+}
+
+impl Read for Pieces {
+    fn read(&mut self, buf: &mut [u8]) -> Result<usize> {
+        if self.before_failure == 0 {
+            return Err(Error::from(self.error));
+        }
+        self.before_failure -= 1;
+        let n = self.bytes.len().min(self.first).min(buf.len());
+        buf[..n].copy_from_slice(&self.bytes[..n]);
+        self.bytes = &self.bytes[n..];
+        self.first = self.most;
+        Ok(n)
+    }
+}
+
+/// Takes a few bytes a call and a number of bytes in all, and counts its calls.
+#[derive(Drop)]
+struct Sink {
+    bytes: ArrayVec<u8, 64>,
+    most: usize,
+    room: usize,
+    writes: u64,
+    flushes: u64,
+    can_flush: bool,
+}
+
+impl Write for Sink {
+    fn write(&mut self, buf: &[u8]) -> Result<usize> {
+        self.writes = self.writes.saturating_add(1);
+        if self.room == 0 {
+            return Err(Error::from(ErrorKind::Interrupted));
+        }
+        let n = buf.len().min(self.most).min(self.room);
+        self.room -= n;
+        match self.bytes.try_extend_from_slice(&buf[..n]) {
+            Ok(()) => Ok(n),
+            Err(_) => Err(Error::from(ErrorKind::WriteZero)),
+        }
+    }
+
+    fn flush(&mut self) -> Result<()> {
+        self.flushes = self.flushes.saturating_add(1);
+        if self.can_flush {
+            Ok(())
+        } else {
+            Err(Error::from(ErrorKind::BrokenPipe))
+        }
+    }
+}
+
+/// The input in pieces: one of `first` bytes, and then of at most `most`.
+fn pieces_of(first: usize, most: usize) -> Pieces {
+    Pieces {
+        bytes: INPUT,
+        first,
+        most,
+        before_failure: u64::MAX,
+        error: ErrorKind::Interrupted,
+    }
+}
+
+/// A sink that takes at most `most` bytes a call and `room` in all.
+fn sink_of(most: usize, room: usize) -> Sink {
+    Sink {
+        bytes: ArrayVec::new(),
+        most,
+        room,
+        writes: 0,
+        flushes: 0,
+        can_flush: true,
+    }
+}
+
+/// How a run over a reader and a sink ended.
+#[derive(Drop)]
+struct Ended {
+    end: std::result::Result<(), Fault>,
+    read_failed: bool,
+    write_failed: bool,
+    sink: Sink,
+    seen: u64,
+}
+
+fn shout_all<R: Read + Drop>(reader: R, mut sink: Sink, before_refusal: u64, work: u64) -> Ended {
+    let mut reader = Watched::new(reader);
+    let mut writer = Watched::new(&mut sink);
+    let mut seen = 0;
+    let mut shout = Shout {
+        before_refusal,
+        work,
+        last_work: 0,
+        seen: &mut seen,
+    };
+    let end = run(&mut reader, &mut writer, &mut shout);
+    let write_failed = writer.failed();
+    Ended {
+        end,
+        read_failed: reader.failed(),
+        write_failed,
+        sink,
+        seen,
+    }
+}
+
+#[test]
+fn answers_in_any_pieces(rt: HostRuntime) {
+    for first in 1..15 {
+        for most in [1, 2, 7, 64] {
+            let ended = shout_all(pieces_of(first, most), sink_of(64, 64), 9, 0);
+            assert_eq!(rt; ended.end, Ok(()), "{first} and {most}");
+            assert_eq!(rt;
+                ended.sink.bytes.as_slice(),
+                OUTPUT.as_slice(),
+                "{first} and {most}"
+            );
+            assert_eq!(rt; ended.sink.flushes, 1);
+            assert_eq!(rt; ended.seen, 3);
+            assert!(rt; !ended.read_failed && !ended.write_failed);
+        }
+    }
+}
+
+#[test]
+fn writes_what_was_complete_before_a_failed_read(rt: HostRuntime) {
+    for error in [ErrorKind::Interrupted, ErrorKind::BrokenPipe] {
+        for k in 1..16 {
+            let reader = Pieces {
+                before_failure: k - 1,
+                error,
+                ..pieces_of(1, 1)
+            };
+            let ended = shout_all(reader, sink_of(64, 64), 9, 0);
+            let written = match k {
+                1..=7 => 0,
+                8 => 7,
+                _ => 9,
+            };
+            assert_eq!(rt; ended.end, Err(Fault::Read), "read {k}");
+            assert_eq!(rt; ended.sink.bytes.as_slice(), &OUTPUT[..written], "read {k}");
+            assert_eq!(rt; ended.sink.flushes, 0);
+            assert!(rt; ended.read_failed && !ended.write_failed);
+        }
+    }
+}
+
+/// Runs over a sink, and holds how it ends and what is written against what should be.
+fn written_into(
+    rt: &impl Abort,
+    sink: Sink,
+    end: std::result::Result<(), Fault>,
+    written: &[u8],
+) -> Ended {
+    let ended = shout_all(pieces_of(14, 14), sink, 9, 0);
+    assert_eq!(rt; ended.end, end, "{written:?} written");
+    assert_eq!(rt; ended.sink.bytes.as_slice(), written);
+    ended
+}
+
+#[test]
+fn writes_a_beginning_before_a_failed_write(rt: HostRuntime) {
+    for room in 0..16 {
+        let ended = written_into(&rt, sink_of(64, room), Err(Fault::Write), &OUTPUT[..room]);
+        assert_eq!(rt; ended.sink.flushes, 0);
+        assert!(rt; !ended.read_failed && ended.write_failed);
+    }
+    // a sink that takes no byte, one that takes a byte a call, and one whose flush fails
+    let ended = written_into(&rt, sink_of(0, 64), Err(Fault::Write), &[]);
+    assert_eq!(rt; ended.sink.writes, 1);
+    written_into(&rt, sink_of(1, 64), Ok(()), OUTPUT.as_slice());
+    let stiff = Sink {
+        can_flush: false,
+        ..sink_of(64, 64)
+    };
+    let ended = written_into(&rt, stiff, Err(Fault::Write), OUTPUT.as_slice());
+    assert_eq!(rt; ended.sink.flushes, 1);
+}
+
+#[test]
+fn writes_the_replies_before_a_refused_growth(rt: HostRuntime) {
+    for (answers, written) in [(0, 0), (1, 7), (2, 9)] {
+        let ended = shout_all(pieces_of(14, 14), sink_of(64, 64), answers, 0);
+        assert_eq!(rt; ended.end, Err(Fault::Memory), "after {answers}");
+        assert_eq!(rt;
+            ended.sink.bytes.as_slice(),
+            &OUTPUT[..written],
+            "after {answers}"
+        );
+        assert_eq!(rt; ended.seen, answers);
+    }
+}
+
+#[test]
+fn writes_long_work_at_once(rt: HostRuntime) {
+    for (work, writes) in [(0, 2), (LONG_WORK, 2), (LONG_WORK + 1, 3)] {
+        let ended = shout_all(pieces_of(14, 14), sink_of(64, 64), 9, work);
+        assert_eq!(rt; ended.end, Ok(()));
+        assert_eq!(rt; ended.sink.writes, writes);
+    }
+}
+
+/// A line of so many `x`, with no newline.
+#[derive(Drop)]
+struct Long {
+    left: usize,
+}
+
+impl Read for Long {
+    fn read(&mut self, buf: &mut [u8]) -> Result<usize> {
+        let n = self.left.min(buf.len());
+        buf[..n].fill(b'x');
+        self.left -= n;
+        Ok(n)
+    }
+}
+
+#[test]
+fn keeps_the_prefix_of_a_long_line(rt: HostRuntime) {
+    for left in [4, 5, 6, 16384, 1_000_000] {
+        let ended = shout_all(Long { left }, sink_of(64, 64), 9, 0);
+        let wanted = if left == 4 {
+            &b"xxxx!\n"[..]
+        } else {
+            &b"xxxxx!\n"[..]
+        };
+        assert_eq!(rt; ended.sink.bytes.as_slice(), wanted, "{left}");
+        assert_eq!(rt; ended.seen, 1);
+    }
+}
+
+#[test]
+fn tells_faults(rt: HostRuntime) -> std::result::Result<(), Fail> {
+    for (fault, text) in [
+        (Fault::Memory, "bb: out of memory"),
+        (Fault::Read, "bb: read failed"),
+        (Fault::Write, "bb: write failed"),
+    ] {
+        assert_eq!(rt; format!(in rt.alloc(); "{fault}")?.as_str(), text);
+    }
+    Ok(())
+}

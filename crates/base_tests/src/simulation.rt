@@ -1,0 +1,255 @@
+//! Runs step by step, as they were worked out by hand, and runs that meet a limit at its end.
+ghost use Rattle.std.specs.Prelude.{◌≡◌};
+
+use bb_machine::{Limits, Machine};
+use bb_sim::{Meter, Moved, Outcome, Runner, simulate};
+use bb_tape::{MapTape, RingTape, Tape};
+use std::process::Abort;
+
+/// A configuration: the state's letter, the head's position, the positions that have a 1, and the span.
+type Seen = (char, i64, &'static [i64], i64);
+
+const CELLS: u64 = 64;
+
+/// The two-state champion.
+static CHAMPION: [Seen; 7] = [
+    ('A', 0, &[], 1),
+    ('B', 1, &[0], 2),
+    ('A', 0, &[0, 1], 2),
+    ('B', -1, &[0, 1], 3),
+    ('A', -2, &[-1, 0, 1], 4),
+    ('B', -1, &[-2, -1, 0, 1], 4),
+    ('Z', 0, &[-2, -1, 0, 1], 4),
+];
+
+/// The three-state champion in steps.
+static THREE_STATES: [Seen; 22] = [
+    ('A', 0, &[], 1),
+    ('B', 1, &[0], 2),
+    ('B', 0, &[0, 1], 2),
+    ('C', 1, &[1], 2),
+    ('A', 0, &[1], 2),
+    ('B', 1, &[0, 1], 2),
+    ('C', 2, &[0], 3),
+    ('C', 1, &[0, 2], 3),
+    ('C', 0, &[0, 1, 2], 3),
+    ('A', -1, &[0, 1, 2], 4),
+    ('B', 0, &[-1, 0, 1, 2], 4),
+    ('C', 1, &[-1, 1, 2], 4),
+    ('A', 0, &[-1, 1, 2], 4),
+    ('B', 1, &[-1, 0, 1, 2], 4),
+    ('C', 2, &[-1, 0, 2], 4),
+    ('A', 1, &[-1, 0, 2], 4),
+    ('B', 2, &[-1, 0, 1, 2], 4),
+    ('C', 3, &[-1, 0, 1], 5),
+    ('C', 2, &[-1, 0, 1, 3], 5),
+    ('C', 1, &[-1, 0, 1, 2, 3], 5),
+    ('A', 0, &[-1, 0, 1, 2, 3], 5),
+    ('Z', 1, &[-1, 0, 1, 2, 3], 5),
+];
+
+/// A run that goes on to the right.
+static RIGHT: [Seen; 9] = [
+    ('A', 0, &[], 1),
+    ('B', 1, &[0], 2),
+    ('A', 0, &[0, 1], 2),
+    ('A', 1, &[1], 2),
+    ('A', 2, &[], 3),
+    ('B', 3, &[2], 4),
+    ('A', 2, &[2, 3], 4),
+    ('A', 3, &[3], 4),
+    ('A', 4, &[], 5),
+];
+
+/// A run whose configurations come again.
+static REPEATING: [Seen; 9] = [
+    ('A', 0, &[], 1),
+    ('B', 1, &[0], 2),
+    ('A', 0, &[0, 1], 2),
+    ('B', 1, &[1], 2),
+    ('A', 0, &[1], 2),
+    ('B', 1, &[0, 1], 2),
+    ('A', 0, &[0, 1], 2),
+    ('B', 1, &[1], 2),
+    ('A', 0, &[1], 2),
+];
+
+fn letter(state: Option<u8>) -> char {
+    match state {
+        Some(state) if state < 25 => char::from(b'A' + state),
+        _ => 'Z',
+    }
+}
+
+/// Holds the run of a machine against what was worked out.
+fn follows<T: Tape>(rt: &impl Abort, mut tape: T, text: &[u8], run: &[Seen])
+    requires { (T.strip tape).limit ≡ CELLS }
+{
+    let machine = Machine::read(text).expect(rt, "a machine");
+    let limits = Limits::new(1000, CELLS, 0, 0).expect(rt, "limits");
+    let mut meter = Meter::new();
+    let mut runner = Runner::start(&machine, &mut tape);
+    for (n, (state, position, ones, span)) in run.iter().enumerate() {
+        assert_eq!(rt; runner.steps(), n as u64);
+        assert_eq!(rt; letter(runner.state()), *state, "at step {n}");
+        assert_eq!(rt; runner.position(), *position, "at step {n}");
+        for position in -40..41 {
+            let one = ones.contains(&position);
+            assert_eq!(rt;
+                tape.read(position),
+                u8::from(one),
+                "at step {n}, cell {position}"
+            );
+        }
+        let width = runner.high().checked_sub(runner.low());
+        assert_eq!(rt;
+            width.and_then(|width| width.checked_add(1)),
+            Some(*span),
+            "at step {n}"
+        );
+        assert!(rt; meter.steps < 1000);
+        assert!(rt; runner.steps() <= limits.steps());
+        let moved = runner
+            .advance(&machine, &mut tape, &limits, &mut meter)
+            .expect(rt, "memory");
+        assert_eq!(rt; moved == Moved::Halted, *state == 'Z', "at step {n}");
+    }
+}
+
+/// How a simulation ends, and what it counts.
+type End = (&'static [u8], u64, u64, Outcome, u64, u64);
+
+/// The text, the limits of steps and cells, the outcome, the steps counted and the most cells.
+static ENDS: [End; 12] = [
+    (b"1RA1RA", 3, 4, Outcome::NoSteps, 3, 4),
+    (b"1RA1RA", 4, 4, Outcome::NoCells, 3, 4),
+    (b"------", 0, 1, Outcome::Halt { steps: 0, score: 0 }, 0, 1),
+    (b"1RZ---", 0, 1, Outcome::NoSteps, 0, 1),
+    (b"1RZ---", 1, 1, Outcome::Halt { steps: 1, score: 1 }, 1, 1),
+    (
+        b"1RB1LB_1LA1RZ",
+        6,
+        4,
+        Outcome::Halt { steps: 6, score: 4 },
+        6,
+        4,
+    ),
+    (b"1RB1LB_1LA1RZ", 5, 4, Outcome::NoSteps, 5, 4),
+    (b"1RB1LB_1LA1RZ", 6, 3, Outcome::NoCells, 3, 3),
+    (
+        b"1RB1LB_1LA---",
+        5,
+        4,
+        Outcome::Halt { steps: 5, score: 4 },
+        5,
+        4,
+    ),
+    (
+        b"1RB1RZ_1LB0RC_1LC1LA",
+        21,
+        5,
+        Outcome::Halt {
+            steps: 21,
+            score: 5,
+        },
+        21,
+        5,
+    ),
+    (
+        b"1RB1RZ_0RC1RB_1LC1LA",
+        1000,
+        64,
+        Outcome::Halt {
+            steps: 14,
+            score: 6,
+        },
+        14,
+        6,
+    ),
+    (
+        b"1RB1LB_1LA0LC_1RZ1LD_1RD0RA",
+        1000,
+        64,
+        Outcome::Halt {
+            steps: 107,
+            score: 13,
+        },
+        107,
+        14,
+    ),
+];
+
+/// Holds a simulation against how it was worked out to end.
+fn ends<T: Tape>(rt: &impl Abort, mut tape: T, end: &End)
+    requires { (T.strip tape).limit ≡ end.now.2 }
+{
+    let (text, most_steps, cells, outcome, steps, most_cells) = *end;
+    let machine = Machine::read(text).expect(rt, "a machine");
+    let limits = Limits::new(most_steps, cells, 0, 0).expect(rt, "limits");
+    let mut meter = Meter::new();
+    let found = simulate(&machine, &mut tape, &limits, &mut meter);
+    assert!(rt;
+        found.is_ok_and(|found| found == outcome),
+        "{most_steps} steps of {text:?}"
+    );
+    assert_eq!(rt; meter.steps, steps);
+    assert_eq!(rt; meter.most_cells, most_cells);
+}
+
+#[test]
+fn runs_step_by_step_on_a_map(rt: HostRuntime) {
+    follows(
+        &rt,
+        MapTape::new(rt.alloc(), CELLS),
+        b"1RB1LB_1LA1RZ",
+        CHAMPION.as_slice(),
+    );
+    follows(
+        &rt,
+        MapTape::new(rt.alloc(), CELLS),
+        b"1RB1RZ_1LB0RC_1LC1LA",
+        THREE_STATES.as_slice(),
+    );
+    follows(
+        &rt,
+        MapTape::new(rt.alloc(), CELLS),
+        b"1RB0RA_1LA---",
+        RIGHT.as_slice(),
+    );
+    follows(
+        &rt,
+        MapTape::new(rt.alloc(), CELLS),
+        b"1RB0RB_1LA1LA",
+        REPEATING.as_slice(),
+    );
+}
+
+#[test]
+fn ends_at_its_limits_on_a_map(rt: HostRuntime) {
+    for end in &ENDS {
+        assert!(rt; 1 <= end.2 && end.2 <= 64);
+        ends(&rt, MapTape::new(rt.alloc(), end.2), end);
+    }
+}
+
+#[test]
+fn runs_step_by_step_on_a_ring(rt: HostRuntime) {
+    for (text, run) in [
+        (b"1RB1LB_1LA1RZ".as_slice(), CHAMPION.as_slice()),
+        (b"1RB1RZ_1LB0RC_1LC1LA".as_slice(), THREE_STATES.as_slice()),
+        (b"1RB0RA_1LA---".as_slice(), RIGHT.as_slice()),
+        (b"1RB0RB_1LA1LA".as_slice(), REPEATING.as_slice()),
+    ] {
+        let tape = RingTape::new(rt.alloc(), CELLS).expect(&rt, "memory");
+        follows(&rt, tape, text, run);
+    }
+}
+
+#[test]
+fn ends_at_its_limits_on_a_ring(rt: HostRuntime) {
+    for end in &ENDS {
+        assert!(rt; 1 <= end.2 && end.2 <= 64);
+        let tape = RingTape::new(rt.alloc(), end.2).expect(&rt, "memory");
+        ends(&rt, tape, end);
+    }
+}
