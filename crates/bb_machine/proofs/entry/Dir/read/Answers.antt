@@ -12,8 +12,8 @@ pub returns-then-distance-eq0 : goal.returns-then-distance-eq0
 returns-then-distance-eq0 c =
     let near = c.in_ok-distance.ensures in
     elim (ends_of_six c.in_ok-distance.distance c.if-distance-le-APART.true c.if-distance-eq0.true) [
-        inl at_L ↦ let is_L : 76 ≡ c.args.letter = omega (arith, near.0, near.1, at_L) in
-            ap dir_letter (c.of_letter.ensures L is_L) ∙ is_L
+      | inl at_L ↦ let is_L : 76 ≡ c.args.letter = omega (arith, near.0, near.1, at_L) in
+          ap dir_letter (c.of_letter.ensures L is_L) ∙ is_L
       | inr at_R ↦ let is_R : 82 ≡ c.args.letter = omega (arith, near.0, near.1, at_R) in
-            ap dir_letter (c.of_letter.ensures R is_R) ∙ is_R
+          ap dir_letter (c.of_letter.ensures R is_R) ∙ is_R
     ]
