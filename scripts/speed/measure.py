@@ -5,7 +5,8 @@
 
 It builds the peer by `rustc -O`, makes its lists from a seed, checks that both write the same bytes
 and end with the same status, runs both in turn, and prints the least time of each and their ratio.
-A whole run counts, from the list to the verdicts. Nothing here proves anything.
+A whole run counts, from the list to the verdicts. Nothing here proves anything. The last line counts the
+lists on which both wrote the same.
 """
 
 import argparse
@@ -179,7 +180,7 @@ def main():
     words.add_argument("--runs", type=int, default=5)
     words.add_argument("--seed", type=int, default=1962)
     asked = words.parse_args()
-    agreed = True
+    agreed = []
     with tempfile.TemporaryDirectory() as room:
         peer, file = os.path.join(room, "peer"), os.path.join(room, "list")
         subprocess.run(["rustc", "-O", "-o", peer, os.path.join(HERE, "peer.rs")], check=True)
@@ -187,18 +188,19 @@ def main():
             with open(file, "w", encoding="ascii") as written:
                 written.write(text)
             options = ["decide", *SWITCHES, *options]
-            agreed &= measure(name, [[asked.program, *options], [peer, *options]], file, asked.runs)
+            agreed.append(measure(name, [[asked.program, *options], [peer, *options]], file, asked.runs))
         for name, options, text in trees(random.Random(asked.seed)):
             with open(file, "w", encoding="ascii") as written:
                 written.write(text)
             options = ["decide", *options]
-            agreed &= measure(name, [[asked.program, *options], [peer, *options]], file, asked.runs)
+            agreed.append(measure(name, [[asked.program, *options], [peer, *options]], file, asked.runs))
         for name, options, switch, text in searches(asked.program, random.Random(asked.seed)):
             with open(file, "w", encoding="ascii") as written:
                 written.write(text)
             measure_search(asked.program, name, options, switch, file, asked.runs)
         measure_checking(asked.program, random.Random(asked.seed), file, asked.runs)
-    return 0 if agreed else 1
+    print(f"{agreed.count(True)} passed, {agreed.count(False)} failed")
+    return 0 if all(agreed) else 1
 
 
 if __name__ == "__main__":
