@@ -187,8 +187,8 @@ impl Tape for RingTape {
         }
     }
 
-    /// A step of a run waits for what is read here. So the index of a position below 0 stands in a way of its
-    /// own, the limit first: the compiler then adds the limit to where the cells begin, which waits for no step.
+    /// A step of a run waits for what is read here. So a position below 0 has a way of its own, with the
+    /// limit first in its index: the compiler adds the limit to where the cells begin, before the step comes.
     #[inline]
     fn read_inside(&self, p: i64) -> u8 {
         if p < 0 {

@@ -109,7 +109,7 @@ static PAIRS_AND_OTHERS: [Row; 8] = [
 ];
 
 /// Checks a list, and answers what was written, too.
-pub fn checked<T: Tape>(
+pub(crate) fn checked<T: Tape>(
     rt: &(impl Abort + AllocGlobal),
     pair: &mut Pair<T>,
     path: &mut Path,
@@ -128,7 +128,7 @@ pub fn checked<T: Tape>(
 }
 
 /// Checks a list on maps.
-pub fn checked_on_maps(
+pub(crate) fn checked_on_maps(
     rt: &(impl Abort + AllocGlobal),
     limits: &Limits,
     input: &[u8],
@@ -142,7 +142,7 @@ pub fn checked_on_maps(
 }
 
 /// The same on rings.
-pub fn checked_on_rings(
+pub(crate) fn checked_on_rings(
     rt: &(impl Abort + AllocGlobal),
     limits: &Limits,
     input: &[u8],

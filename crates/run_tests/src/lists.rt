@@ -13,20 +13,20 @@ use bb_tape::{MapTape, RingTape, Tape};
 use std::process::Abort;
 
 /// Limits of steps, cells, levels and nodes.
-pub type Four = [u64; 4];
+pub(crate) type Four = [u64; 4];
 
 /// The limits, the input, the output, and whether each line is a machine's.
-pub type Row = (Four, &'static [u8], &'static [u8], bool);
+pub(crate) type Row = (Four, &'static [u8], &'static [u8], bool);
 
-pub const DEFAULTS: Four = [1_000_000, 65_536, 300, 1_000_000];
+pub(crate) const DEFAULTS: Four = [1_000_000, 65_536, 300, 1_000_000];
 
-pub const SIMULATION: Plan = Plan {
+pub(crate) const SIMULATION: Plan = Plan {
     cyclers: false,
     translated: false,
     backward: false,
 };
 
-pub const CYCLERS: Plan = Plan {
+pub(crate) const CYCLERS: Plan = Plan {
     cyclers: true,
     translated: false,
     backward: false,
@@ -252,7 +252,7 @@ static REPEATS: [Row; 9] = [
     ),
 ];
 
-pub const PAIRS: Plan = Plan {
+pub(crate) const PAIRS: Plan = Plan {
     cyclers: true,
     translated: true,
     backward: false,
@@ -316,7 +316,7 @@ static RECORDS: [Row; 9] = [
 ];
 
 /// Backward reasoning alone.
-pub const TREES: Plan = Plan {
+pub(crate) const TREES: Plan = Plan {
     cyclers: false,
     translated: false,
     backward: true,
@@ -392,7 +392,7 @@ static BY_TREES: [Row; 12] = [
     ),
 ];
 
-pub const ALL: Plan = Plan {
+pub(crate) const ALL: Plan = Plan {
     cyclers: true,
     translated: true,
     backward: true,
@@ -450,7 +450,7 @@ static BY_ALL: [Row; 8] = [
 ];
 
 /// Decides a list, and answers what was written, too.
-pub fn decided<T: Tape>(
+pub(crate) fn decided<T: Tape>(
     rt: &(impl Abort + AllocGlobal),
     bench: &mut Bench<T>,
     limits: &Limits,
@@ -469,7 +469,7 @@ pub fn decided<T: Tape>(
 }
 
 /// Decides a list on maps.
-pub fn decided_on_maps(
+pub(crate) fn decided_on_maps(
     rt: &(impl Abort + AllocGlobal),
     limits: &Limits,
     plan: Plan,
@@ -483,7 +483,7 @@ pub fn decided_on_maps(
 }
 
 /// The same on rings.
-pub fn decided_on_rings(
+pub(crate) fn decided_on_rings(
     rt: &(impl Abort + AllocGlobal),
     limits: &Limits,
     plan: Plan,
@@ -496,7 +496,7 @@ pub fn decided_on_rings(
     decided(rt, &mut bench, limits, plan, input)
 }
 
-pub fn answers(rt: &(impl Abort + AllocGlobal), plan: Plan, rows: &[Row]) {
+pub(crate) fn answers(rt: &(impl Abort + AllocGlobal), plan: Plan, rows: &[Row]) {
     for (four, input, output, clean) in rows {
         let limits = Limits::new(four[0], four[1], four[2], four[3]).expect(rt, "limits");
         let (end, written) = decided_on_maps(rt, &limits, plan, input);

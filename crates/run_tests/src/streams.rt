@@ -5,7 +5,7 @@ use std::io::{Error, ErrorKind, Read, Result, Write};
 
 /// Gives its bytes a few at a time, a first piece of its own length, and fails at one call.
 #[derive(Drop)]
-pub struct Pieces {
+pub(crate) struct Pieces {
     pub bytes: &'static [u8],
     pub first: usize,
     pub most: usize,
@@ -15,7 +15,7 @@ pub struct Pieces {
 
 impl Pieces {
     /// One piece of `first` bytes, and then pieces of at most `most`.
-    pub fn of(bytes: &'static [u8], first: usize, most: usize) -> Pieces {
+    pub(crate) fn of(bytes: &'static [u8], first: usize, most: usize) -> Pieces {
         Pieces {
             bytes,
             first,
@@ -42,7 +42,7 @@ impl Read for Pieces {
 
 /// Takes a few bytes a call and a number of bytes in all.
 #[derive(Drop)]
-pub struct Sink {
+pub(crate) struct Sink {
     pub bytes: ArrayVec<u8, 128>,
     pub most: usize,
     pub room: usize,
@@ -51,7 +51,7 @@ pub struct Sink {
 
 impl Sink {
     /// At most `most` bytes a call, and `room` in all.
-    pub fn of(most: usize, room: usize) -> Sink {
+    pub(crate) fn of(most: usize, room: usize) -> Sink {
         Sink {
             bytes: ArrayVec::new(),
             most,
@@ -61,7 +61,7 @@ impl Sink {
     }
 
     /// All bytes, and a flush that fails.
-    pub fn without_flush() -> Sink {
+    pub(crate) fn without_flush() -> Sink {
         Sink {
             can_flush: false,
             ..Sink::of(128, 128)

@@ -6,7 +6,7 @@ use bb_tape::{Tape, TapeFault};
 /// A tape that hands each call on to another. To take over a whole tape, or to reset it, isn't counted as a
 /// write.
 #[derive(Drop)]
-pub struct Tallied<T> {
+pub(crate) struct Tallied<T> {
     inner: T,
     pub writes: u64,
     /// How many calls that may take memory come before one that is refused.
@@ -14,10 +14,10 @@ pub struct Tallied<T> {
 }
 
 /// So many calls are never made.
-pub const NEVER: u64 = u64::MAX;
+pub(crate) const NEVER: u64 = u64::MAX;
 
 /// A tape that refuses one call that may take memory, the one after so many.
-pub fn tallied_tape<T>(inner: T, before_refusal: u64) -> Tallied<T>
+pub(crate) fn tallied_tape<T>(inner: T, before_refusal: u64) -> Tallied<T>
     ensures { result.inner ≡ inner }
 {
     Tallied {
@@ -29,7 +29,7 @@ pub fn tallied_tape<T>(inner: T, before_refusal: u64) -> Tallied<T>
 
 impl<T> Tallied<T> {
     /// Whether a call is still going to be refused.
-    pub fn will_refuse(&self) -> bool {
+    pub(crate) fn will_refuse(&self) -> bool {
         self.before_refusal != NEVER
     }
 

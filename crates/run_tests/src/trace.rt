@@ -55,7 +55,7 @@ const NOTHING_COUNTED: Meter = Meter {
 };
 
 /// Traces a line, and answers what was written, too.
-pub fn traced<T: Tape>(
+pub(crate) fn traced<T: Tape>(
     rt: &(impl Abort + AllocGlobal),
     tape: &mut T,
     limits: &Limits,
@@ -70,7 +70,7 @@ pub fn traced<T: Tape>(
 }
 
 /// Traces a line on a ring.
-pub fn traced_on_a_ring(
+pub(crate) fn traced_on_a_ring(
     rt: &(impl Abort + AllocGlobal),
     line: &[u8],
     limits: &Limits,

@@ -8,8 +8,8 @@ use std::process::Abort;
 use std::test::Fail;
 
 /// A machine of seven states, and the greatest numbers.
-const LONG: &[u8] =
-    b"0RA0RA_0RA0RA_0RA0RA_0RA0RA_0RA0RA_0RA0RA_0RA0RA translated R 18446744073709551615 18446744073709551615";
+const LONG: &[u8] = b"0RA0RA_0RA0RA_0RA0RA_0RA0RA_0RA0RA_0RA0RA_0RA0RA translated R \
+      18446744073709551615 18446744073709551615";
 
 const CLAIMS: [(&[u8], Verdict); 12] = [
     (
