@@ -1,19 +1,20 @@
 #!/usr/bin/env python3
 """Decides random machines with the built program, and lets it check what it wrote.
 
-    scripts/closed_loop.py crates/bb/out/bb [--machines N] [--seed S]
+    scripts/tests/closed_loop.py crates/bb/out/bb [--machines N] [--seed S]
 
 The machines come from a seed: most have 1 to 7 states and 2 symbols, the others up to 25 states and 10
-symbols. At each of some limits, every decided line must be answered `ok` and every other line `open`; at
-limits of which none is smaller, every decided machine must stay decided: with the same verdict, or a cycler or a translated cycler where backward reasoning had
-decided it. The last line is `N passed, M failed`; the status is 1 where any failed.
+symbols. At each of some limits, every decided line must be answered `ok` and every other line `open`.
+At limits of which none is smaller, every decided machine must stay decided: with the same verdict, or as a
+cycler or a translated cycler where backward reasoning had decided it. Under each plan some machine must be
+decided. It takes about a minute. The last line is `N passed, M failed`; the status is 1 where any failed.
 """
 
-import argparse
-import os
 import random
 import subprocess
 import sys
+
+from tally import Tally, end_with, words
 
 # Steps, cells, levels and nodes. Where none of the four is smaller than those of an earlier row, what was
 # decided there has to stay decided.
@@ -46,8 +47,8 @@ def machine(source, states, symbols):
 
 
 def machines(count, seed):
-    """The texts of so many machines: of each ten, seven of 1 to 7 states and 2 symbols, two of up to 4 states and 10
-    symbols, and one of up to 25 states and 10 symbols."""
+    """The texts of so many machines: of each ten, seven of 1 to 7 states and 2 symbols, two of up to 4 states
+    and 10 symbols, and one of up to 25 states and 10 symbols."""
     source = random.Random(seed)
     for k in range(count):
         if k % 10 < 7:
@@ -89,44 +90,44 @@ def has_stayed(before, after):
     return before == after or turned
 
 
+def stayed(decided, limits, lines):
+    """For each machine and each earlier run within limits none of which is greater, what must hold of its
+    verdicts, and whether it does."""
+    for smaller, before in decided:
+        if all(a <= b for a, b in zip(smaller, limits)):
+            for old, new in zip(before, lines):
+                if kind_of(old) != "undecided":
+                    yield "%s, then %s" % (old, new), has_stayed(old, new)
+
+
 def tried(program, lists, plan):
-    """For each comparison under one plan, what is wrong, or None."""
+    """For each comparison under one plan, what must hold and whether it does."""
     decided = []
     for limits in LIMITS:
         lines = run(program, ["decide", *options(limits), *plan], lists)
         answers = run(program, ["check", *options(limits)], lines)
-        if not len(lines) == len(answers) == len(lists):
-            yield "%d lines and %d answers under %s" % (len(lines), len(answers), limits)
+        counts = "%d lines and %d answers under %s" % (len(lines), len(answers), limits)
+        yield counts, len(lines) == len(answers) == len(lists)
         for machine, line, answer in zip(lists, lines, answers):
-            yield None if is_right(machine, line, answer) else "%s: %s under %s" % (line, answer, limits)
-        for smaller, before in decided:
-            if all(a <= b for a, b in zip(smaller, limits)):
-                for old, new in zip(before, lines):
-                    if kind_of(old) != "undecided":
-                        yield None if has_stayed(old, new) else "%s, then %s" % (old, new)
+            yield "%s: %s under %s" % (line, answer, limits), is_right(machine, line, answer)
+        yield from stayed(decided, limits, lines)
         decided.append((limits, lines))
+    some = any(kind_of(line) != "undecided" for _, lines in decided for line in lines)
+    yield "some machine is decided under the plan %s" % plan, some
 
 
 def main():
-    parser = argparse.ArgumentParser()
-    parser.add_argument("program")
-    parser.add_argument("--machines", type=int, default=10_000)
-    parser.add_argument("--seed", type=int, default=1)
+    parser = words(__doc__)
+    parser.add_argument("--machines", type=int, default=10_000, help="how many (default: 10,000)")
+    parser.add_argument("--seed", type=int, default=1, help="of the random machines (default: 1)")
     asked = parser.parse_args()
-    program = os.path.abspath(asked.program)
     lists = list(machines(asked.machines, asked.seed))
-    passed, failed = 0, 0
+    tally = Tally()
     for plan in PLANS:
-        for wrong in tried(program, lists, plan):
-            if wrong is None:
-                passed += 1
-            else:
-                failed += 1
-                if failed <= 10:
-                    print("failed:", wrong)
-    print("%d passed, %d failed" % (passed, failed))
-    return 1 if failed else 0
+        for what, holds in tried(asked.program, lists, plan):
+            tally.hold(what, holds)
+    return tally.end()
 
 
 if __name__ == "__main__":
-    sys.exit(main())
+    end_with(main)

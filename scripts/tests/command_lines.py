@@ -1,17 +1,18 @@
 #!/usr/bin/env python3
 """Runs the built program over command lines, with files, statuses and standard error.
 
-    scripts/command_lines.py crates/bb/out/bb
+    scripts/tests/command_lines.py crates/bb/out/bb
 
 It holds what no contract and no test of the gate says: that FILE is read, that a file which can't be
-opened is a failed read, and what reaches standard error. The last line is `N passed, M failed`; the
-status is 1 where any failed. Needs Linux.
+opened is a failed read, and what reaches standard error. It takes a few seconds. The last line is
+`N passed, M failed`; the status is 1 where any failed. Needs Linux.
 """
 
 import os
 import subprocess
-import sys
 import tempfile
+
+from tally import Tally, end_with, words
 
 MACHINES = b"1RB1LB_1LA1RZ\n0RB---_0LA---\n1RA1RA\n"
 VERDICTS = b"1RB1LB_1LA1RZ halt 6 4\n0RB---_0LA--- cycler 2 4\n1RA1RA translated R 1 2 1 1\n"
@@ -58,10 +59,24 @@ def cases(folder):
         ("a claim past a limit", ["check", "--steps", "5"], CLAIMS, 1, b"over\nok\nok\nopen\nopen\n", b""),
         ("no verdict line", ["check"], b"------ halt 0 0\n\n", 1, b"ok\nunread\n", b""),
         ("a missing file of claims", ["check", missing], b"", 3, b"", b"bb: read failed\n"),
-        ("refused limits of a check", ["check", "--cells", "4", missing], b"", 2, b"", b"bb: depth does not fit in cells\n"),
+        (
+            "refused limits of a check",
+            ["check", "--cells", "4", missing],
+            b"",
+            2,
+            b"",
+            b"bb: depth does not fit in cells\n",
+        ),
         ("a check by a plan", ["check", "--no-cyclers"], b"", 2, b"", b"--no-cyclers"),
         ("a trace", ["trace", "--upto", "1", "1RZ---"], b"", 0, b"0 A 0 0\n1 Z 1 1\n", b""),
-        ("a cut trace", ["trace", "--upto", "5", "--cells", "2", "1RA1RA"], b"", 1, b"0 A 0 0\n1 A 1 10\n", b""),
+        (
+            "a cut trace",
+            ["trace", "--upto", "5", "--cells", "2", "1RA1RA"],
+            b"",
+            1,
+            b"0 A 0 0\n1 A 1 10\n",
+            b"",
+        ),
         ("a refused trace", ["trace", "--upto", "2", "1RB1LB_1LA1RC"], b"", 1, b"refused 14\n", b""),
     ]
 
@@ -83,22 +98,18 @@ def full_output(program):
 
 
 def main():
-    program = os.path.abspath(sys.argv[1])
-    results = []
+    program = words(__doc__).parse_args().program
+    tally = Tally()
     with tempfile.TemporaryDirectory() as folder:
-        for name, words, given, status, output, error in cases(folder):
-            ended = subprocess.run([program, *words], input=given, capture_output=True)
+        for name, asked, given, status, output, error in cases(folder):
+            ended = subprocess.run([program, *asked], input=given, capture_output=True)
             told = ended.stderr == error if status in (0, 1, 3) else error in ended.stderr
-            results.append((name, ended.returncode == status and ended.stdout == output and told))
-    results.extend(helps(program))
-    results.append(("a full device", full_output(program)))
-    for name, passed in results:
-        if not passed:
-            print("failed:", name)
-    failed = sum(not passed for _, passed in results)
-    print(f"{len(results) - failed} passed, {failed} failed")
-    return 1 if failed else 0
+            tally.hold(name, ended.returncode == status and ended.stdout == output and told)
+    for name, holds in helps(program):
+        tally.hold(name, holds)
+    tally.hold("a full device", full_output(program))
+    return tally.end()
 
 
 if __name__ == "__main__":
-    sys.exit(main())
+    end_with(main)

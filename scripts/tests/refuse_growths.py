@@ -1,19 +1,22 @@
 #!/usr/bin/env python3
-"""Refuses one growth of memory at a time to the built program, and says how it ends.
+"""Refuses one allocation at a time to the built program, and says how it ends.
 
-    scripts/refuse_growths.py crates/bb/out/bb
+    scripts/tests/refuse_growths.py crates/bb/out/bb
 
 For each command line below and each k, the k-th call of malloc, calloc or realloc answers null.
 The program must then end as ever, or with status 3, a beginning of its output and the text of a
-fault. It stops at the first k that no call reaches. The last growths are those of the tapes and of the
+fault. It stops at the first k that no call reaches. The last calls are those that make the tapes and the
 path, before a byte is read: where one of them is refused, nothing is written and memory is the cause.
-The last line is `N passed, M failed`; the status is 1 where any failed. Needs cc and Linux.
+Those before them open FILE, where there is one: a refused one is a failed read. The others read the
+words, and there must be some. It takes a few seconds. The last line is `N passed, M failed`; the status is 1
+where any failed. Needs cc and Linux.
 """
 
 import os
 import subprocess
-import sys
 import tempfile
+
+from tally import Tally, end_with, words
 
 REFUSER = r"""
 #define _GNU_SOURCE
@@ -68,8 +71,9 @@ CLAIMS = (
 FAULTS = {b"bb: out of memory\n", b"bb: read failed\n", b"bb: write failed\n"}
 
 NOT_BEGUN = (3, b"", b"bb: out of memory\n")
+NOT_OPENED = (3, b"", b"bb: read failed\n")
 
-# The words, and how many growths the tapes and the path take.
+# The words, and how many allocations the tapes and the path take. FILE takes one more.
 RUNS = [
     (["decide"], 4),
     (["decide", *LIMITS], 4),
@@ -90,60 +94,61 @@ RUNS = [
 ]
 
 
-def run(program, words, environment):
-    given = CLAIMS if words[0] == "check" else LINES
-    end = subprocess.run([program, *words], input=given, capture_output=True, env=environment)
+def run(program, asked, environment):
+    given = CLAIMS if asked[0] == "check" else LINES
+    end = subprocess.run([program, *asked], input=given, capture_output=True, env=environment)
     return end.returncode, end.stdout, end.stderr
 
 
-def ends_of(program, words, library, folder):
-    """How it ends with each growth refused in turn."""
+def ends_of(program, asked, library, folder):
+    """How it ends with each allocation refused in turn."""
     ends = []
     told = os.path.join(folder, "told")
     while True:
         refusal = {"LD_PRELOAD": library, "REFUSE_AT": str(len(ends) + 1), "REFUSE_TOLD": told}
-        end = run(program, words, {**os.environ, **refusal})
+        end = run(program, asked, {**os.environ, **refusal})
         if not os.path.lexists(told):
             return ends
         os.unlink(told)
         ends.append(end)
 
 
-def wrong_ends(ends, fine, makers):
-    """The ends that are wrong, each with its number."""
-    for k, end in enumerate(ends, 1):
-        faulted = end[0] == 3 and fine[1].startswith(end[1]) and end[2] in FAULTS
-        made = k <= len(ends) - makers or end == NOT_BEGUN
-        if not (made and (end == fine or faulted)):
-            yield k, end
+def judged(ends, fine, opened, made):
+    """What must hold of these ends, and whether it does."""
+    asking, opening = len(ends) - opened - made, len(ends) - made
+    yield "%d refused, %d of them for FILE, tapes and path" % (len(ends), opened + made), asking > 0
+    for k, end in enumerate(ends):
+        if k >= opening:
+            holds = end == NOT_BEGUN
+        elif k >= asking:
+            holds = end == NOT_OPENED
+        else:
+            faulted = end[0] == 3 and fine[1].startswith(end[1]) and end[2] in FAULTS - {NOT_OPENED[2]}
+            holds = end == fine or faulted
+        yield "the %d-th: %r" % (k + 1, end), holds
 
 
 def main():
-    program = os.path.abspath(sys.argv[1])
+    program = words(__doc__).parse_args().program
+    tally = Tally()
     with tempfile.TemporaryDirectory() as folder:
         source = os.path.join(folder, "refuser.c")
         library = os.path.join(folder, "refuser.so")
         files = {"{list}": os.path.join(folder, "list"), "{claims}": os.path.join(folder, "claims")}
-        with open(source, "w") as file:
-            file.write(REFUSER)
-        with open(files["{list}"], "wb") as file:
-            file.write(LINES)
-        with open(files["{claims}"], "wb") as file:
-            file.write(CLAIMS)
+        texts = {source: REFUSER.encode(), files["{list}"]: LINES, files["{claims}"]: CLAIMS}
+        for path, text in texts.items():
+            with open(path, "wb") as file:
+                file.write(text)
         subprocess.run(["cc", "-shared", "-fPIC", "-O1", "-o", library, source, "-ldl"], check=True)
-        passed, failed = 0, 0
-        for words, makers in RUNS:
-            named = [files.get(word, word) for word in words]
+        for asked, made in RUNS:
+            named = [files.get(word, word) for word in asked]
+            opened = sum(word in files for word in asked)
             ends = ends_of(program, named, library, folder)
-            wrong = list(wrong_ends(ends, run(program, named, dict(os.environ)), makers))
-            passed += len(ends) - len(wrong)
-            failed += len(wrong)
-            print("%s: %d growths refused in turn, %d wrong ends" % (" ".join(words), len(ends), len(wrong)))
-            for k, end in wrong[:3]:
-                print("    the %d-th: %r" % (k, end))
-    print("%d passed, %d failed" % (passed, failed))
-    return 1 if failed else 0
+            print("%s: %d allocations refused in turn" % (" ".join(asked), len(ends)))
+            for what, holds in judged(ends, run(program, named, dict(os.environ)), opened, made):
+                tally.hold("%s: %s" % (" ".join(asked), what), holds)
+    return tally.end()
 
 
 if __name__ == "__main__":
-    sys.exit(main())
+    end_with(main)

@@ -1,0 +1,150 @@
+#!/usr/bin/env python3
+"""Repeats each figure of docs/four-states.md: lists, decides and checks all machines of four states.
+
+    scripts/tests/four_states.py crates/bb/out/bb
+
+It holds that each verdict is confirmed, and that the document has each figure as it comes out; where one
+differs, it says which. Times are processor times of the program, in seconds, and aren't compared. It takes
+one or two minutes. The last line is `N passed, M failed`; the status is 1 where any failed.
+"""
+
+import collections
+import os
+import resource
+import subprocess
+import sys
+import tempfile
+
+from tally import TOP, Tally, end_with, words
+
+SIMULATION = ["--no-cyclers", "--no-translated", "--no-backward"]
+FIRST = {"steps": 200, "cells": 256, "depth": 20, "nodes": 1_000}
+LATER = [
+    {"steps": 1_000, "cells": 1_024, "depth": 40, "nodes": 10_000},
+    {"steps": 10_000, "cells": 4_096, "depth": 100, "nodes": 10_000},
+    {"steps": 100_000, "cells": 4_096, "depth": 100, "nodes": 10_000},
+]
+tally = Tally()
+with open(os.path.join(TOP, "docs", "four-states.md"), encoding="utf-8") as read:
+    DOCUMENT = read.read()
+
+
+def told(figure):
+    """Holds that the document has a figure in these words."""
+    print("  ", figure)
+    tally.hold("docs/four-states.md says otherwise: %s" % figure, figure in DOCUMENT)
+
+
+def row(*cells):
+    """A table's row, or its beginning; numbers as the document writes them."""
+    shown = ("{:,}".format(cell) if isinstance(cell, int) else cell for cell in cells)
+    return "\n| %s |" % " | ".join(shown)
+
+
+def options(limits):
+    """The options that ask for these limits."""
+    return ["--%s=%d" % pair for pair in limits.items()]
+
+
+def run(command, lines):
+    """What a command writes, given these lines, and the processor time that it took."""
+    with tempfile.TemporaryFile() as given:
+        given.write("".join(line + "\n" for line in lines).encode())
+        given.seek(0)
+        before = resource.getrusage(resource.RUSAGE_CHILDREN)
+        ended = subprocess.run(command, stdin=given, stdout=subprocess.PIPE)
+        after = resource.getrusage(resource.RUSAGE_CHILDREN)
+    tally.hold("%s: status %d" % (command, ended.returncode), ended.returncode == 0)
+    taken = after.ru_utime + after.ru_stime - before.ru_utime - before.ru_stime
+    return ended.stdout.decode().splitlines(), taken
+
+
+def kind(line):
+    """The kind of a verdict line; with the cause where it is undecided."""
+    fields = line.split(" ")
+    return " ".join(fields[1:3]) if fields[1] == "undecided" else fields[1]
+
+
+def decided(program, limits, machines):
+    """The verdict lines of these machines, confirmed by the checker."""
+    lines, deciding = run([program, "decide", *options(limits)], machines)
+    tally.hold("a line for each machine", [line.split(" ")[0] for line in lines] == machines)
+    answers, checking = run([program, "check", *options(limits)], lines)
+    for line, answer in zip(lines, answers):
+        expected = "open" if kind(line).startswith("undecided") else "ok"
+        tally.hold("%s: %s" % (line, answer), answer == expected)
+    tally.hold("an answer for each line", len(answers) == len(lines))
+    print(" ".join(options(limits)), "over %d machines" % len(machines))
+    print("  deciding %.2f s, checking %.2f s" % (deciding, checking))
+    return lines
+
+
+def tell_kinds(lines):
+    """How many verdicts there are of each kind."""
+    for name, count in sorted(collections.Counter(map(kind, lines)).items()):
+        told(row("`%s`" % name, count))
+    told(row("all", len(lines)))
+
+
+def tell_greatest(lines):
+    """The greatest numbers of each kind of verdict."""
+    fields = [line.split(" ") for line in lines]
+    halts = [verdict for verdict in fields if verdict[1] == "halt"]
+    longest = max(halts, key=lambda verdict: int(verdict[2]))
+    told("The longest run to a halt is that of `%s`: `%s`" % (longest[0], " ".join(longest[1:])))
+    cyclers = [verdict for verdict in fields if verdict[1] == "cycler"]
+    lengths = {int(verdict[3]) - int(verdict[2]) for verdict in cyclers}
+    even = all(apart % 2 == 0 for apart in lengths)
+    tally.hold("the two steps of a cycler are an even number apart", even)
+    latest = max(int(verdict[3]) for verdict in cyclers)
+    apart = (latest, min(lengths), max(lengths))
+    told("the latest second step of a pair is %d, and the two are %d to %d steps apart" % apart)
+    moved = [verdict for verdict in fields if verdict[1] == "translated"]
+    greatest = tuple(max(int(verdict[k]) for verdict in moved) for k in (4, 5, 6))
+    told("the latest second step is %d, the greatest shift %d, the greatest length %d" % greatest)
+    trees = [verdict for verdict in fields if verdict[1] == "backward"]
+    levels, nodes = (max(int(verdict[k]) for verdict in trees) for k in (2, 3))
+    told("at most %d levels and %d nodes" % (levels, nodes))
+
+
+def tell_later(limits, before, lines):
+    """What larger limits decide of what was left."""
+    new = [line.split(" ") for line in lines if not kind(line).startswith("undecided")]
+    steps = [int(verdict[4]) for verdict in new if verdict[1] == "translated"]
+    found = str(len(new))
+    if new and len(steps) == len(new):
+        found = "%d, all `translated`, at steps %d to %d" % (len(new), min(steps), max(steps))
+    told(row(*limits.values(), before, found, len(lines) - len(new)))
+
+
+def tell_widths(program, machines):
+    """How many of these machines have visited at most so many cells after so many steps."""
+    for steps in (1_000, 10_000, 100_000):
+        counts = []
+        for cells in (16, 32, 64, 128, 256, 512, 1_024):
+            limits = {"steps": steps, "cells": cells, "depth": 0, "nodes": 0}
+            lines, _ = run([program, "decide", *options(limits), *SIMULATION], machines)
+            counts.append(sum(kind(line) == "undecided steps" for line in lines))
+        told(row(steps, *counts))
+
+
+def main():
+    program = words(__doc__).parse_args().program
+    listing = [os.path.join(TOP, "scripts", "tools", "tree_normal_form.py"), "4"]
+    machines, taken = run([sys.executable, *listing], [])
+    print("%d machines, listed in %.0f s" % (len(machines), taken))
+    told("lists {:,} machines".format(len(machines)))
+    lines = decided(program, FIRST, machines)
+    tell_kinds(lines)
+    tell_greatest(lines)
+    for limits in LATER:
+        left = [line.split(" ")[0] for line in lines if kind(line).startswith("undecided")]
+        lines = decided(program, limits, left)
+        tell_later(limits, len(left), lines)
+    left = [line.split(" ")[0] for line in lines if kind(line).startswith("undecided")]
+    tell_widths(program, left)
+    return tally.end()
+
+
+if __name__ == "__main__":
+    end_with(main)

@@ -1,0 +1,90 @@
+#!/usr/bin/env python3
+"""Makes pictures of traces by `scripts/tools/picture.py`, and reads them back.
+
+    scripts/tests/pictures.py crates/bb/out/bb
+
+It compares sizes and pixels with what the traces say, and what is said of sampling and cutting. It takes two
+seconds. The last line is `N passed, M failed`; the status is 1 where any failed.
+"""
+
+import os
+import struct
+import subprocess
+import sys
+import zlib
+
+from tally import TOP, Tally, end_with, words
+
+PICTURE = os.path.join(TOP, "scripts", "tools", "picture.py")
+FOUR_STATES = "1RB1LB_1LA0LC_1RZ1LD_1RD0RA"
+GOES_RIGHT = "1RA1RA"
+WHITE, BLACK, GREY, RED = (255, 255, 255), (20, 20, 20), (225, 225, 225), (220, 30, 30)
+
+
+def pixels(data):
+    """The rows of a picture with a palette, each pixel as its colour."""
+    place, chunks = 8, {}
+    while place < len(data):
+        length, kind = struct.unpack(">I4s", data[place : place + 8])
+        chunks[kind] = chunks.get(kind, b"") + data[place + 8 : place + 8 + length]
+        place += length + 12
+    wide, high = struct.unpack(">II", chunks[b"IHDR"][:8])
+    palette = [tuple(chunks[b"PLTE"][k : k + 3]) for k in range(0, len(chunks[b"PLTE"]), 3)]
+    raw = zlib.decompress(chunks[b"IDAT"])
+    return [[palette[at] for at in raw[row * (wide + 1) + 1 :][:wide]] for row in range(high)]
+
+
+def picture(program, machine, upto, *options):
+    """The pixels of a trace's picture, and what standard error says."""
+    trace = subprocess.run([program, "trace", "--upto", str(upto), machine], stdout=subprocess.PIPE).stdout
+    made = subprocess.run([sys.executable, PICTURE, *options], input=trace, capture_output=True)
+    return pixels(made.stdout) if made.returncode == 0 else None, made.stderr.decode()
+
+
+def champion(program):
+    """The whole run of the champion of four states: 107 steps over 14 cells, from -10 to 3."""
+    rows, said = picture(program, FOUR_STATES, 107, "--scale", "2")
+    yield "two pixels a place", len(rows) == 216 and all(len(row) == 28 for row in rows)
+    yield "nothing is said of a whole picture", said == ""
+    yield "the head begins at 0", rows[0][20] == rows[1][21] == RED
+    yield "nothing else is visited at first", all(colour in (RED, GREY) for colour in rows[0])
+    yield "13 cells aren't 0 at the halt, the head on the one that is", rows[-1][::2].count(BLACK) == 13
+
+
+def sampling(program):
+    """A head that goes right: step n has n cells written and the head at n."""
+    rows, said = picture(program, GOES_RIGHT, 100, "--rows", "30")
+    yield "every fourth step of 101 fits in 30 rows", len(rows) == 26 and said == "picture: every 4 steps\n"
+    heads = [row.index(RED) for row in rows]
+    yield "the heads of sampled steps", heads == list(range(0, 101, 4))
+    rows, said = picture(program, GOES_RIGHT, 100, "--every", "10", "--rows", "5")
+    heads = [row.index(RED) for row in rows]
+    yield "asked for, each tenth step up to the fifth row", heads == [0, 10, 20, 30, 40]
+    yield "what is left out is said", "up to step 40" in said
+    rows, said = picture(program, GOES_RIGHT, 100, "--columns", "11")
+    yield "a wide picture is cut about its middle", len(rows[0]) == 11 and "positions 45 to 55" in said
+    yield "written cells are black up to the head", rows[50][:6] == [BLACK] * 5 + [RED]
+    yield "what isn't visited yet is grey", rows[50][6:] == [GREY] * 5
+    rows, _ = picture(program, GOES_RIGHT, 3, "--left", "-1", "--right", "1")
+    yield "positions that aren't visited are grey", [row[0] for row in rows] == [GREY] * 4
+    yield "positions that are asked for alone", rows[2][1:] == [BLACK, BLACK]
+
+
+def refusals(program):
+    """Sizes below 1 are refused."""
+    for option in ("--every", "--rows", "--columns", "--scale"):
+        rows, said = picture(program, GOES_RIGHT, 3, option, "0")
+        yield "%s 0 is refused" % option, rows is None and option in said
+
+
+def main():
+    program = words(__doc__).parse_args().program
+    tally = Tally()
+    for part in (champion, sampling, refusals):
+        for what, holds in part(program):
+            tally.hold(what, holds)
+    return tally.end()
+
+
+if __name__ == "__main__":
+    end_with(main)
