@@ -89,15 +89,21 @@ named (Some q) p e =
     one_name (built_leaf (inherited top decide_shape)) (built_leaf (inherited top check_shape))
     (built_leaf (inherited top trace_shape)) q p e
 
+-- a command other than `trace` is `decide` or `check`
+pub names_a_list : (words : List Text) (name : Text) (rows : List Row) → Gives words name rows
+    → (name ≡ codes "trace" → ⊥) → (name ≡ codes "decide") ⊎ (name ≡ codes "check")
+names_a_list words name rows given not_trace =
+    elim (named (stop_after (built command_line).top.rules (names_of (built command_line))
+    (argument_words command_line words)) (name, rows) given.values) [
+      | inl is ↦ inl is
+      | inr other ↦ elim other [ inl is ↦ inr is | inr is ↦ absurd (not_trace is) ]
+    ]
+
 -- a command other than `trace` and `check` is `decide`
 pub names_decide : (words : List Text) (name : Text) (rows : List Row) → Gives words name rows
     → (name ≡ codes "trace" → ⊥) → (name ≡ codes "check" → ⊥) → name ≡ codes "decide"
 names_decide words name rows given not_trace not_check =
-    elim (named (stop_after (built command_line).top.rules (names_of (built command_line))
-    (argument_words command_line words)) (name, rows) given.values) [
-      | inl is ↦ is
-      | inr other ↦ elim other [ inl is ↦ absurd (not_check is) | inr is ↦ absurd (not_trace is) ]
-    ]
+    elim (names_a_list words name rows given not_trace) [ inl is ↦ is | inr is ↦ absurd (not_check is) ]
 
 pub stops_deciding : (words : List Text) (rows : List Row) → Gives words (codes "decide") rows → (stop : Stop)
     → (stop ≡ Memory) ⊎ IsLimitsStop (list_bounds rows) stop → IsStopOf words stop

@@ -1,5 +1,5 @@
 -- What a command line asks for, and why one leads to no work: this project's own.
-use Rattle.std.specs.Prelude.{◌≡◌, ◌≢◌, ◌⊎◌, ℕ, Bool, false, not, List, [], Some, None, codes, unwrap_or}
+use Rattle.std.specs.Prelude.{◌≡◌, ◌≢◌, ◌⊎◌, ℕ, Bool, false, true, not, List, [], Some, None, codes, unwrap_or}
 use Rattle.std.specs.Prelude.{option_map, if◌then◌else◌}
 use Rattle.std.specs.Option.{option_map_or}
 use Rattle.std.specs.Str.{bytes_eq}
@@ -12,6 +12,7 @@ use Rattle.clap.specs.declared.error.kind.ErrorKind.TheVariants.{DisplayHelp, Di
 use Rattle.bb_machine.specs.Limits.{Bounds, IsFirstFault}
 use Rattle.bb_decide.specs.declared.plan.Plan.{Plan}
 use Rattle.bb.specs.declared.command.Asked.{Asked}
+use Rattle.bb.specs.declared.command.Numbers.{Numbers}
 use Rattle.bb.specs.declared.command.Stop.{Stop}
 use Rattle.bb.specs.declared.command.Stop.TheVariants.{Help, Words, Limits, Memory}
 use Rattle.bb.specs.declared.command.Work.{Work}
@@ -98,6 +99,26 @@ IsAskedBy words asked = (rows : List Row)
     × ((Gives words (codes "decide") rows × AsksToDecide rows asked)
     ⊎ ((Gives words (codes "check") rows × AsksToCheck rows asked)
     ⊎ (Gives words (codes "trace") rows × AsksToTrace rows asked)))
+
+-- numbers as bounds, accepted or not
+abbrev pub bounds_of : Numbers → Bounds
+bounds_of numbers = record {
+  steps = numbers.steps;
+  cells = numbers.cells;
+  depth = numbers.depth;
+  nodes = numbers.nodes;
+}
+
+-- the words name this command, and these are the numbers that they give for its limits, accepted or not
+abbrev pub GivesNumbers : List Text → Text → (List Row → Bounds) → Bool → Numbers → Type 0
+GivesNumbers words command bounds is_of_trace numbers = (rows : List Row) × Gives words command rows
+    × (bounds_of numbers ≡ bounds rows) × (numbers.is_of_trace ≡ is_of_trace)
+
+-- the numbers that the words give for the limits of what they ask for, accepted or not
+abbrev pub AreGivenBy : List Text → Numbers → Type 0
+AreGivenBy words numbers = GivesNumbers words (codes "decide") list_bounds false numbers
+    ⊎ (GivesNumbers words (codes "check") list_bounds false numbers
+    ⊎ GivesNumbers words (codes "trace") trace_bounds true numbers)
 
 -- ---- why there is no work
 

@@ -1,11 +1,12 @@
 //! The command line: which work is asked for, under which limits.
-ghost use Rattle.std.specs.Prelude.{◌≡◌, ◌⊎◌, false, IfErr, IfOk, List, Some, codes, map, option_map};
+ghost use Rattle.std.specs.Prelude.{◌≡◌, ◌⊎◌, false, true, IfErr, IfOk, List, Some, codes, map, option_map};
 ghost use Rattle.std.specs.String.{string_bytes};
 ghost use Rattle.clap.specs.declared.builder.command.Command.TheViews.{out-Command as fields_of};
 ghost use Rattle.clap.specs.Words.{app_of, first_of, found_of, kind_of, rows_of, rule_of, shape_of};
 ghost use Rattle.clap.specs.Simple.{new_shape};
 ghost use Rattle.clap.specs.declared.builder.texts.Texts.TheVariants.{One};
 ghost use Rattle.bb.specs.Command.{
+  AreGivenBy,
   AsksToCheck,
   AsksToDecide,
   AsksToTrace,
@@ -13,6 +14,7 @@ ghost use Rattle.bb.specs.Command.{
   IsKindStop,
   IsLimitsStop,
   IsStopOf,
+  bounds_of,
   decide_plan,
   is_given,
   list_bounds,
@@ -70,7 +72,7 @@ pub enum Stop {
     Words(String),
     /// The limits are refused.
     Limits(LimitFault),
-    /// A growth was refused.
+    /// An allocation failed.
     Memory,
 }
 
@@ -121,6 +123,63 @@ pub fn ask(alloc: Global, words: &[&str]) -> Result<Asked, Stop>
     }
 }
 
+/// The numbers that a command line gives for its limits, accepted or not.
+#[derive(Clone, Copy, Debug)]
+pub struct Numbers {
+    pub steps: u64,
+    pub cells: u64,
+    pub depth: u64,
+    pub nodes: u64,
+    /// Whether they are those of a trace, whose steps are told by `--upto`, and which has no tree.
+    pub is_of_trace: bool,
+}
+
+/// Reads the numbers that a command line gives for its limits, whether or not they are accepted.
+pub fn numbers_given(alloc: Global, words: &[&str]) -> Result<Numbers, Stop>
+    ensures given { IfOk result (AreGivenBy (map (λ word. word.now) words.now)) }
+{
+    let matches = match program(alloc)?.try_get_matches_from(words) {
+        Ok(matches) => matches,
+        Err(error) => return Err(stop_of(alloc, &error)?),
+    };
+    let Some((name, values)) = matches.subcommand() else {
+        unreachable!();
+    };
+    if name == "trace" {
+        Ok(trace_numbers(values))
+    } else {
+        Ok(list_numbers(values))
+    }
+}
+
+/// The numbers that are given for a trace.
+fn trace_numbers(matches: &ArgMatches<'_>) -> Numbers
+    ensures given { bounds_of result ≡ trace_bounds (rows_of (found_of matches.now)) }
+    ensures trace { result.is_of_trace ≡ true }
+{
+    Numbers {
+        steps: value(matches, "upto"),
+        cells: value(matches, "cells"),
+        depth: 0,
+        nodes: 0,
+        is_of_trace: true,
+    }
+}
+
+/// The numbers that are given for a list.
+fn list_numbers(matches: &ArgMatches<'_>) -> Numbers
+    ensures given { bounds_of result ≡ list_bounds (rows_of (found_of matches.now)) }
+    ensures trace { result.is_of_trace ≡ false }
+{
+    Numbers {
+        steps: value(matches, "steps"),
+        cells: value(matches, "cells"),
+        depth: value(matches, "depth"),
+        nodes: value(matches, "nodes"),
+        is_of_trace: false,
+    }
+}
+
 /// What the program's help says after the commands.
 const ABOUT_ALL: &str = "\
 A machine is a text such as 1RB1LB_1LA1RZ: a group for each state, A first, and in it
@@ -140,10 +199,14 @@ Out: for each line, in order, the machine and one of
   halt STEPS SCORE               it halts after so many steps, with so many cells not 0
   cycler FIRST SECOND            it never halts: at both steps all is the same
   translated L|R FIRST SECOND SHIFT LENGTH
-                                 it never halts: the same farther out on that side
-  backward LEVELS NODES          it never halts: all ways back from a halt end elsewhere
+                                 it never halts: the same pattern again, farther out
+  backward LEVELS NODES          it never halts: working back from a halt never reaches
+                                 the start
   undecided steps|cells          a limit came first
 or, where the line is no machine: refused COLUMN.
+
+Each machine is first simulated up to the limit of steps, and only then are the deciders
+asked: begin with small limits. 2 times the depth, less 1, must be at most the cells.
 
 Status: 0 every line was a machine, 1 a line was refused, 2 the command line was refused,
 3 memory, reading or writing failed.
@@ -161,6 +224,8 @@ Out: for each line, in order, one of
   open      it claims nothing: it is undecided or a refusal
   unread    it is no verdict
 
+2 times the depth, less 1, must be at most the cells.
+
 Status: 0 every answer is ok or open, 1 another answer is among them, 2 the command line
 was refused, 3 memory, reading or writing failed.
 
@@ -171,7 +236,8 @@ Example:
 const ABOUT_TRACE: &str = "\
 In: a machine's text, as an argument. Out: a line for each step, from 0 to the halt or to
 the last step that is asked for: STEP STATE POSITION CELLS, the cells one digit each, over
-the positions that were visited. A text that is no machine: refused COLUMN.
+the positions that were visited. A text that is no machine: refused COLUMN. A machine that
+begins with --- needs -- before it, as in  bb trace --upto 1 -- ---1RZ
 
 Status: 0 all went well, 1 the text was refused or the cells cut the trace, 2 the command
 line was refused, 3 memory or writing failed.
@@ -246,7 +312,12 @@ fn trace_command<'a>(alloc: Global) -> Result<Command<'a>, AllocError>
     ensures shape { IfOk result (λ command. shape_of command ≡ trace_shape) }
     ensures local { IfOk result (λ command. (fields_of command).has_globals ≡ false) }
 {
-    let upto = number(alloc, "upto", "The last step that is printed").required(true);
+    let upto = number(
+        alloc,
+        "upto",
+        "The last step that is printed, 0 to 1000000000000",
+    )
+    .required(true);
     let machine = positional(alloc, "machine", "MACHINE", "The machine's text").required(true);
     command(
         alloc,
@@ -276,7 +347,7 @@ fn steps<'a>(alloc: Global) -> Arg<'a>
         alloc,
         "steps",
         "1000000",
-        "The most steps of one simulation",
+        "The most steps of one simulation, 0 to 1000000000000",
     )
 }
 
@@ -284,7 +355,12 @@ fn cells<'a>(alloc: Global) -> Arg<'a>
     ensures rule { rule_of result ≡ cells_rule }
     ensures local { result.global ≡ false }
 {
-    limit(alloc, "cells", "65536", "The most cells of one tape")
+    limit(
+        alloc,
+        "cells",
+        "65536",
+        "The most cells of one tape, 1 to 67108864",
+    )
 }
 
 fn depth<'a>(alloc: Global) -> Arg<'a>
@@ -295,7 +371,7 @@ fn depth<'a>(alloc: Global) -> Arg<'a>
         alloc,
         "depth",
         "300",
-        "The most levels of the backward tree",
+        "The most levels of the backward tree, 0 to 10000",
     )
 }
 
@@ -307,7 +383,7 @@ fn nodes<'a>(alloc: Global) -> Arg<'a>
         alloc,
         "nodes",
         "1000000",
-        "The most nodes of the backward tree",
+        "The most nodes of the backward tree, 0 to 1000000000000",
     )
 }
 
@@ -401,12 +477,7 @@ fn list_limits(matches: &ArgMatches<'_>) -> Result<Limits, Stop>
     ensures ok { IfOk result (λ limits. limits ≡ list_bounds (rows_of (found_of matches.now))) }
     ensures stop { IfErr result (IsLimitsStop (list_bounds (rows_of (found_of matches.now)))) }
 {
-    accepted(
-        value(matches, "steps"),
-        value(matches, "cells"),
-        value(matches, "depth"),
-        value(matches, "nodes"),
-    )
+    accepted(&list_numbers(matches))
 }
 
 /// The file that a list is read from.
@@ -420,22 +491,12 @@ fn list_file(alloc: Global, matches: &ArgMatches<'_>) -> Result<Option<String>, 
     }
 }
 
-/// The limits, if they are accepted.
-fn accepted(steps: u64, cells: u64, depth: u64, nodes: u64) -> Result<Limits, Stop>
-    ensures ok { IfOk result (λ limits. limits ≡ record {
-      steps = steps;
-      cells = cells;
-      depth = depth;
-      nodes = nodes;
-    }) }
-    ensures stop { IfErr result (IsLimitsStop (record {
-      steps = steps;
-      cells = cells;
-      depth = depth;
-      nodes = nodes;
-    })) }
+/// The limits with these numbers, if they are accepted.
+fn accepted(numbers: &Numbers) -> Result<Limits, Stop>
+    ensures ok { IfOk result (λ limits. limits ≡ bounds_of numbers.now) }
+    ensures stop { IfErr result (IsLimitsStop (bounds_of numbers.now)) }
 {
-    Limits::new(steps, cells, depth, nodes).map_err(Stop::Limits)
+    Limits::new(numbers.steps, numbers.cells, numbers.depth, numbers.nodes).map_err(Stop::Limits)
 }
 
 fn trace_of(alloc: Global, matches: &ArgMatches<'_>) -> Result<Asked, Stop>
@@ -443,7 +504,7 @@ fn trace_of(alloc: Global, matches: &ArgMatches<'_>) -> Result<Asked, Stop>
     ensures stop { IfErr result (λ stop. (stop ≡ Stop.Memory)
         ⊎ IsLimitsStop (trace_bounds (rows_of (found_of matches.now))) stop) }
 {
-    let limits = accepted(value(matches, "upto"), value(matches, "cells"), 0, 0)?;
+    let limits = accepted(&trace_numbers(matches))?;
     let text = matches.get_str("machine").unwrap_or("");
     Ok(Asked {
         work: Work::Trace(String::from_str(alloc, text)?),

@@ -3,41 +3,42 @@
 
 ghost use Rattle.std.specs.Prelude.{IfErr, IfOk, map};
 ghost use Rattle.std.specs.String.{string_bytes};
-ghost use Rattle.bb.specs.Command.{IsAskedBy, IsStopOf};
+ghost use Rattle.bb.specs.Command.{AreGivenBy, IsAskedBy, IsStopOf};
 
+mod advice;
 mod command;
+mod progress;
 mod serve;
+mod streams;
 #[cfg(test)]
 mod tests;
 
+use advice::Advice;
 use bb_lines::fault::Fault;
 use bb_lines::watched::Watched;
 use bb_run::Summary;
-use command::{Asked, Stop, ask};
+use command::{Asked, Numbers, Stop, ask, numbers_given};
+use progress::Progress;
 use serve::{serve, status};
 use std::alloc::Global;
+use std::io::{ErrorKind, IsTerminal, Read};
 use std::process::ExitCode;
 use std::{env, fs, io};
+use streams::Observed;
 
 fn main(rt: HostRuntime) -> ExitCode {
-    let asked = match arguments(&rt) {
-        Ok(arguments) => asked(rt.alloc(), arguments.as_slice()),
-        Err(stop) => Err(stop),
+    let arguments = match arguments(&rt) {
+        Ok(arguments) => arguments,
+        Err(stop) => return ExitCode::from(tell_stop(&rt, &stop, None)),
     };
-    let end = match asked {
-        Ok(asked) => {
-            let end = served(&rt, &asked);
-            if let Err(fault) = &end {
-                let _ = eprintln!(rt; "{fault}");
-            }
-            status(&end)
-        }
+    let status = match asked(rt.alloc(), arguments.as_slice()) {
+        Ok(asked) => work(&rt, &asked),
         Err(stop) => {
-            let _ = tell(&rt, &stop);
-            stop.status()
+            let numbers = given(rt.alloc(), arguments.as_slice()).ok();
+            tell_stop(&rt, &stop, numbers)
         }
     };
-    ExitCode::from(end)
+    ExitCode::from(status)
 }
 
 /// The process's arguments, which have to be UTF-8.
@@ -61,29 +62,114 @@ fn asked(alloc: Global, arguments: &[String]) -> Result<Asked, Stop>
     ask(alloc, words.as_slice())
 }
 
-/// Opens the input and does the work. A file that can't be opened is a failed read.
-fn served(rt: &HostRuntime, asked: &Asked) -> Result<Summary, Fault> {
-    let mut writer = Watched::new(rt.stdout());
+/// The numbers that the arguments give for the limits.
+fn given(alloc: Global, arguments: &[String]) -> Result<Numbers, Stop>
+    ensures given { IfOk result (AreGivenBy (map string_bytes arguments.now)) }
+{
+    let words: Vec<&str> = arguments.iter().map(|word| word.as_str()).collect(alloc)?;
+    numbers_given(alloc, words.as_slice())
+}
+
+/// Does the work, tells a fault, and gives the exit status.
+fn work(rt: &HostRuntime, asked: &Asked) -> u8 {
+    let (end, error) = served(rt, asked);
+    if let Err(fault) = &end {
+        let _ = eprintln!(rt; "{fault}");
+        if let Some(error) = error {
+            let _ = tell_error(rt, asked, fault, &error);
+        }
+    }
+    status(&end)
+}
+
+/// Opens the input and does the work. A file that can't be opened is a failed read. Beside the end comes the
+/// error that made it one, where there is one.
+fn served(rt: &HostRuntime, asked: &Asked) -> (Result<Summary, Fault>, Option<io::Error>) {
     match &asked.file {
         Some(file) => match fs::open(rt, file) {
-            Ok(file) => serve(rt.alloc(), asked, &mut Watched::new(file), &mut writer),
-            Err(_) => Err(Fault::Read),
+            Ok(file) => {
+                let size = file.metadata().ok().filter(|data| data.is_file());
+                served_from(rt, asked, size.map(|data| data.len()), file)
+            }
+            Err(error) => (Err(Fault::Read), Some(error)),
         },
-        None => serve(
-            rt.alloc(),
-            asked,
-            &mut Watched::new(rt.stdin()),
-            &mut writer,
-        ),
+        None => served_from(rt, asked, None, rt.stdin()),
     }
 }
 
-/// Prints help to standard output, and any other cause to standard error.
-fn tell(rt: &HostRuntime, stop: &Stop) -> io::Result<()> {
+/// Does the work with this input, which has so many bytes where that is known, and shows the progress.
+fn served_from<R: Read + Drop>(
+    rt: &HostRuntime,
+    asked: &Asked,
+    size: Option<u64>,
+    input: R,
+) -> (Result<Summary, Fault>, Option<io::Error>) {
+    let progress = Progress::of(rt, &asked.work, size);
+    let ended = served_with(rt, asked, input, progress.as_ref());
+    if let Some(progress) = &progress {
+        progress.end();
+    }
+    ended
+}
+
+/// Does the work with this input, and tells the progress of it.
+fn served_with<R: Read + Drop>(
+    rt: &HostRuntime,
+    asked: &Asked,
+    input: R,
+    progress: Option<&Progress<'_>>,
+) -> (Result<Summary, Fault>, Option<io::Error>) {
+    let mut reader = Watched::new(Observed::new(input, progress));
+    let mut writer = Watched::new(Observed::new(rt.stdout(), progress));
+    let end = serve(rt.alloc(), asked, &mut reader, &mut writer);
+    let error = match &end {
+        Err(Fault::Read) => reader.into_inner().into_error(),
+        Err(Fault::Write) => writer.into_inner().into_error(),
+        _ => None,
+    };
+    (end, error)
+}
+
+/// Says on a terminal what failed and why. Of a pipe that nobody reads any more it says nothing.
+fn tell_error(rt: &HostRuntime, asked: &Asked, fault: &Fault, error: &io::Error) -> io::Result<()> {
+    if !rt.stderr().is_terminal() || error.kind() == ErrorKind::BrokenPipe {
+        return Ok(());
+    }
+    match (fault, &asked.file) {
+        (Fault::Read, Some(file)) => eprintln!(rt; "{file}: {error}"),
+        (Fault::Read, None) => eprintln!(rt; "standard input: {error}"),
+        _ => eprintln!(rt; "standard output: {error}"),
+    }
+}
+
+/// Tells why there is no work, and gives the exit status: that of the stop, or 3 where help or the version
+/// can't be written.
+fn tell_stop(rt: &HostRuntime, stop: &Stop, numbers: Option<Numbers>) -> u8 {
+    match (tell(rt, stop, numbers), stop) {
+        (Err(_), Stop::Help(_)) => {
+            let _ = eprintln!(rt; "{}", Fault::Write);
+            3
+        }
+        _ => stop.status(),
+    }
+}
+
+/// Prints help to standard output, and any other cause to standard error; on a terminal, also which of the
+/// limits were refused and what would do.
+fn tell(rt: &HostRuntime, stop: &Stop, numbers: Option<Numbers>) -> io::Result<()> {
     match stop {
         Stop::Help(text) => rt.print(text),
         Stop::Words(text) => rt.eprint(text),
-        Stop::Limits(fault) => rt.eprintln(fault),
+        Stop::Limits(fault) => {
+            rt.eprintln(fault)?;
+            match numbers {
+                Some(numbers) if rt.stderr().is_terminal() => rt.eprintln(Advice {
+                    fault: *fault,
+                    numbers,
+                }),
+                _ => Ok(()),
+            }
+        }
         Stop::Memory => rt.eprintln(Fault::Memory),
     }
 }

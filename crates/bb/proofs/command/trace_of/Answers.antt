@@ -12,6 +12,6 @@ returns-clause-asked c = record {
       ∙ ap (λ text. text.now) c.unwrap_or-text.ensures
       ∙ text_or c.get_str.result _
       ∙ ap (λ text. unwrap_or text []) (c.get_str.ensures ∙ first_value-rows (found_of c.args.matches.now) _);
-  limits = rw (← c.value.ensures, ← c.value-2.ensures) c.in_ok-limits.ensures.ok;
+  limits = c.in_ok-limits.ensures.ok ∙ c.trace_numbers.ensures.given;
   file = refl;
 }

@@ -1,0 +1,27 @@
+use Rattle.std.proofs.Common.{◌≡◌, ◌∙◌, ◌⊎◌, ℕ, Bor, List, ap, codes, inl, inr, map, rules, subst, sym, absurd}
+use Rattle.std.specs.Prelude.{Some}
+use Rattle.clap.specs.Words.{Text, found_of, rows_of}
+use Rattle.bb.specs.Command.{Gives}
+use Rattle.bb.proofs.CommandLines.{gives, names_a_list}
+use Rattle.bb.proofs.command.numbers_given.Goals as goal
+
+pub returns-then-eq : goal.returns-then-eq
+returns-then-eq c =
+    let is_trace : c.in-Some.name.now ≡ codes "trace" = search rules in
+    let given = gives _ c.in_ok-program.ensures _ c.in-Ok.matches c.in-Ok.ensures.kinds c.in-Ok.ensures.matches _ _
+    (sym c.in-Some.ensures.name ∙ ap Some is_trace) (sym c.in-Some.ensures.rows) in
+    record { given = inr (inr (_, given, c.trace_numbers.ensures.given, c.trace_numbers.ensures.trace)) }
+
+pub returns : goal.returns
+returns c =
+    let words = map (λ (word : Bor (List ℕ)). word.now) c.args.words.now in
+    let rows = rows_of (found_of c.in-Some.values.now) in
+    let not_trace : c.in-Some.name.now ≡ codes "trace" → ⊥ = search rules in
+    let named = gives _ c.in_ok-program.ensures words c.in-Ok.matches c.in-Ok.ensures.kinds c.in-Ok.ensures.matches
+    c.in-Some.name.now rows (sym c.in-Some.ensures.name) (sym c.in-Some.ensures.rows) in
+    let named_so = λ (name : Text) (is : c.in-Some.name.now ≡ name). subst (λ (name : Text). Gives words name rows) is named in
+    let numbers = (c.list_numbers.ensures.given, c.list_numbers.ensures.trace) in
+    record { given = elim (names_a_list words _ rows named not_trace) [
+      | inl is ↦ inl (_, named_so _ is, numbers)
+      | inr is ↦ inr (inl (_, named_so _ is, numbers))
+    ] }

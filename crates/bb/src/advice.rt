@@ -1,0 +1,36 @@
+//! What helps where limits are refused.
+
+use crate::command::Numbers;
+use bb_machine::LimitFault;
+use std::fmt;
+use std::fmt::{Display, Formatter};
+
+/// Which number was refused, and which would do.
+#[derive(Drop)]
+pub struct Advice {
+    pub fault: LimitFault,
+    pub numbers: Numbers,
+}
+
+impl Display for Advice {
+    fn fmt<W: fmt::Write>(&self, f: &mut Formatter<W>) -> fmt::Result {
+        let numbers = &self.numbers;
+        match self.fault {
+            LimitFault::Steps if numbers.is_of_trace => {
+                write!(f, "--upto {} is not within 0 to 1000000000000", numbers.steps)
+            }
+            LimitFault::Steps => write!(f, "--steps {} is not within 0 to 1000000000000", numbers.steps),
+            LimitFault::Cells => write!(f, "--cells {} is not within 1 to 67108864", numbers.cells),
+            LimitFault::Depth => write!(f, "--depth {} is not within 0 to 10000", numbers.depth),
+            LimitFault::Nodes => write!(f, "--nodes {} is not within 0 to 1000000000000", numbers.nodes),
+            LimitFault::DepthCells => write!(
+                f,
+                "--depth {} needs --cells {} or more; with --cells {} a depth up to {}",
+                numbers.depth,
+                numbers.depth.saturating_mul(2).saturating_sub(1),
+                numbers.cells,
+                numbers.cells.saturating_add(1) / 2
+            ),
+        }
+    }
+}
