@@ -137,7 +137,7 @@ pub record IsRefused (words : List Text) (stop : Stop) : Type 0 where
       ⊎ (Gives words (codes "trace") rows × IsLimitsStop (trace_bounds rows) stop))
 
 -- why the words lead to no work: help or the version is asked for, or they are no command line, or what they
--- ask for is refused, or a growth was refused
+-- ask for is refused, or an allocation failed
 abbrev pub IsStopOf : List Text → Stop → Type 0
 IsStopOf words (Help text) =
     IsAmong DisplayHelp (fault_of command_line words) ⊎ IsAmong DisplayVersion (fault_of command_line words)

@@ -10,7 +10,7 @@ use Rattle.bb_run.specs.Ends.{DecideEnds, TraceEnds}
 use Rattle.bb.specs.declared.command.Work.{Work}
 use Rattle.bb.specs.declared.command.Work.TheVariants.{Decide, Check, Trace}
 
--- want of memory before the work began: nothing is read and nothing written
+-- memory ran out before the work began: nothing is read and nothing written
 pub record IsNotBegun (left left_then held held_then : Option (List ℕ)) (end : Result Summary Fault)
     : Type 0 where
   pub fault : end ≡ Err Memory

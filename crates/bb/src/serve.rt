@@ -31,7 +31,7 @@ pub fn serve<R: Read, W: Write>(
     requires reader { is_marked reader.old ≡ false }
     requires writer { is_marked writer.old ≡ false }
 
-    // How the work ends, and what is read and written then; or want of memory before it began.
+    // How the work ends, and what is read and written then; or memory ran out before it began.
     ensures ends { ServeEnds asked.now.work asked.now.limits
         (R.remaining (watched_inner reader.old)) (R.remaining (watched_inner reader.new))
         (W.contents (watched_inner writer.old)) (W.contents (watched_inner writer.new)) result }
@@ -40,7 +40,7 @@ pub fn serve<R: Read, W: Write>(
     ensures borne_out { (plan : Plan) → asked.now.work ≡ Work.Decide plan
         → VerdictsAreBorneOut asked.now.limits plan }
 
-    // Want of memory comes before the work began alone: nothing was read or written.
+    // Memory runs out only before the work begins: nothing was read or written.
     ensures memory { result ≡ Err Fault.Memory → IsNotBegun
         (R.remaining (watched_inner reader.old)) (R.remaining (watched_inner reader.new))
         (W.contents (watched_inner writer.old)) (W.contents (watched_inner writer.new)) result }

@@ -1,4 +1,4 @@
-use Rattle.std.proofs.Common.{◌≡◌, ◌∙◌, ◌⊎◌, ℕ, Bor, List, ap, codes, inl, inr, map, rules, subst, sym, absurd}
+use Rattle.std.proofs.Common.{◌≡◌, ◌∙◌, ◌⊎◌, ℕ, Bor, List, ap, codes, inl, inr, map, rules, subst, sym}
 use Rattle.std.specs.Prelude.{Some}
 use Rattle.clap.specs.Words.{Text, found_of, rows_of}
 use Rattle.bb.specs.Command.{Gives}
@@ -19,9 +19,9 @@ returns c =
     let not_trace : c.in-Some.name.now ≡ codes "trace" → ⊥ = search rules in
     let named = gives _ c.in_ok-program.ensures words c.in-Ok.matches c.in-Ok.ensures.kinds c.in-Ok.ensures.matches
     c.in-Some.name.now rows (sym c.in-Some.ensures.name) (sym c.in-Some.ensures.rows) in
-    let named_so = λ (name : Text) (is : c.in-Some.name.now ≡ name). subst (λ (name : Text). Gives words name rows) is named in
-    let numbers = (c.list_numbers.ensures.given, c.list_numbers.ensures.trace) in
     record { given = elim (names_a_list words _ rows named not_trace) [
-      | inl is ↦ inl (_, named_so _ is, numbers)
-      | inr is ↦ inr (inl (_, named_so _ is, numbers))
+      | inl is ↦ inl (_, subst (λ (name : Text). Gives words name rows) is named, c.list_numbers.ensures.given,
+        c.list_numbers.ensures.trace)
+      | inr is ↦ inr (inl (_, subst (λ (name : Text). Gives words name rows) is named,
+        c.list_numbers.ensures.given, c.list_numbers.ensures.trace))
     ] }

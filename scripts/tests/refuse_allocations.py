@@ -1,7 +1,7 @@
 #!/usr/bin/env python3
 """Refuses one allocation at a time to the built program, and says how it ends.
 
-    scripts/tests/refuse_growths.py crates/bb/out/bb
+    scripts/tests/refuse_allocations.py crates/bb/out/bb
 
 For each command line below and each k, the k-th call of malloc, calloc or realloc answers null.
 The program must then end as ever, or with status 3, a beginning of its output and the text of a
