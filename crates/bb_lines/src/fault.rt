@@ -9,11 +9,11 @@ use std::fmt;
 #[derive(Clone, Copy, Debug, PartialEq, Eq)]
 pub enum Fault {
     /// A growth was refused. What was written are the replies to the lines before the one at work.
-    Memory,
+    Memory = 1,
     /// A read failed. What was written are the replies to the lines that were complete by then.
-    Read,
+    Read = 2,
     /// A write or the flush failed, or a write took no byte. What was written is a beginning of the replies.
-    Write,
+    Write = 3,
 }
 
 impl fmt::Display for Fault {

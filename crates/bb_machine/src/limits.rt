@@ -19,11 +19,11 @@ pub const MOST_NODES: u64 = 1_000_000_000_000;
 /// Why limits are refused. Its text is what a program prints.
 #[derive(Clone, Copy, Debug, PartialEq, Eq)]
 pub enum LimitFault {
-    Steps,
-    Cells,
-    Depth,
-    Nodes,
-    DepthCells,
+    Steps = 1,
+    Cells = 2,
+    Depth = 3,
+    Nodes = 4,
+    DepthCells = 5,
 }
 
 impl Display for LimitFault {

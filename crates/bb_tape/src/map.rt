@@ -87,19 +87,11 @@ impl<A: Allocator + Clone + Drop> Tape for MapTape<A> {
             return Err(TapeFault::Cells);
         }
         if p < self.window.low {
-            self.widen_low(p);
+            self.window.widen_low(p);
         } else {
-            self.widen_high(p);
+            self.window.widen_high(p);
         }
         Ok(())
-    }
-
-    fn widen_low(&mut self, p: i64) {
-        self.window.widen_low(p);
-    }
-
-    fn widen_high(&mut self, p: i64) {
-        self.window.widen_high(p);
     }
 
     #[inline]
@@ -108,10 +100,6 @@ impl<A: Allocator + Clone + Drop> Tape for MapTape<A> {
             Some(k) => *k + 1,
             None => 0,
         }
-    }
-
-    fn read_inside(&self, p: i64) -> u8 {
-        self.read(p)
     }
 
     fn write(&mut self, p: i64, v: u8) -> Result<(), TapeFault> {

@@ -21,17 +21,17 @@ pub struct Memory;
 pub enum TapeFault {
     /// The window would have more positions than the tape's limit.
     #[error("the tape has no more cells")]
-    Cells,
+    Cells = 1,
     /// A growth was refused.
     #[error("out of memory")]
-    Memory,
+    Memory = 2,
 }
 
 /// A tape that is endless both ways, of which a window of a limited number of cells may be visited. Positions
 /// are signed, and a new tape's window is the cell 0 alone. A cell has a symbol from 0 to `MOST_SYMBOL`.
 ///
 /// There is no way to make a tape here, nor to clone one: who is generic over it has only the tapes that it
-/// was lent.
+/// was lent. The calls that have a body here are for tapes that do them faster.
 pub trait Tape: Drop {
     /// The cells, the window and the limit.
     ghost strip: { Self → Strip };
@@ -59,13 +59,19 @@ pub trait Tape: Drop {
     fn widen_low(&mut self, p: i64)
         requires next { p ≡ (strip self.old).low -ℤ pos 1 }
         requires room { width (strip self.old) <ℤ pos (strip self.old).limit }
-        ensures { strip self.new ≡ visited (strip self.old) p };
+        ensures { strip self.new ≡ visited (strip self.old) p }
+    {
+        let _below = self.visit(p);
+    }
 
     /// Widens the window by the cell above it, where there is room for one more.
     fn widen_high(&mut self, p: i64)
         requires next { p ≡ (strip self.old).high +ℤ pos 1 }
         requires room { width (strip self.old) <ℤ pos (strip self.old).limit }
-        ensures { strip self.new ≡ visited (strip self.old) p };
+        ensures { strip self.new ≡ visited (strip self.old) p }
+    {
+        let _above = self.visit(p);
+    }
 
     /// The symbol of any cell, 0 outside the window.
     fn read(&self, p: i64) -> u8
@@ -74,7 +80,10 @@ pub trait Tape: Drop {
     /// The symbol of a cell of the window.
     fn read_inside(&self, p: i64) -> u8
         requires { IsInside (strip self.now) p }
-        ensures { result ≡ cell (strip self.now).content p };
+        ensures { result ≡ cell (strip self.now).content p }
+    {
+        self.read(p)
+    }
 
     /// Puts a symbol into a cell of the window. It is never refused for want of cells.
     fn write(&mut self, p: i64, v: u8) -> Result<(), TapeFault>

@@ -67,20 +67,8 @@ impl<T: Tape> Tape for Tallied<T> {
         self.inner.visit(p)
     }
 
-    fn widen_low(&mut self, p: i64) {
-        self.inner.widen_low(p);
-    }
-
-    fn widen_high(&mut self, p: i64) {
-        self.inner.widen_high(p);
-    }
-
     fn read(&self, p: i64) -> u8 {
         self.inner.read(p)
-    }
-
-    fn read_inside(&self, p: i64) -> u8 {
-        self.inner.read_inside(p)
     }
 
     fn write(&mut self, p: i64, v: u8) -> Result<(), TapeFault> {

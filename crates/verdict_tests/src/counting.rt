@@ -34,20 +34,8 @@ impl Tape for Counting {
         self.ring.visit(p)
     }
 
-    fn widen_low(&mut self, p: i64) {
-        self.ring.widen_low(p);
-    }
-
-    fn widen_high(&mut self, p: i64) {
-        self.ring.widen_high(p);
-    }
-
     fn read(&self, p: i64) -> u8 {
         self.ring.read(p)
-    }
-
-    fn read_inside(&self, p: i64) -> u8 {
-        self.ring.read_inside(p)
     }
 
     fn write(&mut self, p: i64, v: u8) -> Result<(), TapeFault> {
