@@ -7,7 +7,7 @@ The machines come from a seed: most have 1 to 7 states and 2 symbols, the others
 symbols. At each of some limits, every decided line must be answered `ok` and every other line `open`.
 At limits of which none is smaller, every decided machine must stay decided: with the same verdict, or as a
 cycler or a translated cycler where backward reasoning had decided it. Under each plan some machine must be
-decided. It takes about a minute. The last line is `N passed, M failed`; the status is 1 where any failed.
+decided. It takes some seconds. The last line is `N passed, M failed`; the status is 1 where any failed.
 """
 
 import random

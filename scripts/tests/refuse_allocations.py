@@ -7,8 +7,8 @@ For each command line below and each k, the k-th call of malloc, calloc or reall
 The program must then end as ever, or with status 3, a beginning of its output and the text of a
 fault. It stops at the first k that no call reaches. The last calls are those that make the tapes and the
 path, before a byte is read: where one of them is refused, nothing is written and memory is the cause.
-Those before them open FILE, where there is one: a refused one is a failed read. The others read the
-words, and there must be some. It takes a few seconds. The last line is `N passed, M failed`; the status is 1
+Those before them read the words, and there must be some. Opening FILE allocates nothing, so none of them may
+end as a failed read. It takes a few seconds. The last line is `N passed, M failed`; the status is 1
 where any failed. Needs cc and Linux.
 """
 
@@ -71,9 +71,9 @@ CLAIMS = (
 FAULTS = {b"bb: out of memory\n", b"bb: read failed\n", b"bb: write failed\n"}
 
 NOT_BEGUN = (3, b"", b"bb: out of memory\n")
-NOT_OPENED = (3, b"", b"bb: read failed\n")
+NOT_READ = b"bb: read failed\n"
 
-# The words, and how many allocations the tapes and the path take. FILE takes one more.
+# The words, and how many allocations the tapes and the path take.
 RUNS = [
     (["decide"], 4),
     (["decide", *LIMITS], 4),
@@ -113,17 +113,15 @@ def ends_of(program, asked, library, folder):
         ends.append(end)
 
 
-def judged(ends, fine, opened, made):
+def judged(ends, fine, made):
     """What must hold of these ends, and whether it does."""
-    asking, opening = len(ends) - opened - made, len(ends) - made
-    yield "%d refused, %d of them for FILE, tapes and path" % (len(ends), opened + made), asking > 0
+    asking = len(ends) - made
+    yield "%d refused, %d of them for tapes and path" % (len(ends), made), asking > 0
     for k, end in enumerate(ends):
-        if k >= opening:
+        if k >= asking:
             holds = end == NOT_BEGUN
-        elif k >= asking:
-            holds = end == NOT_OPENED
         else:
-            faulted = end[0] == 3 and fine[1].startswith(end[1]) and end[2] in FAULTS - {NOT_OPENED[2]}
+            faulted = end[0] == 3 and fine[1].startswith(end[1]) and end[2] in FAULTS - {NOT_READ}
             holds = end == fine or faulted
         yield "the %d-th: %r" % (k + 1, end), holds
 
@@ -142,10 +140,9 @@ def main():
         subprocess.run(["cc", "-shared", "-fPIC", "-O1", "-o", library, source, "-ldl"], check=True)
         for asked, made in RUNS:
             named = [files.get(word, word) for word in asked]
-            opened = sum(word in files for word in asked)
             ends = ends_of(program, named, library, folder)
             print("%s: %d allocations refused in turn" % (" ".join(asked), len(ends)))
-            for what, holds in judged(ends, run(program, named, dict(os.environ)), opened, made):
+            for what, holds in judged(ends, run(program, named, dict(os.environ)), made):
                 tally.hold("%s: %s" % (" ".join(asked), what), holds)
     return tally.end()
 

@@ -2,7 +2,6 @@
 
 use crate::command::Work;
 use arrayvec::ArrayString;
-use memchr::memchr_iter;
 use std::cell::RefCell;
 use std::fmt::Write;
 use std::io::IsTerminal;
@@ -10,6 +9,9 @@ use std::time::{Duration, Instant};
 
 /// How long a line stands at least, in milliseconds.
 const REST: u64 = 250;
+
+/// The bytes of a block that is counted at a time: no more than a byte can count.
+const BLOCK: usize = 240;
 
 /// A kind of reply, and a letter that stands in each of this kind and in no other. Machines have no small
 /// letters.
@@ -164,5 +166,11 @@ fn none_of(name: &'static str, letter: u8) -> Tally {
 
 /// How often a byte stands among others.
 fn count_of(byte: u8, bytes: &[u8]) -> u64 {
-    memchr_iter(byte, bytes).count() as u64
+    let add = |count: u64, block: &[u8]| count.wrapping_add(u64::from(count_in(byte, block)));
+    bytes.chunks(BLOCK).fold(0, add)
+}
+
+/// How often a byte stands in a block. The count is a byte too, so that many bytes are compared at a time.
+fn count_in(byte: u8, block: &[u8]) -> u8 {
+    block.iter().fold(0u8, |count, other| count.wrapping_add(u8::from(*other == byte)))
 }
