@@ -32,6 +32,18 @@ ends_in_Z table n c at halted m there =
     halt_is_last table n m there.here
     (halts_here table n c at (ap (λ s. entry_at table s (cell c.tape c.head)) halted)) there.exists
 
+-- a step before another one isn't in Z
+pub running_below : (table : Table) (m n : ℕ) → m < n → Exists table n → IsRunning table m
+running_below table m n less end_there =
+    let there = earlier_exists table m n (omega (arith, less)) end_there in
+    record {
+      here = there.here;
+      exists = there.exists;
+      runs = λ halted.
+          let end = ends_in_Z table m there.here there.exists halted n end_there in
+          absurd (omega (arith, less, end));
+    }
+
 -- a step before one that isn't in Z isn't, either
 pub running_before : (table : Table) (m n : ℕ) → m ≤ n → IsRunning table n → IsRunning table m
 running_before table m n few last =
