@@ -3,7 +3,7 @@ use Rattle.std.proofs.Common.{ℕ, ◌<◌, ◌≤◌, inl, inr, arith}
 use Rattle.std.proofs.lemmas.Bool.{cases_lt}
 use Rattle.bb_machine.specs.Machine.{Table, IsMachine}
 use Rattle.bb_sim.specs.FewCells.{configurations_in, RepeatsBy}
-use Rattle.bb_sim.specs.Run.{HaltsAt, Never}
+use Rattle.bb_sim.specs.Run.{Exists, HaltsAt, Never}
 use Rattle.bb_sim.specs.Span.{span}
 use Rattle.bb_sim.proofs.Facts.{few_cells_repeat_before, running_below, span_grows}
 use Rattle.bb_cert.specs.FewCells.{HaltsInFewCellsAreEarly, LongRunsInFewCellsNeverHalt}
@@ -20,13 +20,15 @@ long_runs_in_few_cells_never_halt table cells n machine long running narrow =
     (few_cells_repeat_before table cells n machine long running narrow)
 
 pub halts_in_few_cells_are_early : HaltsInFewCellsAreEarly
-halts_in_few_cells_are_early table cells n machine halts narrow = elim (cases_lt (configurations_in table cells) n) [
-  | inl long ↦
-      let few = configurations_in table cells in
-      let running = running_below table few n long (record { here = halts.last; exists = halts.exists }) in
-      let grows = span_grows table few n (omega (arith, long)) in
-      let never = long_runs_in_few_cells_never_halt table cells few machine (omega arith) running
-      (omega (arith, grows, narrow)) in
-      absurd (never.never n halts)
-  | inr early ↦ early
-]
+halts_in_few_cells_are_early table cells n machine halts narrow =
+    let few = configurations_in table cells in
+    elim (cases_lt few n) [
+      | inl long ↦
+          let there : Exists table n = record { here = halts.last; exists = halts.exists } in
+          let running = running_below table few n long there in
+          let grows = span_grows table few n (omega (arith, long)) in
+          let never = long_runs_in_few_cells_never_halt table cells few machine (omega arith) running
+          (omega (arith, grows, narrow)) in
+          absurd (never.never n halts)
+      | inr early ↦ early
+    ]

@@ -1,6 +1,6 @@
 -- Why what stays in few cells is always decided.
-use Rattle.std.proofs.Common.{◌≡◌, ℕ, zero, suc, ◌+◌, ◌*◌, ◌-◌, ◌^◌, ◌<◌, ◌≤◌, ◌⊎◌, inl, inr, Option, Some, None}
-use Rattle.std.proofs.Common.{refl, subst, arith}
+use Rattle.std.proofs.Common.{◌≡◌, ℕ, zero, suc, ◌+◌, ◌*◌, ◌-◌, ◌^◌, ◌<◌, ◌≤◌, ◌⊎◌, inl, inr, Option}
+use Rattle.std.proofs.Common.{Some, None, refl, subst, arith}
 use Rattle.std.proofs.Math.Pow.{pow_mono}
 use Rattle.std.proofs.lemmas.Bool.{cases_lt}
 use Rattle.bb_machine.specs.Limits.{Bounds}
@@ -104,8 +104,10 @@ power_of_greater first second most greater some one other is few =
 has_least_power : (first second most : ℕ) → 0 < second → first ≤ most → second ≤ most
     → HasLeastPower first second most
 has_least_power first second most some one other = elim (cases_lt first second) [
-  | inl less ↦ power_of_greater first second most second some (omega (arith, less)) (omega arith) (inr refl) other
-  | inr more ↦ power_of_greater first second most first (omega (arith, some, more)) (omega arith) more (inl refl) one
+  | inl less ↦
+      power_of_greater first second most second some (omega (arith, less)) (omega arith) (inr refl) other
+  | inr more ↦
+      power_of_greater first second most first (omega (arith, some, more)) (omega arith) more (inl refl) one
 ]
 
 -- a pair that the limits reach: where a configuration comes again, and the least power of two for it
@@ -147,7 +149,8 @@ module _ (table : Table) (bounds : Bounds) (machine : IsMachine table) (many : H
       }
 
 -- what is found by a step is found by a later one
-found_later : (one other : ℕ) (found : Option Verdict) → one ≤ other → IsFoundBy one found → IsFoundBy other found
+found_later : (one other : ℕ) (found : Option Verdict) → one ≤ other → IsFoundBy one found
+    → IsFoundBy other found
 found_later one other None few is = is
 found_later one other (Some (Cycler first second)) few is = omega (arith, few, is)
 found_later one other (Some (Translated side first second extent)) few is = omega (arith, few, is)
@@ -159,8 +162,8 @@ pub finds_in_few_cells : (table : Table) (bounds : Bounds) → IsMachine table �
     → FindsCycle table bounds found → FindsInFewCells table bounds found
 finds_in_few_cells table bounds machine found finds many inside running =
     let reach = reached table bounds machine many inside running in
-    let sure = finds_repeats table bounds found finds reach.at reach.period reach.power reach.positive reach.same
-    reach.is_power reach.inside in
+    let sure = finds_repeats table bounds found finds reach.at reach.period reach.power reach.positive
+    reach.same reach.is_power reach.inside in
     found_later (reach.power + reach.period) (3 * configurations_in table bounds.cells) found reach.early sure
 
 pub few_cells_are_decided : FewCellsAreDecided

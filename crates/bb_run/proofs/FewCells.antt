@@ -21,7 +21,8 @@ verdict_replied bounds plan table line reply on of many is = λ undecided.
     let same : is.table ≡ table =
     text_unique is.table table is.of.machine of.machine (is.of.is_text ∙ sym of.is_text) in
     let steps : HasStepsForCells is.table bounds = subst (λ t. HasStepsForCells t bounds) (sym same) many in
-    let decided = few_cells_are_decided is.table bounds plan is.verdict is.of.machine is.is_verdict on steps in
+    let decided =
+    few_cells_are_decided is.table bounds plan is.verdict is.of.machine is.is_verdict on steps in
     let line_of : IsLineOf (Claim table (Undecided Steps)) reply = (of.machine, tt, sym undecided) in
     let one : Claim is.table is.verdict ≡ Claim table (Undecided Steps) =
     line_unique (Claim is.table is.verdict) (Claim table (Undecided Steps)) reply is.is_reply line_of in

@@ -12,8 +12,9 @@ use Rattle.bb_run.specs.Reply.{IsReply}
 -- with the cyclers on, the reply to a line whose own machine has so few configurations in the cells that the
 -- steps are three times as many is not that it is undecided for want of steps
 abbrev pub FewCellsAreReplied : Bounds → Plan → Type 0
-FewCellsAreReplied bounds plan = IsTrue plan.cyclers → (table : Table) (line reply : List ℕ) → IsTextOf table line
-    → HasStepsForCells table bounds → IsReply bounds plan line reply → reply ≢ line_text table (Undecided Steps)
+FewCellsAreReplied bounds plan = IsTrue plan.cyclers → (table : Table) (line reply : List ℕ)
+    → IsTextOf table line → HasStepsForCells table bounds → IsReply bounds plan line reply
+    → reply ≢ line_text table (Undecided Steps)
 
 -- whatever the bounds and the plan
 abbrev pub AllFewCellsAreReplied : Type 0

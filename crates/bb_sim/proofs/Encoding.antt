@@ -46,8 +46,8 @@ module _ (symbols : ℕ) where
   unfolding digits
   cells_by_digits a b low zero few_a few_b e k less = absurd (omega (arith, less))
   cells_by_digits a b low (suc n) few_a few_b e k less =
-      let both = parts (digits a low n) (digits b low n) symbols (cell a (low +ℤ pos n)) (cell b (low +ℤ pos n))
-      (few_a (low +ℤ pos n)) (few_b (low +ℤ pos n)) e in
+      let both = parts (digits a low n) (digits b low n) symbols (cell a (low +ℤ pos n))
+      (cell b (low +ℤ pos n)) (few_a (low +ℤ pos n)) (few_b (low +ℤ pos n)) e in
       elim (cases_lt k n) [
         | inl lower ↦ cells_by_digits a b low n few_a few_b both.0 k lower
         | inr last ↦ let same : k ≡ n = omega (arith, less, last) in rw same both.1
@@ -98,7 +98,8 @@ module _ (states symbols : ℕ) (low : ℤ) (cells : ℕ) where
 
   code_of : Next → ℤ → Content → ℕ
   code_of Halt head tape = 0
-  code_of (State q) head tape = (q * cells + offset low head) * symbols ^ cells + digits symbols tape low cells
+  code_of (State q) head tape =
+      (q * cells + offset low head) * symbols ^ cells + digits symbols tape low cells
 
   -- the number: its state, where in the stretch its head is, and the cells of the stretch
   pub code : Configuration → ℕ
@@ -115,8 +116,8 @@ module _ (states symbols : ℕ) (low : ℤ) (cells : ℕ) where
         let near = offset-below low c.head cells inside in
         let place = mul-add-lt q cells (offset low c.head) states named near in
         let read = digits-below symbols c.tape low cells held.symbols_named in
-        let whole = mul-add-lt (q * cells + offset low c.head) (symbols ^ cells) (digits symbols c.tape low cells)
-        (cells * states) place read in
+        let whole = mul-add-lt (q * cells + offset low c.head) (symbols ^ cells)
+        (digits symbols c.tape low cells) (cells * states) place read in
         rw e (omega (arith, whole))
 
   -- configurations with one number are one
@@ -128,9 +129,11 @@ module _ (states symbols : ℕ) (low : ℤ) (cells : ℕ) where
     by_states Halt other is_one is_other = absurd (runs_a is_one)
     by_states (State q) Halt is_one is_other = absurd (runs_b is_other)
     by_states (State q) (State r) is_one is_other =
-        let code_a : code a ≡ (q * cells + offset low a.head) * symbols ^ cells + digits symbols a.tape low cells =
+        let code_a : code a
+        ≡ (q * cells + offset low a.head) * symbols ^ cells + digits symbols a.tape low cells =
         ap (λ s. code_of s a.head a.tape) is_one in
-        let code_b : code b ≡ (r * cells + offset low b.head) * symbols ^ cells + digits symbols b.tape low cells =
+        let code_b : code b
+        ≡ (r * cells + offset low b.head) * symbols ^ cells + digits symbols b.tape low cells =
         ap (λ s. code_of s b.head b.tape) is_other in
         let read_a = digits-below symbols a.tape low cells held_a.symbols_named in
         let read_b = digits-below symbols b.tape low cells held_b.symbols_named in

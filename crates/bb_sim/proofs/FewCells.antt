@@ -77,7 +77,8 @@ module _ (table : Table) (machine : IsMachine table) (n cells : ℕ) (low : ℤ)
   }
 
   -- the entry that applies names states and symbols of the machine
-  named_here : (b : Configuration) → Held b → (entry : Entry) → entry_at table b.state (cell b.tape b.head) ≡ entry
+  named_here : (b : Configuration) → Held b → (entry : Entry)
+      → entry_at table b.state (cell b.tape b.head) ≡ entry
       → IsEntryOf (length table) (symbols_of table) entry
   unfolding Held
   named_here b held entry here = by_state b.state refl where
@@ -103,24 +104,31 @@ module _ (table : Table) (machine : IsMachine table) (n cells : ℕ) (low : ℤ)
         state = named.1;
         symbols_named = symbols_stay b.tape b.head write (symbols_of table) named.0 held.symbols_named;
         blank_outside = λ p out.
-            cell-with_cell-other b.tape b.head write p (λ e. out (subst (λ q. IsIn low cells q) (sym e) inside))
+            cell-with_cell-other b.tape b.head write p
+            (λ e. out (subst (λ q. IsIn low cells q) (sym e) inside))
             ∙ held.blank_outside p out;
       }
 
   held_at : (i : ℕ) → i ≤ n → (c : Configuration) → conf table i ≡ Some c → Held c
-  held_at zero few c at = let first = conf-start table in let same : start ≡ c = cc in subst Held same held_at_start
+  held_at zero few c at =
+      let first = conf-start table in
+      let same : start ≡ c = cc in
+      subst Held same held_at_start
   held_at (suc i) few c at =
       let there = earlier_exists table i (suc i) (omega arith) (record { here = c; exists = at }) in
       let held = held_at i (omega (arith, few)) there.here there.exists in
-      by_entry there.here there.exists held (entry_at table there.here.state (cell there.here.tape there.here.head)) refl
+      by_entry there.here there.exists held
+      (entry_at table there.here.state (cell there.here.tape there.here.head)) refl
     where
       by_entry : (b : Configuration) → conf table i ≡ Some b → Held b → (entry : Entry)
           → entry_at table b.state (cell b.tape b.head) ≡ entry → Held c
       by_entry b before held Undefined here =
-          let last = halt_is_last table i (suc i) c (halts_here table i b before here) at in absurd (omega (arith, last))
+          let last = halt_is_last table i (suc i) c (halts_here table i b before here) at in
+          absurd (omega (arith, last))
       by_entry b before held (Go write dir next) here =
           let after : conf table (suc i) ≡ Some (led b write dir next) =
-          subst (λ k. conf table k ≡ Some (led b write dir next)) (add-one i) (conf-next table i b before write dir next here) in
+          subst (λ k. conf table k ≡ Some (led b write dir next)) (add-one i)
+          (conf-next table i b before write dir next here) in
           let same : led b write dir next ≡ c = cc (after, at) in
           subst Held same (held_next i (omega (arith, few)) b before held write dir next here)
 
@@ -153,7 +161,8 @@ module _ (table : Table) (machine : IsMachine table) (n cells : ℕ) (low : ℤ)
     unfolding Held number
     number-below i few =
         let at = known i few in
-        rw at.exists (code-below (length table) (symbols_of table) low cells at.here at.held at.runs at.inside)
+        rw at.exists
+        (code-below (length table) (symbols_of table) low cells at.here at.held at.runs at.inside)
 
     same_by_number : (i j : ℕ) → i ≤ n → j ≤ n → number (conf table i) ≡ number (conf table j)
         → conf table i ≡ conf table j
@@ -163,8 +172,8 @@ module _ (table : Table) (machine : IsMachine table) (n cells : ℕ) (low : ℤ)
         let other = known j few_j in
         let codes = sym (ap number one.exists) ∙ e ∙ ap number other.exists in
         one.exists
-        ∙ ap Some (same_by_code (length table) (symbols_of table) low cells one.here other.here one.held other.held
-        one.runs other.runs one.inside other.inside codes)
+        ∙ ap Some (same_by_code (length table) (symbols_of table) low cells one.here other.here one.held
+        other.held one.runs other.runs one.inside other.inside codes)
         ∙ sym other.exists
 
 -- the heads up to step n, but not in Z, are in as many cells from the least one on as the span has at most
@@ -192,8 +201,8 @@ few_cells_repeat table cells machine last narrow =
     (number-below table machine n cells low in_window last) in
     let order = pair.in_order in
     let few = pair.few in
-    let same = same_by_number table machine n cells low in_window last pair.first pair.second (omega (arith, order, few))
-    few pair.same in
+    let same = same_by_number table machine n cells low in_window last pair.first pair.second
+    (omega (arith, order, few)) few pair.same in
     let there = earlier_exists table pair.second n few (record { here = last.here; exists = last.exists }) in
     record {
       first = pair.first;
@@ -206,8 +215,9 @@ few_cells_repeat table cells machine last narrow =
     }
 
 -- so has one that goes on longer
-pub few_cells_repeat_before : (table : Table) (cells n : ℕ) → IsMachine table → configurations_in table cells ≤ n
-    → IsRunning table n → span table n ≤ cells → RepeatsBy table (configurations_in table cells)
+pub few_cells_repeat_before : (table : Table) (cells n : ℕ) → IsMachine table
+    → configurations_in table cells ≤ n → IsRunning table n → span table n ≤ cells
+    → RepeatsBy table (configurations_in table cells)
 few_cells_repeat_before table cells n machine few last narrow =
     let grows = span_grows table (configurations_in table cells) n few in
     few_cells_repeat table cells machine (running_before table (configurations_in table cells) n few last)

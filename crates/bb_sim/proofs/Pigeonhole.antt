@@ -1,6 +1,6 @@
 -- Of more numbers below n than n, two are the same.
-use Rattle.std.proofs.Common.{◌≡◌, ℕ, zero, suc, ◌+◌, ◌<◌, ◌≤◌, ◌⊎◌, inl, inr, Bool, true, false, List, [], ◌∷◌}
-use Rattle.std.proofs.Common.{◌||◌, length, refl, sym, subst, arith}
+use Rattle.std.proofs.Common.{◌≡◌, ℕ, zero, suc, ◌+◌, ◌<◌, ◌≤◌, ◌⊎◌, inl, inr, Bool, true, false, List}
+use Rattle.std.proofs.Common.{[], ◌∷◌, ◌||◌, length, refl, sym, subst, arith}
 use Rattle.std.proofs.Math.Dec.{eqb}
 use Rattle.std.proofs.lemmas.Bool.{eqb-true}
 use Rattle.std.proofs.lemmas.Bool.Decides.{eqb_tells}
@@ -106,7 +106,8 @@ pub twins : (f : ℕ → ℕ) (n : ℕ) → ((i : ℕ) → i ≤ n → f i < n) 
 twins f n below = elim (twins_or_distinct f n) [
   | inl pair ↦ pair
   | inr distinct ↦
-      let few = length-le_from_distinct_below (values f n) n distinct (λ q found. small q (taken_by_list f n q found)) in
+      let few = length-le_from_distinct_below (values f n) n distinct
+      (λ q found. small q (taken_by_list f n q found)) in
       let many = length-values f n in
       absurd (omega (arith, few, many))
 ] where

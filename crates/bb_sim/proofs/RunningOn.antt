@@ -57,8 +57,8 @@ pub record RunsOn (table : Table) (bounds : Bounds) : Type 0 where
   pub running : IsRunning table bounds.steps
   pub inside : Inside table bounds bounds.steps
 
-pub runs_on : (table : Table) (bounds : Bounds) → HaltsNowhere table bounds → span table bounds.steps ≤ bounds.cells
-    → RunsOn table bounds
+pub runs_on : (table : Table) (bounds : Bounds) → HaltsNowhere table bounds
+    → span table bounds.steps ≤ bounds.cells → RunsOn table bounds
 runs_on table bounds nowhere narrow = by_conf (conf table bounds.steps) refl where
   by_conf : (at : Option Configuration) → conf table bounds.steps ≡ at → RunsOn table bounds
   by_conf None is =
@@ -82,7 +82,8 @@ runs_on table bounds nowhere narrow = by_conf (conf table bounds.steps) refl whe
           here = c;
           exists = is;
           runs = λ halted. nowhere bounds.steps (record {
-            halts = halts_here table bounds.steps c is (ap (λ s. entry_at table s (cell c.tape c.head)) halted);
+            halts = halts_here table bounds.steps c is
+                (ap (λ s. entry_at table s (cell c.tape c.head)) halted);
             inside = inside;
           });
         };

@@ -103,8 +103,8 @@ returns-in-None-clause-earlier g c = λ lower earlier within is.
 pub returns-in-Halt-clause-few_cells : goal.returns-in-Halt-clause-few_cells
 returns-in-Halt-clause-few_cells g c =
     let outcome = rw c.in-Halt.is at c.in_ok-steps.ensures.outcome in
-    few_cells_are_decided c.args.machine.now c.args.limits.now c.args.plan (Halt _ _) c.states-read.ensures.machine
-    outcome
+    few_cells_are_decided c.args.machine.now c.args.limits.now c.args.plan (Halt _ _)
+    c.states-read.ensures.machine outcome
 
 pub returns-in-Some-clause-few_cells : goal.returns-in-Some-clause-few_cells
 returns-in-Some-clause-few_cells g c =
