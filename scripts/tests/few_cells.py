@@ -7,7 +7,7 @@ A machine of q states and k symbols has q * S * k^S configurations in S cells. W
 no machine may be undecided for want of steps. Held against the program are all machines of two states and two
 symbols in 4 cells, and random ones of more states or symbols; each is run here, by the definitions of a run,
 a halt, a span and a cycle alone, and the program's line must be the one that follows. What is said of each
-list is the greatest second step of its cycles. It takes about a minute. The last line is `N passed, M failed`;
+list is the greatest second step of its cycles. It takes some seconds. The last line is `N passed, M failed`;
 the status is 1 where any failed.
 """
 
@@ -103,37 +103,38 @@ def decided(program, options, machines):
 
 
 def held(program, tally, name, machines, steps, cells, most):
-    """Holds the program against what is worked out for each machine of a list."""
-    options = ["--cells=%d" % cells, "--depth=%d" % (cells // 2)] + (["--steps=%d" % steps] if steps else [])
-    steps = steps or 1_000_000
+    """Holds the program against what is worked out for each machine of a list; gives the greatest second
+    step of a cycle, with its machine."""
+    options = ["--steps=%d" % steps, "--cells=%d" % cells, "--depth=%d" % (cells // 2)]
     alone = decided(program, options + ["--no-translated", "--no-backward"], machines)
     whole = decided(program, options, machines)
     tally.hold("%s: a line for each machine" % name, len(alone) == len(whole) == len(machines))
-    latest, which = 0, ""
+    latest = (0, "")
     for machine, by_cyclers, by_all in zip(machines, alone, whole):
         expected = worked(machine, steps, cells)
-        tally.hold("%s: %s, not %s" % (machine, expected, by_cyclers), by_cyclers == expected)
-        stays = by_all == expected if not expected.startswith("undecided") else by_all != "undecided steps"
-        tally.hold("%s: %s by all deciders" % (machine, by_all), stays)
-        tally.hold("%s is decided by steps" % machine, expected != "undecided steps")
         kind, *numbers = expected.split(" ")
+        tally.hold("%s: %s, not %s" % (machine, expected, by_cyclers), by_cyclers == expected)
+        stays = by_all != "undecided steps" if kind == "undecided" else by_all == expected
+        tally.hold("%s: %s by all deciders" % (machine, by_all), stays)
+        tally.hold("%s is not undecided by steps" % machine, expected != "undecided steps")
         if kind == "halt":
             tally.hold("%s halts early" % machine, int(numbers[0]) <= most)
         if kind == "cycler":
             tally.hold("%s comes again early" % machine, int(numbers[1]) <= 3 * most)
-            if int(numbers[1]) > latest:
-                latest, which = int(numbers[1]), machine
-    tally.hold("%s: some machine comes again" % name, latest > 0)
-    print("%s: 3 * C is %d, the greatest second step %d (%s)" % (name, 3 * most, latest, which))
+            if int(numbers[1]) > latest[0]:
+                latest = (int(numbers[1]), machine)
+    tally.hold("%s: some machine comes again" % name, latest[0] > 0)
+    return latest
 
 
 def lists(count, seed):
-    """The lists: states, symbols, cells, the steps if they aren't the default ones, the machines."""
+    """The lists: states, symbols, cells, steps, and the machines. The last is at the default steps."""
     source = random.Random(seed)
-    yield 2, 2, 4, None, list(texts(2, 2))
+    yield 2, 2, 4, 3 * configurations(2, 2, 4), list(texts(2, 2))
     for states, symbols, cells in ((3, 2, 6), (4, 2, 6), (2, 3, 4)):
-        yield states, symbols, cells, None, list(random_texts(states, symbols, count, source))
-    yield 5, 2, 12, "default", list(random_texts(5, 2, count // 10, source))
+        steps = 3 * configurations(states, symbols, cells)
+        yield states, symbols, cells, steps, list(random_texts(states, symbols, count, source))
+    yield 5, 2, 12, 1_000_000, list(random_texts(5, 2, count // 10, source))
 
 
 def main():
@@ -148,7 +149,8 @@ def main():
     for states, symbols, cells, steps, machines in lists(asked.machines, asked.seed):
         most = configurations(states, symbols, cells)
         name = "%d machines of %d states and %d symbols in %d cells" % (len(machines), states, symbols, cells)
-        held(asked.program, tally, name, machines, None if steps else 3 * most, cells, most)
+        latest = held(asked.program, tally, name, machines, steps, cells, most)
+        print("%s: 3 * C is %d, the greatest second step %d (%s)" % (name, 3 * most, *latest))
     return tally.end()
 
 
