@@ -35,4 +35,5 @@ pub mod KeptCourses
 pub mod AnswerRules
 pub mod ClaimChecks
 pub mod Extents
+pub mod FewCells
 pub mod Facts

@@ -9,6 +9,7 @@ pub mod WalkMeter
 pub mod Walk
 pub mod Steps
 pub mod Laws
+pub mod FewCells
 pub mod Claim
 pub mod Answer
 pub mod ClaimMeter

@@ -1,5 +1,6 @@
 //! Laws of verdict lines, of runs that repeat and of what could come before a halt, as contracts: a call of
 //! each does nothing.
+ghost use Rattle.bb_cert.specs.FewCells.{HaltsInFewCellsAreEarly, LongRunsInFewCellsNeverHalt};
 ghost use Rattle.bb_cert.specs.Laws.{
   AgreeingRecordsGoOn,
   AgreeingRecordsNeverHalt,
@@ -42,6 +43,12 @@ pub fn repeats_go_on()
     ensures go_on { RepeatsGoOn }
     ensures never { RepeatsNeverHalt }
     ensures distance { RepeatsKeepDistance }
+{}
+
+/// A machine that halts in few cells halts early; one that goes on longer in them never halts.
+pub fn few_cells_settle()
+    ensures early { HaltsInFewCellsAreEarly }
+    ensures never { LongRunsInFewCellsNeverHalt }
 {}
 
 /// From two records that agree on, the run goes alike, so the machine never halts.

@@ -1,6 +1,7 @@
 pub mod Claims
 pub mod Cycles
 pub mod Facts
+pub mod FewCells
 pub mod Halting
 pub mod Partners
 pub mod Sure

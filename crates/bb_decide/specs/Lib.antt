@@ -1,6 +1,7 @@
 pub mod Backward
 pub mod Bench
 pub mod Cycle
+pub mod FewCells
 pub mod Follow
 pub mod Laws
 pub mod Partner

@@ -6,6 +6,7 @@ ghost use Rattle.bb_cert.specs.Claim.{Claim};
 ghost use Rattle.bb_cert.specs.Verdict.{HasNumbers};
 ghost use Rattle.bb_decide.specs.Bench.{HasCells};
 ghost use Rattle.bb_decide.specs.Cycle.{CountsSearch, FindsCycle};
+ghost use Rattle.bb_decide.specs.FewCells.{FindsInFewCells};
 ghost use Rattle.bb_decide.specs.Sure.{FindsRepeats};
 
 use crate::bench::Bench;
@@ -29,6 +30,7 @@ pub fn cyclers<T: Tape>(
     requires room { meter.old.steps ≤ 2 * limits.now.steps }
     ensures found { IfOk result (FindsCycle machine.now limits.now) }
     ensures sure { IfOk result (FindsRepeats machine.now limits.now) }
+    ensures few_cells { IfOk result (FindsInFewCells machine.now limits.now) }
     ensures counted { IfOk result (CountsSearch machine.now limits.now meter.old meter.new) }
     ensures within { IsWithinRun limits.now meter.old meter.new }
     ensures never { IfOk result (λ found. IfSome found (λ verdict. Never machine.now)) }
@@ -38,6 +40,7 @@ pub fn cyclers<T: Tape>(
     ensures path { bench.new.path ≡ bench.old.path }
     ensures memory { OnErr result (IsTrue T.GROWS) }
 {
+    let _states = machine.states();
     let limits = *limits;
     let mut spent = *meter;
     let found = run(machine, &limits, bench, &mut spent);

@@ -12,6 +12,7 @@ ghost use Rattle.bb_cert.specs.Verdict.{HasNumbers};
 ghost use Rattle.bb_cert.specs.WalkMeter.{IsWithinWalk};
 ghost use Rattle.bb_decide.specs.Backward.{without_nodes};
 ghost use Rattle.bb_decide.specs.Bench.{HasCells};
+ghost use Rattle.bb_decide.specs.FewCells.{DecidesFewCells};
 ghost use Rattle.bb_decide.specs.Search.{
   BackwardCounts,
   BackwardFinds,
@@ -54,6 +55,7 @@ pub fn decide<T: Tape>(
     requires path { depth_of bench.old.path ≡ limits.now.depth }
     ensures verdict { IfOk result (IsVerdict machine.now limits.now plan) }
     ensures earlier { IfOk result (KeepsEarlier machine.now limits.now plan) }
+    ensures few_cells { IfOk result (DecidesFewCells machine.now limits.now plan) }
     ensures numbers { IfOk result HasNumbers }
     ensures claim { IfOk result (Claim machine.now) }
     ensures never { IfOk result (λ verdict. SaysNever verdict → Never machine.now) }

@@ -1,4 +1,5 @@
 //! Laws of verdicts, as contracts: a call of each does nothing.
+ghost use Rattle.bb_decide.specs.FewCells.{FewCellsAreDecided};
 ghost use Rattle.bb_decide.specs.Laws.{AgreeingRecordsAreFound, LargerLimitsKeep, RepeatsAreFound};
 ghost use Rattle.bb_decide.specs.Laws.{VerdictIsUnique, VerdictsAreConfirmed, VerdictsHold, WorkIsBounded};
 ghost use Rattle.bb_decide.specs.Laws.{WorkIsUnique};
@@ -29,4 +30,10 @@ pub fn patterns_are_found()
 /// Larger limits lose nothing: a halt or a pair stays, and a tree stays or becomes a pair.
 pub fn larger_limits_keep()
     ensures { LargerLimitsKeep }
+{}
+
+/// With the cyclers on, and three times as many steps as there are configurations in the cells, no machine is
+/// undecided for want of steps.
+pub fn few_cells_are_decided()
+    ensures { FewCellsAreDecided }
 {}

@@ -1,5 +1,6 @@
 pub mod CheckReplies
 pub mod CheckSummaries
+pub mod FewCells
 pub mod Replies
 pub mod Peaks
 pub mod Summaries

@@ -5,6 +5,7 @@ pub mod CheckReply
 pub mod CheckSeen
 pub mod CheckSummary
 pub mod Ends
+pub mod FewCells
 pub mod KeptBytes
 pub mod Laws
 pub mod Reply

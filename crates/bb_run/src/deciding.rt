@@ -5,6 +5,7 @@ ghost use Rattle.bb_decide.specs.Bench.{HasCells};
 ghost use Rattle.bb_lines.specs.Watched.{is_marked, watched_inner};
 ghost use Rattle.bb_run.specs.BorneOut.{VerdictsAreBorneOut};
 ghost use Rattle.bb_run.specs.Ends.{DecideEnds};
+ghost use Rattle.bb_run.specs.FewCells.{FewCellsAreReplied};
 
 use crate::summary::Summary;
 use arrayvec::ArrayVec;
@@ -136,6 +137,7 @@ pub fn run_decide<R: Read, W: Write, T: Tape>(
 
     // What stands behind each verdict that is written.
     ensures borne_out { VerdictsAreBorneOut limits.now plan }
+    ensures few_cells { FewCellsAreReplied limits.now plan }
 
     // When each fault comes.
     ensures memory { result ≡ Err Fault.Memory → IsTrue T.GROWS }

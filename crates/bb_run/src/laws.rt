@@ -1,4 +1,5 @@
 //! Laws of replies, as contracts: a call of each does nothing.
+ghost use Rattle.bb_run.specs.FewCells.{AllFewCellsAreReplied};
 ghost use Rattle.bb_run.specs.Laws.{
   AllVerdictsAreBorneOut,
   CheckReplyIsUnique,
@@ -21,4 +22,10 @@ pub fn check_reply_is_unique()
 /// deciding makes no more than three times the limit of steps.
 pub fn verdicts_are_borne_out()
     ensures { AllVerdictsAreBorneOut }
+{}
+
+/// With the cyclers on, a machine with few configurations in the cells is never replied to as undecided for
+/// want of steps.
+pub fn few_cells_are_replied()
+    ensures { AllFewCellsAreReplied }
 {}

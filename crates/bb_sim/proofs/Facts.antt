@@ -9,3 +9,5 @@ pub use Rattle.bb_sim.proofs.Positions.{least-next, greatest-next, least_last, g
 pub use Rattle.bb_sim.proofs.Positions.{cells_between-is}
 pub use Rattle.bb_sim.proofs.Steps.{led, conf-start, conf-next, counted_head-at}
 pub use Rattle.bb_sim.proofs.Counting.{counts_start, counts_next, counts_stopped, Stopped, stopped}
+pub use Rattle.bb_sim.proofs.FewCells.{few_cells_repeat_before, running_below}
+pub use Rattle.bb_sim.proofs.RunningOn.{RunsOn, runs_on}

@@ -6,4 +6,8 @@ pub mod Outcomes
 pub mod LawLemmas
 pub mod RunLaws
 pub mod Counting
+pub mod Pigeonhole
+pub mod Encoding
+pub mod FewCells
+pub mod RunningOn
 pub mod Facts

@@ -101,7 +101,7 @@ count_is_within table bounds n old new inside counts =
 
 -- ---- the ends of a span are reached
 
-le_or_gt : (a b : ℤ) → (a ≤ℤ b) ⊎ (b <ℤ a)
+pub le_or_gt : (a b : ℤ) → (a ≤ℤ b) ⊎ (b <ℤ a)
 le_or_gt (pos a) (pos b) =
     elim (cases_lt b a) [ inl h ↦ inr (omega (arith, ints, h)) | inr h ↦ inl (omega (arith, ints, h)) ]
 le_or_gt (pos a) (negsuc b) = inr (omega (arith, ints))

@@ -39,7 +39,7 @@ at_start table strip limit runner machine is state head steps low high =
           ∙ cell-blank p in omega (arith, machine.two_symbols, none);
     }
 
-counted_running : (state : Next) (head : ℤ) → state ≢ Halt → counted_position state head ≡ head
+pub counted_running : (state : Next) (head : ℤ) → state ≢ Halt → counted_position state head ≡ head
 counted_running (State q) head running = refl
 counted_running Halt head running = absurd (running refl)
 

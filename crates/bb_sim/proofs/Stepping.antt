@@ -32,13 +32,13 @@ use Rattle.bb_sim.proofs.Steps.{counted_head-at, halts_here, conf-next, goes_on,
 use Rattle.bb_sim.proofs.Standing.{near_head, inside_fits, inside_stays}
 use Rattle.bb_sim.proofs.Outcomes.{inside_here, next_inside}
 
-no_entry_in_Z : (table : Table) (state : Next) (symbol : ℕ) (write : ℕ) (dir : Dir) (next : Next)
+pub no_entry_in_Z : (table : Table) (state : Next) (symbol : ℕ) (write : ℕ) (dir : Dir) (next : Next)
     → Go write dir next ≡ entry_at table state symbol → state ≢ Halt
 no_entry_in_Z table (State q) symbol write dir next here = λ e. cc
 no_entry_in_Z table Halt symbol write dir next here = cc
 
 -- a written cell has a symbol of the machine, and the others keep theirs
-symbols_stay : (content : Content) (head : ℤ) (write symbols : ℕ) → write < symbols
+pub symbols_stay : (content : Content) (head : ℤ) (write symbols : ℕ) → write < symbols
     → ((p : ℤ) → cell content p < symbols) → (p : ℤ) → cell (with_cell content head write) p < symbols
 symbols_stay content head write symbols small all p =
     let least : (x : ℕ) → x ≡ write → x < symbols = λ x e. omega (arith, e, small) in

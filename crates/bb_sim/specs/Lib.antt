@@ -7,3 +7,4 @@ pub mod Runner
 pub mod Widening
 pub mod Outcome
 pub mod Laws
+pub mod FewCells

@@ -1,4 +1,5 @@
 //! Laws of runs, with and without bounds, as contracts: a call of each does nothing.
+ghost use Rattle.bb_sim.specs.FewCells.{FewCellsRepeat};
 ghost use Rattle.bb_sim.specs.Laws.{CountIsWithin, EarlierExists, EarlierIsInside, HaltIsLast};
 ghost use Rattle.bb_sim.specs.Laws.{HaltIsUnique, LastStepExists, LastStepIsUnique};
 ghost use Rattle.bb_sim.specs.Laws.{OutcomeIsUnique, ScoreIsUnique, SpanGrows, SpanIsReached};
@@ -56,4 +57,9 @@ pub fn span_is_reached()
 /// What is counted up to a step inside is within the run's bounds.
 pub fn count_is_within()
     ensures { CountIsWithin }
+{}
+
+/// A run that stays in few cells meets one of its few configurations twice, or halts.
+pub fn few_cells_repeat()
+    ensures { FewCellsRepeat }
 {}

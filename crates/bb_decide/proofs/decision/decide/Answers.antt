@@ -2,6 +2,7 @@ use Rattle.bb_cert.proofs.Facts.{claims_never_halt}
 use Rattle.std.proofs.Common.{refl, rules}
 use Rattle.bb_cert.specs.declared.verdict.Verdict.TheVariants.{Halt}
 use Rattle.bb_decide.proofs.Claims.{verdicts_are_confirmed}
+use Rattle.bb_decide.proofs.FewCells.{few_cells_are_decided}
 use Rattle.bb_decide.proofs.Sure.{larger_limits_keep}
 use Rattle.bb_decide.proofs.Works.{verdict_of_deciders, work_of_halt, work_of_deciders}
 use Rattle.bb_decide.proofs.decision.decide.Goals as goal
@@ -98,3 +99,19 @@ pub returns-in-None-clause-earlier : goal.returns-in-None-clause-earlier
 returns-in-None-clause-earlier g c = λ lower earlier within is.
     larger_limits_keep c.args.machine.now lower c.args.limits.now c.args.plan earlier _
     c.states-read.ensures.machine within is (returns-in-None-clause-verdict g c)
+
+pub returns-in-Halt-clause-few_cells : goal.returns-in-Halt-clause-few_cells
+returns-in-Halt-clause-few_cells g c =
+    let outcome = rw c.in-Halt.is at c.in_ok-steps.ensures.outcome in
+    few_cells_are_decided c.args.machine.now c.args.limits.now c.args.plan (Halt _ _)
+    c.states-read.ensures.machine outcome
+
+pub returns-in-Some-clause-few_cells : goal.returns-in-Some-clause-few_cells
+returns-in-Some-clause-few_cells g c =
+    few_cells_are_decided c.args.machine.now c.args.limits.now c.args.plan _ c.states-read.ensures.machine
+    (returns-in-Some-clause-verdict g c)
+
+pub returns-in-None-clause-few_cells : goal.returns-in-None-clause-few_cells
+returns-in-None-clause-few_cells g c =
+    few_cells_are_decided c.args.machine.now c.args.limits.now c.args.plan _ c.states-read.ensures.machine
+    (returns-in-None-clause-verdict g c)

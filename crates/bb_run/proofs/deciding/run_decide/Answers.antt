@@ -1,6 +1,7 @@
 use Rattle.std.proofs.Common.{true, ap}
 use Rattle.bb_sim.specs.declared.meter.Meter.{Meter}
 use Rattle.bb_run.specs.declared.summary.Summary.{Summary}
+use Rattle.bb_run.proofs.FewCells.{few_cells_are_replied}
 use Rattle.bb_run.proofs.Replies.{verdicts_are_borne_out}
 use Rattle.bb_run.proofs.Summaries.{summed}
 use Rattle.bb_run.proofs.deciding.run_decide.Goals as goal
@@ -17,3 +18,9 @@ returns-clause-borne_out g c = verdicts_are_borne_out c.args.limits.now c.args.p
 
 pub returns-in_err-run-clause-borne_out : goal.returns-in_err-run-clause-borne_out
 returns-in_err-run-clause-borne_out g c = verdicts_are_borne_out c.args.limits.now c.args.plan
+
+pub returns-clause-few_cells : goal.returns-clause-few_cells
+returns-clause-few_cells g c = few_cells_are_replied c.args.limits.now c.args.plan
+
+pub returns-in_err-run-clause-few_cells : goal.returns-in_err-run-clause-few_cells
+returns-in_err-run-clause-few_cells g c = few_cells_are_replied c.args.limits.now c.args.plan

@@ -1,0 +1,180 @@
+-- Why what stays in few cells is always decided.
+use Rattle.std.proofs.Common.{◌≡◌, ℕ, zero, suc, ◌+◌, ◌*◌, ◌-◌, ◌^◌, ◌<◌, ◌≤◌, ◌⊎◌, inl, inr, Option}
+use Rattle.std.proofs.Common.{Some, None, refl, subst, arith}
+use Rattle.std.proofs.Math.Pow.{pow_mono}
+use Rattle.std.proofs.lemmas.Bool.{cases_lt}
+use Rattle.bb_machine.specs.Limits.{Bounds}
+use Rattle.bb_machine.specs.Machine.{Table, IsMachine}
+use Rattle.bb_sim.specs.FewCells.{configurations_in, IsRunning}
+use Rattle.bb_sim.specs.Span.{Inside}
+use Rattle.bb_sim.proofs.Facts.{earlier_is_inside, few_cells_repeat_before, runs_on}
+use Rattle.bb_cert.specs.declared.verdict.Verdict.{Verdict}
+use Rattle.bb_cert.specs.declared.verdict.Verdict.TheVariants.{Halt, Cycler, Translated, Backward, Undecided}
+use Rattle.bb_cert.specs.declared.verdict.Why.TheVariants.{Steps, Cells}
+use Rattle.bb_cert.specs.Repeat.{Same}
+use Rattle.bb_decide.specs.Cycle.{FindsCycle}
+use Rattle.bb_decide.specs.FewCells.{HasStepsForCells, FindsInFewCells, FewCellsAreDecided}
+use Rattle.bb_decide.specs.Sure.{IsFoundBy, IsLeastPower}
+use Rattle.bb_decide.proofs.Sure.{finds_repeats, repeats_are_found}
+
+-- the least power of two that is not below a number, which isn't 0; it is below the double
+record IsPowerFor (m power : ℕ) : Type 0 where
+  exponent : ℕ
+  is_power : power ≡ 2 ^ exponent
+  not_below : m ≤ power
+  least : (other : ℕ) → m ≤ 2 ^ other → power ≤ 2 ^ other
+  small : power < 2 * m
+
+power_for_one : IsPowerFor 1 1
+power_for_one = record {
+  exponent = 0;
+  is_power = refl;
+  not_below = omega arith;
+  least = λ other few. few;
+  small = omega arith;
+}
+
+-- a power below a number is the power for the number before it, and its double is the next one
+power_doubled : (m power : ℕ) → IsPowerFor m power → power < m + 1 → IsPowerFor (m + 1) (2 * power)
+power_doubled m power is less = record {
+  exponent = suc is.exponent;
+  is_power = let e = is.is_power in omega (arith, e);
+  not_below = let few = is.not_below in let small = is.small in omega (arith, few, small);
+  least = λ other few. elim (cases_lt is.exponent other) [
+    | inl lower ↦
+        let grows : 2 ^ suc is.exponent ≤ 2 ^ other = pow_mono (omega (arith, lower)) in
+        let e = is.is_power in
+        omega (arith, grows, e)
+    | inr higher ↦
+        let falls : 2 ^ other ≤ 2 ^ is.exponent = pow_mono higher in
+        let e = is.is_power in
+        absurd (omega (arith, falls, e, few, less))
+  ];
+  small = omega (arith, less);
+}
+
+power_kept : (m power : ℕ) → IsPowerFor m power → m + 1 ≤ power → IsPowerFor (m + 1) power
+power_kept m power is enough = record {
+  exponent = is.exponent;
+  is_power = is.is_power;
+  not_below = enough;
+  least = λ other few. is.least other (omega (arith, few));
+  small = let small = is.small in omega (arith, small);
+}
+
+power_for : (k : ℕ) → (power : ℕ) × IsPowerFor (k + 1) power
+power_for zero = (1, power_for_one)
+power_for (suc k) = let before = power_for k in elim (cases_lt before.0 ((k + 1) + 1)) [
+  | inl less ↦ (2 * before.0, at_next (2 * before.0) (power_doubled (k + 1) before.0 before.1 less))
+  | inr enough ↦ (before.0, at_next before.0 (power_kept (k + 1) before.0 before.1 enough))
+] where
+  at_next : (power : ℕ) → IsPowerFor ((k + 1) + 1) power → IsPowerFor (suc k + 1) power
+  at_next power is = let e : (k + 1) + 1 ≡ suc k + 1 = omega arith in subst (λ m. IsPowerFor m power) e is
+
+-- the least power of two that is not below either of two numbers, the second of which isn't 0, is below the
+-- double of any number that is not below either of them
+record HasLeastPower (first second most : ℕ) : Type 0 where
+  power : ℕ
+  is : IsLeastPower power first second
+  small : power < 2 * most
+
+power_of_greater : (first second most greater : ℕ) → 0 < greater → first ≤ greater → second ≤ greater
+    → (greater ≡ first) ⊎ (greater ≡ second) → greater ≤ most → HasLeastPower first second most
+power_of_greater first second most greater some one other is few =
+    let least = power_for (greater - 1) in
+    let e : (greater - 1) + 1 ≡ greater = omega (arith, some) in
+    let at = subst (λ m. IsPowerFor m least.0) e least.1 in
+    let above = at.not_below in
+    let small = at.small in
+    record {
+      power = least.0;
+      is = record {
+        exponent = at.exponent;
+        is_power = at.is_power;
+        not_below_first = omega (arith, above, one);
+        not_below_second = omega (arith, above, other);
+        least = λ p at_first at_second. at.least p (elim is [
+          | inl same ↦ omega (arith, same, at_first)
+          | inr same ↦ omega (arith, same, at_second)
+        ]);
+      };
+      small = omega (arith, small, few);
+    }
+
+has_least_power : (first second most : ℕ) → 0 < second → first ≤ most → second ≤ most
+    → HasLeastPower first second most
+has_least_power first second most some one other = elim (cases_lt first second) [
+  | inl less ↦
+      power_of_greater first second most second some (omega (arith, less)) (omega arith) (inr refl) other
+  | inr more ↦
+      power_of_greater first second most first (omega (arith, some, more)) (omega arith) more (inl refl) one
+]
+
+-- a pair that the limits reach: where a configuration comes again, and the least power of two for it
+record IsReached (table : Table) (bounds : Bounds) : Type 0 where
+  at : ℕ
+  period : ℕ
+  power : ℕ
+  positive : 0 < period
+  same : Same table at (at + period)
+  is_power : IsLeastPower power at period
+  inside : Inside table bounds (power + period)
+  early : power + period ≤ 3 * configurations_in table bounds.cells
+
+module _ (table : Table) (bounds : Bounds) (machine : IsMachine table) (many : HasStepsForCells table bounds)
+    (inside : Inside table bounds bounds.steps) (running : IsRunning table bounds.steps) where
+  reached : IsReached table bounds
+  reached =
+      let few = configurations_in table bounds.cells in
+      let pair = few_cells_repeat_before table bounds.cells bounds.steps machine (omega (arith, many)) running
+      inside.within_cells in
+      let order = pair.in_order in
+      let early = pair.not_later in
+      let period = pair.second - pair.first in
+      let on : pair.second ≡ pair.first + period = omega (arith, order) in
+      let power = has_least_power pair.first period few (omega (arith, order)) (omega (arith, order, early))
+      (omega (arith, early)) in
+      let small = power.small in
+      record {
+        at = pair.first;
+        period = period;
+        power = power.power;
+        positive = omega (arith, order);
+        same = subst (λ n. Same table pair.first n) on
+            (record { here = pair.here; at_first = pair.at_first; at_second = pair.at_second });
+        is_power = power.is;
+        inside = earlier_is_inside table bounds (power.power + period) bounds.steps
+            (omega (arith, small, early, many)) inside;
+        early = omega (arith, small, early);
+      }
+
+-- what is found by a step is found by a later one
+found_later : (one other : ℕ) (found : Option Verdict) → one ≤ other → IsFoundBy one found
+    → IsFoundBy other found
+found_later one other None few is = is
+found_later one other (Some (Cycler first second)) few is = omega (arith, few, is)
+found_later one other (Some (Translated side first second extent)) few is = omega (arith, few, is)
+found_later one other (Some (Halt steps score)) few is = is
+found_later one other (Some (Backward levels nodes)) few is = is
+found_later one other (Some (Undecided why)) few is = is
+
+pub finds_in_few_cells : (table : Table) (bounds : Bounds) → IsMachine table → (found : Option Verdict)
+    → FindsCycle table bounds found → FindsInFewCells table bounds found
+finds_in_few_cells table bounds machine found finds many inside running =
+    let reach = reached table bounds machine many inside running in
+    let sure = finds_repeats table bounds found finds reach.at reach.period reach.power reach.positive
+    reach.same reach.is_power reach.inside in
+    found_later (reach.power + reach.period) (3 * configurations_in table bounds.cells) found reach.early sure
+
+pub few_cells_are_decided : FewCellsAreDecided
+few_cells_are_decided table bounds plan (Halt steps score) machine is on many = λ e. cc
+few_cells_are_decided table bounds plan (Cycler first second) machine is on many = λ e. cc
+few_cells_are_decided table bounds plan (Translated side first second extent) machine is on many = λ e. cc
+few_cells_are_decided table bounds plan (Backward levels nodes) machine is on many = λ e. cc
+few_cells_are_decided table bounds plan (Undecided Cells) machine is on many = λ e. cc
+few_cells_are_decided table bounds plan (Undecided Steps) machine is on many =
+    let goes = runs_on table bounds is.0.0 is.0.1 in
+    let reach = reached table bounds machine many goes.inside goes.running in
+    absurd (is.1.0 on reach.power (reach.power + reach.period)
+    (repeats_are_found table bounds reach.at reach.period reach.power reach.positive reach.same reach.is_power
+    reach.inside))
