@@ -57,7 +57,7 @@ impl Responder for Shout<'_> {
 
     ghost saw_by_kept = { Prim.search rules };
 
-    fn keep(&self) -> usize {
+    fn bytes_kept(&self) -> usize {
         5
     }
 

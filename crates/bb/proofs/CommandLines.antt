@@ -47,7 +47,9 @@ both_parts (Some p) name rows a b =
 name_by_rows : (m : ArgMatches) → subcommand_name_of m ≡ option_map (λ p. p.0) (subcommand_rows_of m)
 name_by_rows m = go (out-ArgMatches m).subcommand
   where
-    go : {Z : Type 0} (o : Option (Box SubCommand Z)) → option_map (λ b. (out-SubCommand (box_value b)).name.now) o ≡ option_map (λ p. p.0) (subcommand_rows o)
+    go : {Z : Type 0} (o : Option (Box SubCommand Z))
+        → option_map (λ b. (out-SubCommand (box_value b)).name.now) o ≡ option_map (λ p. p.0)
+        (subcommand_rows o)
     go None = refl
     go (Some b) = refl
 
@@ -70,7 +72,8 @@ one_name : (a b d : Shape) (q : Text × List Text) (p : Text × List Row)
     → option_map (λ s. rows_at s q.1) (find (λ s. answers_to q.0 (label_of s)) (a ∷ b ∷ d ∷ [])) ≡ Some p
     → (p.0 ≡ a.name) ⊎ ((p.0 ≡ b.name) ⊎ (p.0 ≡ d.name))
 one_name a b d q p e =
-    go (answers_to q.0 (label_of a)) refl (answers_to q.0 (label_of b)) refl (answers_to q.0 (label_of d)) refl
+    go (answers_to q.0 (label_of a)) refl (answers_to q.0 (label_of b)) refl (answers_to q.0 (label_of d))
+    refl
   where
     go : (x : Bool) → answers_to q.0 (label_of a) ≡ x → (y : Bool) → answers_to q.0 (label_of b) ≡ y
         → (z : Bool) → answers_to q.0 (label_of d) ≡ z → (p.0 ≡ a.name) ⊎ ((p.0 ≡ b.name) ⊎ (p.0 ≡ d.name))
@@ -140,9 +143,11 @@ pub stops_by_kind : (app : App) → app ≡ command_line → (words : List Text)
     → (is_simple_and_free app ≡ true → HasKind (fault_of app words) error)
     → (stop : Stop) → IsKindStop (kind_of error) stop → IsStopOf words stop
 stops_by_kind app is words error kinds stop kind =
-    by_kind stop kind (subst (λ (a : App). HasKind (fault_of a words) error) is (kinds (ap is_simple_and_free is ∙ simple_and_free)))
+    by_kind stop kind (subst (λ (a : App). HasKind (fault_of a words) error) is
+    (kinds (ap is_simple_and_free is ∙ simple_and_free)))
   where
-    by_kind : (stop : Stop) → IsKindStop (kind_of error) stop → HasKind (fault_of command_line words) error → IsStopOf words stop
+    by_kind : (stop : Stop) → IsKindStop (kind_of error) stop → HasKind (fault_of command_line words) error
+        → IsStopOf words stop
     by_kind (Help text) (inl is_help) (inl memory) = cc
     by_kind (Help text) (inr is_version) (inl memory) = cc
     by_kind (Help text) (inl is_help) (inr among) =

@@ -11,8 +11,10 @@ pub record IsLocal (command : Command) (shape : Shape) : Type 0 where
   pub is_shape : shape_of command ≡ shape
   pub no_globals : (fields_of command).has_globals ≡ false
 
-pub with_arg : (old new : Command) (arg : Arg) (shape : Shape) (rule : Rule) → AddsArg old arg new → IsLocal old shape
-    → rule_of arg ≡ rule → arg.global ≡ false → IsLocal new (record shape { rules = shape.rules ++ rule ∷ [] })
+pub with_arg : (old new : Command) (arg : Arg) (shape : Shape) (rule : Rule) → AddsArg old arg new
+    → IsLocal old shape
+    → rule_of arg ≡ rule → arg.global ≡ false
+    → IsLocal new (record shape { rules = shape.rules ++ rule ∷ [] })
 with_arg old new arg shape rule adds local is_rule not_global = record {
   is_shape =
       ap (λ (a : App). a.top) (adds.shape not_global)

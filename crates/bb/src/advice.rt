@@ -17,12 +17,24 @@ impl Display for Advice {
         let numbers = &self.numbers;
         match self.fault {
             LimitFault::Steps if numbers.is_of_trace => {
-                write!(f, "--upto {} is not within 0 to 1000000000000", numbers.steps)
+                write!(
+                    f,
+                    "--upto {} is not within 0 to 1000000000000",
+                    numbers.steps
+                )
             }
-            LimitFault::Steps => write!(f, "--steps {} is not within 0 to 1000000000000", numbers.steps),
+            LimitFault::Steps => write!(
+                f,
+                "--steps {} is not within 0 to 1000000000000",
+                numbers.steps
+            ),
             LimitFault::Cells => write!(f, "--cells {} is not within 1 to 67108864", numbers.cells),
             LimitFault::Depth => write!(f, "--depth {} is not within 0 to 10000", numbers.depth),
-            LimitFault::Nodes => write!(f, "--nodes {} is not within 0 to 1000000000000", numbers.nodes),
+            LimitFault::Nodes => write!(
+                f,
+                "--nodes {} is not within 0 to 1000000000000",
+                numbers.nodes
+            ),
             LimitFault::DepthCells => write!(
                 f,
                 "--depth {} needs --cells {} or more; with --cells {} a depth up to {}",

@@ -106,7 +106,9 @@ impl<'a> Progress<'a> {
         if let Ok(mut counts) = self.counts.try_borrow_mut() {
             counts.lines = counts.lines.saturating_add(count_of(b'\n', bytes));
             for tally in &mut counts.tallies {
-                tally.count = tally.count.saturating_add(count_of(tally.kind.letter, bytes));
+                tally.count = tally
+                    .count
+                    .saturating_add(count_of(tally.kind.letter, bytes));
             }
             self.show(&mut counts);
         }
@@ -172,5 +174,8 @@ fn count_of(byte: u8, bytes: &[u8]) -> u64 {
 
 /// How often a byte stands in a block. The count is a byte too, so that many bytes are compared at a time.
 fn count_in(byte: u8, block: &[u8]) -> u8 {
-    block.iter().fold(0u8, |count, other| count.wrapping_add(u8::from(*other == byte)))
+    block.iter().fold(
+        0u8,
+        |count, other| count.wrapping_add(u8::from(*other == byte)),
+    )
 }

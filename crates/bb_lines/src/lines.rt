@@ -213,14 +213,14 @@ impl<'a, R: Read, W: Write, A: Responder> Engine<'a, R, W, A> {
         ensures reader { self.new.reader.now ≡ self.old.reader.now }
         ensures references { KeepsReferences self.old self.new }
     {
-        let most = self.responder.keep();
+        let most = self.responder.bytes_kept();
         let mut rest = piece;
         while let Some(at) = memchr(b'\n', rest) {
-            keep(&mut self.kept, &rest[..at], most);
+            keep_prefix(&mut self.kept, &rest[..at], most);
             self.answer_kept()?;
             rest = &rest[at + 1..];
         }
-        keep(&mut self.kept, rest, most);
+        keep_prefix(&mut self.kept, rest, most);
         Ok(())
     }
 
@@ -269,7 +269,7 @@ impl<'a, R: Read, W: Write, A: Responder> Engine<'a, R, W, A> {
 }
 
 // Keeps the first `most` bytes of what is kept and a piece that comes after it.
-fn keep(kept: &mut ArrayVec<u8, MOST_KEPT>, piece: &[u8], most: usize)
+fn keep_prefix(kept: &mut ArrayVec<u8, MOST_KEPT>, piece: &[u8], most: usize)
     requires kept { array_vec_len kept.old ≤ most }
     requires most { most ≤ MOST_KEPT }
     ensures { kept.new.items ≡ take most (kept.old.items ++ piece.now) }

@@ -39,7 +39,7 @@ pub trait Responder {
     ghost KEEP: { ℕ };
 
     /// How many bytes of a line are kept for it.
-    fn keep(&self) -> usize
+    fn bytes_kept(&self) -> usize
         ensures { result ≡ KEEP };
 
     /// Puts the reply to `line` into `text`, which is empty, and tells how much work it was.

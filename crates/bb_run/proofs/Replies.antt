@@ -13,10 +13,12 @@ use Rattle.bb_run.specs.Reply.{IsVerdictReply, IsRefusal}
 module _ (bounds : Bounds) (plan : Plan) (line a b : List ℕ) where
   verdict_replies : IsVerdictReply bounds plan line a → IsVerdictReply bounds plan line b → a ≡ b
   verdict_replies first second =
-      let table = text_unique first.table second.table first.of.machine second.of.machine (first.of.is_text ∙ sym second.of.is_text) in
+      let table = text_unique first.table second.table first.of.machine second.of.machine (first.of.is_text
+      ∙ sym second.of.is_text) in
       let verdict = verdict_is_unique second.table bounds plan first.verdict second.verdict
       (subst (λ t. IsVerdict t bounds plan first.verdict) table first.is_verdict) second.is_verdict in
-      sym first.is_reply.2 ∙ ap (λ t. line_text t first.verdict) table ∙ ap (λ v. line_text second.table v) verdict
+      sym first.is_reply.2 ∙ ap (λ t. line_text t first.verdict) table
+      ∙ ap (λ v. line_text second.table v) verdict
       ∙ second.is_reply.2
 
   refusals : IsRefusal line a → IsRefusal line b → a ≡ b
@@ -25,9 +27,12 @@ module _ (bounds : Bounds) (plan : Plan) (line a b : List ℕ) where
       first.is_reply ∙ ap (λ c. refusal_text c) column ∙ sym second.is_reply
 
 pub reply_is_unique : ReplyIsUnique
-reply_is_unique bounds plan line a b (inl first) (inl second) = verdict_replies bounds plan line a b first second
-reply_is_unique bounds plan line a b (inl first) (inr second) = absurd (second.no_machine (first.table, first.of))
-reply_is_unique bounds plan line a b (inr first) (inl second) = absurd (first.no_machine (second.table, second.of))
+reply_is_unique bounds plan line a b (inl first) (inl second) = verdict_replies bounds plan line a b first
+    second
+reply_is_unique bounds plan line a b (inl first) (inr second) =
+    absurd (second.no_machine (first.table, first.of))
+reply_is_unique bounds plan line a b (inr first) (inl second) =
+    absurd (first.no_machine (second.table, second.of))
 reply_is_unique bounds plan line a b (inr first) (inr second) = refusals bounds plan line a b first second
 
 pub verdicts_are_borne_out : AllVerdictsAreBorneOut

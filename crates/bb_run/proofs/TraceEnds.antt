@@ -17,39 +17,54 @@ use Rattle.bb_run.specs.Trace.{step_text, step_lines, lines_text, AppendsSomeLin
 use Rattle.bb_lines.proofs.Facts.{AppendsPrefix-more}
 
 -- the lines of one step more
-pub lines-next : (table : Table) (n : ℕ) → lines_text (step_lines table n) ++ (step_text table n ++ 10 ∷ []) ≡ lines_text (step_lines table (n + 1))
+pub lines-next : (table : Table) (n : ℕ)
+    → lines_text (step_lines table n) ++ (step_text table n ++ 10 ∷ []) ≡ lines_text
+    (step_lines table (n + 1))
 lines-next table n =
     let f : List ℕ → List ℕ = λ line. line ++ 10 ∷ [] in
-    let more : step_lines table (n + 1) ≡ step_lines table n ++ step_text table n ∷ [] = map-range_with_len_more (step_text table) 0 n n (omega arith) in
+    let more : step_lines table (n + 1) ≡ step_lines table n ++ step_text table n ∷ [] =
+    map-range_with_len_more (step_text table) 0 n n (omega arith) in
     let one : f (step_text table n) ++ [] ≡ f (step_text table n) = append-nil _ in
-    sym (ap lines_text more ∙ flat_map-append f (step_lines table n) (step_text table n ∷ []) ∙ ap (λ b. lines_text (step_lines table n) ++ b) one)
+    sym (ap lines_text more ∙ flat_map-append f (step_lines table n) (step_text table n ∷ [])
+    ∙ ap (λ b. lines_text (step_lines table n) ++ b) one)
 
 -- the lines of fewer steps are the first ones
-lines_split : (table : Table) (n m : ℕ) → n ≤ m → lines_text (step_lines table n) ++ lines_text (drop n (step_lines table m)) ≡ lines_text (step_lines table m)
+lines_split : (table : Table) (n m : ℕ) → n ≤ m
+    → lines_text (step_lines table n) ++ lines_text (drop n (step_lines table m)) ≡ lines_text
+    (step_lines table m)
 lines_split table n m h =
     let f : List ℕ → List ℕ = λ line. line ++ 10 ∷ [] in
     let all : List (List ℕ) = step_lines table m in
     let first : take n all ≡ step_lines table n = take-map-range_with_len (step_text table) 0 m n h in
-    ap (λ l. lines_text l ++ lines_text (drop n all)) (sym first) ∙ sym (flat_map-append f (take n all) (drop n all)) ∙ ap lines_text (take-append-drop n all)
+    ap (λ l. lines_text l ++ lines_text (drop n all)) (sym first)
+    ∙ sym (flat_map-append f (take n all) (drop n all)) ∙ ap lines_text (take-append-drop n all)
 
-pub AppendsPrefix-lines : (old new : Option (List ℕ)) (table : Table) (n m : ℕ) → n ≤ m → AppendsPrefix old new (lines_text (step_lines table n)) → AppendsPrefix old new (lines_text (step_lines table m))
-AppendsPrefix-lines old new table n m h f = subst (λ bytes. AppendsPrefix old new bytes) (lines_split table n m h) (AppendsPrefix-more old new _ _ f)
+pub AppendsPrefix-lines : (old new : Option (List ℕ)) (table : Table) (n m : ℕ) → n ≤ m
+    → AppendsPrefix old new (lines_text (step_lines table n))
+    → AppendsPrefix old new (lines_text (step_lines table m))
+AppendsPrefix-lines old new table n m h f = subst (λ bytes. AppendsPrefix old new bytes)
+    (lines_split table n m h) (AppendsPrefix-more old new _ _ f)
 
 -- the lines of fewer steps are some of them
-pub AppendsSomeLines-of : (old new : Option (List ℕ)) (table : Table) (n m : ℕ) → n < m → Appends old new (lines_text (step_lines table n)) → AppendsSomeLines old new (step_lines table m)
+pub AppendsSomeLines-of : (old new : Option (List ℕ)) (table : Table) (n m : ℕ) → n < m
+    → Appends old new (lines_text (step_lines table n)) → AppendsSomeLines old new (step_lines table m)
 AppendsSomeLines-of old new table n m h appends = record {
   count = n;
   not_all = let e = length-map-range_with_len (step_text table) 0 m in omega (arith, e, h);
-  appends = let first : take n (step_lines table m) ≡ step_lines table n = take-map-range_with_len (step_text table) 0 m n (omega (arith, h)) in
+  appends = let first : take n (step_lines table m) ≡ step_lines table n =
+      take-map-range_with_len (step_text table) 0 m n (omega (arith, h)) in
       subst (λ l. Appends old new (lines_text l)) (sym first) appends;
 }
 
-module _ (table : Table) (bounds : Bounds) (n last : ℕ) (inside : Inside table bounds n) (is_last : IsLastInside table bounds last) where
+module _ (table : Table) (bounds : Bounds) (n last : ℕ) (inside : Inside table bounds n)
+    (is_last : IsLastInside table bounds last) where
   pub not_past : n ≤ last
   not_past = is_last.greatest n inside
 
   -- where step n is the last one inside, its lines are all
-  all_lines : (old new : Option (List ℕ)) (waiting : List ℕ) → IsLastInside table bounds n → Sends old new [] waiting (lines_text (step_lines table (n + 1))) → Sends old new [] waiting (lines_text (step_lines table (last + 1)))
+  all_lines : (old new : Option (List ℕ)) (waiting : List ℕ) → IsLastInside table bounds n
+      → Sends old new [] waiting (lines_text (step_lines table (n + 1)))
+      → Sends old new [] waiting (lines_text (step_lines table (last + 1)))
   all_lines old new waiting end added =
       let below = end.greatest last is_last.inside in
       let same : n ≡ last = omega (arith, below, not_past) in
@@ -57,32 +72,55 @@ module _ (table : Table) (bounds : Bounds) (n last : ℕ) (inside : Inside table
 
   -- what a run that ended at step n has added
   abbrev pub Ended : Option (List ℕ) → Option (List ℕ) → List ℕ → Bool → Type 0
-  Ended old new waiting whole = Sends old new [] waiting (lines_text (step_lines table (last + 1))) × (IsTrue whole ↔ (span table bounds.steps ≤ bounds.cells))
+  Ended old new waiting whole = Sends old new [] waiting (lines_text (step_lines table (last + 1)))
+      × (IsTrue whole ↔ (span table bounds.steps ≤ bounds.cells))
 
-  pub ended_by_halt : (old new : Option (List ℕ)) (waiting : List ℕ) → HaltsAt table n → Sends old new [] waiting (lines_text (step_lines table (n + 1))) → Ended old new waiting true
-  ended_by_halt old new waiting halts added = (all_lines old new waiting (halts_last table bounds n inside halts) added, (λ _. fits_at_halt table bounds n inside halts, λ _. refl))
+  pub ended_by_halt : (old new : Option (List ℕ)) (waiting : List ℕ) → HaltsAt table n
+      → Sends old new [] waiting (lines_text (step_lines table (n + 1))) → Ended old new waiting true
+  ended_by_halt old new waiting halts added = (
+    all_lines old new waiting (halts_last table bounds n inside halts) added,
+    (λ _. fits_at_halt table bounds n inside halts, λ _. refl),
+  )
 
-  pub ended_by_steps : (old new : Option (List ℕ)) (waiting : List ℕ) → n ≡ bounds.steps → Sends old new [] waiting (lines_text (step_lines table (n + 1))) → Ended old new waiting true
-  ended_by_steps old new waiting e added = (all_lines old new waiting (steps_last table bounds n inside e) added, (λ _. rw (← e) inside.within_cells, λ _. refl))
+  pub ended_by_steps : (old new : Option (List ℕ)) (waiting : List ℕ) → n ≡ bounds.steps
+      → Sends old new [] waiting (lines_text (step_lines table (n + 1))) → Ended old new waiting true
+  ended_by_steps old new waiting e added = (
+    all_lines old new waiting (steps_last table bounds n inside e) added,
+    (λ _. rw (← e) inside.within_cells, λ _. refl),
+  )
 
-  pub ended_by_cells : (old new : Option (List ℕ)) (waiting : List ℕ) → n ≢ bounds.steps → bounds.cells < span table (n + 1) → Sends old new [] waiting (lines_text (step_lines table (n + 1))) → Ended old new waiting false
+  pub ended_by_cells : (old new : Option (List ℕ)) (waiting : List ℕ) → n ≢ bounds.steps
+      → bounds.cells < span table (n + 1) → Sends old new [] waiting (lines_text (step_lines table (n + 1)))
+      → Ended old new waiting false
   ended_by_cells old new waiting apart wide added =
-      let over = wide_at_end table bounds n inside wide apart in
-      (all_lines old new waiting (cells_last table bounds n inside wide) added, (λ wrong. cc, λ fits. absurd (omega (arith, over, fits))))
+      let over = wide_at_end table bounds n inside wide apart in (
+        all_lines old new waiting (cells_last table bounds n inside wide) added,
+        (λ wrong. cc, λ fits. absurd (omega (arith, over, fits))),
+      )
 
   -- a step that was wanted and not made leaves lines to come
-  pub ended_early : (old new : Option (List ℕ)) → (HaltsAt table n → ⊥) → n ≢ bounds.steps → span table (n + 1) ≤ bounds.cells → Appends old new (lines_text (step_lines table (n + 1))) → AppendsSomeLines old new (step_lines table (last + 1))
+  pub ended_early : (old new : Option (List ℕ)) → (HaltsAt table n → ⊥) → n ≢ bounds.steps
+      → span table (n + 1) ≤ bounds.cells → Appends old new (lines_text (step_lines table (n + 1)))
+      → AppendsSomeLines old new (step_lines table (last + 1))
   ended_early old new goes apart fits appends =
       let more = is_last.greatest (n + 1) (next_inside table bounds n inside goes apart fits) in
       AppendsSomeLines-of old new table (n + 1) (last + 1) (omega (arith, more)) appends
 
   -- a beginning of the lines up to step n is one of the trace
-  pub ended_by_write : (old new : Option (List ℕ)) → AppendsPrefix old new (lines_text (step_lines table (n + 1))) → AppendsPrefix old new (lines_text (step_lines table (last + 1)))
+  pub ended_by_write : (old new : Option (List ℕ))
+      → AppendsPrefix old new (lines_text (step_lines table (n + 1)))
+      → AppendsPrefix old new (lines_text (step_lines table (last + 1)))
   ended_by_write old new f = AppendsPrefix-lines old new table (n + 1) (last + 1) (omega (arith, not_past)) f
 
 -- the line of step n, after the lines before it
-pub Sends-next : (old new : Option (List ℕ)) (waiting : List ℕ) (table : Table) (n : ℕ) → Sends old new [] waiting (lines_text (step_lines table n) ++ (step_text table n ++ 10 ∷ [])) → Sends old new [] waiting (lines_text (step_lines table (n + 1)))
-Sends-next old new waiting table n added = subst (λ bytes. Sends old new [] waiting bytes) (lines-next table n) added
+pub Sends-next : (old new : Option (List ℕ)) (waiting : List ℕ) (table : Table) (n : ℕ)
+    → Sends old new [] waiting (lines_text (step_lines table n) ++ (step_text table n ++ 10 ∷ []))
+    → Sends old new [] waiting (lines_text (step_lines table (n + 1)))
+Sends-next old new waiting table n added = subst (λ bytes. Sends old new [] waiting bytes)
+    (lines-next table n) added
 
-pub AppendsPrefix-next : (old new : Option (List ℕ)) (table : Table) (n : ℕ) → AppendsPrefix old new (lines_text (step_lines table n) ++ (step_text table n ++ 10 ∷ [])) → AppendsPrefix old new (lines_text (step_lines table (n + 1)))
-AppendsPrefix-next old new table n front = subst (λ bytes. AppendsPrefix old new bytes) (lines-next table n) front
+pub AppendsPrefix-next : (old new : Option (List ℕ)) (table : Table) (n : ℕ)
+    → AppendsPrefix old new (lines_text (step_lines table n) ++ (step_text table n ++ 10 ∷ []))
+    → AppendsPrefix old new (lines_text (step_lines table (n + 1)))
+AppendsPrefix-next old new table n front = subst (λ bytes. AppendsPrefix old new bytes) (lines-next table n)
+    front

@@ -20,7 +20,8 @@ pub cells-next : (tape : Content) (low : ℤ) (i : ℕ)
 cells-next tape low i = map-range_with_len_more (λ j. 48 + cell tape (low +ℤ pos j)) 0 i i (omega arith)
 
 -- a cell's digit is sent
-pub Sends-cell : (old mid new : Option (List ℕ)) (waiting between after : List ℕ) (tape : Content) (low : ℤ) (i digit : ℕ)
+pub Sends-cell : (old mid new : Option (List ℕ)) (waiting between after : List ℕ) (tape : Content) (low : ℤ)
+    (i digit : ℕ)
     → digit ≡ 48 + cell tape (low +ℤ pos i) → Sends old mid waiting between (cells_text tape low i)
     → Sends mid new between after (digit ∷ []) → Sends old new waiting after (cells_text tape low (i + 1))
 Sends-cell old mid new waiting between after tape low i digit is before sent =
@@ -30,11 +31,14 @@ Sends-cell old mid new waiting between after tape low i digit is before sent =
     subst (λ bytes. Sends old new waiting after bytes) e joined
 
 -- a prefix up to one of the cells
-pub AppendsPrefix-cells : (old new : Option (List ℕ)) (past : List ℕ) (tape : Content) (low : ℤ) (i n : ℕ) → i ≤ n
-    → AppendsPrefix old new (past ++ cells_text tape low i) → AppendsPrefix old new (past ++ cells_text tape low n)
+pub AppendsPrefix-cells : (old new : Option (List ℕ)) (past : List ℕ) (tape : Content) (low : ℤ) (i n : ℕ)
+    → i ≤ n
+    → AppendsPrefix old new (past ++ cells_text tape low i)
+    → AppendsPrefix old new (past ++ cells_text tape low n)
 AppendsPrefix-cells old new past tape low i n h f =
     let cells : List ℕ = cells_text tape low n in
-    let t : take i cells ≡ cells_text tape low i = take-map-range_with_len (λ j. 48 + cell tape (low +ℤ pos j)) 0 n i h in
+    let t : take i cells ≡ cells_text tape low i =
+    take-map-range_with_len (λ j. 48 + cell tape (low +ℤ pos j)) 0 n i h in
     let w : cells_text tape low i ++ drop i cells ≡ cells =
     ap (λ b. b ++ drop i cells) (sym t) ∙ take-append-drop i cells in
     let e : (past ++ cells_text tape low i) ++ drop i cells ≡ past ++ cells =
@@ -48,10 +52,12 @@ pub record IsJoined (line head cells : List ℕ) : Type 0 where
 same_cells : (tape : Content) (low high least greatest : ℤ) → low ≡ least → high ≡ greatest
     → cells_text tape least (cells_between least greatest) ≡ cells_text tape low (cells_between low high)
 same_cells tape low high least greatest l h =
-    ap (λ x. cells_text tape x (cells_between x greatest)) (sym l) ∙ ap (λ x. cells_text tape low (cells_between low x)) (sym h)
+    ap (λ x. cells_text tape x (cells_between x greatest)) (sym l)
+    ∙ ap (λ x. cells_text tape low (cells_between low x)) (sym h)
 
 -- the line of the step at which a runner stands, by the runner and its tape
-pub step_text-is : (table : Table) (runner : Runner) (strip : Strip) (head : List ℕ) → Stands table runner strip
+pub step_text-is : (table : Table) (runner : Runner) (strip : Strip) (head : List ℕ)
+    → Stands table runner strip
     → head ≡ head_text (steps_of runner) (state_of runner) (position_of runner)
     → IsJoined (step_text table (steps_of runner)) head
     (cells_text strip.content (low_of runner) (cells_between (low_of runner) (high_of runner)))
@@ -59,14 +65,18 @@ step_text-is table runner strip head stands is_head = record {
   is = ap (text_at table (steps_of runner)) stands.at
       ∙ ap (λ c. head_text (steps_of runner) (state_of runner) (position_of runner) ++ c)
       (same_cells strip.content _ _ _ _ stands.low stands.high)
-      ∙ ap (λ h. h ++ cells_text strip.content (low_of runner) (cells_between (low_of runner) (high_of runner))) (sym is_head);
+      ∙ ap (λ h. h ++ cells_text strip.content (low_of runner)
+      (cells_between (low_of runner) (high_of runner))) (sym is_head);
 }
 
-module _ (old first second : Option (List ℕ)) (waiting one head cells line : List ℕ) (parts : IsJoined line head cells) (sent_head : Sends old first waiting one head) where
+module _ (old first second : Option (List ℕ)) (waiting one head cells line : List ℕ)
+    (parts : IsJoined line head cells) (sent_head : Sends old first waiting one head) where
   -- after the head a prefix of the cells
-  pub AppendsPrefix-line : AppendsPrefix first second (one ++ cells) → AppendsPrefix old second (waiting ++ (line ++ 10 ∷ []))
+  pub AppendsPrefix-line : AppendsPrefix first second (one ++ cells)
+      → AppendsPrefix old second (waiting ++ (line ++ 10 ∷ []))
   AppendsPrefix-line begun =
-      let more = AppendsPrefix-more old second _ (10 ∷ []) (AppendsPrefix-further old first second waiting one head cells sent_head begun) in
+      let more = AppendsPrefix-more old second _ (10 ∷ [])
+      (AppendsPrefix-further old first second waiting one head cells sent_head begun) in
       let e : (waiting ++ (head ++ cells)) ++ 10 ∷ [] ≡ waiting ++ (line ++ 10 ∷ []) =
       append_assoc waiting (head ++ cells) (10 ∷ []) ∙ ap (λ b. waiting ++ (b ++ 10 ∷ [])) (sym parts.is) in
       subst (λ bytes. AppendsPrefix old second bytes) e more
@@ -85,5 +95,6 @@ module _ (old first second : Option (List ℕ)) (waiting one head cells line : L
     pub AppendsPrefix-end : (third : Option (List ℕ)) → AppendsPrefix second third two
         → AppendsPrefix old third (waiting ++ (line ++ 10 ∷ []))
     AppendsPrefix-end third begun =
-        let more = AppendsPrefix-more old third _ (10 ∷ []) (AppendsPrefix-after old second third waiting two line both begun) in
+        let more = AppendsPrefix-more old third _ (10 ∷ [])
+        (AppendsPrefix-after old second third waiting two line both begun) in
         subst (λ bytes. AppendsPrefix old third bytes) (append_assoc waiting line (10 ∷ [])) more

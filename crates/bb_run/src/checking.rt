@@ -75,7 +75,7 @@ impl<T: Tape> Responder for Checker<'_, T> {
     ghost saw_by_kept = { λ a line b saw.
         (saw.0, check_saw_of_kept a.limits line a.summary b.summary b.last_effort saw.1) };
 
-    fn keep(&self) -> usize {
+    fn bytes_kept(&self) -> usize {
         LINE_BUFFER + 1
     }
 

@@ -79,7 +79,7 @@ impl<T: Tape> Responder for Decider<'_, T> {
     ghost saw_by_kept = { λ a line b saw.
         (saw.0, saw.1, saw_of_kept a.limits a.plan line a.summary b.summary b.last_effort saw.2) };
 
-    fn keep(&self) -> usize {
+    fn bytes_kept(&self) -> usize {
         LINE + 1
     }
 

@@ -8,9 +8,11 @@ use Rattle.bb.proofs.CommandShapes.{IsLocal, with_arg}
 use Rattle.bb.proofs.command.decide_command.Goals as goal
 
 -- what the last argument leaves
-has_shape : (c : goal.After-arg-8) (command : Command) → AddsArg c.in_ok-arg-7.field-0 c.positional-file.result command → IsLocal command decide_shape
+has_shape : (c : goal.After-arg-8) (command : Command)
+    → AddsArg c.in_ok-arg-7.field-0 c.positional-file.result command → IsLocal command decide_shape
 has_shape c command adds =
-    let s0 : IsLocal c.command.result (new_shape (codes "decide")) = record { is_shape = c.command.ensures.shape; no_globals = c.command.ensures.local } in
+    let s0 : IsLocal c.command.result (new_shape (codes "decide")) =
+    record { is_shape = c.command.ensures.shape; no_globals = c.command.ensures.local } in
     let s1 = with_arg _ _ _ _ _ c.in_ok-arg.ensures s0 c.steps.ensures.rule c.steps.ensures.local in
     let s2 = with_arg _ _ _ _ _ c.in_ok-arg-2.ensures s1 c.cells.ensures.rule c.cells.ensures.local in
     let s3 = with_arg _ _ _ _ _ c.in_ok-arg-3.ensures s2 c.depth.ensures.rule c.depth.ensures.local in
@@ -21,7 +23,9 @@ has_shape c command adds =
     with_arg _ _ _ _ _ adds s7 c.positional-file.ensures.rule c.positional-file.ensures.local
 
 pub returns-clause-shape : goal.returns-clause-shape
-returns-clause-shape c = IfOk-weaker c.arg-8.result _ _ (λ command adds. (has_shape c command adds).is_shape) c.arg-8.ensures
+returns-clause-shape c = IfOk-weaker c.arg-8.result _ _ (λ command adds. (has_shape c command adds).is_shape)
+    c.arg-8.ensures
 
 pub returns-clause-local : goal.returns-clause-local
-returns-clause-local c = IfOk-weaker c.arg-8.result _ _ (λ command adds. (has_shape c command adds).no_globals) c.arg-8.ensures
+returns-clause-local c = IfOk-weaker c.arg-8.result _ _
+    (λ command adds. (has_shape c command adds).no_globals) c.arg-8.ensures

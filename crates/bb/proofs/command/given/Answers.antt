@@ -7,5 +7,6 @@ use Rattle.bb.proofs.command.given.Goals as goal
 pub returns : goal.returns
 returns c =
     c.unwrap_or.ensures
-    ∙ given_by_rows ParsesBool (λ t x g. g) (found_of c.args.matches.now) c.args.name.now c.get_one.result c.get_one.ensures.none
+    ∙ given_by_rows ParsesBool (λ t x g. g) (found_of c.args.matches.now) c.args.name.now c.get_one.result
+    c.get_one.ensures.none
     c.get_one.ensures.value

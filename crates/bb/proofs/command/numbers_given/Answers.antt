@@ -8,7 +8,8 @@ use Rattle.bb.proofs.command.numbers_given.Goals as goal
 pub returns-then-eq : goal.returns-then-eq
 returns-then-eq c =
     let is_trace : c.in-Some.name.now ≡ codes "trace" = search rules in
-    let given = gives _ c.in_ok-program.ensures _ c.in-Ok.matches c.in-Ok.ensures.kinds c.in-Ok.ensures.matches _ _
+    let given = gives _ c.in_ok-program.ensures _ c.in-Ok.matches c.in-Ok.ensures.kinds
+    c.in-Ok.ensures.matches _ _
     (sym c.in-Some.ensures.name ∙ ap Some is_trace) (sym c.in-Some.ensures.rows) in
     record { given = inr (inr (_, given, c.trace_numbers.ensures.given, c.trace_numbers.ensures.trace)) }
 
@@ -17,11 +18,22 @@ returns c =
     let words = map (λ (word : Bor (List ℕ)). word.now) c.args.words.now in
     let rows = rows_of (found_of c.in-Some.values.now) in
     let not_trace : c.in-Some.name.now ≡ codes "trace" → ⊥ = search rules in
-    let named = gives _ c.in_ok-program.ensures words c.in-Ok.matches c.in-Ok.ensures.kinds c.in-Ok.ensures.matches
+    let named = gives _ c.in_ok-program.ensures words c.in-Ok.matches c.in-Ok.ensures.kinds
+    c.in-Ok.ensures.matches
     c.in-Some.name.now rows (sym c.in-Some.ensures.name) (sym c.in-Some.ensures.rows) in
-    record { given = elim (names_a_list words _ rows named not_trace) [
-      | inl is ↦ inl (_, subst (λ (name : Text). Gives words name rows) is named, c.list_numbers.ensures.given,
-        c.list_numbers.ensures.trace)
-      | inr is ↦ inr (inl (_, subst (λ (name : Text). Gives words name rows) is named,
-        c.list_numbers.ensures.given, c.list_numbers.ensures.trace))
-    ] }
+    record {
+      given = elim (names_a_list words _ rows named not_trace) [
+        | inl is ↦ inl (
+          _,
+          subst (λ (name : Text). Gives words name rows) is named,
+          c.list_numbers.ensures.given,
+          c.list_numbers.ensures.trace,
+        )
+        | inr is ↦ inr (inl (
+          _,
+          subst (λ (name : Text). Gives words name rows) is named,
+          c.list_numbers.ensures.given,
+          c.list_numbers.ensures.trace,
+        ))
+      ];
+    }

@@ -13,5 +13,6 @@ returns-in_err-add-clause-err g c =
 pub loop-i-preserved : goal.loop-i-preserved
 loop-i-preserved g c = record {
   unmarked = search rules;
-  sent = Sends-cell _ _ _ _ _ _ _ _ c.loop-i.i _ c.digit.ensures c.loop-i.invariant.sent c.in_ok-add.ensures.sent;
+  sent = Sends-cell _ _ _ _ _ _ _ _ c.loop-i.i _ c.digit.ensures c.loop-i.invariant.sent
+      c.in_ok-add.ensures.sent;
 }

@@ -33,7 +33,8 @@ loop-runner-preserved g c =
 pub returns-in_err-add_step-clause-ends : goal.returns-in_err-add_step-clause-ends
 returns-in_err-add_step-clause-ends g c = λ last is_last.
     let here = c.loop-runner.invariant in
-    let inside = inside_here _ _ _ _ here.stands (g.met.T.Tape.sound c.loop-runner.tape) here.limit here.steps in
+    let inside = inside_here _ _ _ _ here.stands (g.met.T.Tape.sound c.loop-runner.tape) here.limit
+    here.steps in
     let p = err_from_is_err_and c.from_residual.result c.from_residual.ensures.1 in
     let begun = AppendsPrefix-next _ _ c.args.machine.now (steps_of c.loop-runner.runner)
     (AppendsPrefix-further _ _ _ _ _ _ _ here.sent c.in_err-add_step.ensures.err) in
@@ -42,7 +43,8 @@ returns-in_err-add_step-clause-ends g c = λ last is_last.
 pub returns-in-Ok-Halted-clause-ends : goal.returns-in-Ok-Halted-clause-ends
 returns-in-Ok-Halted-clause-ends g c = λ last is_last.
     let here = c.loop-runner.invariant in
-    let inside = inside_here _ _ _ _ here.stands (g.met.T.Tape.sound c.loop-runner.tape) here.limit here.steps in
+    let inside = inside_here _ _ _ _ here.stands (g.met.T.Tape.sound c.loop-runner.tape) here.limit
+    here.steps in
     let sent = Sends-next _ _ _ c.args.machine.now (steps_of c.loop-runner.runner)
     (Sends-trans _ _ _ _ _ _ _ _ here.sent c.in_ok-add_step.ensures.sent) in
     let answers = rw c.in-Ok-Halted.field-0-is at c.in-Ok-Halted.ensures.answers in
@@ -51,7 +53,8 @@ returns-in-Ok-Halted-clause-ends g c = λ last is_last.
 pub returns-in-Ok-NoSteps-clause-ends : goal.returns-in-Ok-NoSteps-clause-ends
 returns-in-Ok-NoSteps-clause-ends g c = λ last is_last.
     let here = c.loop-runner.invariant in
-    let inside = inside_here _ _ _ _ here.stands (g.met.T.Tape.sound c.loop-runner.tape) here.limit here.steps in
+    let inside = inside_here _ _ _ _ here.stands (g.met.T.Tape.sound c.loop-runner.tape) here.limit
+    here.steps in
     let sent = Sends-next _ _ _ c.args.machine.now (steps_of c.loop-runner.runner)
     (Sends-trans _ _ _ _ _ _ _ _ here.sent c.in_ok-add_step.ensures.sent) in
     let answers = rw c.in-Ok-NoSteps.field-0-is at c.in-Ok-NoSteps.ensures.answers in
@@ -60,7 +63,8 @@ returns-in-Ok-NoSteps-clause-ends g c = λ last is_last.
 pub returns-in-Ok-NoCells-clause-ends : goal.returns-in-Ok-NoCells-clause-ends
 returns-in-Ok-NoCells-clause-ends g c = λ last is_last.
     let here = c.loop-runner.invariant in
-    let inside = inside_here _ _ _ _ here.stands (g.met.T.Tape.sound c.loop-runner.tape) here.limit here.steps in
+    let inside = inside_here _ _ _ _ here.stands (g.met.T.Tape.sound c.loop-runner.tape) here.limit
+    here.steps in
     let sent = Sends-next _ _ _ c.args.machine.now (steps_of c.loop-runner.runner)
     (Sends-trans _ _ _ _ _ _ _ _ here.sent c.in_ok-add_step.ensures.sent) in
     let answers = rw c.in-Ok-NoCells.field-0-is at c.in-Ok-NoCells.ensures.answers in
@@ -69,18 +73,21 @@ returns-in-Ok-NoCells-clause-ends g c = λ last is_last.
 pub returns-in_err-write_waiting-in-Err-clause-ends : goal.returns-in_err-write_waiting-in-Err-clause-ends
 returns-in_err-write_waiting-in-Err-clause-ends g c = λ last is_last.
     let here = c.loop-runner.invariant in
-    let inside = inside_here _ _ _ _ here.stands (g.met.T.Tape.sound c.loop-runner.tape) here.limit here.steps in
+    let inside = inside_here _ _ _ _ here.stands (g.met.T.Tape.sound c.loop-runner.tape) here.limit
+    here.steps in
     let sent = Sends-next _ _ _ c.args.machine.now (steps_of c.loop-runner.runner)
     (Sends-trans _ _ _ _ _ _ _ _ here.sent c.in_ok-add_step.ensures.sent) in
     let p = err_from_is_err_and c.from_residual-in_err-write_waiting-in-Err.result
     c.from_residual-in_err-write_waiting-in-Err.ensures.1 in
     rw (p.1, p.2, c.in_err-write_waiting-in-Err.ensures.only_write)
-    (ended_by_write _ _ _ last inside is_last _ _ (AppendsPrefix-after _ _ _ _ _ _ sent c.in_err-write_waiting-in-Err.ensures.err))
+    (ended_by_write _ _ _ last inside is_last _ _
+    (AppendsPrefix-after _ _ _ _ _ _ sent c.in_err-write_waiting-in-Err.ensures.err))
 
 pub returns-in-Err-clause-ends : goal.returns-in-Err-clause-ends
 returns-in-Err-clause-ends g c = λ last is_last.
     let here = c.loop-runner.invariant in
-    let inside = inside_here _ _ _ _ here.stands (g.met.T.Tape.sound c.loop-runner.tape) here.limit here.steps in
+    let inside = inside_here _ _ _ _ here.stands (g.met.T.Tape.sound c.loop-runner.tape) here.limit
+    here.steps in
     let sent = Sends-next _ _ _ c.args.machine.now (steps_of c.loop-runner.runner)
     (Sends-trans _ _ _ _ _ _ _ _ here.sent c.in_ok-add_step.ensures.sent) in
     let wanted = c.in-Err.ensures.wanted in

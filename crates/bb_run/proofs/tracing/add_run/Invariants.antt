@@ -13,7 +13,8 @@ invariant-loop-runner g l = record {
   steps : steps_of l.runner ≤ l.limits.steps;
   meter : l.meter.steps ≡ steps_of l.runner;
   unmarked : is_marked l.writer ≡ false;
-  sent : Sends (g.W.Write.contents (watched_inner l.fn.writer)) (g.W.Write.contents (watched_inner l.writer)) []
+  sent : Sends (g.W.Write.contents (watched_inner l.fn.writer)) (g.W.Write.contents (watched_inner l.writer))
+      []
       l.waiting.items (lines_text (step_lines l.machine (steps_of l.runner)));
 }
 

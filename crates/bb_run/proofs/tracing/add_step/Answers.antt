@@ -12,7 +12,8 @@ returns-in_err-add-clause-err g c =
 
 pub returns-in_err-add_cells-clause-err : goal.returns-in_err-add_cells-clause-err
 returns-in_err-add_cells-clause-err g c =
-    let p = err_from_is_err_and c.from_residual-in_err-add_cells.result c.from_residual-in_err-add_cells.ensures.1 in
+    let p = err_from_is_err_and c.from_residual-in_err-add_cells.result
+    c.from_residual-in_err-add_cells.ensures.1 in
     let parts = step_text-is _ _ _ _ c.requires.stands (c.as_slice.ensures.value ∙ c.head_of.ensures.text) in
     rw p.1 (AppendsPrefix-line _ _ _ _ _ _ _ _ parts c.in_ok-add.ensures.sent c.in_err-add_cells.ensures.err)
 

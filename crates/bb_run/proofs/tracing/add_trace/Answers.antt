@@ -9,8 +9,10 @@ returns-in-Ok-clause-ends g c =
     let least = c.cells-accepted.ensures.accepted.some_cell in
     let some : 0 < c.args.limits.now.cells = omega (arith, least) in
     let last = c.last_step_exists.ensures c.in-Ok.machine c.args.limits.now some in
-    let of : IsTextOf c.in-Ok.machine c.args.line.now = record { machine = c.in-Ok.ensures.found.0; is_text = c.in-Ok.ensures.found.1 } in
-    added_run _ _ _ _ _ c.texts_differ.ensures c.in-Ok.machine of last.0 last.1 _ (c.add_run.ensures.ends last.0 last.1)
+    let of : IsTextOf c.in-Ok.machine c.args.line.now =
+    record { machine = c.in-Ok.ensures.found.0; is_text = c.in-Ok.ensures.found.1 } in
+    added_run _ _ _ _ _ c.texts_differ.ensures c.in-Ok.machine of last.0 last.1 _
+    (c.add_run.ensures.ends last.0 last.1)
 
 pub returns-in_err-add_refusal-in-Err-clause-ends : goal.returns-in_err-add_refusal-in-Err-clause-ends
 returns-in_err-add_refusal-in-Err-clause-ends g c =

@@ -4,7 +4,8 @@ use Rattle.bb_run.proofs.tracing.run_trace.Goals as goal
 
 pub returns-in_err-write_and_flush-clause-ends : goal.returns-in_err-write_and_flush-clause-ends
 returns-in_err-write_and_flush-clause-ends g c =
-    let p = err_from_is_err_and c.from_residual-in_err-write_and_flush.result c.from_residual-in_err-write_and_flush.ensures.1 in
+    let p = err_from_is_err_and c.from_residual-in_err-write_and_flush.result
+    c.from_residual-in_err-write_and_flush.ensures.1 in
     let ends = c.in_ok-clean.ensures.ends in (
       ends.0,
       ends.1,

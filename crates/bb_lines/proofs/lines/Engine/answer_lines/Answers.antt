@@ -11,7 +11,7 @@ use Rattle.bb_lines.proofs.Progress.{answered_none, answered_more, fault_after}
 use Rattle.bb_lines.proofs.Sends.{slice_from}
 use Rattle.bb_lines.proofs.lines.Engine.answer_lines.Given.{Over}
 use Rattle.bb_lines.proofs.lines.Engine.answer_lines.Goals as goal
-use Rattle.bb_lines.proofs.lines.Engine.answer_lines.Goals.{After-answer_kept, After-keep-2}
+use Rattle.bb_lines.proofs.lines.Engine.answer_lines.Goals.{After-answer_kept, After-keep_prefix-2}
 
 pub loop-at-init : goal.loop-at-init
 loop-at-init g c =
@@ -38,16 +38,16 @@ others g c = let found = c.in-Some.ensures in
 
 -- what is kept of the line
 is_kept : (g : Over) (c : After-answer_kept g)
-    → c.keep.new.kept.items
+    → c.keep_prefix.new.kept.items
     ≡ take g.A.Responder.KEEP
     (unfinished (c.args.self.now.kept.items ++ c.loop-at.invariant.prefix)
     ++ take c.in-Some.at c.loop-at.rest.now)
 is_kept g c =
     kept_more g.A.Responder.KEEP _ (take c.in-Some.at c.loop-at.rest.now) c.loop-at.self.kept.items
-    c.keep.new.kept.items c.loop-at.invariant.kept
-    (c.keep.ensures
+    c.keep_prefix.new.kept.items c.loop-at.invariant.kept
+    (c.keep_prefix.ensures
     ∙ ap (λ k. take k (c.loop-at.self.kept.items ++ take c.in-Some.at c.loop-at.rest.now))
-    c.keep-most.ensures)
+    c.bytes_kept-most.ensures)
 
 -- the piece, from the line on
 whole : (g : Over) (c : After-answer_kept g)
@@ -73,7 +73,7 @@ returns-in_err-answer_kept-clause-ends g c =
     ∙ append_assoc c.args.self.now.kept.items (here.prefix ++ (piece ++ 10 ∷ [])) later
     ∙ ap (λ b. c.args.self.now.kept.items ++ b) (whole g at) in
     let lines =
-    prefixes_after_line g.A.Responder.KEEP past piece c.keep.new.kept.items (others g at)
+    prefixes_after_line g.A.Responder.KEEP past piece c.keep_prefix.new.kept.items (others g at)
     (is_kept g at) later in
     let law =
     g.met.A.Responder.keeps_reply c.args.self.now.responder.now c.loop-at.self.responder.now here.keeps in
@@ -93,10 +93,10 @@ loop-at-preserved g c =
     let law =
     g.met.A.Responder.keeps_reply c.args.self.now.responder.now c.loop-at.self.responder.now here.keeps in
     let lines =
-    prefixes_line g.A.Responder.KEEP (start ++ here.prefix) piece c.keep.new.kept.items (others g at)
+    prefixes_line g.A.Responder.KEEP (start ++ here.prefix) piece c.keep_prefix.new.kept.items (others g at)
     (is_kept g at) in
     let left =
-    kept_after_line g.A.Responder.KEEP (start ++ here.prefix) piece c.keep.new.kept.items (others g at)
+    kept_after_line g.A.Responder.KEEP (start ++ here.prefix) piece c.keep_prefix.new.kept.items (others g at)
     (is_kept g at) in
     record {
       unmarked = search rules;
@@ -117,19 +117,19 @@ loop-at-preserved g c =
       answered = rw (← parts, lines) (answered_more _ _ _ _ _ _ _ _ _ _ here.answered _ law _ _ _ done.ends);
     }
 
-none_left : (g : Over) (c : After-keep-2 g) → HasNoNewline c.loop-at.rest.now
+none_left : (g : Over) (c : After-keep_prefix-2 g) → HasNoNewline c.loop-at.rest.now
 none_left g c =
     subst HasNoNewline (take-length c.loop-at.rest.now)
     (no_newline_before c.loop-at.rest.now (length c.loop-at.rest.now) (omega arith)
     (λ k l. c.in_default.ensures k (omega arith) l))
 
-kept_now : (g : Over) (c : After-keep-2 g)
-    → c.keep-2.new.kept.items ≡ take g.A.Responder.KEEP (c.loop-at.self.kept.items ++ c.loop-at.rest.now)
-kept_now g c = c.keep-2.ensures
-    ∙ ap (λ k. take k (c.loop-at.self.kept.items ++ c.loop-at.rest.now)) c.keep-most.ensures
+kept_now : (g : Over) (c : After-keep_prefix-2 g)
+    → c.keep_prefix-2.new.kept.items ≡ take g.A.Responder.KEEP (c.loop-at.self.kept.items ++ c.loop-at.rest.now)
+kept_now g c = c.keep_prefix-2.ensures
+    ∙ ap (λ k. take k (c.loop-at.self.kept.items ++ c.loop-at.rest.now)) c.bytes_kept-most.ensures
 
 -- all of the piece, after what was kept
-all : (g : Over) (c : After-keep-2 g)
+all : (g : Over) (c : After-keep_prefix-2 g)
     → (c.args.self.now.kept.items ++ c.loop-at.invariant.prefix) ++ c.loop-at.rest.now
     ≡ c.args.self.now.kept.items ++ c.args.piece.now
 all g c = append_assoc c.args.self.now.kept.items c.loop-at.invariant.prefix c.loop-at.rest.now
@@ -144,7 +144,7 @@ pub returns-clause-kept : goal.returns-clause-kept
 returns-clause-kept g c =
     rw (← all g c)
     (kept_none g.A.Responder.KEEP _ c.loop-at.rest.now _ (none_left g c)
-    (kept_more g.A.Responder.KEEP _ c.loop-at.rest.now c.loop-at.self.kept.items c.keep-2.new.kept.items
+    (kept_more g.A.Responder.KEEP _ c.loop-at.rest.now c.loop-at.self.kept.items c.keep_prefix-2.new.kept.items
     c.loop-at.invariant.kept (kept_now g c)))
 
 pub returns-clause-one_line : goal.returns-clause-one_line

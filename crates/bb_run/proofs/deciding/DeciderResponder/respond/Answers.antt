@@ -30,10 +30,20 @@ pub verdict_into-requires : goal.verdict_into-requires
 verdict_into-requires g c =
     let of = c.in-Ok.ensures.found in
     let short = text_short MAX_STATES MAX_SYMBOLS c.read_anew.new.self of.0 in
-    let long = c.lines_are_short.ensures c.read_anew.new.self c.in-Ok-decide.verdict (omega (arith, short)) c.in-Ok-decide.ensures.numbers in
-    let filled : array_vec_len c.try_extend_from_slice.new.self ≡ array_vec_len c.args.text.now + length c.args.line.now = search rules in
-    let fits : array_vec_len c.try_extend_from_slice.new.self + length (verdict_text c.in-Ok-decide.verdict) ≤ 1023 =
-    omega (arith, long, length-append (text c.read_anew.new.self) (verdict_text c.in-Ok-decide.verdict), filled, ap length of.1, ap length c.requires.empty) in
+    let long = c.lines_are_short.ensures c.read_anew.new.self c.in-Ok-decide.verdict (omega (arith, short))
+    c.in-Ok-decide.ensures.numbers in
+    let filled : array_vec_len c.try_extend_from_slice.new.self ≡ array_vec_len c.args.text.now + length
+    c.args.line.now = search rules in
+    let fits : array_vec_len c.try_extend_from_slice.new.self + length (verdict_text c.in-Ok-decide.verdict)
+    ≤ 1023 =
+    omega (
+      arith,
+      long,
+      length-append (text c.read_anew.new.self) (verdict_text c.in-Ok-decide.verdict),
+      filled,
+      ap length of.1,
+      ap length c.requires.empty,
+    ) in
     fits
 
 pub returns-clause-reply : goal.returns-clause-reply
