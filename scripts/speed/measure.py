@@ -5,13 +5,16 @@
 
 It builds the peer by `rustc -O`, makes its lists from a seed, checks that both write the same bytes
 and end with the same status, runs both in turn, and prints the least time of each and their ratio.
-A whole run counts, from the list to the verdicts. Nothing here proves anything. The last line counts the
-lists on which both wrote the same.
+A whole run counts, from the list to the verdicts. For the searches it prints the spread of the runs too.
+Before that it prints the instructions a step, as `valgrind --tool=callgrind` counts them, which other work on
+the machine doesn't change. Nothing here proves anything. The last line counts the lists on which both wrote
+the same.
 """
 
 import argparse
 import os
 import random
+import re
 import resource
 import subprocess
 import sys
@@ -28,6 +31,8 @@ HALTING_LIST = 1_000_000
 REFUSED_BYTES = 50_000_000
 TREES = 4_000
 CHECKED = 2_000
+RANDOM = 10_000
+COUNTED = (1_000_000, 2_000_000)
 
 
 def machine(draw, states):
@@ -35,6 +40,13 @@ def machine(draw, states):
     letters = "ABCDEFG"[:states]
     entries = [draw.choice("01") + draw.choice("LR") + draw.choice(letters) for _ in range(2 * states)]
     entries[draw.randrange(1, 2 * states)] = "1RZ"
+    return "_".join(entries[at] + entries[at + 1] for at in range(0, 2 * states, 2)) + "\n"
+
+
+def any_machine(draw, states):
+    """A machine of so many states, drawn uniformly from those that have every entry."""
+    letters = "ABCDEFG"[:states] + "Z"
+    entries = [draw.choice("01") + draw.choice("LR") + draw.choice(letters) for _ in range(2 * states)]
     return "_".join(entries[at] + entries[at + 1] for at in range(0, 2 * states, 2)) + "\n"
 
 
@@ -78,6 +90,37 @@ def trees(draw):
     drawn = "".join(machine(draw, 5) for _ in range(TREES))
     options = ["--no-cyclers", "--no-translated", "--steps", "0", "--cells", "2000", "--depth", "1000"]
     return [(f"backward reasoning over {TREES} machines of five states", options, drawn)]
+
+
+def random_machines(draw):
+    """The name, the options and the list of the measurement of everything at once: all deciders at the default
+    limits."""
+    drawn = "".join(any_machine(draw, 5) for _ in range(RANDOM))
+    return [(f"{RANDOM} machines of five states, all deciders, default limits", [], drawn)]
+
+
+def count(program, options, steps):
+    """The instructions that deciding the champion takes within so many steps; none without valgrind."""
+    words = ["valgrind", "--tool=callgrind", "--callgrind-out-file=/dev/null"]
+    command = [*words, program, "decide", "--steps", str(steps), *options]
+    try:
+        ran = subprocess.run(command, input=CHAMPION.encode(), capture_output=True, check=False)
+    except FileNotFoundError:
+        return None
+    told = re.search(rb"Collected : (\d+)", ran.stderr)
+    return int(told.group(1)) if told else None
+
+
+def count_instructions(name, program):
+    """Prints the instructions a step of the simulation, and those that each search adds."""
+    plans = [SWITCHES, ["--no-translated", "--no-backward"], ["--no-cyclers", "--no-backward"]]
+    counts = [[count(program, options, steps) for steps in COUNTED] for options in plans]
+    if None in [each for pair in counts for each in pair]:
+        print(f"instructions a step of {name}: not counted, for want of valgrind")
+        return
+    run, cycles, records = [(pair[1] - pair[0]) / (COUNTED[1] - COUNTED[0]) for pair in counts]
+    told = f"simulation {run:.1f}, cyclers add {cycles - run:.1f}, translated {records - run:.1f}"
+    print(f"instructions a step of {name}: {told}", flush=True)
 
 
 def timed(command, file):
@@ -150,15 +193,13 @@ def searches(program, draw):
 
 def measure_search(program, name, options, switch, file, runs):
     """Prints what the search costs beside the simulation of the same lines, in processor time: what it adds,
-    as a ratio."""
+    as a ratio of the least times, and the spread of that ratio over the runs."""
     commands = [[program, "decide", *options, switch], [program, "decide", *options]]
-    best = [float("inf"), float("inf")]
-    for _ in range(runs):
-        for which, command in enumerate(commands):
-            best[which] = min(best[which], spent(command, file))
-    added = best[1] - best[0]
-    ratio = added / best[0]
-    print(f"{name}: simulation {best[0]:.3f} s, the search adds {added:.3f} s, ratio {ratio:.2f}", flush=True)
+    times = [[spent(command, file) for command in commands] for _ in range(runs)]
+    run, both = min(alone for alone, _ in times), min(together for _, together in times)
+    ratios = [(together - alone) / alone for alone, together in times]
+    told = f"simulation {run:.3f} s, the search adds {both - run:.3f} s, ratio {(both - run) / run:.2f}"
+    print(f"{name}: {told}, {min(ratios):.2f} to {max(ratios):.2f} in single runs", flush=True)
 
 
 def measure_checking(program, draw, file, runs):
@@ -189,7 +230,10 @@ def main():
                 written.write(text)
             options = ["decide", *SWITCHES, *options]
             agreed.append(measure(name, [[asked.program, *options], [peer, *options]], file, asked.runs))
-        for name, options, text in trees(random.Random(asked.seed)):
+        count_instructions("the program", os.path.abspath(asked.program))
+        count_instructions("plain Rust", peer)
+        whole = trees(random.Random(asked.seed)) + random_machines(random.Random(asked.seed))
+        for name, options, text in whole:
             with open(file, "w", encoding="ascii") as written:
                 written.write(text)
             options = ["decide", *options]

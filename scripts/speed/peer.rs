@@ -1,6 +1,6 @@
 //! The yardstick of `measure.py`: what one would write by hand in plain Rust to do the work of
 //!
-//!     bb decide --no-cyclers --no-translated [--no-backward] --steps T --cells S --depth D --nodes N
+//!     bb decide [--no-cyclers] [--no-translated] [--no-backward] --steps T --cells S --depth D --nodes N
 //!
 //! It reads a list of machines from standard input and writes a line for each: the same bytes, and
 //! the same exit status. The tapes are flat arrays of bytes, and each access is checked against its
@@ -198,6 +198,188 @@ impl Tape {
     fn halt(&self, low: usize, high: usize, steps: u64) -> Outcome {
         let score = self.cells[low..=high].iter().filter(|cell| **cell != 0).count() as u64;
         Outcome::Halt { steps, score }
+    }
+}
+
+/// Where a run stands.
+#[derive(Clone, Copy)]
+struct Run {
+    state: u8,
+    position: usize,
+    steps: u64,
+    low: usize,
+    high: usize,
+}
+
+/// What one step did.
+enum Step {
+    /// There is none within the limits, or it leads into the halting state.
+    Ended,
+    Inside,
+    /// The window is wider on the left, or on the right.
+    WiderLeft,
+    WiderRight,
+}
+
+impl Run {
+    fn start(tape: &Tape) -> Run {
+        let start = tape.most_cells;
+        Run {
+            state: 0,
+            position: start,
+            steps: 0,
+            low: start,
+            high: start,
+        }
+    }
+
+    #[inline(always)]
+    fn step(&mut self, tape: &mut Tape, machine: &Machine, most_steps: u64) -> Step {
+        let symbol = tape.cells[self.position];
+        let entry = machine.entries[self.state as usize][symbol as usize];
+        if entry.next != Next::State || self.steps == most_steps {
+            return Step::Ended;
+        }
+        let to = self.position.wrapping_add_signed(entry.step as isize);
+        let mut step = Step::Inside;
+        if to < self.low {
+            if self.high - to == tape.most_cells {
+                return Step::Ended;
+            }
+            self.low = to;
+            step = Step::WiderLeft;
+        } else if to > self.high {
+            if to - self.low == tape.most_cells {
+                return Step::Ended;
+            }
+            self.high = to;
+            step = Step::WiderRight;
+        }
+        tape.cells[self.position] = entry.write;
+        self.position = to;
+        self.state = entry.state;
+        self.steps += 1;
+        step
+    }
+}
+
+/// What was kept of a run: where it stood, and its tape, which is 0 outside the window.
+struct Kept {
+    run: Run,
+    cells: Vec<u8>,
+}
+
+impl Kept {
+    fn new(tape: &Tape) -> Kept {
+        Kept {
+            run: Run::start(tape),
+            cells: vec![0; tape.cells.len()],
+        }
+    }
+
+    #[inline(never)]
+    fn keep(&mut self, run: Run, tape: &Tape) {
+        self.clear();
+        self.cells[run.low..=run.high].copy_from_slice(&tape.cells[run.low..=run.high]);
+        self.run = run;
+    }
+
+    fn clear(&mut self) {
+        self.cells[self.run.low..=self.run.high].fill(0);
+    }
+
+    /// Whether a run, which has gone on from here, is at the same configuration.
+    #[inline(always)]
+    fn is_same(&self, run: &Run, tape: &Tape) -> bool {
+        run.position == self.run.position && run.state == self.run.state && self.has_same_cells(run, tape)
+    }
+
+    #[inline(never)]
+    fn has_same_cells(&self, run: &Run, tape: &Tape) -> bool {
+        self.cells[run.low..=run.high] == tape.cells[run.low..=run.high]
+    }
+
+    /// Whether the record that a run has just made agrees with this one, since which the head has come back to
+    /// `nearest`: how far the two are apart, and how many cells agree.
+    #[inline(never)]
+    fn agreement(&self, nearest: usize, run: &Run, tape: &Tape) -> Option<(usize, usize)> {
+        let kept = &self.run;
+        if kept.steps == 0 || kept.state != run.state {
+            return None;
+        }
+        let (from, to) = (nearest.min(kept.position), nearest.max(kept.position));
+        let shift = run.position.abs_diff(kept.position);
+        let other = from + run.position - kept.position;
+        let length = to - from + 1;
+        (self.cells[from..=to] == tape.cells[other..other + length]).then_some((shift, length))
+    }
+}
+
+impl Tape {
+    fn clear(&mut self, run: &Run) {
+        self.cells[run.low..=run.high].fill(0);
+    }
+
+    /// The first step whose configuration is that of the greatest power of two below it.
+    #[inline(never)]
+    fn cycle(&mut self, kept: &mut Kept, machine: &Machine, most_steps: u64) -> Option<(u64, u64)> {
+        let mut run = Run::start(self);
+        kept.clear();
+        kept.run = run;
+        let mut next_kept = 0;
+        let found = loop {
+            if let Step::Ended = run.step(self, machine, most_steps) {
+                break None;
+            }
+            if kept.is_same(&run, self) {
+                break Some((kept.run.steps, run.steps));
+            }
+            if run.steps >= next_kept {
+                kept.keep(run, self);
+                next_kept = 2 * run.steps;
+            }
+        };
+        self.clear(&run);
+        found
+    }
+
+    /// The first record that agrees with that of its side whose number is the greatest power of two below its
+    /// own: side, steps, how far the two are apart, and how many cells agree.
+    #[inline(never)]
+    fn translation(
+        &mut self,
+        right: &mut Kept,
+        left: &mut Kept,
+        machine: &Machine,
+        most_steps: u64,
+    ) -> Option<(char, u64, u64, usize, usize)> {
+        let start = self.most_cells;
+        let mut run = Run::start(self);
+        for kept in [&mut *right, &mut *left] {
+            kept.clear();
+            kept.run = run;
+        }
+        let (mut least, mut greatest) = (start, start);
+        let found = loop {
+            let step = run.step(self, machine, most_steps);
+            least = least.min(run.position);
+            greatest = greatest.max(run.position);
+            let (side, kept, nearest) = match step {
+                Step::Inside => continue,
+                Step::Ended => break None,
+                Step::WiderRight => ('R', &mut *right, &mut least),
+                Step::WiderLeft => ('L', &mut *left, &mut greatest),
+            };
+            if let Some((shift, length)) = kept.agreement(*nearest, &run, self) {
+                break Some((side, kept.run.steps, run.steps, shift, length));
+            }
+            if run.position.abs_diff(start) >= 2 * kept.run.position.abs_diff(start) {
+                kept.keep(run, self);
+                *nearest = run.position;
+            }
+        };
+        self.clear(&run);
+        found
     }
 }
 
@@ -414,6 +596,8 @@ struct Limits {
     cells: usize,
     depth: usize,
     nodes: u64,
+    cyclers: bool,
+    translated: bool,
     backward: bool,
 }
 
@@ -423,6 +607,8 @@ fn limits() -> Option<Limits> {
         cells: 65_536,
         depth: 300,
         nodes: 1_000_000,
+        cyclers: true,
+        translated: true,
         backward: true,
     };
     let mut words = env::args().skip(1);
@@ -432,8 +618,10 @@ fn limits() -> Option<Limits> {
             "--cells" => limits.cells = words.next()?.parse().ok()?,
             "--depth" => limits.depth = words.next()?.parse().ok()?,
             "--nodes" => limits.nodes = words.next()?.parse().ok()?,
+            "--no-cyclers" => limits.cyclers = false,
+            "--no-translated" => limits.translated = false,
             "--no-backward" => limits.backward = false,
-            "decide" | "--no-cyclers" | "--no-translated" => {}
+            "decide" => {}
             _ => return None,
         }
     }
@@ -445,6 +633,7 @@ fn decide(reader: impl Read, writer: impl Write, limits: &Limits) -> io::Result<
     let mut reader = BufReader::with_capacity(1 << 16, reader);
     let mut writer = BufWriter::with_capacity(1 << 16, writer);
     let mut tape = Tape::new(limits.cells);
+    let (mut right, mut left) = (Kept::new(&tape), Kept::new(&tape));
     let mut known = vec![0; 2 * limits.depth + 1];
     let mut frames = Vec::with_capacity(limits.depth);
     let mut counts = Counts::default();
@@ -464,6 +653,19 @@ fn decide(reader: impl Read, writer: impl Write, limits: &Limits) -> io::Result<
         if let Outcome::Halt { steps, score } = outcome {
             writeln!(writer, " halt {steps} {score}")?;
             continue;
+        }
+        if limits.cyclers {
+            if let Some((first, second)) = tape.cycle(&mut right, &machine, limits.steps) {
+                writeln!(writer, " cycler {first} {second}")?;
+                continue;
+            }
+        }
+        if limits.translated {
+            let found = tape.translation(&mut right, &mut left, &machine, limits.steps);
+            if let Some((side, first, second, shift, length)) = found {
+                writeln!(writer, " translated {side} {first} {second} {shift} {length}")?;
+                continue;
+            }
         }
         if limits.backward {
             if let Some((levels, nodes)) = backward(&machine, limits, &mut known, &mut frames) {

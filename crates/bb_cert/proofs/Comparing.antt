@@ -20,11 +20,11 @@ use Rattle.bb_cert.specs.Agree.{Agree}
 use Rattle.bb_cert.specs.Checks.{KeepsStep, MakesRecord}
 use Rattle.bb_cert.specs.Follow.{AgreesWithKept, IsComparable, IsFollowed, IsKeptInStateOf, IsKeptRecord}
 use Rattle.bb_cert.specs.Extent.{IsExtent}
-use Rattle.bb_cert.specs.Follow.{IsNarrow, IsTop, LiesAs, IsWidened, with_last_kept}
+use Rattle.bb_cert.specs.Follow.{IsNarrow, IsTop, LiesAs, IsWidened, far_of, number_of, top_of, with_kept}
 use Rattle.bb_cert.specs.Record.{out, head_at, IsRecord}
 use Rattle.bb_cert.proofs.Heads.{out-out, runs_before, runs_up_to, head_in_window, far-here, far_bounds}
 use Rattle.bb_cert.proofs.Heads.{far_is_reached}
-use Rattle.bb_cert.proofs.Positions.{head_at-is, out-subtract}
+use Rattle.bb_cert.proofs.Positions.{head_at-is, out-zero}
 use Rattle.bb_cert.proofs.Records.{short_of_record, stands_on}
 use Rattle.bb_cert.proofs.Stretches.{high_wider, low_wider, narrow_inside, seen_wider}
 
@@ -34,14 +34,30 @@ some_number n p is apart = elim (cases_lt 0 n) [
   | inr none ↦ absurd (apart (is ∙ ap pos (omega (arith, none))))
 ]
 
+one_number : (i j : ℕ) (p : ℤ) → p ≡ pos i → p ≡ pos j → i ≡ j
+one_number i j p a b = omega (arith, ints, a, b)
+
 no_zero : (n : ℕ) (p : ℤ) → p ≡ pos n → 0 < n → p ≢ pos 0
 no_zero n p is some none = omega (arith, ints, is, some, none)
+
+-- positions that are as far out are the same
+out_same : (side : Side) (p q : ℤ) → out side p ≡ out side q → p ≡ q
+out_same side p q is = sym (out-out side p) ∙ ap (out side) is ∙ out-out side q
+
+at_zero : (side : Side) (p : ℤ) → out side p ≡ pos 0 → p ≡ pos 0
+at_zero side p is = out_same side p (pos 0) (is ∙ sym (out-zero side))
 
 at_most_same : (p q r : ℤ) → p ≡ q → r ≤ℤ p → r ≤ℤ q
 at_most_same p q r is h = omega (arith, ints, is, h)
 
 same_order : (p : ℤ) → p ≤ℤ p
 same_order p = omega (arith, ints)
+
+-- a kept record has a number
+pub numbered_at : (table : Table) (records : Records) (saved : Strip) (n : ℕ)
+    (followed : IsFollowed table n records saved) → position_of records.kept ≢ pos 0 → 0 < followed.number
+numbered_at table records saved n followed apart =
+    some_number followed.number (number_of records) followed.number_is (λ none. apart (at_zero records.side _ none))
 
 -- where a runner stands, on this content
 abbrev stood : Runner → Content → Configuration
@@ -89,130 +105,116 @@ module _ (table : Table) (runner : Runner) (run saved : Strip) (records : Record
       (head_in_window table m (steps_of runner) few
       (runs_up_to table m (steps_of runner) few (runs_here runs)))
 
-  top_out : out records.side (head_at table (steps_of runner)) ≡ records.top
-  top_out = top_here table records.side (steps_of runner) made.0 records.top followed.top made.1
+  top_out : out records.side (head_at table (steps_of runner)) ≡ top_of records runner
+  top_out = ap (out records.side) here_is
+
+  pub count_is : top_of records runner ≡ pos followed.count
+  count_is = sym top_out ∙ top_here table records.side (steps_of runner) made.0 _ followed.top made.1
+
+  number_is : made.0 ≡ followed.count
+  number_is = one_number made.0 followed.count (top_of records runner)
+      (sym top_out ∙ stands_on table records.side made.0 (steps_of runner) made.1) count_is
+
+  pub kept_here : 0 < followed.count → IsKeptRecord table records.side followed.count (steps_of runner) runner
+      (top_of records runner) run
+  kept_here some = record {
+    made = subst (λ j. IsRecord table records.side j (steps_of runner)) number_is made.1;
+    before = omega arith;
+    at = stands.at;
+    far_is = sym top_out ∙ sym (far-here table records.side (steps_of runner));
+    low = subst (λ l. l ≤ℤ run.low) (stands.window_low ∙ stands.low) (same_order run.low);
+    high = subst (λ h. run.high ≤ℤ h) (stands.window_high ∙ stands.high) (same_order run.high);
+    seen = λ runs. subst (IsInside run) here_is (head_inside runs (steps_of runner) (omega arith));
+  }
 
   -- it is kept, in what the run has now
-  pub keeps : (new : Records) → new ≡ with_last_kept records runner
-      → IsFollowed table (steps_of runner) new run
-  keeps new is = subst (λ r. IsFollowed table (steps_of runner) r run) (sym is) (record {
+  abbrev pub keeps : IsFollowed table (steps_of runner) (with_kept records runner) run
+  keeps = record {
     count = followed.count;
     number = followed.count;
-    count_is = followed.count_is;
-    number_is = followed.count_is;
+    number_is = count_is;
     top = followed.top;
-    kept = λ some. record {
-      made = subst (λ j. IsRecord table records.side j (steps_of runner)) number made.1;
-      before = omega arith;
-      at = stands.at;
-      far_is = sym top_out ∙ sym (far-here table records.side (steps_of runner));
-      low = subst (λ l. l ≤ℤ run.low) (stands.window_low ∙ stands.low) (same_order run.low);
-      high = subst (λ h. run.high ≤ℤ h) (stands.window_high ∙ stands.high) (same_order run.high);
-      seen = λ runs. subst (IsInside run) here_is (head_inside runs (steps_of runner) (omega arith));
-    };
-  }) where
-    one_number : (i j : ℕ) (p : ℤ) → p ≡ pos i → p ≡ pos j → i ≡ j
-    one_number i j p a b = omega (arith, ints, a, b)
+    kept = kept_here;
+  }
 
-    number : made.0 ≡ followed.count
-    number = one_number made.0 followed.count records.top
-        (sym top_out ∙ stands_on table records.side made.0 (steps_of runner) made.1) followed.count_is
-
-  pub keeps_step : (new : Records) → new ≡ with_last_kept records runner
+  pub keeps_step : (new : Records) → new ≡ with_kept records runner
       → KeepsStep table (steps_of runner) new
   keeps_step new is = subst (KeepsStep table (steps_of runner)) (sym is) (record {
-    made = λ some none.
-        let stands_out = stands_on table records.side made.0 (steps_of runner) made.1 in
-        no_zero made.0 records.top (sym top_out ∙ stands_out) ((made.1).positive) none;
+    made = λ some none. no_zero made.0 (top_of records runner)
+        (sym top_out ∙ stands_on table records.side made.0 (steps_of runner) made.1) (made.1).positive
+        (ap (out records.side) none ∙ out-zero records.side);
     at = λ some. refl;
   })
 
+  wider_kept : 0 < followed.number → IsInside run records.nearest
+      → IsKeptRecord table records.side followed.number (steps_of runner) records.kept (far_of records)
+      (visited saved records.nearest)
+  wider_kept some inside = let old = followed.kept some in record {
+    made = old.made;
+    before = old.before;
+    at = old.at;
+    far_is = old.far_is;
+    low = low_wider _ _ saved old.low
+        (subst (λ l. l ≤ℤ records.nearest) (stands.window_low ∙ stands.low) inside.0);
+    high = high_wider _ _ saved old.high
+        (subst (λ h. records.nearest ≤ℤ h) (stands.window_high ∙ stands.high) inside.1);
+    seen = λ runs. seen_wider saved _ _ (old.seen runs);
+  }
+
+  pub kept_wider : (new : Strip) → IsWidened records run saved new → 0 < followed.number
+      → IsKeptRecord table records.side followed.number (steps_of runner) records.kept (far_of records) new
+  kept_wider new (inl same) some = subst (IsKeptRecord table records.side followed.number (steps_of runner)
+      records.kept (far_of records)) (sym same) (followed.kept some)
+  kept_wider new (inr wider) some = subst (IsKeptRecord table records.side followed.number (steps_of runner)
+      records.kept (far_of records)) (sym wider.0) (wider_kept some wider.1)
+
   -- else the kept one stays, in what was saved of it, which may have been widened
-  pub stays : (new : Strip) → IsWidened records run saved new
+  abbrev pub stays : (new : Strip) → IsWidened records run saved new
       → IsFollowed table (steps_of runner) records new
   stays new widened = record {
     count = followed.count;
     number = followed.number;
-    count_is = followed.count_is;
     number_is = followed.number_is;
     top = followed.top;
-    kept = λ some. elim widened [
-      | inl same ↦ subst (IsKeptRecord table records.side followed.number (steps_of runner)
-          records.kept records.far) (sym same) (followed.kept some)
-      | inr wider ↦ subst (IsKeptRecord table records.side followed.number (steps_of runner)
-          records.kept records.far) (sym wider.0) (wider_kept some wider.1)
-    ];
-  } where
-    wider_kept : 0 < followed.number → IsInside run (out records.side records.far)
-        → IsKeptRecord table records.side followed.number (steps_of runner) records.kept records.far
-        (visited saved (out records.side records.far))
-    wider_kept some inside = let old = followed.kept some in record {
-      made = old.made;
-      before = old.before;
-      at = old.at;
-      far_is = old.far_is;
-      low = low_wider _ _ saved old.low
-          (subst (λ l. l ≤ℤ out records.side records.far) (stands.window_low ∙ stands.low) inside.0);
-      high = high_wider _ _ saved old.high
-          (subst (λ h. out records.side records.far ≤ℤ h) (stands.window_high ∙ stands.high) inside.1);
-      seen = λ runs. seen_wider saved _ _ (old.seen runs);
-    }
+    kept = kept_wider new widened;
+  }
 
   module _ (some : 0 < followed.number) where
-    kept : IsKeptRecord table records.side followed.number (steps_of runner) records.kept records.far saved
+    kept : IsKeptRecord table records.side followed.number (steps_of runner) records.kept (far_of records) saved
     kept = followed.kept some
-
-    number_out : out records.side (head_at table (steps_of records.kept)) ≡ records.number
-    number_out = stands_on table records.side followed.number (steps_of records.kept) kept.made
-        ∙ sym followed.number_is
 
     kept_is : head_at table (steps_of records.kept) ≡ position_of records.kept
     kept_is = head_at-is table (steps_of records.kept) _ kept.at
 
-    turned : (p n : ℤ) → out records.side p ≡ n → p ≡ out records.side n
-    turned p n is = sym (out-out records.side p) ∙ ap (out records.side) is
+    number_out : out records.side (head_at table (steps_of records.kept)) ≡ number_of records
+    number_out = ap (out records.side) kept_is
 
-    are_comparable : state_of runner ≢ Halt → state_of records.kept ≢ Halt → IsComparable records saved run
+    are_comparable : state_of runner ≢ Halt → state_of records.kept ≢ Halt
+        → IsComparable records runner saved run
     are_comparable runs kept_runs =
         let reached = far_is_reached table records.side (steps_of records.kept)
         (steps_of runner) kept.before in
         record {
           low = subst (λ l. l ≤ℤ saved.low) (sym (stands.window_low ∙ stands.low)) kept.low;
           high = subst (λ h. saved.high ≤ℤ h) (sym (stands.window_high ∙ stands.high)) kept.high;
-          order = subst (λ f. f ≤ℤ records.number) (sym kept.far_is) (at_most_same _ _ _ number_out
+          order = subst (λ f. f ≤ℤ number_of records) (sym kept.far_is) (at_most_same _ _ _ number_out
               (far_bounds table records.side (steps_of records.kept) (steps_of runner) kept.before));
-          later = subst (λ p. p ≤ℤ records.top) number_out
-              (followed.top.bounds (steps_of records.kept) kept.before);
-          far_seen = subst (IsInside run) (turned _ _ (sym (kept.far_is ∙ reached.is)))
+          later = subst (λ t. number_of records ≤ℤ t) (sym count_is)
+              (subst (λ p. p ≤ℤ pos followed.count) number_out
+              (followed.top.bounds (steps_of records.kept) kept.before));
+          far_seen = subst (IsInside run) (out_same records.side _ _ (sym (kept.far_is ∙ reached.is)))
               (head_inside runs reached.step reached.no_later);
-          top_seen = subst (IsInside run) (turned _ _ top_out)
-              (head_inside runs (steps_of runner) (omega arith));
-          number_saved = subst (IsInside saved) (sym kept_is ∙ turned _ _ number_out) (kept.seen kept_runs);
+          top_seen = subst (IsInside run) here_is (head_inside runs (steps_of runner) (omega arith));
+          number_saved = kept.seen kept_runs;
         }
 
-    distance : out records.side
-        (records.top -ℤ records.number) ≡ position_of runner -ℤ position_of records.kept
-    distance =
-        let top : out records.side (position_of runner) ≡ records.top = ap (out records.side) (sym here_is)
-        ∙ top_out in
-        let number : out records.side (position_of records.kept) ≡ records.number =
-        ap (out records.side) (sym kept_is) ∙ number_out in
-        ap (λ t. out records.side (t -ℤ records.number)) (sym top)
-        ∙ ap (λ n. out records.side (out records.side (position_of runner) -ℤ n)) (sym number)
-        ∙ ap (out records.side)
-        (sym (out-subtract records.side (position_of runner) (position_of records.kept)))
-        ∙ out-out records.side (position_of runner -ℤ position_of records.kept)
-
-    kept_out : out records.side (position_of records.kept) ≡ records.number
-    kept_out = ap (out records.side) (sym kept_is) ∙ number_out
-
     -- how they lie is their extent
-    pub extent_of_records : (extent : Extent) → LiesAs records extent
+    pub extent_of_records : (extent : Extent) → LiesAs records runner extent
         → IsExtent table records.side (steps_of records.kept) (steps_of runner) extent
     extent_of_records extent lies = record {
-      shift = lies.shift ∙ ap (λ t. t -ℤ records.number) (sym top_out)
+      shift = lies.shift ∙ ap (λ t. t -ℤ number_of records) (sym top_out)
           ∙ ap (λ n. out records.side (head_at table (steps_of runner)) -ℤ n) (sym number_out);
-      length = lies.length ∙ ap (λ n. (n -ℤ records.far) +ℤ pos 1) (sym number_out)
+      length = lies.length ∙ ap (λ n. (n -ℤ far_of records) +ℤ pos 1) (sym number_out)
           ∙ ap (λ f. (out records.side (head_at table (steps_of records.kept)) -ℤ f) +ℤ pos 1) kept.far_is;
     }
 
@@ -225,10 +227,7 @@ module _ (table : Table) (runner : Runner) (run saved : Strip) (records : Record
       at_first = kept.at;
       at_second = stands.at;
       same_state = both.0.1;
-      same_cells = λ x low high.
-          both.1 x (subst (λ f. f ≤ℤ out records.side x) (sym kept.far_is) low)
-          (subst (λ n. out records.side x ≤ℤ n) kept_out high)
-          ∙ ap (λ d. cell run.content (x +ℤ d)) distance;
+      same_cells = λ x low high. both.1 x (subst (λ f. f ≤ℤ out records.side x) (sym kept.far_is) low) high;
     }
 
     module _ (less : steps_of records.kept < steps_of runner) where
@@ -245,9 +244,8 @@ module _ (table : Table) (runner : Runner) (run saved : Strip) (records : Record
           λ halts. runs.runs (ap (λ (c : Configuration). c.state) same ∙ halts)
 
       -- its number is that of a position that was visited
-      pub kept_narrow : IsSound run → IsNarrow records.number
-      kept_narrow sound = narrow_inside records.side run records.number sound
-          (subst (IsInside run) (turned _ _ number_out)
+      pub kept_narrow : IsSound run → IsNarrow (position_of records.kept)
+      kept_narrow sound = narrow_inside sound (subst (IsInside run) kept_is
           (in_window _ (head_in_window table (steps_of records.kept) (steps_of runner) kept.before
           runs_at_kept)))
 
@@ -261,7 +259,8 @@ module _ (table : Table) (runner : Runner) (run saved : Strip) (records : Record
           let one : agree.first ≡ stood records.kept saved.content = cc in
           let two : agree.second ≡ stood runner run.content = cc in (
             (
-              no_zero followed.number records.number followed.number_is some,
+              λ none. no_zero followed.number (number_of records) followed.number_is some
+                  (ap (out records.side) none ∙ out-zero records.side),
               sym (ap (λ (c : Configuration). c.state) one) ∙ agree.same_state
                   ∙ ap (λ (c : Configuration). c.state) two,
               kept_runs,
@@ -271,28 +270,27 @@ module _ (table : Table) (runner : Runner) (run saved : Strip) (records : Record
                 let there = ap (λ (c : Configuration). c.head) two in
                 sym (ap (λ (c : Configuration). cell c.tape x) one)
                 ∙ agree.same_cells x (subst (λ f. f ≤ℤ out records.side x) kept.far_is low)
-                (subst (λ n. out records.side x ≤ℤ n) (sym (ap (out records.side) head ∙ kept_out)) high)
+                (subst (λ n. out records.side x ≤ℤ n) (sym (ap (out records.side) head)) high)
                 ∙ ap (λ (c : Configuration). cell c.tape (x +ℤ (agree.second.head -ℤ agree.first.head))) two
                 ∙ ap (λ h. cell run.content (x +ℤ (h -ℤ agree.first.head))) there
-                ∙ ap (λ h. cell run.content (x +ℤ (position_of runner -ℤ h))) head
-                ∙ ap (λ d. cell run.content (x +ℤ d)) (sym distance),
+                ∙ ap (λ h. cell run.content (x +ℤ (position_of runner -ℤ h))) head,
           )
 
   -- where one is kept, in the state of the last one, there is a number
   pub numbered : IsKeptInStateOf records runner → 0 < followed.number
-  numbered kept_there = some_number followed.number records.number followed.number_is kept_there.0
+  numbered kept_there = numbered_at table records saved (steps_of runner) followed kept_there.0
 
-  pub comparable : IsKeptInStateOf records runner → IsComparable records saved run
+  pub comparable : IsKeptInStateOf records runner → IsComparable records runner saved run
   comparable kept_there = are_comparable (numbered kept_there)
       (λ halts. kept_there.2 (kept_there.1 ∙ halts)) kept_there.2
 
-  -- the number of the kept record, made before this step, is that of a position that was visited
+  -- the kept record, made before this step, is at a position that was visited
   pub number_narrow : ((some : 0 < followed.number) → steps_of records.kept < steps_of runner)
-      → IsSound run
-      → IsNarrow records.number
+      → IsSound run → IsNarrow (position_of records.kept)
   number_narrow less sound = elim (cases_lt 0 followed.number) [
     | inl some ↦ kept_narrow some (less some) sound
-    | inr none ↦ zero_narrow records.number (followed.number_is ∙ ap pos (omega (arith, none)))
+    | inr none ↦ zero_narrow _
+        (at_zero records.side _ (followed.number_is ∙ ap pos (omega (arith, none))))
   ] where
     zero_narrow : (z : ℤ) → z ≡ pos 0 → IsNarrow z
     zero_narrow z is = record { low = omega (arith, ints, is); high = omega (arith, ints, is) }

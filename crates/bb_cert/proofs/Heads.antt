@@ -18,7 +18,6 @@ use Rattle.bb_cert.specs.declared.verdict.Side.TheVariants.{L, R}
 use Rattle.bb_cert.specs.Record.{out, head_at, far}
 use Rattle.bb_cert.proofs.Positions.{head_at-is, head_at-start, out-zero}
 use Rattle.bb_cert.proofs.Runs.{earlier, moves}
-use Rattle.bb_cert.specs.Follow.{IsTop}
 
 -- as far out as one is
 pub out-out : (side : Side) (p : ℤ) → out side (out side p) ≡ p
@@ -128,55 +127,3 @@ far_is_reached table side a n few =
     let at = least_is_reached (λ u. out side (head_at table (u + a))) (n - a) in
     let no_later = at.no_later in
     record { step = at.step + a; no_later = omega (arith, few, no_later); is = at.is }
-
--- ---- how far out it is at most
-
-pub top_at_first : (table : Table) (side : Side) → IsTop table side 0 (pos 0)
-top_at_first table side =
-    let start : out side (head_at table 0) ≡ pos 0 = ap (out side) (head_at-start table) ∙ out-zero side in
-    record {
-      step = 0;
-      no_later = omega arith;
-      reached = start;
-      bounds = λ m few. let same : 0 ≡ m = omega (arith, few) in
-          subst (λ k. out side (head_at table k) ≤ℤ pos 0) same (at_most _ start);
-    } where
-      at_most : (p : ℤ) → p ≡ pos 0 → p ≤ℤ pos 0
-      at_most p is = omega (arith, ints, is)
-
-greatest_left : (p q : ℤ) → q ≤ℤ p → int_max p q ≡ p
-greatest_left p q h = omega (arith, ints, clamps, h)
-
-greatest_right : (p q : ℤ) → p <ℤ q → int_max p q ≡ q
-greatest_right p q h = omega (arith, ints, clamps, h)
-
-at_most_max : (p q r : ℤ) → p ≤ℤ q → p ≤ℤ int_max q r
-at_most_max p q r h = omega (arith, ints, clamps, h)
-
-max_last : (q r : ℤ) → r ≤ℤ int_max q r
-max_last q r = omega (arith, ints, clamps)
-
-pub top-next : (table : Table) (side : Side) (n : ℕ) (top : ℤ) → IsTop table side n top
-    → IsTop table side (n + 1) (int_max top (out side (head_at table (n + 1))))
-top-next table side n top is =
-    by_lt_z top (out side (head_at table (n + 1)))
-    (λ less. record {
-      step = n + 1;
-      no_later = omega arith;
-      reached = sym (greatest_right top (out side (head_at table (n + 1))) less);
-      bounds = bounds;
-    })
-    (λ more. record {
-      step = is.step;
-      no_later = let few = is.no_later in omega (arith, few);
-      reached = is.reached ∙ sym (greatest_left top (out side (head_at table (n + 1))) more);
-      bounds = bounds;
-    }) where
-      bounds : (m : ℕ) → m ≤ n + 1 → out side (head_at table m) ≤ℤ int_max top
-          (out side (head_at table (n + 1)))
-      bounds m few = elim (cases_lt n m) [
-        | inl past ↦ let same : n + 1 ≡ m = omega (arith, few, past) in
-            subst (λ k. out side (head_at table k) ≤ℤ int_max top (out side (head_at table (n + 1)))) same
-            (max_last top (out side (head_at table (n + 1))))
-        | inr before ↦ at_most_max _ top _ (is.bounds m before)
-      ]

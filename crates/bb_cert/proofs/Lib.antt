@@ -27,6 +27,7 @@ pub mod Roots
 pub mod RuleLists
 pub mod SortedRules
 pub mod Heads
+pub mod Tops
 pub mod Stretches
 pub mod UnderWay
 pub mod Courses

@@ -11,8 +11,11 @@ use Rattle.bb_machine.specs.declared.entry.Entry.{Entry}
 use Rattle.bb_machine.specs.declared.entry.Entry.TheVariants.{Undefined, Go}
 use Rattle.bb_machine.specs.Machine.{Table}
 use Rattle.bb_tape.specs.Content.{cell}
+use Rattle.bb_tape.specs.Strip.{Strip}
 use Rattle.bb_sim.specs.Configuration.{Configuration, start, beside, followed, entry_at, next}
+use Rattle.bb_sim.specs.declared.runner.Runner.{Runner}
 use Rattle.bb_sim.specs.Run.{conf, Exists}
+use Rattle.bb_sim.specs.Runner.{Stands, position_of, steps_of}
 use Rattle.bb_sim.specs.Span.{least}
 use Rattle.bb_sim.proofs.Facts.{led, conf-start}
 use Rattle.bb_cert.specs.declared.verdict.Side.{Side}
@@ -58,6 +61,12 @@ head_at-is table n c at = ap head_of at
 
 pub head_at-start : (table : Table) → head_at table 0 ≡ pos 0
 head_at-start table = head_at-is table 0 start (conf-start table)
+
+-- a runner that has made no step stands at position 0
+pub starts : (table : Table) (runner : Runner) (strip : Strip) → Stands table runner strip → steps_of runner ≡ 0
+    → position_of runner ≡ pos 0
+starts table runner strip stands none =
+    sym (head_at-is table (steps_of runner) _ stands.at) ∙ ap (head_at table) none ∙ head_at-start table
 
 -- a step goes at most one cell farther out
 pub climbs : (table : Table) (side : Side) (n : ℕ) → Exists table (suc n) → out side (head_at table (suc n)) ≤ℤ (out side (head_at table n) +ℤ pos 1)

@@ -1,10 +1,8 @@
 -- How the run of a claim begins, goes on and ends.
-use Rattle.std.proofs.Common.{◌≡◌, ℕ, ◌<◌, ◌≤◌, max, ℤ, pos, neg_ℤ, ◌≤ℤ◌, sym, subst, arith}
-use Rattle.std.proofs.lemmas.Int.{ints}
+use Rattle.std.proofs.Common.{◌≡◌, ℕ, ◌<◌, ◌≤◌, max, sym, subst, arith}
 use Rattle.bb_machine.specs.Limits.{Bounds}
 use Rattle.bb_machine.specs.Machine.{Table}
-use Rattle.bb_tape.specs.declared.tape.TheConstants.{MOST_CELLS}
-use Rattle.bb_tape.specs.Strip.{Strip, IsBeside, IsSound}
+use Rattle.bb_tape.specs.Strip.{Strip}
 use Rattle.bb_sim.specs.declared.meter.Meter.{Meter}
 use Rattle.bb_sim.specs.declared.runner.Runner.{Runner}
 use Rattle.bb_sim.specs.Meter.{CountsTo, IsWithinRun, zero_meter}
@@ -56,14 +54,3 @@ cut_by_halt table bounds n inside halts before = (
       (arith, few, before),
   fits_at_halt table bounds n inside halts,
 )
-
--- a head in a window or next to it is no farther from 0 than any position of a tape
-pub near_low : (strip : Strip) (p : ℤ) → IsSound strip → IsBeside strip p → neg_ℤ (pos MOST_CELLS) ≤ℤ p
-near_low strip p sound near =
-    let low = near.0 in
-    omega (arith, ints, low, sound.to_zero, sound.within, sound.limited)
-
-pub near_high : (strip : Strip) (p : ℤ) → IsSound strip → IsBeside strip p → p ≤ℤ pos MOST_CELLS
-near_high strip p sound near =
-    let high = near.1 in
-    omega (arith, ints, high, sound.from_zero, sound.within, sound.limited)

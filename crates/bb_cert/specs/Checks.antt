@@ -6,6 +6,7 @@ use Rattle.bb_tape.specs.Strip.{Strip, IsBeside}
 use Rattle.bb_sim.specs.declared.meter.Meter.{Meter}
 use Rattle.bb_sim.specs.declared.runner.Runner.{Runner}
 use Rattle.bb_sim.specs.Meter.{CountsTo, zero_meter}
+use Rattle.bb_sim.specs.Laws.{IsRunningAt}
 use Rattle.bb_sim.specs.Run.{Exists}
 use Rattle.bb_sim.specs.Runner.{Stands, position_of, steps_of}
 use Rattle.bb_sim.specs.Span.{Inside, span}
@@ -17,8 +18,8 @@ use Rattle.bb_cert.specs.declared.verdict.Side.{Side}
 use Rattle.bb_cert.specs.declared.verdict.Verdict.{Verdict}
 use Rattle.bb_cert.specs.Answer.{IsOutOfOrder, IsSettled, IsUndecided, NamesTooMuch, NeedsTooMuch}
 use Rattle.bb_cert.specs.Claim.{Claim}
-use Rattle.bb_cert.specs.Follow.{IsFollowed}
-use Rattle.bb_cert.specs.Record.{IsRecord}
+use Rattle.bb_cert.specs.Follow.{IsFollowed, TellsWidening, passed}
+use Rattle.bb_cert.specs.Record.{IsRecord, head_at}
 
 -- the answer where nothing has to be run; none where that is not settled so
 abbrev pub Settles : Bounds → Verdict → Option Answer → Type 0
@@ -69,15 +70,25 @@ pub record IsAtStep (table : Table) (bounds : Bounds) (step : ℕ) (runner : Run
 abbrev pub MakesRecord : Table → Side → ℕ → Type 0
 MakesRecord table side n = (j : ℕ) × IsRecord table side j n
 
--- the records of a side are known up to step n, and whether it makes one
+-- it does so in a state other than Z
+abbrev pub MakesRecordOutsideZ : Table → Side → ℕ → Type 0
+MakesRecordOutsideZ table side n = MakesRecord table side n × IsRunningAt table n (head_at table n)
+
+-- the records of a side are known up to step n, and whether it makes one outside Z
 pub record IsCourse (table : Table) (n : ℕ) (course : Course) (saved : Strip) : Type 0 where
   pub followed : IsFollowed table n course.records saved
-  pub told : IsTrue course.is_record ↔ MakesRecord table course.records.side n
+  pub told : IsTrue course.is_record ↔ MakesRecordOutsideZ table course.records.side n
+
+-- a course has taken in the step that a runner has just made, before which its window had so many cells
+pub record Passes (runner : Runner) (cells : ℕ) (old new : Course) : Type 0 where
+  pub records : new.records ≡ passed old.records (position_of runner)
+  pub told : Option Side
+  pub widens : TellsWidening runner cells told
+  pub is_told : IsTrue new.is_record ↔ (told ≡ Some old.records.side)
 
 -- the same record is kept
 pub record KeepsSame (old new : Records) : Type 0 where
   pub side : new.side ≡ old.side
-  pub number : new.number ≡ old.number
   pub kept : new.kept ≡ old.kept
 
 -- what was known of a course is known of it now, up to a later step, with the same record kept
@@ -85,7 +96,7 @@ pub record GoesOn (table : Table) (from to : ℕ) (old new : Course) : Type 0 wh
   pub course : (saved : Strip) → IsCourse table from old saved → IsCourse table to new saved
   pub same : KeepsSame old.records new.records
 
--- the record of this step is kept, just where it makes one
+-- the record of this step is kept, just where it makes one outside Z
 pub record KeepsStep (table : Table) (step : ℕ) (records : Records) : Type 0 where
-  pub made : MakesRecord table records.side step → records.number ≢ pos 0
-  pub at : records.number ≢ pos 0 → steps_of records.kept ≡ step
+  pub made : MakesRecordOutsideZ table records.side step → position_of records.kept ≢ pos 0
+  pub at : position_of records.kept ≢ pos 0 → steps_of records.kept ≡ step

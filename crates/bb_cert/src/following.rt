@@ -4,11 +4,11 @@ ghost use Rattle.bb_tape.specs.Strip.{IsBeside};
 ghost use Rattle.bb_sim.specs.Meter.{IsWithinRun, zero_meter};
 ghost use Rattle.bb_sim.specs.Run.{Exists};
 ghost use Rattle.bb_sim.specs.Runner.{position_of, steps_of};
-ghost use Rattle.bb_cert.specs.Checks.{GoesOn, IsAtStep, IsCourse, IsCut, IsOneOn, IsUnderWay};
-ghost use Rattle.bb_cert.specs.Follow.{AgreesWithKept, IsComparable, IsKeptInStateOf, LiesAs, with_last_kept};
+ghost use Rattle.bb_cert.specs.Checks.{GoesOn, IsAtStep, IsCut, IsOneOn, IsUnderWay, Passes};
+ghost use Rattle.bb_cert.specs.Follow.{AgreesWithKept, IsComparable, IsKeptInStateOf, LiesAs, with_kept};
 
 use crate::answer::Answer;
-use crate::side_records::Records;
+use crate::side_records::{Records, widened_side};
 use crate::verdict::{Extent, Side};
 use bb_machine::{Limits, Machine};
 use bb_sim::{Meter, Moved, Runner};
@@ -22,10 +22,21 @@ pub(crate) struct Course {
 }
 
 impl Course {
+    /// Takes in the step that the runner has just made, before which its window had so many cells.
+    pub(crate) fn pass(&mut self, runner: &Runner, cells: u64)
+        ensures { Passes runner.now cells self.old self.new }
+    {
+        self.records.pass(runner.position());
+        self.is_record = match widened_side(runner, cells) {
+            Some(side) => side == self.records.side,
+            None => false,
+        };
+    }
+
     /// Keeps the record that the last step makes, if it makes one. The runner stands there.
     pub(crate) fn keep(&mut self, runner: &Runner)
         ensures { MatchBool self.old.is_record
-            (self.new ≡ record self.old { records = with_last_kept self.old.records runner.now })
+            (self.new ≡ record self.old { records = with_kept self.old.records runner.now })
             (self.new ≡ self.old) }
     {
         if self.is_record {
@@ -43,13 +54,13 @@ impl Course {
     ) -> Option<Extent>
         requires limit { (T.strip saved.old).limit ≡ (T.strip run.now).limit }
         requires comparable { IsTrue self.now.is_record → IsKeptInStateOf self.now.records runner.now
-            → IsComparable self.now.records (T.strip saved.old) (T.strip run.now) }
+            → IsComparable self.now.records runner.now (T.strip saved.old) (T.strip run.now) }
         ensures agree { MatchOption result
             (IsTrue self.now.is_record
             → AgreesWithKept self.now.records runner.now (T.strip saved.old) (T.strip run.now) → ⊥)
             (λ extent. IsTrue self.now.is_record
             × AgreesWithKept self.now.records runner.now (T.strip saved.old) (T.strip run.now)
-            × LiesAs self.now.records extent) }
+            × LiesAs self.now.records runner.now extent) }
         ensures limit { (T.strip saved.new).limit ≡ (T.strip saved.old).limit }
     {
         if !self.is_record {
@@ -58,7 +69,7 @@ impl Course {
         if !self.records.agrees(runner, run, saved) {
             return None;
         }
-        Some(self.records.extent())
+        Some(self.records.extent(runner))
     }
 }
 
@@ -161,11 +172,12 @@ pub(crate) fn follow_to<T: Tape>(
     ensures memory { OnErr result (IsTrue T.GROWS) }
 {
     while runner.steps() < step {
+        let cells = runner.cells();
         match step_on(machine, runner, tape, limits, meter)? {
             Some(answer) => return Ok(Some(answer)),
             None => {}
         }
-        course.is_record = course.records.follow(runner.position());
+        course.pass(runner, cells);
     }
     Ok(None)
 }

@@ -4,11 +4,10 @@ use Rattle.std.specs.Prelude.{MatchOption}
 use Rattle.bb_machine.specs.declared.entry.Next.{Next}
 use Rattle.bb_machine.specs.declared.entry.Next.TheVariants.{Halt, State}
 use Rattle.bb_machine.specs.Machine.{Table}
-use Rattle.bb_tape.specs.Content.{cell}
 use Rattle.bb_tape.specs.Strip.{Strip}
-use Rattle.bb_sim.specs.Configuration.{Configuration, entry_at, followed, next}
+use Rattle.bb_sim.specs.Configuration.{Configuration}
 use Rattle.bb_sim.specs.declared.runner.Runner.{Runner}
-use Rattle.bb_sim.specs.Run.{conf, HaltsAt}
+use Rattle.bb_sim.specs.Run.{conf}
 use Rattle.bb_sim.specs.Runner.{Stands, position_of, state_of, steps_of}
 use Rattle.bb_cert.proofs.Facts.{runs_before}
 
@@ -18,20 +17,13 @@ pub in_no_state : (found : Option ℕ) (state : Next) → MatchOption found (sta
 in_no_state None state told apart = told
 in_no_state (Some n) state told apart = absurd (apart n refl)
 
--- a runner in Z stands where the machine halts, and nothing before is in the same state
+-- one that tells a state isn't
+pub not_in_Z : {state : Next} {n : ℕ} → state ≡ State n → state ≢ Halt
+not_in_Z is halts = cc
+
+-- in Z a runner is in a state in which it wasn't before
 module _ (table : Table) (runner : Runner) (run : Strip) (stands : Stands table runner run)
     (halts : state_of runner ≡ Halt) where
-  pub halts_in_Z : HaltsAt table (steps_of runner)
-  unfolding next
-  halts_in_Z = record {
-    last = _;
-    exists = stands.at;
-    no_next =
-        let c : Configuration =
-        record { state = state_of runner; head = position_of runner; tape = run.content } in
-        ap (λ s. followed (entry_at table s (cell c.tape c.head)) c) halts;
-  }
-
   pub no_pair_in_Z : (a : ℕ) (c d : Configuration) → a < steps_of runner → conf table a ≡ Some c
       → conf table (steps_of runner) ≡ Some d → c.state ≡ d.state → ⊥
   no_pair_in_Z a c d less at_first at_second same =

@@ -1,39 +1,32 @@
--- What taking in a configuration means for the run of a machine.
-use Rattle.std.proofs.Common.{◌≡◌, ℕ, ◌+◌, ◌*◌, ◌<◌, ◌≤◌, inl, inr, Some, None, ℤ, pos, ◌*ℤ◌, ◌≤ℤ◌, ap, sym}
+-- What a step means for what is known of a side's records, whether it makes one or not.
+use Rattle.std.proofs.Common.{◌≡◌, ℕ, ◌+◌, ◌*◌, ◌<◌, ◌≤◌, inl, inr, Some, None, ℤ, pos, ◌*ℤ◌, ◌≤ℤ◌, refl, ap, sym}
 use Rattle.std.proofs.Common.{subst, ◌∙◌, arith}
 use Rattle.std.specs.Prelude.{◌<ℤ◌}
-use Rattle.std.specs.Int.{int_max}
 use Rattle.std.proofs.Math.Nat.{one-le-pow}
-use Rattle.std.proofs.lemmas.Int.{ints, clamps, by_lt_z}
+use Rattle.std.proofs.lemmas.Int.{ints}
 use Rattle.bb_machine.specs.Machine.{Table}
 use Rattle.bb_tape.specs.Strip.{Strip, IsSound}
 use Rattle.bb_sim.specs.declared.runner.Runner.{Runner}
 use Rattle.bb_sim.specs.Run.{Exists}
 use Rattle.bb_sim.specs.Runner.{Stands, position_of, steps_of}
 use Rattle.bb_cert.specs.declared.side_records.Records.{Records}
+use Rattle.bb_cert.specs.declared.verdict.Extent.{Extent}
+use Rattle.bb_cert.specs.declared.verdict.Side.{Side}
+use Rattle.bb_cert.specs.declared.verdict.Verdict.{Verdict}
+use Rattle.bb_cert.specs.declared.verdict.Verdict.TheVariants.{Translated}
 use Rattle.bb_cert.specs.Agree.{Agree}
 use Rattle.bb_cert.specs.Checks.{MakesRecord}
 use Rattle.bb_cert.specs.Extent.{IsExtent}
-use Rattle.bb_cert.specs.Follow.{AgreesWithKept, IsFollowed}
+use Rattle.bb_cert.specs.Follow.{AgreesWithKept, IsFollowed, passed, top_of, with_kept}
 use Rattle.bb_cert.specs.Record.{out, head_at, IsRecord}
-use Rattle.bb_cert.proofs.Facts.{agree_of_cells, cells_of_agree, comparable, extent_of_records}
-use Rattle.bb_cert.proofs.Facts.{followed_at_first, followed-next}
-use Rattle.bb_cert.proofs.Facts.{head_at-is, keeps, made_next, no_record, number_narrow, numbered}
-use Rattle.bb_cert.proofs.Facts.{record_has_one_step, records_in_order, stands_on, stays}
-use Rattle.bb_decide.specs.declared.keeping.Partner.{Partner}
-use Rattle.bb_decide.specs.Follow.{IsNextRecord, IsReady, IsSearched, TakesIn, with_next}
+use Rattle.bb_cert.proofs.Facts.{agree_of_cells, at_step, cells_of_agree, comparable, extent_of_records, farther}
+use Rattle.bb_cert.proofs.Facts.{followed_at_first, followed_farther, followed_nearer, head_at-is, keeps}
+use Rattle.bb_cert.proofs.Facts.{made_next, nearer_on, number_narrow, numbered, record_has_one_step}
+use Rattle.bb_cert.proofs.Facts.{records_in_order, stands_on, stays}
+use Rattle.bb_decide.specs.Follow.{Compares, IsReady, IsSearched, KeepsByTurn}
 use Rattle.bb_decide.specs.Partner.{IsKept, IsPartner}
 use Rattle.bb_decide.specs.Translation.{AgreesWithPartner}
 use Rattle.bb_decide.proofs.Partners.{kept_at_first, kept_below, keeps_next, keeps_on, partner_is_unique}
-
-same_max : (p q : ℤ) → q ≤ℤ p → int_max p q ≡ p
-same_max p q h = omega (arith, ints, clamps, h)
-
-new_max : (p q : ℤ) → p <ℤ q → int_max p q ≡ q
-new_max p q h = omega (arith, ints, clamps, h)
-
-not_less : (p q : ℤ) → (p <ℤ q → ⊥) → q ≤ℤ p
-not_less p q never = by_lt_z p q (λ less. absurd (never less)) (λ more. more)
 
 one_number : (i j : ℕ) (p : ℤ) → p ≡ pos i → p ≡ pos j → i ≡ j
 one_number i j p a b = omega (arith, ints, a, b)
@@ -44,12 +37,8 @@ twice n k p q a b h = omega (arith, ints, a, b, h)
 short : (n k : ℕ) (p q : ℤ) → p ≡ pos n → q ≡ pos (k + 1) → q <ℤ (pos 2 *ℤ p) → k + 1 < 2 * n
 short n k p q a b h = omega (arith, ints, a, b, h)
 
--- whichever numbers they are told as
-kept_as : (n k : ℕ) (p q : ℤ) → p ≡ pos n → q ≡ pos k → IsKept n k → (number count : ℕ) → p ≡ pos number
-    → q ≡ pos count → IsKept number count
-kept_as n k p q a b is number count c d =
-    subst (λ m. IsKept m count) (one_number n number p a c)
-    (subst (IsKept n) (one_number k count q b d) is)
+some_out : (n : ℕ) (p : ℤ) → p ≡ pos n → pos 0 ≤ℤ p
+some_out n p is = omega (arith, ints, is)
 
 some_partner : (n k : ℕ) → IsKept n k → 0 < n → IsPartner n (k + 1)
 some_partner n k (inl first) some = let none = first.1 in absurd (omega (arith, some, none))
@@ -66,12 +55,26 @@ some_kept n k p (inl first) partner =
 some_kept n k p (inr kept) partner = kept
 
 -- at the start there is no record
-pub searched_at_first : (table : Table) (records : Records) (saved : Strip) → records.top ≡ pos 0
-    → records.number ≡ pos 0 → IsSearched table 0 records saved
-searched_at_first table records saved top number = record {
-  followed = followed_at_first table records saved top number;
-  partner = kept_as 0 0 records.number records.top number top kept_at_first;
+pub searched_at_first : (table : Table) (records : Records) (saved : Strip) → position_of records.kept ≡ pos 0
+    → IsSearched table 0 records saved
+searched_at_first table records saved start = record {
+  followed = followed_at_first table records saved start;
+  partner = kept_at_first;
 }
+
+-- a side after a step: what is known of it, and that the step makes no record that agrees with its partner
+pub record GoesOn (table : Table) (n : ℕ) (side : Side) (new : Records) (saved : Strip) : Type 0 where
+  pub searched : IsSearched table n new saved
+  pub side_is : new.side ≡ side
+  pub none : (a : ℕ) → AgreesWithPartner table side a n → ⊥
+
+-- a verdict tells a record that agrees with its partner, made at this step, and how the two lie
+pub record EndsWith (table : Table) (side : Side) (n : ℕ) (verdict : Verdict) : Type 0 where
+  pub first : ℕ
+  pub extent : Extent
+  pub is : verdict ≡ Translated side first n (Some extent)
+  pub pair : AgreesWithPartner table side first n
+  pub lies : IsExtent table side first n extent
 
 module _ (table : Table) (n : ℕ) (runner : Runner) (run saved : Strip) (old : Records)
     (stands : Stands table runner run) (next : steps_of runner ≡ n + 1)
@@ -79,131 +82,165 @@ module _ (table : Table) (n : ℕ) (runner : Runner) (run saved : Strip) (old : 
   there : Exists table (n + 1)
   there = subst (Exists table) next (record { here = _; exists = stands.at })
 
-  here : out old.side (position_of runner) ≡ out old.side (head_at table (steps_of runner))
-  here = ap (out old.side) (sym (head_at-is table (steps_of runner) _ stands.at))
+  at : position_of runner ≡ head_at table (n + 1)
+  at = sym (head_at-is table (steps_of runner) _ stands.at) ∙ ap (head_at table) next
 
-  at : out old.side (position_of runner) ≡ out old.side (head_at table (n + 1))
-  at = here ∙ ap (λ m. out old.side (head_at table m)) next
+  abbrev with_next : Records
+  with_next = passed old (position_of runner)
 
-  known : IsFollowed table (steps_of runner) (with_next old runner) saved
-  known = subst (λ b. IsFollowed table b (with_next old runner) saved) (sym next)
-      (followed-next table n old there (out old.side (position_of runner)) at saved searched.followed)
+  -- where no record is made
+  pub passes_by : (MakesRecord table old.side (n + 1) → ⊥)
+      → GoesOn table (steps_of runner) old.side (passed old (position_of runner)) saved
+  passes_by none = record {
+    searched = record {
+      followed = at_step table n old saved there (position_of runner) at searched.followed (steps_of runner) next
+          (followed_nearer table n old saved there (position_of runner) at searched.followed
+          (nearer_on table old.side n searched.followed.count searched.followed.top there none));
+      partner = searched.partner;
+    };
+    side_is = refl;
+    none = λ a pair. none (
+      pair.second_number,
+      subst (IsRecord table old.side pair.second_number) next
+          pair.second_record,
+    );
+  }
 
-  kept_partner : IsKept known.number searched.followed.count
-  kept_partner = searched.partner known.number searched.followed.count known.number_is
-      searched.followed.count_is
+  module _ (made : MakesRecord table old.side (n + 1)) where
+    high : pos searched.followed.count <ℤ out old.side (head_at table (n + 1))
+    high = farther table old.side n searched.followed.count searched.followed.top there made
 
-  module _ (high : IsNextRecord old runner) where
-    made : IsRecord table old.side (searched.followed.count + 1) (steps_of runner)
-    made = subst (IsRecord table old.side (searched.followed.count + 1)) (sym next)
-        (made_next table n old there (out old.side (position_of runner)) at saved searched.followed high)
+    abbrev known : IsFollowed table (steps_of runner) with_next saved
+    known = at_step table n old saved there (position_of runner) at searched.followed (steps_of runner) next
+        (followed_farther table n old saved there (position_of runner) at searched.followed high)
+
+    made_at : IsRecord table old.side (searched.followed.count + 1) (steps_of runner)
+    made_at = subst (IsRecord table old.side (searched.followed.count + 1)) (sym next)
+        (made_next table old.side n searched.followed.count searched.followed.top there high)
 
     makes : MakesRecord table old.side (steps_of runner)
-    makes = (searched.followed.count + 1, made)
+    makes = (searched.followed.count + 1, made_at)
 
-    top_is : (with_next old runner).top ≡ pos (searched.followed.count + 1)
-    top_is = new_max old.top (out old.side (position_of runner)) high ∙ here
-        ∙ stands_on table old.side (searched.followed.count + 1) (steps_of runner) made
+    top_is : top_of old runner ≡ pos (searched.followed.count + 1)
+    top_is = ap (out old.side) (sym (head_at-is table (steps_of runner) _ stands.at))
+        ∙ stands_on table old.side (searched.followed.count + 1) (steps_of runner) made_at
 
-    kept_before : 0 < known.number → steps_of old.kept < steps_of runner
+    kept_before : 0 < searched.followed.number → steps_of old.kept < steps_of runner
     kept_before some =
-        (records_in_order table old.side known.number (searched.followed.count + 1)
-        (steps_of old.kept) (steps_of runner) (known.kept some).made made).0
-        (kept_below known.number searched.followed.count kept_partner)
+        (records_in_order table old.side searched.followed.number (searched.followed.count + 1)
+        (steps_of old.kept) (steps_of runner) (known.kept some).made made_at).0
+        (kept_below searched.followed.number searched.followed.count searched.partner)
 
     -- it can be compared with the kept one
-    pub ready : IsSound run → IsReady (with_next old runner) runner saved run
+    pub ready : IsSound run → IsReady (passed old (position_of runner)) runner saved run
     ready sound = record {
-      narrow = number_narrow table runner run saved (with_next old runner) stands known makes kept_before
-          sound;
-      comparable = comparable table runner run saved (with_next old runner) stands known makes;
+      kept_out = some_out _ _ searched.followed.number_is;
+      head_out = some_out _ _ top_is;
+      narrow = number_narrow table runner run saved with_next stands known makes kept_before sound;
+      comparable = comparable table runner run saved with_next stands known makes;
     }
 
-    pair_of_cells : AgreesWithKept (with_next old runner) runner saved run
+    pair_of_cells : AgreesWithKept with_next runner saved run
         → AgreesWithPartner table old.side (steps_of old.kept) (steps_of runner)
     pair_of_cells agrees =
-        let some = numbered table runner run saved (with_next old runner) stands known makes agrees.0 in
+        let some = numbered table runner run saved with_next stands known makes agrees.0 in
         record {
-          first_number = known.number;
+          first_number = searched.followed.number;
           second_number = searched.followed.count + 1;
-          partner = some_partner known.number searched.followed.count kept_partner some;
+          partner = some_partner searched.followed.number searched.followed.count searched.partner some;
           first_record = (known.kept some).made;
-          second_record = made;
-          agree = agree_of_cells table runner run saved (with_next old runner) stands known makes some agrees;
+          second_record = made_at;
+          agree = agree_of_cells table runner run saved with_next stands known makes some agrees;
         }
 
     -- a record that agrees with its partner agrees with the kept one
     cells_of_pair : (a : ℕ) → AgreesWithPartner table old.side a (steps_of runner)
-        → AgreesWithKept (with_next old runner) runner saved run
+        → AgreesWithKept with_next runner saved run
     cells_of_pair a pair =
         let second = one_number pair.second_number (searched.followed.count + 1) _
         (stands_on table old.side pair.second_number (steps_of runner) pair.second_record)
-        (stands_on table old.side (searched.followed.count + 1) (steps_of runner) made) in
+        (stands_on table old.side (searched.followed.count + 1) (steps_of runner) made_at) in
         let partner = subst (IsPartner pair.first_number) second pair.partner in
-        let kept = some_kept known.number searched.followed.count pair.first_number kept_partner partner in
-        let number = partner_is_unique pair.first_number known.number (searched.followed.count + 1)
-        partner kept in
+        let kept = some_kept searched.followed.number searched.followed.count pair.first_number
+        searched.partner partner in
+        let number = partner_is_unique pair.first_number searched.followed.number
+        (searched.followed.count + 1) partner kept in
         let first = subst (λ j. IsRecord table old.side j a) number pair.first_record in
         let some = first.positive in
-        let step = record_has_one_step table old.side known.number a (steps_of old.kept) first
+        let step = record_has_one_step table old.side searched.followed.number a (steps_of old.kept) first
         (known.kept some).made in
-        cells_of_agree table runner run saved (with_next old runner) stands known makes some
-        (kept_before some)
+        cells_of_agree table runner run saved with_next stands known makes some (kept_before some)
         (subst (λ m. Agree table old.side m (steps_of runner)) step pair.agree)
 
-  -- a configuration that is taken in, and what was found
-  module _ (new : Records) (new_saved : Strip) where
-    pub pair_found : (partner : Partner) → TakesIn old runner run saved new new_saved (Some partner)
-        → AgreesWithPartner table old.side partner.step (steps_of runner)
-    pair_found partner (inl is) =
-        subst (λ m. AgreesWithPartner table old.side m (steps_of runner)) (sym is.1.1)
-        (pair_of_cells is.0 is.1.0)
-    pair_found partner (inr is) = let none = is.1 in absurd cc
+    -- compared, and found to agree, or not
+    module _ (new : Records) (new_saved : Strip) where
+      pub ends_with : (verdict : Verdict)
+          → Compares (passed old (position_of runner)) runner run saved new new_saved (Some verdict)
+          → EndsWith table old.side (steps_of runner) verdict
+      ends_with verdict is =
+          let some = numbered table runner run saved with_next stands known makes is.0.0 in
+          record {
+            first = steps_of old.kept;
+            extent = is.1.extent;
+            is = is.1.is;
+            pair = pair_of_cells is.0;
+            lies = extent_of_records table runner run saved with_next stands known makes some is.1.extent is.1.lies;
+          }
 
-    pub extent_found : (partner : Partner) → TakesIn old runner run saved new new_saved (Some partner)
-        → IsExtent table old.side partner.step (steps_of runner) partner.extent
-    extent_found partner (inl is) =
-        let made = makes is.0 in
-        let some = numbered table runner run saved (with_next old runner) stands known made is.1.0.0 in
-        subst (λ m. IsExtent table old.side m (steps_of runner) partner.extent) (sym is.1.1)
-        (extent_of_records table runner run saved (with_next old runner) stands known made some partner.extent is.1.2)
-    extent_found partner (inr is) = let none = is.1 in absurd cc
+      pub goes_on : Compares (passed old (position_of runner)) runner run saved new new_saved None
+          → new.side ≡ old.side → GoesOn table (steps_of runner) old.side new new_saved
+      goes_on is side = record {
+        searched = by_turn is.1;
+        side_is = side;
+        none = λ a pair. is.0 (cells_of_pair a pair);
+      } where
+        by_turn : KeepsByTurn with_next runner run saved new new_saved
+            → IsSearched table (steps_of runner) new new_saved
+        by_turn (inl kept) =
+            subst (λ r. IsSearched table (steps_of runner) r new_saved) (sym kept.1)
+            (subst (IsSearched table (steps_of runner) (with_kept with_next runner)) (sym kept.2) (record {
+              followed = keeps table runner run saved with_next stands known makes;
+              partner = keeps_next searched.followed.number searched.followed.count searched.partner
+                  (twice _ _ _ _ searched.followed.number_is top_is kept.0);
+            }))
+        by_turn (inr stayed) =
+            subst (λ r. IsSearched table (steps_of runner) r new_saved) (sym stayed.1) (record {
+              followed = stays table runner run saved with_next stands known makes new_saved stayed.2;
+              partner = keeps_on searched.followed.number searched.followed.count searched.partner
+                  (short _ _ _ _ searched.followed.number_is top_is stayed.0);
+            })
 
-    pub no_pair : TakesIn old runner run saved new new_saved None
-        → (a : ℕ) → AgreesWithPartner table old.side a (steps_of runner) → ⊥
-    no_pair (inl is) a pair = is.1.0 (cells_of_pair is.0 a pair)
-    no_pair (inr is) a pair =
-        no_record table n old there (out old.side (position_of runner)) at searched.followed.top
-        (not_less old.top (out old.side (position_of runner)) is.0)
-        (pair.second_number, subst (IsRecord table old.side pair.second_number) next pair.second_record)
+-- a side by its name, and its records after the step under a name of their own
+module _ {table : Table} {n : ℕ} {side : Side} {runner : Runner} {run saved : Strip} {old new : Records}
+    (searched : IsSearched table n old saved) (side_is : old.side ≡ side) (stands : Stands table runner run)
+    (next : steps_of runner ≡ n + 1) (new_is : new ≡ passed old (position_of runner)) where
+  pub side_passes_by : (MakesRecord table side (n + 1) → ⊥) → GoesOn table (steps_of runner) side new saved
+  side_passes_by none = subst (λ s. GoesOn table (steps_of runner) s new saved) side_is
+      (subst (λ r. GoesOn table (steps_of runner) old.side r saved) (sym new_is)
+      (passes_by table n runner run saved old stands next searched
+      (λ made. none (subst (λ s. MakesRecord table s (n + 1)) side_is made))))
 
-    pub searched_on : TakesIn old runner run saved new new_saved None
-        → IsSearched table (steps_of runner) new new_saved
-    searched_on (inl is) = elim is.1.1 [
-      | inl kept ↦ record {
-        followed = subst (IsFollowed table (steps_of runner) new) (sym kept.2)
-            (keeps table runner run saved (with_next old runner) stands known (makes is.0) new kept.1);
-        partner = kept_as (searched.followed.count + 1) (searched.followed.count + 1) new.number new.top
-            (ap (λ (r : Records). r.number) kept.1 ∙ top_is is.0)
-            (ap (λ (r : Records). r.top) kept.1 ∙ top_is is.0)
-            (keeps_next known.number searched.followed.count kept_partner
-            (twice known.number searched.followed.count old.number (with_next old runner).top
-            known.number_is (top_is is.0) kept.0));
-      }
-      | inr stayed ↦ subst (λ r. IsSearched table (steps_of runner) r new_saved) (sym stayed.1) (record {
-        followed = stays table runner run saved (with_next old runner) stands known (makes is.0) new_saved
-            stayed.2;
-        partner = kept_as known.number (searched.followed.count + 1) old.number (with_next old runner).top
-            known.number_is (top_is is.0) (keeps_on known.number searched.followed.count kept_partner
-            (short known.number searched.followed.count old.number (with_next old runner).top
-            known.number_is (top_is is.0) stayed.0));
-      })
-    ]
-    searched_on (inr is) =
-        subst (λ r. IsSearched table (steps_of runner) r new_saved) (sym is.2)
-        (subst (IsSearched table (steps_of runner) (with_next old runner)) (sym is.3) (record {
-          followed = known;
-          partner = λ number count number_is count_is. searched.partner number count number_is
-              (sym (same_max old.top (out old.side (position_of runner))
-              (not_less old.top (out old.side (position_of runner)) is.0)) ∙ count_is);
-        }))
+  module _ (made : MakesRecord table side (n + 1)) where
+    made_there : MakesRecord table old.side (n + 1)
+    made_there = subst (λ s. MakesRecord table s (n + 1)) (sym side_is) made
+
+    pub side_ready : IsSound run → IsReady new runner saved run
+    side_ready sound = subst (λ r. IsReady r runner saved run) (sym new_is)
+        (ready table n runner run saved old stands next searched made_there sound)
+
+    pub side_ends : (looked : Records) (looked_saved : Strip) (verdict : Verdict)
+        → Compares new runner run saved looked looked_saved (Some verdict)
+        → EndsWith table side (steps_of runner) verdict
+    side_ends looked looked_saved verdict is =
+        subst (λ s. EndsWith table s (steps_of runner) verdict) side_is
+        (ends_with table n runner run saved old stands next searched made_there looked looked_saved verdict
+        (subst (λ r. Compares r runner run saved looked looked_saved (Some verdict)) new_is is))
+
+    pub side_goes_on : (looked : Records) (looked_saved : Strip)
+        → Compares new runner run saved looked looked_saved None → looked.side ≡ new.side
+        → GoesOn table (steps_of runner) side looked looked_saved
+    side_goes_on looked looked_saved is same =
+        subst (λ s. GoesOn table (steps_of runner) s looked looked_saved) side_is
+        (goes_on table n runner run saved old stands next searched made_there looked looked_saved
+        (subst (λ r. Compares r runner run saved looked looked_saved None) new_is is)
+        (same ∙ ap (λ (r : Records). r.side) new_is))

@@ -1,76 +1,39 @@
 //! Which record of a side is kept while a search goes on, to be compared with the next.
-ghost use Rattle.std.specs.Prelude.{◌≡◌, IfOk, IsTrue, OnErr};
-ghost use Rattle.bb_tape.specs.Strip.{IsBeside};
-ghost use Rattle.bb_sim.specs.Runner.{position_of};
-ghost use Rattle.bb_decide.specs.Follow.{Compares, IsNextRecord, IsReady, TakesIn, with_next};
+ghost use Rattle.std.specs.Prelude.{◌≡◌, IfOk, IfSome, IsTrue, OnErr};
+ghost use Rattle.bb_cert.specs.Verdict.{HasNumbers};
+ghost use Rattle.bb_decide.specs.Follow.{Compares, IsReady};
 
-use bb_cert::Extent;
+use bb_cert::Verdict;
 use bb_cert::side_records::Records;
 use bb_sim::Runner;
 use bb_tape::{Memory, Tape};
 
-/// The kept record, with which the last one agrees.
-#[derive(Clone, Copy, Debug)]
-pub struct Partner {
-    /// The step that made it.
-    pub step: u64,
-    /// How the two lie.
-    pub extent: Extent,
-}
-
-/// Takes in the configuration that the runner has come to. Where it makes a record that agrees with the kept
-/// one, that one; else the record is kept, if it is its turn.
+/// Compares the record that the runner has just made with the kept one. The verdict where they agree; else the
+/// record is kept, if it is its turn. The records and the runner are locals of a loop: they stay in registers,
+/// since what is out of line gets copies of them.
 #[inline(always)]
-pub fn take_in<T: Tape>(
+pub fn look<T: Tape>(
     records: &mut Records,
     runner: &Runner,
     run: &T,
     saved: &mut T,
-) -> Result<Option<Partner>, Memory>
-    requires near { IsBeside (T.strip run.now) (position_of runner.now) }
-    requires limit { (T.strip saved.old).limit ≡ (T.strip run.now).limit }
-    requires ready { IsNextRecord records.old runner.now
-        → IsReady (with_next records.old runner.now) runner.now (T.strip saved.old) (T.strip run.now) }
-    ensures taken { IfOk result (TakesIn records.old runner.now (T.strip run.now) (T.strip saved.old)
-        records.new (T.strip saved.new)) }
-    ensures side { records.new.side ≡ records.old.side }
-    ensures limit { (T.strip saved.new).limit ≡ (T.strip saved.old).limit }
-    ensures memory { OnErr result (IsTrue T.GROWS) }
-{
-    if !records.follow(runner.position()) {
-        return Ok(None);
-    }
-    let found = look(records, runner, run, saved)?;
-    Ok(found)
-}
-
-/// Compares the record that was just made with the kept one, and keeps it if it is its turn. The records and
-/// the runner are locals of a loop: they stay in registers, since what is out of line gets copies of them.
-#[inline(always)]
-fn look<T: Tape>(
-    records: &mut Records,
-    runner: &Runner,
-    run: &T,
-    saved: &mut T,
-) -> Result<Option<Partner>, Memory>
+) -> Result<Option<Verdict>, Memory>
     requires limit { (T.strip saved.old).limit ≡ (T.strip run.now).limit }
     requires ready { IsReady records.old runner.now (T.strip saved.old) (T.strip run.now) }
     ensures compared { IfOk result (Compares records.old runner.now (T.strip run.now) (T.strip saved.old)
         records.new (T.strip saved.new)) }
+    ensures numbers { IfOk result (λ found. IfSome found HasNumbers) }
     ensures side { records.new.side ≡ records.old.side }
     ensures limit { (T.strip saved.new).limit ≡ (T.strip saved.old).limit }
     ensures memory { OnErr result (IsTrue T.GROWS) }
 {
     let mut looked = *records;
     let found = compare_and_keep(&mut looked, *runner, run, saved)?;
-    records.number = looked.number;
-    records.kept = looked.kept;
-    records.far = looked.far;
+    records.keep_as(&looked);
     Ok(found)
 }
 
-/// Compares the record that was just made with the kept one, and keeps it if its number is at least twice the
-/// other.
+/// `look`, out of line. A record is kept if its number is at least twice that of the kept one.
 #[cold]
 #[inline(never)]
 fn compare_and_keep<T: Tape>(
@@ -78,23 +41,25 @@ fn compare_and_keep<T: Tape>(
     runner: Runner,
     run: &T,
     saved: &mut T,
-) -> Result<Option<Partner>, Memory>
+) -> Result<Option<Verdict>, Memory>
     requires limit { (T.strip saved.old).limit ≡ (T.strip run.now).limit }
     requires ready { IsReady records.old runner (T.strip saved.old) (T.strip run.now) }
     ensures compared { IfOk result (Compares records.old runner (T.strip run.now) (T.strip saved.old)
         records.new (T.strip saved.new)) }
+    ensures numbers { IfOk result (λ found. IfSome found HasNumbers) }
     ensures side { records.new.side ≡ records.old.side }
-    ensures top { records.new.top ≡ records.old.top }
     ensures limit { (T.strip saved.new).limit ≡ (T.strip saved.old).limit }
     ensures memory { OnErr result (IsTrue T.GROWS) }
 {
     if records.agrees(&runner, run, saved) {
-        return Ok(Some(Partner {
-            step: records.kept.steps(),
-            extent: records.extent(),
+        return Ok(Some(Verdict::Translated {
+            side: records.side,
+            first: records.kept.steps(),
+            second: runner.steps(),
+            extent: Some(records.extent(&runner)),
         }));
     }
-    if records.top < 2 * records.number {
+    if runner.position().unsigned_abs() < 2 * records.kept.position().unsigned_abs() {
         return Ok(None);
     }
     let Ok(()) = saved.copy_from(run) else {

@@ -10,8 +10,8 @@ ghost use Rattle.bb_decide.specs.Sure.{FindsAgreeingRecords};
 ghost use Rattle.bb_decide.specs.Translation.{FindsTranslation};
 
 use crate::bench::Bench;
-use crate::keeping::take_in;
-use bb_cert::side_records::Records;
+use crate::keeping::look;
+use bb_cert::side_records::{Records, widened_side};
 use bb_cert::{Side, Verdict};
 use bb_machine::{Limits, Machine};
 use bb_sim::{Meter, Moved, Runner};
@@ -74,6 +74,7 @@ fn run<T: Tape>(
     let mut left = Records::new(Side::L, runner);
     meter.most_cells = meter.most_cells.max(1);
     loop {
+        let cells = runner.cells();
         match runner.advance(machine, &mut bench.run, limits, meter)? {
             Moved::Stepped => {}
             _ => return Ok(None),
@@ -82,27 +83,19 @@ fn run<T: Tape>(
         let Some(_) = runner.state() else {
             return Ok(None);
         };
-        match take_in(&mut right, &runner, &bench.run, &mut bench.right)? {
-            Some(partner) => {
-                return Ok(Some(Verdict::Translated {
-                    side: Side::R,
-                    first: partner.step,
-                    second: runner.steps(),
-                    extent: Some(partner.extent),
-                }));
-            }
+        right.pass(runner.position());
+        left.pass(runner.position());
+        // A record is made exactly where the window becomes wider.
+        match widened_side(&runner, cells) {
             None => {}
-        }
-        match take_in(&mut left, &runner, &bench.run, &mut bench.left)? {
-            Some(partner) => {
-                return Ok(Some(Verdict::Translated {
-                    side: Side::L,
-                    first: partner.step,
-                    second: runner.steps(),
-                    extent: Some(partner.extent),
-                }));
-            }
-            None => {}
+            Some(Side::R) => match look(&mut right, &runner, &bench.run, &mut bench.right)? {
+                Some(verdict) => return Ok(Some(verdict)),
+                None => {}
+            },
+            Some(Side::L) => match look(&mut left, &runner, &bench.run, &mut bench.left)? {
+                Some(verdict) => return Ok(Some(verdict)),
+                None => {}
+            },
         }
     }
 }

@@ -6,6 +6,7 @@ pub mod Outcomes
 pub mod LawLemmas
 pub mod RunLaws
 pub mod Counting
+pub mod Endings
 pub mod Pigeonhole
 pub mod Encoding
 pub mod FewCells

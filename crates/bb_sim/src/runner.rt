@@ -230,8 +230,6 @@ impl Runner {
     /// How many cells the window has.
     #[inline]
     pub fn cells(&self) -> u64
-        requires order { low_of self.now ≤ℤ high_of self.now }
-        requires small { cells_between (low_of self.now) (high_of self.now) ≤ MOST_CELLS }
         ensures { result ≡ cells_between (low_of self.now) (high_of self.now) }
     {
         self.cells

@@ -2,6 +2,7 @@ use Rattle.std.proofs.Common.{◌≡◌, Bool, true, false, sym}
 use Rattle.bb_cert.proofs.ClaimChecks.{fits_there, translated_cut}
 use Rattle.bb_cert.proofs.Extents.{said_as_found}
 use Rattle.bb_cert.proofs.KeptCourses.{comparable_at, extent_at, kept_at, no_pair_at, pair_at}
+use Rattle.bb_cert.proofs.Positions.{starts}
 use Rattle.bb_cert.proofs.checking.check_translated.Goals as goal
 
 pub returns-in-Some-clause-checks : goal.returns-in-Some-clause-checks
@@ -20,7 +21,8 @@ agreement-requires-clause-comparable g c =
     let begun = rw (c.in-None.is, c.begin-runner.ensures.at.at) at c.in_ok-answer.ensures.follows in
     let second = rw (c.in-None-2.is, c.with_steps-limits.ensures) at c.in_ok-answer-2.ensures.runs in
     let goes = rw (c.in-None-2.is, first.at) at c.in_ok-answer-2.ensures.follows in
-    let kept = kept_at _ _ _ _ _ _ _ _ _ c.new.ensures begun first.under_way.stands first.at
+    let start = starts _ _ _ c.begin-runner.ensures.at.under_way.stands c.begin-runner.ensures.at.at in
+    let kept = kept_at _ _ _ _ _ _ _ _ _ start c.new.ensures begun first.under_way.stands first.at
     c.keep.ensures in
     let saved = rw (sym c.in-Ok.ensures.ok) at kept in
     comparable_at _ _ _ _ _ _ _ _ _ saved goes second.under_way.stands second.at
@@ -31,7 +33,8 @@ returns-in_default-agreement-clause-checks g c =
     let begun = rw (c.in-None.is, c.begin-runner.ensures.at.at) at c.in_ok-answer.ensures.follows in
     let second = rw (c.in-None-2.is, c.with_steps-limits.ensures) at c.in_ok-answer-2.ensures.runs in
     let goes = rw (c.in-None-2.is, first.at) at c.in_ok-answer-2.ensures.follows in
-    let kept = kept_at _ _ _ _ _ _ _ _ _ c.new.ensures begun first.under_way.stands first.at
+    let start = starts _ _ _ c.begin-runner.ensures.at.under_way.stands c.begin-runner.ensures.at.at in
+    let kept = kept_at _ _ _ _ _ _ _ _ _ start c.new.ensures begun first.under_way.stands first.at
     c.keep.ensures in
     let saved = rw (sym c.in-Ok.ensures.ok) at kept in (
       fits_there _ c.args.limits.now _ _ _ _ second,
@@ -48,7 +51,8 @@ returns-then-not-is_as_told-clause-checks g c =
     let begun = rw (c.in-None.is, c.begin-runner.ensures.at.at) at c.in_ok-answer.ensures.follows in
     let second = rw (c.in-None-2.is, c.with_steps-limits.ensures) at c.in_ok-answer-2.ensures.runs in
     let goes = rw (c.in-None-2.is, first.at) at c.in_ok-answer-2.ensures.follows in
-    let kept = kept_at _ _ _ _ _ _ _ _ _ c.new.ensures begun first.under_way.stands first.at
+    let start = starts _ _ _ c.begin-runner.ensures.at.under_way.stands c.begin-runner.ensures.at.at in
+    let kept = kept_at _ _ _ _ _ _ _ _ _ start c.new.ensures begun first.under_way.stands first.at
     c.keep.ensures in
     let saved = rw (sym c.in-Ok.ensures.ok) at kept in
     let agree = c.in-Some-agreement.ensures.agree in
@@ -64,7 +68,8 @@ returns-clause-checks g c =
     let begun = rw (c.in-None.is, c.begin-runner.ensures.at.at) at c.in_ok-answer.ensures.follows in
     let second = rw (c.in-None-2.is, c.with_steps-limits.ensures) at c.in_ok-answer-2.ensures.runs in
     let goes = rw (c.in-None-2.is, first.at) at c.in_ok-answer-2.ensures.follows in
-    let kept = kept_at _ _ _ _ _ _ _ _ _ c.new.ensures begun first.under_way.stands first.at
+    let start = starts _ _ _ c.begin-runner.ensures.at.under_way.stands c.begin-runner.ensures.at.at in
+    let kept = kept_at _ _ _ _ _ _ _ _ _ start c.new.ensures begun first.under_way.stands first.at
     c.keep.ensures in
     let saved = rw (sym c.in-Ok.ensures.ok) at kept in
     let agree = c.in-Some-agreement.ensures.agree in

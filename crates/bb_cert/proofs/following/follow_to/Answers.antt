@@ -1,10 +1,8 @@
-use Rattle.std.proofs.Common.{◌∙◌, refl, sym, subst, w64, rules, FitsSigned, arith}
-use Rattle.std.proofs.lemmas.Int.{to_z-of_z}
+use Rattle.std.proofs.Common.{◌∙◌, refl, subst, arith}
 use Rattle.bb_sim.specs.Runner.{steps_of}
 use Rattle.bb_cert.specs.Checks.{GoesOn}
 use Rattle.bb_cert.proofs.Courses.{goes_nowhere, goes-next}
-use Rattle.bb_cert.proofs.Positions.{head_at-is}
-use Rattle.bb_cert.proofs.UnderWay.{near_high, near_low, under_way_within}
+use Rattle.bb_cert.proofs.UnderWay.{under_way_within}
 use Rattle.bb_cert.proofs.following.follow_to.Goals as goal
 
 pub loop-runner-init : goal.loop-runner-init
@@ -18,18 +16,6 @@ loop-runner-init g c = record {
 pub step_on-requires-clause-under_way : goal.step_on-requires-clause-under_way
 step_on-requires-clause-under_way g c = c.loop-runner.invariant.under_way
 
-pub follow-course-requires-clause-low : goal.follow-course-requires-clause-low
-follow-course-requires-clause-low g c =
-    let one_on = rw c.in-None.is at c.in_ok-answer.ensures.steps in
-    let fits : FitsSigned w64 c.position.result = search rules in
-    simp to_z-of_z (rw c.position.ensures (near_low _ _ (g.met.T.Tape.sound c.step_on.new.tape) one_on.near))
-
-pub follow-course-requires-clause-high : goal.follow-course-requires-clause-high
-follow-course-requires-clause-high g c =
-    let one_on = rw c.in-None.is at c.in_ok-answer.ensures.steps in
-    let fits : FitsSigned w64 c.position.result = search rules in
-    simp to_z-of_z (rw c.position.ensures (near_high _ _ (g.met.T.Tape.sound c.step_on.new.tape) one_on.near))
-
 pub loop-runner-preserved : goal.loop-runner-preserved
 loop-runner-preserved g c =
     let here = c.loop-runner.invariant in
@@ -37,15 +23,12 @@ loop-runner-preserved g c =
     let more = one_on.one_more in
     let before = c.loop-runner-test.true in
     let steps = c.steps.ensures in
-    let stands = one_on.under_way.stands in
-    let fits : FitsSigned w64 c.position.result = search rules in
-    let follows = simp to_z-of_z at c.follow-course.ensures in
     record {
       under_way = one_on.under_way;
       ahead = omega (arith, more, before, steps);
       limit = c.step_on.ensures.limit ∙ here.limit;
-      goes_on = goes-next _ _ _ _ _ _ _ _ here.goes_on more (record { here = _; exists = stands.at })
-          (c.position.ensures ∙ sym (head_at-is _ _ _ stands.at)) follows.taken follows.told;
+      goes_on = goes-next _ _ _ _ _ _ _ _ _ _ here.goes_on here.under_way.stands one_on.under_way.stands more
+          c.cells-cells.ensures c.pass.ensures;
     }
 
 pub returns-in_err-answer-clause-limit : goal.returns-in_err-answer-clause-limit

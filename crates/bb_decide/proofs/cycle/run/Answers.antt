@@ -1,26 +1,23 @@
 use Rattle.std.proofs.Common.{◌≡◌, ◌*◌, ◌∙◌, refl, ap, arith}
 use Rattle.bb_machine.specs.declared.entry.Next.TheVariants.{Halt}
 use Rattle.bb_sim.specs.Runner.{state_of, steps_of}
-use Rattle.bb_sim.proofs.Facts.{counts_next, counts_stopped, count_is_within, halts_last, stopped}
+use Rattle.bb_sim.proofs.Facts.{IsEnd, counts_next, ends_in_Z, ends_stopped, stopped}
 use Rattle.bb_cert.proofs.Facts.{alike_of_same, same_of_alike, repeats_never_halt}
 use Rattle.bb_decide.proofs.Cycles.{first_cycle, no_cycle_next}
-use Rattle.bb_decide.proofs.Halting.{halts_in_Z, in_no_state, no_pair_in_Z}
+use Rattle.bb_decide.proofs.Halting.{in_no_state, no_pair_in_Z}
 use Rattle.bb_decide.proofs.Partners.{kept_below, keeps_next, keeps_on}
 use Rattle.bb_decide.proofs.cycle.run.Goals as goal
+use Rattle.bb_decide.proofs.cycle.run.Given as given
 
 pub returns-in_default : goal.returns-in_default
 returns-in_default g c =
     let here = c.loop-runner.invariant in
-    let stop = stopped _ _ _ _ _ _ _ _ c.in_ok-advance.field-0 c.in_default.not-Stepped
-    c.in_ok-advance.ensures.reaches c.in_ok-advance.ensures.moves in
-    let same = ap (λ r. steps_of r) stop.stays.runner in
-    let counts = counts_stopped _ _ _ _ _ _ _ _ _ stop here.meter in
+    let end = ends_stopped (stopped _ _ _ _ _ _ _ _ c.in_ok-advance.field-0 c.in_default.not-Stepped
+    c.in_ok-advance.ensures.reaches c.in_ok-advance.ensures.moves) here.meter in
     record {
-      found = λ a t cycle.
-          let few = stop.last.greatest t cycle.inside in
-          here.none a t (omega (arith, few, same)) cycle;
-      counted = record { last = _; is_last = stop.last; counts = counts };
-      within = count_is_within _ _ _ _ _ stop.last.inside counts;
+      found = λ a t cycle. here.none a t (end.last.greatest t cycle.inside) cycle;
+      counted = end.counted;
+      within = end.within;
       never = tt;
       claim = tt;
       numbers = tt;
@@ -119,14 +116,22 @@ loop-runner-preserved g c =
           cc));
     }
 
+-- a step into Z ends the run
+in_Z : (g : given.Over) (c : goal.In_default-state g)
+    → IsEnd c.args.machine.now c.args.limits.now (steps_of c.advance.new.self) c.args.meter.now c.advance.new.meter
+in_Z g c =
+    let moves = rw c.in-Stepped.is at c.in_ok-advance.ensures.moves in
+    let reaches = rw c.in-Stepped.is at c.in_ok-advance.ensures.reaches in
+    ends_in_Z c.in_ok-advance.ensures.stands (in_no_state _ _ c.state.ensures c.in_default-state.not-Some) reaches.0
+    (rw moves.0 (counts_next _ _ _ _ _ c.loop-runner.invariant.meter moves.1))
+
 pub returns-in_default-state-clause-found : goal.returns-in_default-state-clause-found
 returns-in_default-state-clause-found g c =
     let here = c.loop-runner.invariant in
     let moves = rw c.in-Stepped.is at c.in_ok-advance.ensures.moves in
-    let reaches = rw c.in-Stepped.is at c.in_ok-advance.ensures.reaches in
     let halts : state_of c.advance.new.self ≡ Halt =
     in_no_state _ _ c.state.ensures c.in_default-state.not-Some in
-    let last = halts_last _ _ _ reaches.0 (halts_in_Z _ _ _ c.in_ok-advance.ensures.stands halts) in
+    let last = (in_Z g c).last in
     let below = kept_below _ _ here.partner in
     λ a t cycle.
     no_cycle_next _ _ _ _ here.partner here.none (λ same.
@@ -136,14 +141,4 @@ returns-in_default-state-clause-found g c =
     a t (let few = last.greatest t cycle.inside in omega (arith, moves.0, few)) cycle
 
 pub returns-in_default-state-clause-counted : goal.returns-in_default-state-clause-counted
-returns-in_default-state-clause-counted g c =
-    let here = c.loop-runner.invariant in
-    let moves = rw c.in-Stepped.is at c.in_ok-advance.ensures.moves in
-    let reaches = rw c.in-Stepped.is at c.in_ok-advance.ensures.reaches in
-    let halts : state_of c.advance.new.self ≡ Halt =
-    in_no_state _ _ c.state.ensures c.in_default-state.not-Some in
-    record {
-      last = _;
-      is_last = halts_last _ _ _ reaches.0 (halts_in_Z _ _ _ c.in_ok-advance.ensures.stands halts);
-      counts = rw moves.0 (counts_next _ _ _ _ _ here.meter moves.1);
-    }
+returns-in_default-state-clause-counted g c = (in_Z g c).counted

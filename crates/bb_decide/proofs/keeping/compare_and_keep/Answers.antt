@@ -1,82 +1,63 @@
-use Rattle.std.proofs.Common.{◌≡◌, ◌∙◌, ℤ, pos, ◌*ℤ◌, ◌≤ℤ◌, inl, inr, false, int_lt, w64, arith, rules, refl}
-use Rattle.std.proofs.Common.{FitsSigned}
+use Rattle.std.proofs.Common.{◌≡◌, ℕ, ◌*◌, ◌<◌, ◌≤◌, ℤ, pos, ◌*ℤ◌, ◌≤ℤ◌, ap, inl, inr, arith, refl, w64, rules}
+use Rattle.std.proofs.Common.{◌∙◌, FitsSigned}
 use Rattle.std.specs.Prelude.{◌<ℤ◌}
 use Rattle.std.proofs.lemmas.Int.{ints, to_z-of_z}
-use Rattle.bb_cert.proofs.Facts.{are_narrow, doubled_fits, limit_kept, narrow_fits}
+use Rattle.bb_sim.specs.Runner.{position_of}
+use Rattle.bb_cert.proofs.Facts.{are_narrow, out_as_far}
 use Rattle.bb_decide.proofs.keeping.compare_and_keep.Goals as goal
 
-pub agrees-requires-clause-comparable : goal.agrees-requires-clause-comparable
-agrees-requires-clause-comparable g c = c.requires.ready.comparable
+pub extent-requires-clause-nearest : goal.extent-requires-clause-nearest
+extent-requires-clause-nearest g c =
+    (are_narrow (g.met.T.Tape.sound c.args.saved.now) (g.met.T.Tape.sound c.args.run.now)
+    (c.requires.ready.comparable (c.agrees.ensures.agree.0 c.if-agrees.true).0)).nearest
 
 pub returns-then-agrees-clause-compared : goal.returns-then-agrees-clause-compared
-returns-then-agrees-clause-compared g c =
-    (c.agrees.ensures.agree.0 c.if-agrees.true, c.steps.ensures, c.extent.ensures)
+returns-then-agrees-clause-compared g c = (
+  c.agrees.ensures.agree.0 c.if-agrees.true,
+  record {
+    extent = c.extent.result;
+    is = rw (c.steps.ensures, c.steps-then-agrees.ensures) refl;
+    lies = c.extent.ensures;
+  },
+)
 
-pub extent-requires-clause-far : goal.extent-requires-clause-far
-extent-requires-clause-far g c =
-    let both = c.agrees.ensures.agree.0 c.if-agrees.true in
-    (are_narrow _ _ _ (g.met.T.Tape.sound c.args.saved.now) (g.met.T.Tape.sound c.args.run.now)
-    (c.requires.ready.comparable both.0)).far
+-- numbers, compared by how far from 0 their positions are
+less_twice : (m n : ℕ) (p q : ℤ) → pos m ≡ p → pos n ≡ q → m < 2 * n → p <ℤ (pos 2 *ℤ q)
+less_twice m n p q a b h = omega (arith, ints, a, b, h)
 
-pub extent-requires-clause-order : goal.extent-requires-clause-order
-extent-requires-clause-order g c = (c.requires.ready.comparable (c.agrees.ensures.agree.0 c.if-agrees.true).0).order
+at_least_twice : (m n : ℕ) (p q : ℤ) → pos m ≡ p → pos n ≡ q → 2 * n ≤ m → (pos 2 *ℤ q) ≤ℤ p
+at_least_twice m n p q a b h = omega (arith, ints, a, b, h)
 
-pub extent-requires-clause-later : goal.extent-requires-clause-later
-extent-requires-clause-later g c = (c.requires.ready.comparable (c.agrees.ensures.agree.0 c.if-agrees.true).0).later
-
-pub returns-then-agrees-clause-limit : goal.returns-then-agrees-clause-limit
-returns-then-agrees-clause-limit g c =
-    limit_kept c.args.records.now (g.T.Tape.strip c.args.run.now)
-    (g.T.Tape.strip c.args.saved.now) _ c.agrees.ensures.saved
-
-pub overflow_mul-records : goal.overflow_mul-records
-overflow_mul-records g c =
-    let r = c.args.records.now in
-    let narrow = c.requires.ready.narrow in
-    let number_fits : FitsSigned w64 r.number = narrow_fits _ narrow in
-    let twice_fits : FitsSigned w64 (pos 2 *ℤ r.number) = doubled_fits _ narrow in
-    simp to_z-of_z twice_fits
-
-pub returns-then-records-clause-compared : goal.returns-then-records-clause-compared
-returns-then-records-clause-compared g c =
-    let r = c.args.records.now in
-    let narrow = c.requires.ready.narrow in
-    let number_fits : FitsSigned w64 r.number = narrow_fits _ narrow in
-    let twice_fits : FitsSigned w64 (pos 2 *ℤ r.number) = doubled_fits _ narrow in
-    let top_fits : FitsSigned w64 r.top = search rules in
-    let test = simp to_z-of_z at c.if-records.true in
-    let low : r.top <ℤ (pos 2 *ℤ r.number) = grind (arith, ints, test) in (
+pub returns-then-unsigned_abs-clause-compared : goal.returns-then-unsigned_abs-clause-compared
+returns-then-unsigned_abs-clause-compared g c =
+    let head_fits : FitsSigned w64 c.position.result = search rules in
+    let kept_fits : FitsSigned w64 c.position-2.result = search rules in
+    let head = rw c.position.ensures at (simp to_z-of_z at c.unsigned_abs.ensures.value) in
+    let kept = rw c.position-2.ensures at (simp to_z-of_z at c.unsigned_abs-2.ensures.value) in (
       λ both. let yes = c.agrees.ensures.agree.1 both in let no = c.if-agrees.false in cc,
-      inr (low, refl, c.agrees.ensures.saved),
+      inr (
+        less_twice _ _ _ _ (ap pos head ∙ out_as_far c.args.records.now.side (position_of c.args.runner)
+            c.requires.ready.head_out)
+            (ap pos kept ∙ out_as_far c.args.records.now.side (position_of c.args.records.now.kept)
+            c.requires.ready.kept_out) c.if-unsigned_abs.true,
+        refl,
+        c.agrees.ensures.saved,
+      ),
     )
-
-pub returns-then-records-clause-limit : goal.returns-then-records-clause-limit
-returns-then-records-clause-limit g c =
-    limit_kept c.args.records.now (g.T.Tape.strip c.args.run.now)
-    (g.T.Tape.strip c.args.saved.now) _ c.agrees.ensures.saved
-
-pub copy_from-requires : goal.copy_from-requires
-copy_from-requires g c =
-    limit_kept c.args.records.now (g.T.Tape.strip c.args.run.now)
-    (g.T.Tape.strip c.args.saved.now) _ c.agrees.ensures.saved ∙ c.requires.limit
-
-pub returns-in_default-clause-limit : goal.returns-in_default-clause-limit
-returns-in_default-clause-limit g c = c.in_default.ensures.limit
-    ∙ limit_kept c.args.records.now (g.T.Tape.strip c.args.run.now)
-    (g.T.Tape.strip c.args.saved.now) _ c.agrees.ensures.saved
-
-not_below : (p q : ℤ) → int_lt p q ≡ false → q ≤ℤ p
-not_below p q test = grind (arith, ints)
 
 pub returns-clause-compared : goal.returns-clause-compared
 returns-clause-compared g c =
-    let r = c.args.records.now in
-    let narrow = c.requires.ready.narrow in
-    let number_fits : FitsSigned w64 r.number = narrow_fits _ narrow in
-    let twice_fits : FitsSigned w64 (pos 2 *ℤ r.number) = doubled_fits _ narrow in
-    let top_fits : FitsSigned w64 r.top = search rules in
-    let test = simp to_z-of_z at c.if-records.false in
-    let high : (pos 2 *ℤ r.number) ≤ℤ r.top = not_below _ _ test in (
+    let head_fits : FitsSigned w64 c.position.result = search rules in
+    let kept_fits : FitsSigned w64 c.position-2.result = search rules in
+    let head = rw c.position.ensures at (simp to_z-of_z at c.unsigned_abs.ensures.value) in
+    let kept = rw c.position-2.ensures at (simp to_z-of_z at c.unsigned_abs-2.ensures.value) in (
       λ both. let yes = c.agrees.ensures.agree.1 both in let no = c.if-agrees.false in cc,
-      inl (high, c.keep.ensures, c.in-Ok.ensures.ok),
+      inl (
+        at_least_twice _ _ _ _ (ap pos head ∙ out_as_far c.args.records.now.side (position_of c.args.runner)
+            c.requires.ready.head_out)
+            (ap pos kept ∙ out_as_far c.args.records.now.side (position_of c.args.records.now.kept)
+            c.requires.ready.kept_out) c.if-unsigned_abs.false,
+        c.keep.ensures,
+        c.in-Ok.ensures.ok,
+      ),
     )

@@ -1,0 +1,61 @@
+-- What is known where a run ends, whichever way it does.
+use Rattle.std.proofs.Common.{◌≡◌, ℕ, ap, subst}
+use Rattle.bb_machine.specs.declared.entry.Next.TheVariants.{Halt}
+use Rattle.bb_machine.specs.Limits.{Bounds}
+use Rattle.bb_machine.specs.Machine.{Table}
+use Rattle.bb_tape.specs.Content.{cell}
+use Rattle.bb_tape.specs.Strip.{Strip}
+use Rattle.bb_sim.specs.declared.meter.Meter.{Meter}
+use Rattle.bb_sim.specs.declared.runner.Runner.{Runner}
+use Rattle.bb_sim.specs.Configuration.{Configuration, entry_at, followed, next}
+use Rattle.bb_sim.specs.Meter.{CountsRun, CountsTo, IsWithinRun}
+use Rattle.bb_sim.specs.Run.{HaltsAt}
+use Rattle.bb_sim.specs.Runner.{Stands, position_of, state_of, steps_of}
+use Rattle.bb_sim.specs.Span.{Inside, IsLastInside}
+use Rattle.bb_sim.proofs.Counting.{Stopped, counts_stopped}
+use Rattle.bb_sim.proofs.Outcomes.{halts_last}
+use Rattle.bb_sim.proofs.RunLaws.{count_is_within}
+
+-- it ends at the last step inside, and was counted up to there
+pub record IsEnd (table : Table) (bounds : Bounds) (n : ℕ) (first meter : Meter) : Type 0 where
+  pub last : IsLastInside table bounds n
+  pub counted : CountsRun table bounds first meter
+  pub within : IsWithinRun bounds first meter
+
+ends_at : (table : Table) (bounds : Bounds) (n : ℕ) (first meter : Meter) → IsLastInside table bounds n
+    → CountsTo table n first meter → IsEnd table bounds n first meter
+ends_at table bounds n first meter last counts = record {
+  last = last;
+  counted = record { last = n; is_last = last; counts = counts };
+  within = count_is_within table bounds n first meter last.inside counts;
+}
+
+-- where a call doesn't step
+pub ends_stopped : {table : Table} {bounds : Bounds} {old new : Runner} {strip_old strip_new : Strip}
+    {first meter_old meter_new : Meter}
+    → Stopped table bounds old new strip_old strip_new meter_old meter_new
+    → CountsTo table (steps_of old) first meter_old → IsEnd table bounds (steps_of old) first meter_new
+ends_stopped {table} {bounds} {old} {new} {strip_old} {strip_new} {first} {meter_old} {meter_new} stop counts =
+    subst (λ r. IsEnd table bounds (steps_of r) first meter_new) stop.stays.runner
+    (ends_at table bounds (steps_of new) first meter_new stop.last
+    (counts_stopped table bounds old new strip_old strip_new meter_old meter_new first stop counts))
+
+-- a runner in Z stands where the machine halts
+pub halts_in_Z : (table : Table) (runner : Runner) (run : Strip) → Stands table runner run
+    → state_of runner ≡ Halt → HaltsAt table (steps_of runner)
+unfolding next
+halts_in_Z table runner run stands halts = record {
+  last = _;
+  exists = stands.at;
+  no_next =
+      let c : Configuration = record { state = state_of runner; head = position_of runner; tape = run.content } in
+      ap (λ s. followed (entry_at table s (cell c.tape c.head)) c) halts;
+}
+
+-- where a step goes into Z
+pub ends_in_Z : {table : Table} {bounds : Bounds} {runner : Runner} {run : Strip} {first meter : Meter}
+    → Stands table runner run → state_of runner ≡ Halt → Inside table bounds (steps_of runner)
+    → CountsTo table (steps_of runner) first meter → IsEnd table bounds (steps_of runner) first meter
+ends_in_Z {table} {bounds} {runner} {run} {first} {meter} stands halts inside counts =
+    ends_at table bounds (steps_of runner) first meter
+    (halts_last table bounds (steps_of runner) inside (halts_in_Z table runner run stands halts)) counts
