@@ -6,7 +6,7 @@ ghost use Rattle.bb_tape.specs.Strip.{fresh, IsBeside, IsInside};
 mod ring;
 
 use bb_tape::reach::reach;
-use bb_tape::{MOST_SYMBOL, MapTape, Memory, RingTape, Tape, TapeFault};
+use bb_tape::{MOST_SYMBOL, MapTape, RingTape, Tape, TapeFault};
 use linked_list_allocator::LocalHeap;
 use std::process::Abort;
 use std::test::Fail;
@@ -125,13 +125,13 @@ fn rows_over_a_ring(rt: HostRuntime) -> Result<(), Fail> {
     Ok(())
 }
 
-/// Run with its one allocation refused, this shows that the answer is then `Memory`.
+/// With ample memory a ring is made. Run with its one allocation refused, this fails at the maker's answer.
 #[test]
-fn a_ring_is_made_or_refused(rt: HostRuntime) {
-    match RingTape::new(rt.alloc(), 70) {
-        Ok(tape) => assert_eq!(rt; (tape.limit(), tape.score(), tape.high()), (70, 0, 0)),
-        Err(Memory) => {}
-    }
+fn a_ring_is_made_where_there_is_memory(rt: HostRuntime) {
+    let tape = RingTape::new(rt.alloc(), 70).expect(&rt, "a ring");
+    assert_eq!(rt; (tape.limit(), tape.score()), (70, 0));
+    assert_eq!(rt; (tape.low(), tape.high()), (0, 0));
+    assert!(rt; (-70..71).all(|p| tape.read(p) == 0));
 }
 
 /// Puts symbols into the cells from `from` on, below `cells`, and gives the first that was refused, or
