@@ -8,27 +8,15 @@ use bb_run::Summary;
 use std::process::Abort;
 use std::test::Fail;
 
-const SIMULATION: [&str; 5] = [
-    "bb",
-    "decide",
-    "--no-cyclers",
-    "--no-translated",
-    "--no-backward",
-];
-
-/// What these options ask for, with all deciders off.
-fn asked(rt: &(impl Abort + AllocGlobal), options: &[&'static str]) -> Asked {
-    let mut words: Vec<&str> = SIMULATION.to_vec(rt.alloc()).expect(rt, "memory");
-    words.extend_from_slice(options).expect(rt, "memory");
-    ask(rt.alloc(), words.as_slice()).expect(rt, "a command line")
-}
-
+/// What `decide` with these options ends in and writes.
 fn decided(
     rt: &(impl Abort + AllocGlobal),
     options: &[&'static str],
     input: &[u8],
 ) -> (Result<Summary, Fault>, Vec<u8>) {
-    let asked = asked(rt, options);
+    let mut words: Vec<&str> = ["bb", "decide"].to_vec(rt.alloc()).expect(rt, "memory");
+    words.extend_from_slice(options).expect(rt, "memory");
+    let asked = ask(rt.alloc(), words.as_slice()).expect(rt, "a command line");
     let mut reader = Watched::new(input);
     let mut writer = Watched::new(Vec::new(rt.alloc()));
     let end = serve(rt.alloc(), &asked, &mut reader, &mut writer);
@@ -54,17 +42,43 @@ fn refuses_long_lines(rt: HostRuntime) -> Result<(), Fail> {
     Ok(())
 }
 
+/// The program's stored run.
 #[test]
-fn sums_up(rt: HostRuntime) {
-    let (end, written) = decided(&rt, &[], b"1RB1LB_1LA1RZ\n1RA1RA\n1rB1LB\n");
+fn three_lines_are_decided_by_running_alone(rt: HostRuntime) {
+    let (end, written) = decided(
+        &rt,
+        &["--no-cyclers", "--no-translated", "--no-backward"],
+        b"1RB1LB_1LA1RZ\n1RA1RA\n1rB1LB\n",
+    );
     assert_eq!(rt;
         written.as_slice(),
         b"1RB1LB_1LA1RZ halt 6 4\n1RA1RA undecided cells\nrefused 2\n".as_slice()
     );
+    assert_eq!(rt; status(&end), 1);
     let summary = end.expect(&rt, "no fault");
     assert!(rt; !summary.clean);
     assert_eq!(rt; summary.peak.steps, 65_535);
     assert_eq!(rt; summary.peak.most_cells, 65_536);
+}
+
+/// The words of an end, and its status.
+#[test]
+fn ends_have_statuses(rt: HostRuntime) {
+    for (input, code) in [
+        (b"".as_slice(), 0),
+        (b"1RA1RA\n", 0),
+        (b"\n", 1),
+        (b"1RZ---\n1RB1LB_1LA1RC\n", 1),
+    ] {
+        assert_eq!(rt; status(&decided(&rt, &[], input).0), code);
+    }
+    for fault in [Fault::Memory, Fault::Read, Fault::Write] {
+        assert_eq!(rt; status(&Err(fault)), 3);
+    }
+    assert_eq!(rt; Stop::Memory.status(), 3);
+    assert_eq!(rt; stop(&rt, &["decide", "--cells=4"]).status(), 2);
+    assert_eq!(rt; stop(&rt, &["decide", "--cels=4"]).status(), 2);
+    assert_eq!(rt; stop(&rt, &["--help"]).status(), 0);
 }
 
 #[test]

@@ -1,6 +1,6 @@
 //! Lists and traces over broken streams: what is written by then, and which fault it is.
 
-use crate::lists::SIMULATION;
+use crate::lists::{ALL, DEFAULTS};
 use crate::streams::{Pieces, Sink};
 use bb_decide::Bench;
 use bb_lines::fault::Fault;
@@ -21,14 +21,15 @@ fn decided<R: Read + Drop>(
     reader: R,
     mut sink: Sink,
 ) -> (Result<Summary, Fault>, Sink) {
-    let limits = Limits::new(9, 9, 5, 9).expect(rt, "limits");
+    let [steps, cells, depth, nodes] = DEFAULTS;
+    let limits = Limits::new(steps, cells, depth, nodes).expect(rt, "limits");
     let run = RingTape::new(rt.alloc(), limits.cells()).expect(rt, "memory");
     let right = RingTape::new(rt.alloc(), limits.cells()).expect(rt, "memory");
     let left = RingTape::new(rt.alloc(), limits.cells()).expect(rt, "memory");
     let mut bench = Bench::new(rt.alloc(), run, right, left, &limits).expect(rt, "memory");
     let mut reader = Watched::new(reader);
     let mut writer = Watched::new(&mut sink);
-    let end = run_decide(&mut reader, &mut writer, &limits, SIMULATION, &mut bench);
+    let end = run_decide(&mut reader, &mut writer, &limits, ALL, &mut bench);
     assert_eq!(rt; reader.failed(), end == Err(Fault::Read));
     assert_eq!(rt; writer.failed(), end == Err(Fault::Write));
     (end, sink)

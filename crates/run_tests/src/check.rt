@@ -3,10 +3,9 @@ ghost use Rattle.std.specs.Prelude.{◌≡◌, ◌≤◌};
 ghost use Rattle.bb_cert.specs.Pair.{HasCells};
 ghost use Rattle.bb_cert.specs.Path.{depth_of};
 
-use crate::lists::{Four, Row, decided_on_rings};
+use crate::lists::{DEFAULTS, Row};
 use crate::streams::{Pieces, Sink};
 use bb_cert::{Pair, Path};
-use bb_decide::Plan;
 use bb_lines::fault::Fault;
 use bb_lines::watched::Watched;
 use bb_machine::Limits;
@@ -16,94 +15,135 @@ use std::io::{ErrorKind, Read};
 use std::process::Abort;
 use std::test::Fail;
 
-const SMALL: Four = [1_000, 64, 10, 100];
-
 static CLAIMS: [Row; 11] = [
-    (SMALL, b"1RB1LB_1LA1RZ halt 6 4\n", b"ok\n", true),
+    (DEFAULTS, b"1RB1LB_1LA1RZ halt 6 4\n", b"ok\n", true),
     (
-        SMALL,
+        DEFAULTS,
         b"1RB1LB_1LA1RZ halt 6 5\n1RB1LB_1LA1RZ halt 5 4\n1RB1LB_1LA1RZ halt 7 4\n",
         b"bad\nbad\nbad\n",
         false,
     ),
     (
-        [5, 64, 10, 100],
+        [5, 65_536, 300, 1_000_000],
         b"1RB1LB_1LA1RZ halt 6 4\n",
         b"over\n",
         false,
     ),
     (
-        [1_000, 3, 2, 100],
+        [1_000_000, 3, 2, 1_000_000],
         b"1RB1LB_1LA1RZ halt 6 4\n",
         b"over\n",
         false,
     ),
-    (SMALL, b"1RZ--- backward 1 2\n", b"bad\n", false),
+    (DEFAULTS, b"1RZ--- backward 1 2\n", b"bad\n", false),
     (
-        SMALL,
+        DEFAULTS,
         b"0RB---_0LA--- backward 2 4\n0RB---_0LA--- backward 2 3\n0RB---_0LA--- backward 3 4\n",
         b"ok\nbad\nbad\n",
         false,
     ),
     (
-        [1_000, 64, 10, 3],
+        [1_000_000, 65_536, 300, 3],
         b"0RB---_0LA--- backward 2 4\n",
         b"over\n",
         false,
     ),
-    (SMALL, b"1RB---_1LA--- backward 3 6\n", b"bad\n", false),
+    (DEFAULTS, b"1RB---_1LA--- backward 3 6\n", b"bad\n", false),
     (
-        [1_000, 64, 10, 4],
+        [1_000_000, 65_536, 300, 4],
         b"0RB---_0LA--- backward 2 4",
         b"ok\n",
         true,
     ),
     ([6, 4, 2, 0], b"1RB1LB_1LA1RZ halt 6 4\n", b"ok\n", true),
-    (SMALL, b"", b"", true),
+    (DEFAULTS, b"", b"", true),
 ];
 
 static PAIRS_AND_OTHERS: [Row; 8] = [
     (
-        SMALL,
+        DEFAULTS,
         b"0RB---_0LA--- cycler 0 2\n0RB---_0LA--- cycler 1 2\n0RB---_0LA--- cycler 2 2\n",
         b"ok\nbad\nbad\n",
         false,
     ),
-    (SMALL, b"------ cycler 0 1\n", b"bad\n", false),
+    (DEFAULTS, b"------ cycler 0 1\n", b"bad\n", false),
     (
-        SMALL,
+        DEFAULTS,
         b"1RA1RA translated R 2 5\n1RA1RA translated R 0 2\n",
         b"ok\nbad\n",
         false,
     ),
     (
-        SMALL,
+        DEFAULTS,
         b"1RB1RZ_1LB0RC_1LC1LA translated R 6 17\n",
         b"bad\n",
         false,
     ),
     (
-        SMALL,
+        DEFAULTS,
         b"1RA1RA undecided cells\nrefused 14\n",
         b"open\nopen\n",
         true,
     ),
     (
-        SMALL,
+        DEFAULTS,
         b"------ halt 00 0\n------ halt 0 0 \n------ halt 18446744073709551616 0\n",
         b"unread\nunread\nunread\n",
         false,
     ),
     (
-        SMALL,
+        DEFAULTS,
         b"------ halt 18446744073709551615 0\n",
         b"over\n",
         false,
     ),
     (
-        SMALL,
+        DEFAULTS,
         b"------ halt 0 0\n\n1RA1RA undecided steps\n------ halt 0 0",
         b"ok\nunread\nopen\nok\n",
+        false,
+    ),
+];
+
+/// Lines with a shift and a length, and lines that are none.
+static EXTENTS_AND_OTHERS: [Row; 6] = [
+    (
+        DEFAULTS,
+        b"1RA1RA translated R 1 2 1 1\n1RA1RA translated R 1 2\n1RA1RA translated R 2 5 3 1\n",
+        b"ok\nok\nok\n",
+        true,
+    ),
+    (
+        DEFAULTS,
+        b"1RA1RA translated R 1 2 1 2\n1RA1RA translated R 1 2 2 1\n\
+          1RA1RA translated R 1 2 18446744073709551615 1\n1RA1RA translated R 2 2 0 1\n",
+        b"bad\nbad\nbad\nbad\n",
+        false,
+    ),
+    (
+        DEFAULTS,
+        b"1RA1RA translated R 1 2 1\n1RA1RA translated R 1 2 01 1\n\
+          1RA1RA translated R 1 2 18446744073709551616 1\n",
+        b"unread\nunread\nunread\n",
+        false,
+    ),
+    (
+        DEFAULTS,
+        b"1RB0RA_1LA--- translated R 1 5 2 2\n1RB0RA_1LA--- translated R 1 5 2 1\n",
+        b"ok\nbad\n",
+        false,
+    ),
+    (
+        DEFAULTS,
+        b"refused 775\nrefused 776\nrefused 0\nrefused 01\nrefused 50\nrefused\n1RA1RA halt 1\n",
+        b"open\nunread\nunread\nunread\nopen\nunread\nunread\n",
+        false,
+    ),
+    (
+        DEFAULTS,
+        b"0RA0RA_0RA0RA_0RA0RA_0RA0RA_0RA0RA_0RA0RA_0RA0RA translated R \
+          18446744073709551615 18446744073709551615\n1RA1RA cycler 18446744073709551615 0\n",
+        b"over\nover\n",
         false,
     ),
 ];
@@ -191,6 +231,7 @@ pub(super) fn answers(rt: &(impl Abort + AllocGlobal), rows: &[Row]) {
 fn answers_claims(rt: HostRuntime) {
     answers(&rt, CLAIMS.as_slice());
     answers(&rt, PAIRS_AND_OTHERS.as_slice());
+    answers(&rt, EXTENTS_AND_OTHERS.as_slice());
 }
 
 #[test]
@@ -206,40 +247,6 @@ fn sums_up_claims(rt: HostRuntime) {
     assert_eq!(rt; summary.peak.most_cells, 4);
     assert_eq!(rt; summary.peak.nodes, 4);
     assert_eq!(rt; summary.peak.most_levels, 2);
-}
-
-/// All plans over four machines: each decided line is answered ok at the same limits, and all others are
-/// open.
-#[test]
-fn what_was_decided_is_ok(rt: HostRuntime) {
-    let machines =
-        b"1RB1LB_1LA1RZ\n0RB---_0LA---\n1RA1RA\n1RB0RB_1LA1LA\n1RB1LB_1LA1RC\n".as_slice();
-    let by_plan: [((bool, bool, bool), &[u8]); 8] = [
-        ((true, true, true), b"ok\nok\nok\nok\nopen\n"),
-        ((true, true, false), b"ok\nok\nok\nok\nopen\n"),
-        ((true, false, true), b"ok\nok\nok\nok\nopen\n"),
-        ((true, false, false), b"ok\nok\nopen\nok\nopen\n"),
-        ((false, true, true), b"ok\nok\nok\nok\nopen\n"),
-        ((false, true, false), b"ok\nopen\nok\nopen\nopen\n"),
-        ((false, false, true), b"ok\nok\nok\nok\nopen\n"),
-        ((false, false, false), b"ok\nopen\nopen\nopen\nopen\n"),
-    ];
-    for ((cyclers, translated, backward), output) in by_plan {
-        let plan = Plan {
-            cyclers,
-            translated,
-            backward,
-        };
-        let limits = Limits::new(1_000, 64, 10, 100).expect(&rt, "limits");
-        let (_, written) = decided_on_rings(&rt, &limits, plan, machines);
-        for (end, answered) in [
-            checked_on_rings(&rt, &limits, written.as_slice()),
-            checked_on_maps(&rt, &limits, written.as_slice()),
-        ] {
-            assert_eq!(rt; answered.as_slice(), output);
-            assert!(rt; end.expect(&rt, "no fault").clean);
-        }
-    }
 }
 
 /// How a line begins, the byte that follows, and the length of the line.

@@ -16,6 +16,8 @@ mod lists;
 #[cfg(test)]
 mod loops;
 #[cfg(test)]
+mod plans;
+#[cfg(test)]
 mod refusing;
 #[cfg(test)]
 mod streams;

@@ -92,7 +92,8 @@ static HALTS: [Row; 12] = [
     (DEFAULTS, b"", b"", true),
 ];
 
-static UNDECIDED: [Row; 13] = [
+/// What no decider settles.
+static LEFT_BY_ALL: [Row; 7] = [
     (
         [5, 4, 2, 1_000_000],
         b"1RB1LB_1LA1RZ\n",
@@ -130,6 +131,16 @@ static UNDECIDED: [Row; 13] = [
         true,
     ),
     (
+        [1, 65_536, 300, 1_000_000],
+        b"1RB---_1LA---\n",
+        b"1RB---_1LA--- undecided steps\n",
+        true,
+    ),
+];
+
+/// What running alone doesn't settle.
+static LEFT_BY_RUNNING: [Row; 6] = [
+    (
         DEFAULTS,
         b"0RB---_0LA---\n",
         b"0RB---_0LA--- undecided steps\n",
@@ -139,12 +150,6 @@ static UNDECIDED: [Row; 13] = [
         [3, 65_536, 300, 1_000_000],
         b"0RB---_0LA---\n",
         b"0RB---_0LA--- undecided steps\n",
-        true,
-    ),
-    (
-        [1, 65_536, 300, 1_000_000],
-        b"1RB---_1LA---\n",
-        b"1RB---_1LA--- undecided steps\n",
         true,
     ),
     (DEFAULTS, b"0RA0RA\n", b"0RA0RA undecided cells\n", true),
@@ -214,36 +219,36 @@ static REPEATS: [Row; 9] = [
         true,
     ),
     (
-        [8, 64, 10, 0],
+        [8, 65_536, 300, 1_000_000],
         b"1RB0RB_1LA1LA\n",
         b"1RB0RB_1LA1LA cycler 4 8\n",
         true,
     ),
     (
-        [7, 64, 10, 0],
+        [7, 65_536, 300, 1_000_000],
         b"1RB0RB_1LA1LA\n",
         b"1RB0RB_1LA1LA undecided steps\n",
         true,
     ),
     (
-        [2, 64, 10, 0],
+        [2, 65_536, 300, 1_000_000],
         b"1RB0RB_1LA1LA\n",
         b"1RB0RB_1LA1LA undecided steps\n",
         true,
     ),
     (
-        [1, 64, 10, 0],
+        [1, 65_536, 300, 1_000_000],
         b"1RB0RB_1LA1LA\n",
         b"1RB0RB_1LA1LA undecided steps\n",
         true,
     ),
     (
-        [0, 64, 10, 0],
+        [0, 65_536, 300, 1_000_000],
         b"1RB0RB_1LA1LA\n",
         b"1RB0RB_1LA1LA undecided steps\n",
         true,
     ),
-    ([9, 4, 2, 0], b"0RA0RA\n", b"0RA0RA undecided cells\n", true),
+    (DEFAULTS, b"0RA0RA\n", b"0RA0RA undecided cells\n", true),
     (
         DEFAULTS,
         b"1RB1LB_1LA1RC\n0RB---_0LA---\n",
@@ -260,55 +265,55 @@ pub(crate) const PAIRS: Plan = Plan {
 
 static RECORDS: [Row; 9] = [
     (
-        [1_000, 1_000, 10, 0],
+        DEFAULTS,
         b"1RA1RA\n",
         b"1RA1RA translated R 1 2 1 1\n",
         true,
     ),
     (
-        [1_000, 1_000, 10, 0],
+        DEFAULTS,
         b"0LA0LA\n",
         b"0LA0LA translated L 1 2 1 1\n",
         true,
     ),
     (
-        [1_000, 1_000, 10, 0],
+        DEFAULTS,
         b"1RB---_1RC---_1RA---\n",
         b"1RB---_1RC---_1RA--- translated R 4 7 3 1\n",
         true,
     ),
     (
-        [6, 64, 10, 0],
+        [6, 65_536, 300, 1_000_000],
         b"1RB---_1RC---_1RA---\n",
         b"1RB---_1RC---_1RA--- undecided steps\n",
         true,
     ),
     (
-        [1_000, 1_000, 10, 0],
+        DEFAULTS,
         b"0LB---_0RC1RC_1RA---\n",
         b"0LB---_0RC1RC_1RA--- translated R 3 6 1 2\n",
         true,
     ),
     (
-        [1_000, 1_000, 10, 0],
+        DEFAULTS,
         b"0RB---_0LC1LC_1LA---\n",
         b"0RB---_0LC1LC_1LA--- translated L 3 6 1 2\n",
         true,
     ),
     (
-        [20, 64, 10, 0],
+        [20, 65_536, 300, 1_000_000],
         b"1RB1RZ_1LB0RC_1LC1LA\n",
         b"1RB1RZ_1LB0RC_1LC1LA undecided steps\n",
         true,
     ),
     (
-        [1_000, 1_000, 10, 0],
+        DEFAULTS,
         b"1RB0RA_1LA---\n1LB0LA_1RA---\n",
         b"1RB0RA_1LA--- translated R 4 8 2 1\n1LB0LA_1RA--- translated L 4 8 2 1\n",
         true,
     ),
     (
-        [1_000, 1_000, 10, 0],
+        DEFAULTS,
         b"0RB---_0LA---\n",
         b"0RB---_0LA--- cycler 2 4\n",
         true,
@@ -324,68 +329,68 @@ pub(crate) const TREES: Plan = Plan {
 
 static BY_TREES: [Row; 12] = [
     (
-        [1_000, 599, 300, 1_000],
+        DEFAULTS,
         b"0RB---_0LA---\n",
         b"0RB---_0LA--- backward 2 4\n",
         true,
     ),
     (
-        [1_000, 3, 2, 1_000],
+        [1_000_000, 3, 2, 1_000_000],
         b"0RB---_0LA---\n",
         b"0RB---_0LA--- backward 2 4\n",
         true,
     ),
     (
-        [1_000, 599, 1, 1_000],
+        [1_000_000, 65_536, 1, 1_000_000],
         b"0RB---_0LA---\n",
         b"0RB---_0LA--- undecided steps\n",
         true,
     ),
     (
-        [1_000, 599, 300, 4],
+        [1_000_000, 65_536, 300, 4],
         b"0RB---_0LA---\n",
         b"0RB---_0LA--- backward 2 4\n",
         true,
     ),
     (
-        [1_000, 599, 300, 3],
+        [1_000_000, 65_536, 300, 3],
         b"0RB---_0LA---\n",
         b"0RB---_0LA--- undecided steps\n",
         true,
     ),
+    (DEFAULTS, b"1RA1RA\n", b"1RA1RA backward 0 0\n", true),
     (
-        [1_000, 599, 300, 1_000],
+        [1, 65_536, 0, 0],
         b"1RA1RA\n",
         b"1RA1RA backward 0 0\n",
         true,
     ),
-    ([1, 599, 0, 0], b"1RA1RA\n", b"1RA1RA backward 0 0\n", true),
     (
-        [1, 599, 300, 1_000],
+        [1, 65_536, 300, 1_000_000],
         b"1RB---_1LA---\n",
         b"1RB---_1LA--- undecided steps\n",
         true,
     ),
     (
-        [0, 599, 300, 1_000],
+        [0, 65_536, 300, 1_000_000],
         b"1RZ---\n",
         b"1RZ--- undecided steps\n",
         true,
     ),
     (
-        [1_000, 64, 30, 1_000],
+        DEFAULTS,
         b"1RB0RA_1LA---\n",
         b"1RB0RA_1LA--- undecided cells\n",
         true,
     ),
     (
-        [1_000, 599, 300, 1_000],
+        DEFAULTS,
         b"1RB0RB_1LA1LA\n",
         b"1RB0RB_1LA1LA backward 0 0\n",
         true,
     ),
     (
-        [1_000, 599, 300, 1_000],
+        DEFAULTS,
         b"1RB1LB_1LA1RZ\n",
         b"1RB1LB_1LA1RZ halt 6 4\n",
         true,
@@ -398,53 +403,134 @@ pub(crate) const ALL: Plan = Plan {
     backward: true,
 };
 
-static BY_ALL: [Row; 8] = [
+static BY_ALL: [Row; 13] = [
     (
-        [1_000, 599, 300, 1_000],
-        b"0RB---_0LA---\n",
-        b"0RB---_0LA--- cycler 2 4\n",
-        true,
-    ),
-    (
-        [3, 599, 300, 1_000],
-        b"0RB---_0LA---\n",
-        b"0RB---_0LA--- backward 2 4\n",
-        true,
-    ),
-    (
-        [3, 599, 1, 1_000],
+        [3, 65_536, 1, 1_000_000],
         b"0RB---_0LA---\n",
         b"0RB---_0LA--- undecided steps\n",
         true,
     ),
     (
-        [3, 599, 300, 3],
+        [3, 65_536, 300, 3],
         b"0RB---_0LA---\n",
         b"0RB---_0LA--- undecided steps\n",
         true,
     ),
     (
-        [1, 599, 300, 1_000],
+        [1, 65_536, 0, 0],
         b"1RA1RA\n",
         b"1RA1RA backward 0 0\n",
         true,
     ),
     (
-        [1_000, 599, 300, 1_000],
-        b"1RA1RA\n",
-        b"1RA1RA translated R 1 2 1 1\n",
-        true,
-    ),
-    (
-        [1_000, 599, 300, 1_000],
+        DEFAULTS,
         b"1RB0RA_1LA---\n",
         b"1RB0RA_1LA--- translated R 4 8 2 1\n",
         true,
     ),
     (
-        [1_000, 599, 300, 1_000],
-        b"1RB1LB_1LA1RZ\n",
-        b"1RB1LB_1LA1RZ halt 6 4\n",
+        DEFAULTS,
+        b"1LB0LA_1RA---\n",
+        b"1LB0LA_1RA--- translated L 4 8 2 1\n",
+        true,
+    ),
+    (
+        DEFAULTS,
+        b"0RA0RA_0RA0RA_0RA0RA_0RA0RA_0RA0RA_0RA0RA_0RA0RA\n",
+        b"0RA0RA_0RA0RA_0RA0RA_0RA0RA_0RA0RA_0RA0RA_0RA0RA translated R 1 2 1 1\n",
+        true,
+    ),
+    (
+        DEFAULTS,
+        b"0RA0RA_0RA0RA_0RA0RA_0RA0RA_0RA0RA_0RA0RA_0RA0RA_0RA0RA\n",
+        b"0RA0RA_0RA0RA_0RA0RA_0RA0RA_0RA0RA_0RA0RA_0RA0RA_0RA0RA translated R 1 2 1 1\n",
+        true,
+    ),
+    (
+        DEFAULTS,
+        b"0LB---_0RC1RC_1RA---\n",
+        b"0LB---_0RC1RC_1RA--- translated R 3 6 1 2\n",
+        true,
+    ),
+    (
+        DEFAULTS,
+        b"1RB---_1RC---_1RA---\n",
+        b"1RB---_1RC---_1RA--- translated R 4 7 3 1\n",
+        true,
+    ),
+    (
+        [1_000_000, 4, 2, 1_000_000],
+        b"1RB1LB_1LA1RZ\n0RB---_0LA---\n",
+        b"1RB1LB_1LA1RZ halt 6 4\n0RB---_0LA--- cycler 2 4\n",
+        true,
+    ),
+    (
+        [1_000_000, 1, 1, 1_000_000],
+        b"1RA1RA\n",
+        b"1RA1RA backward 0 0\n",
+        true,
+    ),
+    (
+        [1_000, 64, 10, 100],
+        b"1RB1LB_1LA1RZ\n1RB0RA_1LA---\n0RB---_0LA---\n",
+        b"1RB1LB_1LA1RZ halt 6 4\n1RB0RA_1LA--- translated R 4 8 2 1\n0RB---_0LA--- cycler 2 4\n",
+        true,
+    ),
+    (
+        DEFAULTS,
+        b"1RB1LB_1LA1RZ\n1RA1RA\n1rB1LB\n",
+        b"1RB1LB_1LA1RZ halt 6 4\n1RA1RA translated R 1 2 1 1\nrefused 2\n",
+        false,
+    ),
+];
+
+/// Records and trees, no repeats.
+pub(crate) const NO_CYCLERS: Plan = Plan {
+    cyclers: false,
+    translated: true,
+    backward: true,
+};
+
+static WITHOUT_CYCLERS: [Row; 4] = [
+    (
+        [1_000_000, 3, 2, 1_000_000],
+        b"0RB---_0LA---\n",
+        b"0RB---_0LA--- backward 2 4\n",
+        true,
+    ),
+    (
+        [1_000_000, 65_536, 1, 1_000_000],
+        b"0RB---_0LA---\n",
+        b"0RB---_0LA--- undecided steps\n",
+        true,
+    ),
+    (
+        [1_000_000, 65_536, 300, 4],
+        b"0RB---_0LA---\n",
+        b"0RB---_0LA--- backward 2 4\n",
+        true,
+    ),
+    (
+        [1_000_000, 65_536, 300, 3],
+        b"0RB---_0LA---\n",
+        b"0RB---_0LA--- undecided steps\n",
+        true,
+    ),
+];
+
+/// Repeats and trees, no records.
+const NO_TRANSLATED: Plan = Plan {
+    cyclers: true,
+    translated: false,
+    backward: true,
+};
+
+static WITHOUT_TRANSLATED: [Row; 2] = [
+    (DEFAULTS, b"1RA1RA\n", b"1RA1RA backward 0 0\n", true),
+    (
+        DEFAULTS,
+        b"1RB0RA_1LA---\n",
+        b"1RB0RA_1LA--- undecided cells\n",
         true,
     ),
 ];
@@ -508,60 +594,59 @@ pub(crate) fn answers(rt: &(impl Abort + AllocGlobal), plan: Plan, rows: &[Row])
     }
 }
 
+/// The lists above, each with a plan that gives its verdicts.
+pub(crate) fn decided_lists() -> [(Plan, &'static [Row]); 9] {
+    [
+        (ALL, HALTS.as_slice()),
+        (ALL, LEFT_BY_ALL.as_slice()),
+        (SIMULATION, LEFT_BY_RUNNING.as_slice()),
+        (CYCLERS, REPEATS.as_slice()),
+        (PAIRS, RECORDS.as_slice()),
+        (TREES, BY_TREES.as_slice()),
+        (NO_CYCLERS, WITHOUT_CYCLERS.as_slice()),
+        (NO_TRANSLATED, WITHOUT_TRANSLATED.as_slice()),
+        (ALL, BY_ALL.as_slice()),
+    ]
+}
+
 #[test]
 fn halts(rt: HostRuntime) {
     answers(&rt, SIMULATION, HALTS.as_slice());
     answers(&rt, CYCLERS, HALTS.as_slice());
+    answers(&rt, ALL, HALTS.as_slice());
 }
 
 #[test]
 fn leaves_undecided(rt: HostRuntime) {
-    answers(&rt, SIMULATION, UNDECIDED.as_slice());
+    answers(&rt, SIMULATION, LEFT_BY_ALL.as_slice());
+    answers(&rt, ALL, LEFT_BY_ALL.as_slice());
+    answers(&rt, SIMULATION, LEFT_BY_RUNNING.as_slice());
 }
 
 #[test]
 fn finds_repeats(rt: HostRuntime) {
     answers(&rt, CYCLERS, REPEATS.as_slice());
-    let limits = Limits::new(1_000_000, 65_536, 300, 0).expect(&rt, "limits");
-    for (input, steps) in [
-        (b"0RB---_0LA---".as_slice(), 1_000_004),
-        (b"1RB0RB_1LA1LA".as_slice(), 1_000_008),
-    ] {
-        let (end, _) = decided_on_rings(&rt, &limits, CYCLERS, input);
-        assert_eq!(rt; end.expect(&rt, "no fault").peak.steps, steps);
-    }
 }
 
 #[test]
 fn finds_records_that_agree(rt: HostRuntime) {
     answers(&rt, PAIRS, RECORDS.as_slice());
-    let limits = Limits::new(1_000_000, 65_536, 300, 0).expect(&rt, "limits");
-    for (input, steps) in [
-        (b"1RA1RA".as_slice(), 131_072),
-        (b"1RB---_1RC---_1RA---".as_slice(), 131_077),
-        (b"0LB---_0RC1RC_1RA---".as_slice(), 393_214),
-    ] {
-        let (end, _) = decided_on_rings(&rt, &limits, PAIRS, input);
-        assert_eq!(rt; end.expect(&rt, "no fault").peak.steps, steps);
-    }
 }
 
 #[test]
 fn finds_trees(rt: HostRuntime) {
     answers(&rt, TREES, BY_TREES.as_slice());
+    answers(&rt, NO_CYCLERS, WITHOUT_CYCLERS.as_slice());
+    answers(&rt, NO_TRANSLATED, WITHOUT_TRANSLATED.as_slice());
+}
+
+#[test]
+fn decides_by_all(rt: HostRuntime) {
     answers(&rt, ALL, BY_ALL.as_slice());
-    let input = b"0RB---_0LA---".as_slice();
-    for (steps, plan, counted) in [(1_000_000, TREES, 1_000_000), (3, ALL, 9)] {
-        let limits = Limits::new(steps, 65_536, 300, 1_000_000).expect(&rt, "limits");
-        let (end, _) = decided_on_rings(&rt, &limits, plan, input);
-        let peak = end.expect(&rt, "no fault").peak;
-        assert_eq!(rt; peak.steps, counted);
-        assert_eq!(rt; peak.nodes, 4);
-        assert_eq!(rt; peak.most_levels, 2);
-    }
 }
 
 #[test]
 fn refuses_lines(rt: HostRuntime) {
     answers(&rt, SIMULATION, REFUSED.as_slice());
+    answers(&rt, ALL, REFUSED.as_slice());
 }

@@ -1,7 +1,7 @@
-//! What deciding writes is checked at the same limits: each decided line is ok, and all others are open.
+//! Verdicts are checked at the limits that they come from: each decided line is ok, and all others are open.
 
 use crate::check::{checked_on_maps, checked_on_rings};
-use crate::lists::{Four, decided_on_maps, decided_on_rings};
+use crate::lists::{Four, Row, decided_lists, decided_on_maps, decided_on_rings};
 use bb_decide::Plan;
 use bb_machine::Limits;
 use std::process::Abort;
@@ -56,7 +56,7 @@ static PLANS: [(bool, bool, bool); 8] = [
     (true, true, true),
 ];
 
-/// The answers to the lines that deciding wrote.
+/// The answers to verdict lines of deciding.
 fn expected(rt: &(impl Abort + AllocGlobal), verdicts: &[u8]) -> String {
     let mut answers = String::new(rt.alloc());
     for line in str::from_utf8(verdicts).expect(rt, "text").lines() {
@@ -67,11 +67,28 @@ fn expected(rt: &(impl Abort + AllocGlobal), verdicts: &[u8]) -> String {
     answers
 }
 
+/// Whether there is a verdict or a refusal to each of the lines, in their order.
+fn are_verdicts(rt: &(impl Abort + AllocGlobal), verdicts: &[u8]) {
+    let lines = str::from_utf8(LINES).expect(rt, "text").lines();
+    let verdicts = str::from_utf8(verdicts).expect(rt, "text").lines();
+    let (mut told, mut refused) = (0u8, 0u8);
+    for (line, verdict) in lines.zip(verdicts) {
+        if verdict.starts_with("refused ") {
+            refused = refused.saturating_add(1);
+        } else {
+            assert!(rt; verdict.starts_with(line), "{line}: {verdict}");
+            told = told.saturating_add(1);
+        }
+    }
+    assert_eq!(rt; (told, refused), (21, 3));
+}
+
 /// Decides the lines and checks what was written, on both tapes.
 fn decide_and_check(rt: &(impl Abort + AllocGlobal), limits: &Limits, plan: Plan) {
     let (_, verdicts) = decided_on_rings(rt, limits, plan, LINES);
     let (_, by_maps) = decided_on_maps(rt, limits, plan, LINES);
     assert_eq!(rt; verdicts.as_slice(), by_maps.as_slice());
+    are_verdicts(rt, verdicts.as_slice());
     let answers = expected(rt, verdicts.as_slice());
     for (end, written) in [
         checked_on_rings(rt, limits, verdicts.as_slice()),
@@ -94,5 +111,27 @@ fn each_decided_line_is_ok(rt: HostRuntime) {
             };
             decide_and_check(&rt, &limits, plan);
         }
+    }
+}
+
+/// Checks the verdicts of a list, as they were worked out, on both tapes.
+fn are_confirmed(rt: &(impl Abort + AllocGlobal), rows: &[Row]) {
+    for (four, _, verdicts, _) in rows {
+        let answers = expected(rt, verdicts);
+        let limits = Limits::new(four[0], four[1], four[2], four[3]).expect(rt, "limits");
+        for (end, written) in [
+            checked_on_rings(rt, &limits, verdicts),
+            checked_on_maps(rt, &limits, verdicts),
+        ] {
+            assert_eq!(rt; written.as_slice(), answers.as_str().as_bytes());
+            assert!(rt; end.expect(rt, "no fault").clean);
+        }
+    }
+}
+
+#[test]
+fn each_verdict_that_was_worked_out_is_confirmed(rt: HostRuntime) {
+    for (_, rows) in decided_lists() {
+        are_confirmed(&rt, rows);
     }
 }

@@ -1,17 +1,21 @@
 //! Engines over tapes that are refused memory: what is written by then, and that the same tapes give all
 //! lines once there is memory.
 ghost use Rattle.std.specs.Prelude.{◌≡◌, ◌≤◌};
+ghost use Rattle.bb_cert.specs.Path.{depth_of};
+ghost use Rattle.bb_decide.specs.Bench.{HasCells};
 
 use crate::check::checked;
-use crate::lists::{PAIRS, TREES, decided};
+use crate::lists::{PAIRS, TREES};
+use crate::streams::Sink;
 use crate::tallied::{NEVER, tallied_tape};
 use crate::trace::{traced, traced_on_a_ring};
 use bb_cert::{Pair, Path};
 use bb_decide::{Bench, Plan};
 use bb_lines::fault::Fault;
+use bb_lines::watched::Watched;
 use bb_machine::Limits;
-use bb_run::Summary;
-use bb_tape::MapTape;
+use bb_run::{Summary, run_decide};
+use bb_tape::{MapTape, Tape};
 use linked_list_allocator::LocalHeap;
 use std::process::Abort;
 use std::test::Fail;
@@ -50,6 +54,24 @@ const BY_TREES: &[u8] = b"1RB1LB_1LA1RZ halt 6 4
 0RB---_0LA--- backward 2 4
 ";
 
+/// Decides the list, with a reader and a writer over arrays.
+fn decided_over_arrays<T: Tape>(
+    bench: &mut Bench<T>,
+    limits: &Limits,
+    plan: Plan,
+) -> (Result<Summary, Fault>, Sink)
+    requires tapes { HasCells T.strip limits.now.cells bench.old }
+    requires path { depth_of bench.old.path ≡ limits.now.depth }
+    ensures tapes { HasCells T.strip limits.now.cells bench.new }
+    ensures path { depth_of bench.new.path ≡ limits.now.depth }
+{
+    let mut sink = Sink::of(128, 128);
+    let mut reader = Watched::new(MACHINES);
+    let mut writer = Watched::new(&mut sink);
+    let end = run_decide(&mut reader, &mut writer, limits, plan, bench);
+    (end, sink)
+}
+
 /// Decides a list with so many bytes left for the tapes, and, where it wanted more, again with all; whether
 /// it did.
 fn deciding_wants_more(
@@ -67,12 +89,12 @@ fn deciding_wants_more(
     let left_tape = MapTape::new_in(heap, limits.cells());
     let mut bench = Bench::new(rt.alloc(), run, right, left_tape, &limits).expect(rt, "a bench");
     let rest: Vec<u8, &LocalHeap> = Vec::with_capacity(heap, HEAP - left)?;
-    let (end, written) = decided(rt, &mut bench, &limits, plan, MACHINES);
+    let (end, sink) = decided_over_arrays(&mut bench, &limits, plan);
     drop(rest);
-    let wanted = wanted_memory(rt, &end, written.as_slice(), output);
+    let wanted = wanted_memory(rt, &end, sink.bytes.as_slice(), output);
     if wanted {
-        let (end, written) = decided(rt, &mut bench, &limits, plan, MACHINES);
-        assert!(rt; end.is_ok() && written.as_slice() == output, "again");
+        let (end, sink) = decided_over_arrays(&mut bench, &limits, plan);
+        assert!(rt; end.is_ok() && sink.bytes.as_slice() == output, "again");
     }
     Ok(wanted)
 }
@@ -114,26 +136,54 @@ fn deciding_is_refused(
     let right = tallied_tape(MapTape::new(rt.alloc(), limits.cells()), before[1]);
     let left = tallied_tape(MapTape::new(rt.alloc(), limits.cells()), before[2]);
     let mut bench = Bench::new(rt.alloc(), run, right, left, &limits).expect(rt, "a bench");
-    let (end, written) = decided(rt, &mut bench, &limits, plan, MACHINES);
-    let refused = wanted_memory(rt, &end, written.as_slice(), output);
+    let (end, sink) = decided_over_arrays(&mut bench, &limits, plan);
+    let refused = wanted_memory(rt, &end, sink.bytes.as_slice(), output);
     let is_left = bench.run.will_refuse() || bench.right.will_refuse() || bench.left.will_refuse();
     assert_eq!(rt; refused, !is_left);
     if refused {
-        let (end, written) = decided(rt, &mut bench, &limits, plan, MACHINES);
+        let (end, sink) = decided_over_arrays(&mut bench, &limits, plan);
         assert!(rt;
-            !wanted_memory(rt, &end, written.as_slice(), output),
+            !wanted_memory(rt, &end, sink.bytes.as_slice(), output),
             "again"
         );
     }
     refused
 }
 
+/// How many refusals end deciding, each in a run of its own, where all come from one of the tapes.
+fn refusals_of_deciding(
+    rt: &(impl Abort + AllocGlobal),
+    plan: Plan,
+    output: &[u8],
+    tape: usize,
+) -> usize {
+    let before = |k| match tape {
+        0 => [k, NEVER, NEVER],
+        1 => [NEVER, k, NEVER],
+        _ => [NEVER, NEVER, k],
+    };
+    (0..MOST)
+        .position(|k| !deciding_is_refused(rt, plan, output, before(k)))
+        .expect(rt, "a run that isn't refused")
+}
+
+/// The first machine changes 4 cells, the second 127 in a whole run and 8 up to its records. Its whole run is
+/// compared with configurations 1, 2, 4 .. 64, its records with the first and the second; the third's run
+/// with configurations 1 and 2. The third's tree has 4 nodes, each with a cell that isn't known before.
 #[test]
 fn deciding_ends_at_each_refusal(rt: HostRuntime) {
-    for (plan, output) in [(PAIRS, BY_PAIRS), (TREES, BY_TREES)] {
-        assert!(rt; (0..MOST).any(|k| !deciding_is_refused(&rt, plan, output, [k, NEVER, NEVER])));
-        assert!(rt; (0..MOST).any(|k| !deciding_is_refused(&rt, plan, output, [NEVER, k, NEVER])));
-        assert!(rt; (0..MOST).any(|k| !deciding_is_refused(&rt, plan, output, [NEVER, NEVER, k])));
+    for (plan, output, changed, copied) in [
+        (PAIRS, BY_PAIRS, 4 + 127 + 127 + 8, 7 + 2 + 2),
+        (TREES, BY_TREES, 4 + 127 + 4, 0),
+    ] {
+        let while_running = refusals_of_deciding(&rt, plan, output, 0);
+        let at_right = refusals_of_deciding(&rt, plan, output, 1);
+        let at_left = refusals_of_deciding(&rt, plan, output, 2);
+        assert!(rt; changed <= while_running, "{while_running}");
+        assert!(rt;
+            copied <= at_right.saturating_add(at_left),
+            "{at_right} {at_left}"
+        );
     }
 }
 
@@ -168,10 +218,14 @@ fn checking_is_refused(rt: &(impl Abort + AllocGlobal), before: [u64; 2]) -> boo
     refused
 }
 
+/// The first two claims change 4 and 8 cells, the tree has 4 nodes, and of each pair the first configuration is
+/// kept.
 #[test]
 fn checking_ends_at_each_refusal(rt: HostRuntime) {
-    assert!(rt; (0..MOST).any(|k| !checking_is_refused(&rt, [k, NEVER])));
-    assert!(rt; (0..MOST).any(|k| !checking_is_refused(&rt, [NEVER, k])));
+    let while_running = (0..MOST).position(|k| !checking_is_refused(&rt, [k, NEVER]));
+    let at_saving = (0..MOST).position(|k| !checking_is_refused(&rt, [NEVER, k]));
+    assert!(rt; while_running.is_some_and(|refused| 4 + 8 + 4 <= refused));
+    assert!(rt; at_saving.is_some_and(|refused| 2 <= refused));
 }
 
 #[test]

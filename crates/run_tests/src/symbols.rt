@@ -3,7 +3,7 @@
 
 use crate::check::answers as check_answers;
 use crate::lists::{
-    CYCLERS, DEFAULTS, Four, PAIRS, Row, SIMULATION, TREES, answers, decided_on_rings,
+    ALL, CYCLERS, DEFAULTS, Four, PAIRS, Row, SIMULATION, TREES, answers, decided_on_rings,
 };
 use bb_machine::Limits;
 use std::test::Fail;
@@ -196,6 +196,7 @@ fn machines_of_many_symbols_are_decided(rt: HostRuntime) {
     answers(&rt, CYCLERS, BY_REPEATS.as_slice());
     answers(&rt, PAIRS, BY_RECORDS.as_slice());
     answers(&rt, TREES, BY_TREES.as_slice());
+    answers(&rt, ALL, BY_ALL.as_slice());
 }
 
 /// What the deciders say of these machines is `ok` to the checker on both tapes.
@@ -218,6 +219,40 @@ fn what_is_said_of_many_symbols_is_ok(rt: HostRuntime) {
     }
 }
 
+static BY_ALL: [Row; 6] = [
+    (
+        DEFAULTS,
+        b"1RB2LB1RZ_2LA2RB1LB\n",
+        b"1RB2LB1RZ_2LA2RB1LB halt 38 9\n",
+        true,
+    ),
+    (
+        [1_000_000, 9, 5, 1_000_000],
+        b"1RB2LB1RZ_2LA2RB1LB\n",
+        b"1RB2LB1RZ_2LA2RB1LB halt 38 9\n",
+        true,
+    ),
+    (
+        [1_000_000, 8, 4, 1_000_000],
+        b"1RB2LB1RZ_2LA2RB1LB\n",
+        b"1RB2LB1RZ_2LA2RB1LB undecided cells\n",
+        true,
+    ),
+    (
+        [37, 65_536, 300, 1_000_000],
+        b"1RB2LB1RZ_2LA2RB1LB\n",
+        b"1RB2LB1RZ_2LA2RB1LB undecided steps\n",
+        true,
+    ),
+    (DEFAULTS, b"2LZ------\n", b"2LZ------ halt 1 1\n", true),
+    (
+        DEFAULTS,
+        b"2RA---1LA\n0RA0RA0RA0RA0RA0RA0RA0RA0RA0RA0RA\n0RY0RA\n2RA---_\n",
+        b"2RA---1LA translated R 1 2 1 1\nrefused 31\nrefused 7\nrefused 7\n",
+        false,
+    ),
+];
+
 /// The longest machine: 25 states and ten symbols.
 #[test]
 fn the_longest_machine_is_decided(rt: HostRuntime) -> Result<(), Fail> {
@@ -230,13 +265,14 @@ fn the_longest_machine_is_decided(rt: HostRuntime) -> Result<(), Fail> {
             line.extend_from_slice(b"0RA")?;
         }
     }
-    let limits = Limits::new(1_000, 64, 10, 100).expect(&rt, "limits");
+    let [steps, cells, depth, nodes] = DEFAULTS;
+    let limits = Limits::new(steps, cells, depth, nodes).expect(&rt, "limits");
     let mut expected = line.clone()?;
     expected.extend_from_slice(b" undecided cells\n")?;
-    let (_, written) = decided_on_rings(&rt, &limits, SIMULATION, line.as_slice());
+    let (_, written) = decided_on_rings(&rt, &limits, CYCLERS, line.as_slice());
     assert_eq!(rt; written.as_slice(), expected.as_slice());
     line.extend_from_slice(b"_0RA0RA0RA0RA0RA0RA0RA0RA0RA0RA")?;
-    let (_, written) = decided_on_rings(&rt, &limits, SIMULATION, line.as_slice());
+    let (_, written) = decided_on_rings(&rt, &limits, ALL, line.as_slice());
     assert_eq!(rt; written.as_slice(), b"refused 775\n".as_slice());
     Ok(())
 }

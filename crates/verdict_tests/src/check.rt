@@ -10,9 +10,9 @@ use bb_tape::{MapTape, RingTape, Tape};
 use std::process::Abort;
 use std::test::Fail;
 
-const CELLS: u64 = 64;
+const CELLS: u64 = 65_536;
 
-const DEPTH: u64 = 32;
+const DEPTH: u64 = 300;
 
 /// A line, the limits of steps, cells, levels and nodes, what is answered, and the steps, nodes and levels
 /// counted.
@@ -574,10 +574,11 @@ fn answer_to_pair<T: Tape>(
     path: &mut Path,
 ) -> Result<Answer, Fail>
     requires tapes { HasCells T.strip CELLS pair.old }
+    requires path { depth_of path.old ≡ DEPTH }
     ensures tapes { HasCells T.strip CELLS pair.new }
     ensures path { depth_of path.new ≡ depth_of path.old }
 {
-    let limits = Limits::new(16, CELLS, 0, 0)?;
+    let limits = Limits::new(1_000_000, CELLS, DEPTH, 1_000_000)?;
     let verdict = match side {
         None => Verdict::Cycler { first, second },
         Some(side) => Verdict::Translated {
@@ -605,6 +606,7 @@ fn pairs_are_answered<T: Tape>(
         for step in 0..289 {
             let (first, second) = (step / 17, step % 17);
             assert!(rt; pair.run.limit() == CELLS && pair.saved.limit() == CELLS);
+            assert!(rt; path.depth() == DEPTH);
             let answer = answer_to_pair(&machine, *side, first, second, None, pair, path)?;
             let holds = is_right(index, first, second);
             assert_eq!(rt; answer == Answer::Ok, holds, "{first} {second} of {text:?}");
@@ -632,6 +634,7 @@ fn extents_are_answered<T: Tape>(
         for wrong in 0..9 {
             let (shift, length) = ((right + wrong / 3).saturating_sub(1), wrong % 3);
             assert!(rt; pair.run.limit() == CELLS && pair.saved.limit() == CELLS);
+            assert!(rt; path.depth() == DEPTH);
             let extent = Some(Extent { shift, length });
             let answer = answer_to_pair(
                 &machine,

@@ -6,7 +6,7 @@ ghost use Rattle.bb_decide.specs.Bench.{HasCells};
 mod trees;
 
 use bb_cert::{Extent, Side, Verdict, Why};
-use bb_decide::{Bench, Plan, cyclers, decide};
+use bb_decide::{Bench, Plan, cyclers, decide, translated};
 use bb_machine::{Limits, Machine};
 use bb_sim::Meter;
 use bb_tape::{MapTape, RingTape, Tape};
@@ -323,26 +323,79 @@ fn are_decided<T: Tape>(
     Ok(())
 }
 
-/// Searches one machine for a cycle, and holds what is found and counted against what was worked out.
-fn is_searched<T: Tape>(rt: &impl Abort, bench: &mut Bench<T>) -> Result<(), Fail>
+/// A machine, what each search of its first hundred steps finds, the steps that it counts, and the cells
+/// that the first search does.
+type Searched = (&'static [u8], [Option<Verdict>; 2], [u64; 2], u64);
+
+static SEARCHES: [Searched; 3] = [
+    (
+        b"1RB0RB_1LA1LA",
+        [
+            Some(Verdict::Cycler {
+                first: 4,
+                second: 8,
+            }),
+            None,
+        ],
+        [8, 100],
+        2,
+    ),
+    (
+        b"0LA0LA",
+        [
+            None,
+            Some(Verdict::Translated {
+                side: Side::L,
+                first: 1,
+                second: 2,
+                extent: Some(Extent {
+                    shift: 1,
+                    length: 1,
+                }),
+            }),
+        ],
+        [63, 2],
+        64,
+    ),
+    (
+        b"1RB0RA_1LA---",
+        [
+            None,
+            Some(Verdict::Translated {
+                side: Side::R,
+                first: 4,
+                second: 8,
+                extent: Some(Extent {
+                    shift: 2,
+                    length: 1,
+                }),
+            }),
+        ],
+        [100, 8],
+        51,
+    ),
+];
+
+/// Searches each machine for a cycle, and then for records that agree, by the searches' own calls.
+fn are_searched<T: Tape>(rt: &impl Abort, bench: &mut Bench<T>) -> Result<(), Fail>
     requires tapes { HasCells T.strip CELLS bench.old }
     requires path { depth_of bench.old.path ≡ 0 }
     ensures tapes { HasCells T.strip CELLS bench.new }
     ensures path { depth_of bench.new.path ≡ 0 }
 {
-    let limits = Limits::new(100, CELLS, 0, 0)?;
-    let machine = Machine::read(b"1RB0RB_1LA1LA")?;
-    let mut meter = Meter::new();
-    let found = cyclers(&machine, &limits, bench, &mut meter)?;
-    assert_eq!(rt;
-        found,
-        Some(Verdict::Cycler {
-            first: 4,
-            second: 8
-        })
-    );
-    assert_eq!(rt; meter.steps, 8);
-    assert_eq!(rt; meter.most_cells, 2);
+    for (text, found, steps, most_cells) in &SEARCHES {
+        let limits = Limits::new(100, CELLS, 0, 0)?;
+        let machine = Machine::read(text)?;
+        let mut meter = Meter::new();
+        let cycle = cyclers(&machine, &limits, bench, &mut meter)?;
+        assert_eq!(rt; cycle, found[0], "{text:?}");
+        assert_eq!(rt; meter.steps, steps[0], "{text:?}");
+        assert_eq!(rt; meter.most_cells, *most_cells, "{text:?}");
+        let mut meter = Meter::new();
+        let records = translated(&machine, &limits, bench, &mut meter)?;
+        assert_eq!(rt; records, found[1], "{text:?}");
+        assert_eq!(rt; meter.steps, steps[1], "{text:?}");
+    }
     Ok(())
 }
 
@@ -354,7 +407,7 @@ fn machines_are_decided_on_maps(rt: HostRuntime) -> Result<(), Fail> {
     let right = MapTape::new(alloc, CELLS);
     let left = MapTape::new(alloc, CELLS);
     let mut bench = Bench::new(alloc, run, right, left, &limits)?;
-    is_searched(&rt, &mut bench)?;
+    are_searched(&rt, &mut bench)?;
     are_decided(&rt, &mut bench, false, &ROWS)?;
     are_decided(&rt, &mut bench, true, &TRANSLATED_ROWS)
 }
@@ -367,7 +420,7 @@ fn machines_are_decided_on_rings(rt: HostRuntime) -> Result<(), Fail> {
     let right = RingTape::new(alloc, CELLS)?;
     let left = RingTape::new(alloc, CELLS)?;
     let mut bench = Bench::new(alloc, run, right, left, &limits)?;
-    is_searched(&rt, &mut bench)?;
+    are_searched(&rt, &mut bench)?;
     are_decided(&rt, &mut bench, false, &ROWS)?;
     are_decided(&rt, &mut bench, true, &TRANSLATED_ROWS)
 }

@@ -362,6 +362,28 @@ fn other_bytes_are_no_line(rt: HostRuntime) {
     }
 }
 
+/// The longest line of a machine of seven states and two symbols that tells no extent.
+#[test]
+fn the_greatest_numbers_are_read_and_written(rt: HostRuntime) -> Result<(), Fail> {
+    assert_eq!(rt; LONG.len(), 103);
+    let expected = Verdict::Translated {
+        side: Side::R,
+        first: u64::MAX,
+        second: u64::MAX,
+        extent: None,
+    };
+    match read_line(LONG) {
+        Some(Line::Claim(machine, verdict)) => {
+            assert_eq!(rt; (machine.states(), machine.symbols()), (7, 2));
+            assert_eq!(rt; verdict, expected);
+        }
+        _ => panic!(rt; "it is a claim"),
+    }
+    let out = printed(&rt, LONG).ok_or("no verdict line")?;
+    assert_eq!(rt; out.as_slice(), LONG);
+    Ok(())
+}
+
 #[test]
 fn the_longest_line_is_read_and_written(rt: HostRuntime) -> Result<(), Fail> {
     let mut line = ArrayVec::<u8, LINE_BUFFER>::new();
