@@ -80,7 +80,7 @@ fn are_verdicts(rt: &(impl Abort + AllocGlobal), verdicts: &[u8]) {
             told = told.saturating_add(1);
         }
     }
-    assert_eq!(rt; (told, refused), (21, 3));
+    assert_eq!(rt; (told, refused), (21, 4));
 }
 
 /// Decides the lines and checks what was written, on both tapes.
