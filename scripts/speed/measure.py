@@ -6,8 +6,8 @@
 It builds the peer by `rustc -O`, makes its lists from a seed, checks that both write the same bytes
 and end with the same status, runs both in turn, and prints the least time of each and their ratio.
 A whole run counts, from the list to the verdicts. For the searches it prints the spread of the runs too.
-Before that it prints the instructions a step, as `valgrind --tool=callgrind` counts them, which other work on
-the machine doesn't change. Nothing here proves anything. The last line counts the lists on which both wrote
+It also prints the instructions a step, as `valgrind --tool=callgrind` counts them, which other work on the
+machine doesn't change. Nothing here proves anything. The last line counts the lists on which both wrote
 the same.
 """
 
