@@ -3,9 +3,9 @@
  * The lines are those of the program `bb`, which README.md describes. docs/library.md says how to build and
  * link this, and what is proved of it.
  *
- * Limits. `steps`: of one simulation, 0 to 1,000,000,000,000. `cells`: of one tape, 1 to 67,108,864; a call of
- * bb_decide makes three tapes of as many bytes, one of bb_check two. `depth`: levels of the backward tree, 0 to
- * 10,000. `nodes`: of that tree, 0 to 1,000,000,000,000. 2 * depth - 1 must be at most `cells`.
+ * Limits. `steps`: of one simulation, 0 to 1,000,000,000,000. `cells`: of one tape, 1 to 67,108,864; a call
+ * that decides makes three tapes of as many bytes, one that checks two. `depth`: levels of the backward tree,
+ * 0 to 10,000. `nodes`: of that tree, 0 to 1,000,000,000,000. 2 * depth - 1 must be at most `cells`.
  *
  * Deciders. Each of `cyclers`, `translated` and `backward` is on or off; they are asked in that order.
  *
@@ -18,9 +18,10 @@
  *
  * A call keeps nothing: neither pointers nor memory. So calls in different threads don't meet.
  *
- * `*count` is the number of bytes of the reply. Where the status is BB_CLEAN or BB_NOT_CLEAN they stand at the
- * begin of `out`, and the rest of `out` is as it was; where it is BB_SHORT, `out` is as it was, and `*count`
- * is how long it has to be; else `out` is as it was, and `*count` is 0. No byte 0 is put behind the reply.
+ * `*count` is the number of bytes of the reply. Where the status is BB_CLEAN or BB_NOT_CLEAN they stand at
+ * the begin of `out`, and the rest of `out` is as it was. Where it is BB_SHORT, `out` is as it was, and
+ * `*count` is how long it has to be. Else `out` is as it was, and `*count` is 0. No byte 0 is put behind the
+ * reply.
  */
 #ifndef BB_H
 #define BB_H
@@ -47,8 +48,8 @@
 /* `out` is too short. The work was done, and is lost. */
 #define BB_SHORT 4
 
-/* Bytes of `out` with which BB_SHORT never comes, for a list of so many bytes and lines, and for one line of so
- * many bytes. A list has a line more than newlines, unless it ends in one or is empty. */
+/* Bytes of `out` with which BB_SHORT never comes, for a list of so many bytes and lines, and for one line of
+ * so many bytes. A list has a line more than newlines, unless it ends in one or is empty. */
 #define BB_DECIDE_ROOM(list_len, lines) ((list_len) + 98 * (lines))
 #define BB_DECIDE_LINE_ROOM(line_len) ((line_len) + 97)
 #define BB_CHECK_ROOM(lines) (7 * (lines))
