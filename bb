@@ -4,8 +4,9 @@ set -eu
 here=$(cd "$(dirname "$0")" && pwd)
 program=$here/crates/bb/out/bb
 
+# The library for other languages, bb_c, is no part of the program.
 stale() {
-    [ ! -x "$program" ] || [ -n "$(find "$here/crates.txt" "$here/crates" -path '*/out' -prune -o -type f -newer "$program" -print | head -n 1)" ]
+    [ ! -x "$program" ] || [ -n "$(find "$here/crates.txt" "$here/crates" \( -path '*/out' -o -path '*/bb_c' \) -prune -o -type f -newer "$program" -print | head -n 1)" ]
 }
 
 # Begins `rt` with these words in a crate; its process is then `$!`.
@@ -32,7 +33,7 @@ build() {
     logs=$(mktemp -d)
     begun=
     proved=0
-    crates=$(grep -c '^bb' "$here/crates.txt")
+    crates=$(grep -c '^bb[a-z_]*:' "$here/crates.txt")
     trap 'kill $begun 2>/dev/null || true; rm -rf "$logs"' EXIT
     trap 'exit 130' INT
     trap 'exit 143' TERM

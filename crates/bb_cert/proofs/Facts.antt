@@ -8,7 +8,7 @@ pub use Rattle.bb_cert.proofs.Comparing.{extent_of_records, stays}
 pub use Rattle.bb_cert.proofs.Courses.{at_step, followed_at_first, followed_farther, followed_nearer}
 pub use Rattle.bb_cert.proofs.Extents.{told_is_one, told_is_said}
 pub use Rattle.bb_cert.proofs.Heads.{runs_before}
-pub use Rattle.bb_cert.proofs.Lengths.{length-line}
+pub use Rattle.bb_cert.proofs.Lengths.{length-line, length-verdict_text}
 pub use Rattle.bb_cert.proofs.Lines.{line_unique}
 pub use Rattle.bb_cert.proofs.NoRecords.{agreeing_records_never_repeat}
 pub use Rattle.bb_cert.proofs.Positions.{climbs, head_at-is, head_at-start, out-subtract, out-zero, starts}

@@ -46,7 +46,7 @@ word_if_fine answer.Bad e = cc
 word_if_fine answer.Over e = cc
 word_if_fine answer.Open e = inr refl
 
-fine_by_word : (given : Answer)
+pub fine_by_word : (given : Answer)
     → (answer_text given ≡ answer_text answer.Ok) ⊎ (answer_text given ≡ answer_text answer.Open)
     → is_fine given ≡ true
 fine_by_word answer.Ok e = refl
@@ -58,12 +58,12 @@ fine_by_word answer.Over (inr e) =
     absurd (omega (arith, second))
 fine_by_word answer.Open e = refl
 
-unread_is_apart : (unread_text ≡ answer_text answer.Ok) ⊎ (unread_text ≡ answer_text answer.Open) → ⊥
+pub unread_is_apart : (unread_text ≡ answer_text answer.Ok) ⊎ (unread_text ≡ answer_text answer.Open) → ⊥
 unread_is_apart (inl e) = cc
 unread_is_apart (inr e) = cc
 
 -- a line whose reply is known is fine just where that reply is
-fine_reply : (bounds : Bounds) (line reply : List ℕ) → IsCheckReply bounds line reply → IsFine bounds line
+pub fine_reply : (bounds : Bounds) (line reply : List ℕ) → IsCheckReply bounds line reply → IsFine bounds line
     → (reply ≡ answer_text answer.Ok) ⊎ (reply ≡ answer_text answer.Open)
 fine_reply bounds line reply is fine =
     let same = check_reply_is_unique bounds line fine.reply reply fine.is_reply is in

@@ -1,3 +1,5 @@
+pub mod Facts
+pub mod Lengths
 pub mod CheckReplies
 pub mod CheckSummaries
 pub mod FewCells

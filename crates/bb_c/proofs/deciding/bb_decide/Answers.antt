@@ -1,0 +1,13 @@
+use Rattle.std.proofs.Common.{rules, ◌≡◌, ◌+◌, arith, length}
+use Rattle.bb_lines.specs.Lines.{lines}
+use Rattle.bb_run.proofs.Facts.{reply_short}
+use Rattle.bb_c.proofs.Lengths.{replies_fit, room_in_list}
+use Rattle.bb_c.proofs.deciding.bb_decide.Goals as goal
+
+pub returns-in-Ok-verdicts-clause-enough : goal.returns-in-Ok-verdicts-clause-enough
+returns-in-Ok-verdicts-clause-enough c = λ enough.
+    let fit = replies_fit _ (λ line. length line + 97) (reply_short _ _) (lines c.args.list.now) _
+    c.in-Ok-verdicts.ensures.replies in
+    let room = room_in_list c.args.list.now in
+    let same : length c.as_slice.result.now ≡ length c.in-Ok-verdicts.replies.items = search rules in
+    c.give.ensures.enough (omega (arith, enough, fit, room, same))

@@ -1,0 +1,176 @@
+//! Verdicts on the machines of a list, and on one machine.
+ghost use Rattle.std.specs.Prelude.{◌≡◌, ◌≢◌, ◌+◌, ◌*◌, ◌⊎◌, ◌↔◌, ◌≤◌, IfOk, IsTrue, OnOk, [], length};
+ghost use Rattle.std.specs.List.{AllByRecursion};
+ghost use Rattle.bb_lines.specs.Lines.{AreReplies, lines};
+ghost use Rattle.bb_machine.specs.Limits.{IsAccepted};
+ghost use Rattle.bb_machine.specs.Machine.{IsMachine, IsMachineLine, text};
+ghost use Rattle.bb_run.specs.BorneOut.{VerdictsAreBorneOut};
+ghost use Rattle.bb_run.specs.Reply.{IsReply};
+ghost use Rattle.bb_c.specs.Buffer.{IsFilled, IsTooShort, IsUntouched};
+ghost use Rattle.bb_c.specs.Call.{bounds_of, plan_of};
+
+use crate::buffer::{CLEAN, LIMITS, MEMORY, NOT_CLEAN, SHORT, give};
+use crate::tapes::bench_of;
+use arrayvec::ArrayVec;
+use bb_cert::{LINE_BUFFER, Verdict, line_into, lines_are_short, refusal_into};
+use bb_decide::{Plan, decide};
+use bb_lines::watched::Watched;
+use bb_machine::{Limits, Machine};
+use bb_run::laws::verdicts_are_borne_out;
+use bb_run::run_decide;
+use bb_sim::Meter;
+use bb_tape::Memory;
+use std::alloc::Global;
+
+/// Puts a reply to each line of a list into a buffer, each with a newline. The list's lines end at a newline;
+/// a last line without one counts if it isn't empty.
+#[unsafe(no_mangle)]
+pub extern "C" fn bb_decide(
+    alloc: Global,
+    steps: u64,
+    cells: u64,
+    depth: u64,
+    nodes: u64,
+    cyclers: bool,
+    translated: bool,
+    backward: bool,
+    list: &[u8],
+    out: &mut [u8],
+    count: &mut usize,
+) -> u32
+    ensures replies { (result ≡ CLEAN) ⊎ (result ≡ NOT_CLEAN)
+        → IsFilled (AreReplies (IsReply (bounds_of steps cells depth nodes)
+        (plan_of cyclers translated backward)) (lines list.now)) out.old out.new count.new }
+    ensures clean { result ≡ CLEAN → AllByRecursion IsMachineLine (lines list.now) }
+    ensures refused { result ≡ NOT_CLEAN → AllByRecursion IsMachineLine (lines list.now) → ⊥ }
+    ensures limits { (result ≡ LIMITS) ↔ (IsAccepted (bounds_of steps cells depth nodes) → ⊥) }
+    ensures untouched { (result ≡ LIMITS) ⊎ (result ≡ MEMORY) → IsUntouched out.old out.new count.new }
+    ensures short { result ≡ SHORT
+        → IsTooShort (AreReplies (IsReply (bounds_of steps cells depth nodes)
+        (plan_of cyclers translated backward)) (lines list.now)) out.old out.new count.new }
+
+    // A buffer that is surely long enough.
+    ensures enough { length list.now + 98 * length (lines list.now) ≤ length out.old → result ≢ SHORT }
+
+    // What stands behind each verdict.
+    ensures borne_out { VerdictsAreBorneOut (bounds_of steps cells depth nodes)
+        (plan_of cyclers translated backward) }
+
+    ensures status { result ≤ SHORT }
+{
+    *count = 0;
+    verdicts_are_borne_out();
+    let Ok(limits) = Limits::new(steps, cells, depth, nodes) else {
+        return LIMITS;
+    };
+    let plan = Plan {
+        cyclers,
+        translated,
+        backward,
+    };
+    match verdicts(alloc, &limits, plan, list) {
+        Ok((replies, clean)) => give(replies.as_slice(), clean, out, count),
+        Err(_) => MEMORY,
+    }
+}
+
+/// The replies to the lines of a list, and whether each line is a machine's text.
+fn verdicts(
+    alloc: Global,
+    limits: &Limits,
+    plan: Plan,
+    list: &[u8],
+) -> Result<(Vec<u8>, bool), Memory>
+    ensures replies { IfOk result
+        (λ given. AreReplies (IsReply limits.now plan) (lines list.now) given.0.items) }
+    ensures clean { IfOk result
+        (λ given. IsTrue given.1 ↔ AllByRecursion IsMachineLine (lines list.now)) }
+{
+    let mut bench = bench_of(alloc, limits)?;
+    let mut reader = Watched::new(list);
+    let mut writer = Watched::new(Vec::new(alloc));
+    match run_decide(&mut reader, &mut writer, limits, plan, &mut bench) {
+        Ok(summary) => Ok((writer.into_inner(), summary.clean)),
+        Err(_) => Err(Memory),
+    }
+}
+
+/// Puts the reply to one line into a buffer, without a newline. The line is read before any tape is made.
+#[unsafe(no_mangle)]
+pub extern "C" fn bb_decide_line(
+    alloc: Global,
+    steps: u64,
+    cells: u64,
+    depth: u64,
+    nodes: u64,
+    cyclers: bool,
+    translated: bool,
+    backward: bool,
+    line: &[u8],
+    out: &mut [u8],
+    count: &mut usize,
+) -> u32
+    ensures reply { (result ≡ CLEAN) ⊎ (result ≡ NOT_CLEAN)
+        → IsFilled (IsReply (bounds_of steps cells depth nodes)
+        (plan_of cyclers translated backward) line.now) out.old out.new count.new }
+    ensures clean { result ≡ CLEAN → IsMachineLine line.now }
+    ensures refused { result ≡ NOT_CLEAN → IsMachineLine line.now → ⊥ }
+    ensures limits { (result ≡ LIMITS) ↔ (IsAccepted (bounds_of steps cells depth nodes) → ⊥) }
+    ensures memory { result ≡ MEMORY → IsMachineLine line.now }
+    ensures untouched { (result ≡ LIMITS) ⊎ (result ≡ MEMORY) → IsUntouched out.old out.new count.new }
+    ensures short { result ≡ SHORT
+        → IsTooShort (IsReply (bounds_of steps cells depth nodes)
+        (plan_of cyclers translated backward) line.now) out.old out.new count.new }
+
+    // A buffer that is surely long enough.
+    ensures enough { length line.now + 97 ≤ length out.old → result ≢ SHORT }
+
+    // What stands behind each verdict.
+    ensures borne_out { VerdictsAreBorneOut (bounds_of steps cells depth nodes)
+        (plan_of cyclers translated backward) }
+
+    ensures status { result ≤ SHORT }
+{
+    *count = 0;
+    verdicts_are_borne_out();
+    let Ok(limits) = Limits::new(steps, cells, depth, nodes) else {
+        return LIMITS;
+    };
+    let mut reply = ArrayVec::new();
+    let machine = match Machine::read(line) {
+        Ok(machine) => machine,
+        Err(refused) => {
+            refusal_into(refused.column, &mut reply);
+            return give(reply.as_slice(), false, out, count);
+        }
+    };
+    let plan = Plan {
+        cyclers,
+        translated,
+        backward,
+    };
+    match verdict_line(alloc, &limits, plan, &machine, &mut reply) {
+        Ok(()) => give(reply.as_slice(), true, out, count),
+        Err(_) => MEMORY,
+    }
+}
+
+/// Puts the line of a machine and its verdict into a text, which is empty.
+fn verdict_line(
+    alloc: Global,
+    limits: &Limits,
+    plan: Plan,
+    machine: &Machine,
+    reply: &mut ArrayVec<u8, LINE_BUFFER>,
+) -> Result<(), Memory>
+    requires machine { IsMachine machine.now }
+    requires empty { reply.old.items ≡ [] }
+    ensures reply { OnOk result (IsReply limits.now plan (text machine.now) reply.new.items) }
+{
+    let mut bench = bench_of(alloc, limits)?;
+    let mut meter = Meter::new();
+    let verdict = decide(machine, limits, plan, &mut bench, &mut meter)?;
+    lines_are_short();
+    line_into(machine, &verdict, reply);
+    Ok(())
+}

@@ -1,0 +1,9 @@
+//! The engine as calls for other languages: verdicts and answers for whole lists, and for single lines.
+//!
+//! `include/bb.h` declares them, and says what a caller has to uphold.
+#![tactic(auto)]
+
+mod buffer;
+mod checking;
+mod deciding;
+mod tapes;

@@ -1,0 +1,35 @@
+//! The tapes of one call.
+ghost use Rattle.std.specs.Prelude.{◌≡◌, IfOk};
+ghost use Rattle.bb_cert.specs.Pair.{HasCells as HasPairCells};
+ghost use Rattle.bb_cert.specs.Path.{depth_of};
+ghost use Rattle.bb_decide.specs.Bench.{HasCells};
+
+use bb_cert::{Pair, Path};
+use bb_decide::Bench;
+use bb_machine::Limits;
+use bb_tape::{Memory, RingTape, Tape};
+use std::alloc::Global;
+
+/// A bench of three rings for machines under these limits.
+pub(crate) fn bench_of(alloc: Global, limits: &Limits) -> Result<Bench<RingTape>, Memory>
+    ensures tapes { IfOk result (HasCells ⟦<RingTape as Tape>⟧.strip limits.now.cells) }
+    ensures path { IfOk result (λ bench. depth_of bench.path ≡ limits.now.depth) }
+{
+    let cells = limits.cells();
+    let run = RingTape::new(alloc, cells)?;
+    let right = RingTape::new(alloc, cells)?;
+    let left = RingTape::new(alloc, cells)?;
+    Bench::new(alloc, run, right, left, limits)
+}
+
+/// Two rings and a path for claims under these limits.
+pub(crate) fn pair_of(alloc: Global, limits: &Limits) -> Result<(Pair<RingTape>, Path), Memory>
+    ensures tapes { IfOk result (λ made. HasPairCells ⟦<RingTape as Tape>⟧.strip limits.now.cells made.0) }
+    ensures path { IfOk result (λ made. depth_of made.1 ≡ limits.now.depth) }
+{
+    let cells = limits.cells();
+    let run = RingTape::new(alloc, cells)?;
+    let saved = RingTape::new(alloc, cells)?;
+    let path = Path::new(alloc, limits.depth())?;
+    Ok((Pair { run, saved }, path))
+}

@@ -1,0 +1,85 @@
+/* Verdicts on small Turing machines, and answers to verdicts, as calls.
+ *
+ * The lines are those of the program `bb`, which README.md describes. docs/library.md says how to build and
+ * link this, and what is proved of it.
+ *
+ * Limits. `steps`: of one simulation, 0 to 1,000,000,000,000. `cells`: of one tape, 1 to 67,108,864; a call
+ * that decides makes three tapes of as many bytes, one that checks two. `depth`: levels of the backward tree,
+ * 0 to 10,000. `nodes`: of that tree, 0 to 1,000,000,000,000. 2 * depth - 1 must be at most `cells`.
+ *
+ * Deciders. Each of `cyclers`, `translated` and `backward` is on or off; they are asked in that order.
+ *
+ * What a caller has to uphold:
+ * - No pointer is NULL, also where its length is 0. Each points to as many bytes as its length says.
+ * - Input, `out` and `count` don't overlap.
+ * - A `bool` is 0 or 1.
+ * - `malloc`, `realloc` and `free` come from one allocator.
+ * - No call from a signal handler, or from the forked child of a process that has threads.
+ *
+ * A call keeps nothing: neither pointers nor memory. So calls in different threads don't meet.
+ *
+ * `*count` is the number of bytes of the reply. Where the status is BB_CLEAN or BB_NOT_CLEAN they stand at
+ * the begin of `out`, and the rest of `out` is as it was. Where it is BB_SHORT, `out` is as it was, and
+ * `*count` is how long it has to be. Else `out` is as it was, and `*count` is 0. No byte 0 is put behind the
+ * reply.
+ */
+#ifndef BB_H
+#define BB_H
+
+#ifdef __cplusplus
+#include <cstddef>
+#include <cstdint>
+#else
+#include <stdbool.h>
+#include <stddef.h>
+#include <stdint.h>
+#endif
+
+#define BB_VERSION "0.1.0"
+
+/* Each line was a machine; each answer was `ok` or `open`. */
+#define BB_CLEAN 0
+/* A line was refused; an answer was `bad`, `over` or `unread`. */
+#define BB_NOT_CLEAN 1
+/* The limits were refused. */
+#define BB_LIMITS 2
+/* An allocation failed. */
+#define BB_MEMORY 3
+/* `out` is too short. The work was done, and is lost. */
+#define BB_SHORT 4
+
+/* Bytes of `out` with which BB_SHORT never comes, for a list of so many bytes and lines, and for one line of
+ * so many bytes. A list has a line more than newlines, unless it ends in one or is empty. */
+#define BB_DECIDE_ROOM(list_len, lines) ((list_len) + 98 * (lines))
+#define BB_DECIDE_LINE_ROOM(line_len) ((line_len) + 97)
+#define BB_CHECK_ROOM(lines) (7 * (lines))
+#define BB_CHECK_LINE_ROOM 6
+
+#ifdef __cplusplus
+extern "C" {
+#endif
+
+/* A reply to each line of a list, each with a newline: the machine and its verdict, or `refused` and the
+ * column. A line ends at a newline; a last line without one counts if it isn't empty. */
+uint32_t bb_decide(uint64_t steps, uint64_t cells, uint64_t depth, uint64_t nodes, bool cyclers,
+                   bool translated, bool backward, const uint8_t *list, size_t list_len, uint8_t *out,
+                   size_t out_len, size_t *count);
+
+/* The reply to one line, without a newline. A line that is refused costs no tapes. */
+uint32_t bb_decide_line(uint64_t steps, uint64_t cells, uint64_t depth, uint64_t nodes, bool cyclers,
+                        bool translated, bool backward, const uint8_t *line, size_t line_len, uint8_t *out,
+                        size_t out_len, size_t *count);
+
+/* An answer to each verdict line of a list, each with a newline: `ok`, `bad`, `over`, `open` or `unread`. */
+uint32_t bb_check(uint64_t steps, uint64_t cells, uint64_t depth, uint64_t nodes, const uint8_t *list,
+                  size_t list_len, uint8_t *out, size_t out_len, size_t *count);
+
+/* The answer to one verdict line, without a newline. A line that is `unread` costs no tapes. */
+uint32_t bb_check_line(uint64_t steps, uint64_t cells, uint64_t depth, uint64_t nodes, const uint8_t *line,
+                       size_t line_len, uint8_t *out, size_t out_len, size_t *count);
+
+#ifdef __cplusplus
+}
+#endif
+
+#endif

@@ -1,0 +1,140 @@
+#!/usr/bin/env python3
+"""Builds the library for other languages and its examples, and holds what they do against the program.
+
+    scripts/tests/library.py crates/bb/out/bb
+
+It runs `scripts/library`, and needs gcc, g++, rustc and valgrind beside. The lists are the first 100,000
+machines of four states in tree normal form, all of two states, and claims that someone made up. It takes two
+minutes, after the proof. The last line is `N passed, M failed`; the status is 1 where any failed.
+"""
+
+import os
+import re
+import subprocess
+import sys
+import tempfile
+
+from tally import TOP, Tally, end_with, words
+
+LIMITS = ["--steps", "1000", "--cells", "200", "--depth", "60"]
+SMALL = ["--steps", "1000", "--cells", "64", "--depth", "30", "--nodes", "1000"]
+MACHINES = ["1RB1LB_1LA1RZ", "1RA1RA", "1rB1LB", "", "0RB---_0LA---"]
+CLAIMS = """1RB1LB_1LA1RZ halt 6 4
+1RB1LB_1LA1RZ halt 6 5
+1RA1RA translated R 18446744073709551615 1
+1RA1RA cycler 1 65536
+1RZ--- backward 1 2
+------ halt 00 0
+1RA1RA undecided cells
+refused 14
+
+0RB---_0LA--- backward 2 4
+""".splitlines()
+CALLS = ["bb_check", "bb_check_line", "bb_decide", "bb_decide_line"]
+C_WORDS = ["-Wall", "-Wextra", "-Werror", "-O2", "-pthread", "-I", os.path.join(TOP, "include")]
+VALGRIND = ["valgrind", "-q", "--error-exitcode=9", "--leak-check=full"]
+
+
+def output(command, given=b"", **more):
+    """The status of a command and what it writes."""
+    ended = subprocess.run(command, input=given, stdout=subprocess.PIPE, **more)
+    return ended.returncode, ended.stdout
+
+
+def compiled(tally, command):
+    tally.hold("compiles: " + " ".join(command), subprocess.run(command).returncode == 0)
+
+
+def hold_c(tally, program, archive, folder):
+    """The C examples and tests, compiled as C and the tests as C++ too."""
+    tests = os.path.join(TOP, "scripts", "tests", "library.c")
+    made = [os.path.join(folder, name) for name in ("tests", "tests++", "decide", "two_states")]
+    examples = os.path.join(TOP, "examples", "c")
+    compiled(tally, ["gcc", "-std=c99", *C_WORDS, tests, archive, "-o", made[0]])
+    compiled(tally, ["g++", "-x", "c++", *C_WORDS, tests, "-x", "none", archive, "-o", made[1]])
+    for name, out in zip(("decide.c", "two_states.c"), made[2:]):
+        compiled(tally, ["gcc", "-std=c99", *C_WORDS, os.path.join(examples, name), archive, "-o", out])
+    for command in ([made[0]], [made[1]], [*VALGRIND, made[0]], [*VALGRIND, made[2], *MACHINES]):
+        status, told = output(command)
+        counts = re.search(rb"(\d+) passed, 0 failed\n$", told)
+        wanted = 1 if command[-1] == MACHINES[-1] else 0
+        tally.hold("%s: status %d" % (" ".join(command), status), status == wanted)
+        tally.hold("all of its tests: %s" % told.decode(), counts or wanted)
+    lines = output([made[3], "lines"])[1].splitlines()[:-5]
+    given = b"".join(line.split()[0] + b"\n" for line in lines)
+    wanted = output([program, "decide", *SMALL], given)[1].splitlines()
+    tally.hold("28561 machines of two states", len(lines) == 28561 and lines == wanted)
+    hold_words(tally, program, made[2])
+
+
+def hold_words(tally, program, decide):
+    """An example that decides its arguments writes what the program does with a list of them."""
+    given = "".join(machine + "\n" for machine in MACHINES).encode()
+    wanted = output([program, "decide"], given)
+    tally.hold("%s and the program" % decide, output([decide, *MACHINES]) == wanted)
+    tally.hold("%s and a limit of one word" % decide, output([decide, "1RZ---"]) == (0, b"1RZ--- halt 1 1\n"))
+
+
+def hold_rust(tally, program, archive, folder):
+    made = os.path.join(folder, "decide_rust")
+    source = os.path.join(TOP, "examples", "rust", "decide.rs")
+    compiled(tally, ["rustc", "-O", source, "-L", os.path.dirname(archive), "-l", "static=bb", "-o", made])
+    hold_words(tally, program, made)
+
+
+def hold_python(tally, program, shared):
+    """The Python module, its script, its lists beside the program's, and its errors."""
+    os.environ["BB_LIBRARY"] = shared
+    sys.path.insert(0, os.path.join(TOP, "examples", "python"))
+    import bb
+
+    listing = [sys.executable, os.path.join(TOP, "scripts", "tools", "tree_normal_form.py"), "4"]
+    with subprocess.Popen(listing, stdout=subprocess.PIPE, text=True) as lister:
+        machines = [line.rstrip("\n") for line, _ in zip(lister.stdout, range(100_000))]
+        lister.stdout.close()
+    given = "".join(machine + "\n" for machine in machines).encode()
+    verdicts = output([program, "decide", *LIMITS], given)[1].decode().splitlines()
+    tally.hold("100000 machines of four states", len(verdicts) == 100_000)
+    told = bb.decide(machines, steps=1000, cells=200, depth=60)
+    tally.hold("their verdicts", told == verdicts)
+    for lines in (verdicts, CLAIMS):
+        given = "".join(line + "\n" for line in lines).encode()
+        wanted = output([program, "check", *LIMITS], given)[1].decode().splitlines()
+        tally.hold("answers", bb.check(lines, steps=1000, cells=200, depth=60) == wanted)
+    tally.hold("no machines", bb.decide([]) == [] and bb.check([]) == [])
+    tally.hold("an empty text", bb.decide([""]) == ["refused 1"])
+    tally.hold("a decider off", bb.decide(["1RA1RA"], translated=False) == ["1RA1RA backward 0 0"])
+    for wrong in ({"cells": 4}, {"steps": -1}, {"nodes": 2**64}, {"cells": 0, "depth": 0}):
+        tally.hold("limits %s" % wrong, raises(bb.LimitsError, bb.decide, ["1RA1RA"], **wrong))
+    tally.hold("a newline", raises(ValueError, bb.check, ["refused 1\n"]))
+    script = [sys.executable, os.path.join(TOP, "examples", "python", "list.py")]
+    tally.hold("the script", output(script, b"1RZ---\nx\n")[1] == b"ok 1RZ--- halt 1 1\nopen refused 1\n")
+
+
+def raises(error, call, *given, **more):
+    try:
+        call(*given, **more)
+    except error:
+        return True
+    return False
+
+
+def main():
+    program = words(__doc__).parse_args().program
+    tally = Tally()
+    status, told = output([os.path.join(TOP, "scripts", "library")])
+    tally.hold("scripts/library: status %d" % status, status == 0)
+    if status != 0:
+        return tally.end()
+    archive, shared, _ = told.decode().splitlines()
+    symbols = output(["nm", "-D", "--defined-only", shared])[1].decode().split()[2::3]
+    tally.hold("libbb.so has %s" % symbols, sorted(symbols) == CALLS)
+    with tempfile.TemporaryDirectory() as folder:
+        hold_c(tally, program, archive, folder)
+        hold_rust(tally, program, archive, folder)
+    hold_python(tally, program, shared)
+    return tally.end()
+
+
+if __name__ == "__main__":
+    end_with(main)
