@@ -17,6 +17,10 @@ pub in_no_state : (found : Option ℕ) (state : Next) → MatchOption found (sta
 in_no_state None state told apart = told
 in_no_state (Some n) state told apart = absurd (apart n refl)
 
+pub is_none : {A : Type 0} (found : Option A) → ((a : A) → found ≢ Some a) → found ≡ None
+is_none None apart = refl
+is_none (Some a) apart = absurd (apart a refl)
+
 -- one that tells a state isn't
 pub not_in_Z : {state : Next} {n : ℕ} → state ≡ State n → state ≢ Halt
 not_in_Z is halts = cc

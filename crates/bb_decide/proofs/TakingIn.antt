@@ -12,6 +12,7 @@ use Rattle.bb_sim.specs.Runner.{Stands, position_of, steps_of}
 use Rattle.bb_cert.specs.declared.side_records.Records.{Records}
 use Rattle.bb_cert.specs.declared.verdict.Extent.{Extent}
 use Rattle.bb_cert.specs.declared.verdict.Side.{Side}
+use Rattle.bb_cert.specs.declared.verdict.Side.TheVariants.{L, R}
 use Rattle.bb_cert.specs.declared.verdict.Verdict.{Verdict}
 use Rattle.bb_cert.specs.declared.verdict.Verdict.TheVariants.{Translated}
 use Rattle.bb_cert.specs.Agree.{Agree}
@@ -19,11 +20,12 @@ use Rattle.bb_cert.specs.Checks.{MakesRecord}
 use Rattle.bb_cert.specs.Extent.{IsExtent}
 use Rattle.bb_cert.specs.Follow.{AgreesWithKept, IsFollowed, passed, top_of, with_kept}
 use Rattle.bb_cert.specs.Record.{out, head_at, IsRecord}
+use Rattle.bb_cert.proofs.Facts.{MakesJust}
 use Rattle.bb_cert.proofs.Facts.{agree_of_cells, at_step, cells_of_agree, comparable, extent_of_records, farther}
 use Rattle.bb_cert.proofs.Facts.{followed_at_first, followed_farther, followed_nearer, head_at-is, keeps}
 use Rattle.bb_cert.proofs.Facts.{made_next, nearer_on, number_narrow, numbered, record_has_one_step}
 use Rattle.bb_cert.proofs.Facts.{records_in_order, stands_on, stays}
-use Rattle.bb_decide.specs.Follow.{Compares, IsReady, IsSearched, KeepsByTurn}
+use Rattle.bb_decide.specs.Follow.{Compares, IsReady, IsSearched, KeepsByTurn, Looks, on_side}
 use Rattle.bb_decide.specs.Partner.{IsKept, IsPartner}
 use Rattle.bb_decide.specs.Translation.{AgreesWithPartner}
 use Rattle.bb_decide.proofs.Partners.{kept_at_first, kept_below, keeps_next, keeps_on, partner_is_unique}
@@ -244,3 +246,56 @@ module _ {table : Table} {n : ℕ} {side : Side} {runner : Runner} {run saved : 
         (goes_on table n runner run saved old stands next searched made_there looked looked_saved
         (subst (λ r. Compares r runner run saved looked looked_saved None) new_is is)
         (same ∙ ap (λ (r : Records). r.side) new_is))
+
+-- both sides after a step
+pub record BothGoOn (table : Table) (n : ℕ) (right left : Records) (saved_right saved_left : Strip) : Type 0 where
+  pub right_goes_on : GoesOn table n R right saved_right
+  pub left_goes_on : GoesOn table n L left saved_left
+
+module _ {table : Table} {n : ℕ} {runner : Runner} {run saved_right saved_left : Strip}
+    {right left new_right new_left : Records}
+    (right_searched : IsSearched table n right saved_right) (left_searched : IsSearched table n left saved_left)
+    (right_is : right.side ≡ R) (left_is : left.side ≡ L) (stands : Stands table runner run)
+    (next : steps_of runner ≡ n + 1) (new_right_is : new_right ≡ passed right (position_of runner))
+    (new_left_is : new_left ≡ passed left (position_of runner)) where
+  -- by a step that makes no record
+  pub both_pass_by : MakesJust table (n + 1) None
+      → BothGoOn table (steps_of runner) new_right new_left saved_right saved_left
+  both_pass_by just = record {
+    right_goes_on = side_passes_by right_searched right_is stands next new_right_is (just R);
+    left_goes_on = side_passes_by left_searched left_is stands next new_left_is (just L);
+  }
+
+  -- by one that makes a record of one side
+  pub one_ready : (side : Side) → MakesJust table (n + 1) (Some side) → IsSound run
+      → IsReady (on_side side new_right new_left) runner (on_side side saved_right saved_left) run
+  one_ready R just sound = side_ready right_searched right_is stands next new_right_is just.0 sound
+  one_ready L just sound = side_ready left_searched left_is stands next new_left_is just.0 sound
+
+  module _ (looked_right looked_left : Records) (looked_saved_right looked_saved_left : Strip) where
+    pub one_ends : (side : Side) → MakesJust table (n + 1) (Some side) → (verdict : Verdict)
+        → Looks side runner run new_right new_left saved_right saved_left looked_right looked_left
+        looked_saved_right looked_saved_left (Some verdict) → EndsWith table side (steps_of runner) verdict
+    one_ends R just verdict looks = side_ends right_searched right_is stands next new_right_is just.0 looked_right
+        looked_saved_right verdict looks.0
+    one_ends L just verdict looks = side_ends left_searched left_is stands next new_left_is just.0 looked_left
+        looked_saved_left verdict looks.0
+
+    pub both_go_on : (side : Side) → MakesJust table (n + 1) (Some side)
+        → Looks side runner run new_right new_left saved_right saved_left looked_right looked_left
+        looked_saved_right looked_saved_left None
+        → BothGoOn table (steps_of runner) looked_right looked_left looked_saved_right looked_saved_left
+    both_go_on R just looks = record {
+      right_goes_on = side_goes_on right_searched right_is stands next new_right_is just.0 looked_right
+          looked_saved_right looks.0 looks.1;
+      left_goes_on = subst (λ r. GoesOn table (steps_of runner) L r looked_saved_left) (sym looks.2)
+          (subst (GoesOn table (steps_of runner) L new_left) (sym looks.3)
+          (side_passes_by left_searched left_is stands next new_left_is just.1));
+    }
+    both_go_on L just looks = record {
+      left_goes_on = side_goes_on left_searched left_is stands next new_left_is just.0 looked_left
+          looked_saved_left looks.0 looks.1;
+      right_goes_on = subst (λ r. GoesOn table (steps_of runner) R r looked_saved_right) (sym looks.2)
+          (subst (GoesOn table (steps_of runner) R new_right) (sym looks.3)
+          (side_passes_by right_searched right_is stands next new_right_is just.1));
+    }

@@ -7,6 +7,8 @@ use Rattle.bb_sim.specs.declared.runner.Runner.{Runner}
 use Rattle.bb_sim.specs.Runner.{position_of, steps_of}
 use Rattle.bb_cert.specs.declared.side_records.Records.{Records}
 use Rattle.bb_cert.specs.declared.verdict.Extent.{Extent}
+use Rattle.bb_cert.specs.declared.verdict.Side.{Side}
+use Rattle.bb_cert.specs.declared.verdict.Side.TheVariants.{L, R}
 use Rattle.bb_cert.specs.declared.verdict.Verdict.{Verdict}
 use Rattle.bb_cert.specs.declared.verdict.Verdict.TheVariants.{Translated}
 use Rattle.bb_cert.specs.Follow.{AgreesWithKept, IsComparable, IsFollowed, IsKeptInStateOf, IsNarrow}
@@ -44,3 +46,18 @@ Compares old runner run saved new new_saved None =
     (AgreesWithKept old runner saved run → ⊥) × KeepsByTurn old runner run saved new new_saved
 Compares old runner run saved new new_saved (Some verdict) =
     AgreesWithKept old runner saved run × TellsPair old runner verdict
+
+-- what is meant for a side
+abbrev pub on_side : {A : Type 0} → Side → A → A → A
+on_side R right left = right
+on_side L right left = left
+
+-- the records of one side were compared, with a verdict or not; those of the other stay
+abbrev pub Looks : Side → Runner → Strip → Records → Records → Strip → Strip → Records → Records → Strip → Strip
+    → Option Verdict → Type 0
+Looks R runner run right left saved_right saved_left new_right new_left new_saved_right new_saved_left found =
+    Compares right runner run saved_right new_right new_saved_right found
+    × (new_right.side ≡ right.side) × (new_left ≡ left) × (new_saved_left ≡ saved_left)
+Looks L runner run right left saved_right saved_left new_right new_left new_saved_right new_saved_left found =
+    Compares left runner run saved_left new_left new_saved_left found
+    × (new_left.side ≡ left.side) × (new_right ≡ right) × (new_saved_right ≡ saved_right)

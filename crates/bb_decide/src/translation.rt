@@ -6,6 +6,7 @@ ghost use Rattle.bb_cert.specs.Claim.{Claim};
 ghost use Rattle.bb_cert.specs.Verdict.{HasNumbers};
 ghost use Rattle.bb_decide.specs.Bench.{HasCells};
 ghost use Rattle.bb_decide.specs.Cycle.{CountsSearch};
+ghost use Rattle.bb_decide.specs.Follow.{IsReady, Looks, on_side};
 ghost use Rattle.bb_decide.specs.Sure.{FindsAgreeingRecords};
 ghost use Rattle.bb_decide.specs.Translation.{FindsTranslation};
 
@@ -86,16 +87,49 @@ fn run<T: Tape>(
         right.pass(runner.position());
         left.pass(runner.position());
         // A record is made exactly where the window becomes wider.
-        match widened_side(&runner, cells) {
+        let Some(side) = widened_side(&runner, cells) else {
+            continue;
+        };
+        match look_on(
+            side,
+            &mut right,
+            &mut left,
+            &runner,
+            &bench.run,
+            &mut bench.right,
+            &mut bench.left,
+        )? {
+            Some(verdict) => return Ok(Some(verdict)),
             None => {}
-            Some(Side::R) => match look(&mut right, &runner, &bench.run, &mut bench.right)? {
-                Some(verdict) => return Ok(Some(verdict)),
-                None => {}
-            },
-            Some(Side::L) => match look(&mut left, &runner, &bench.run, &mut bench.left)? {
-                Some(verdict) => return Ok(Some(verdict)),
-                None => {}
-            },
         }
+    }
+}
+
+/// Looks at the record that the runner has just made on a side.
+#[inline(always)]
+fn look_on<T: Tape>(
+    side: Side,
+    right: &mut Records,
+    left: &mut Records,
+    runner: &Runner,
+    run: &T,
+    saved_right: &mut T,
+    saved_left: &mut T,
+) -> Result<Option<Verdict>, Memory>
+    requires right_limit { (T.strip saved_right.old).limit ≡ (T.strip run.now).limit }
+    requires left_limit { (T.strip saved_left.old).limit ≡ (T.strip run.now).limit }
+    requires ready { IsReady (on_side side right.old left.old) runner.now
+        (on_side side (T.strip saved_right.old) (T.strip saved_left.old)) (T.strip run.now) }
+    ensures looks { IfOk result (Looks side runner.now (T.strip run.now) right.old left.old
+        (T.strip saved_right.old) (T.strip saved_left.old) right.new left.new
+        (T.strip saved_right.new) (T.strip saved_left.new)) }
+    ensures numbers { IfOk result (λ found. IfSome found HasNumbers) }
+    ensures right_limit { (T.strip saved_right.new).limit ≡ (T.strip saved_right.old).limit }
+    ensures left_limit { (T.strip saved_left.new).limit ≡ (T.strip saved_left.old).limit }
+    ensures memory { OnErr result (IsTrue T.GROWS) }
+{
+    match side {
+        Side::R => look(right, runner, run, saved_right),
+        Side::L => look(left, runner, run, saved_left),
     }
 }
