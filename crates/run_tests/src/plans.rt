@@ -125,12 +125,14 @@ const MACHINES: &[u8] = b"1RB1LB_1LA1RZ
 static BY_PLAN: [((bool, bool, bool), &[u8], &[u8]); 8] = [
     (
         (true, true, true),
-        b"1RB1LB_1LA1RZ halt 6 4\n0RB---_0LA--- cycler 2 4\n1RA1RA translated R 1 2 1 1\n1RB0RB_1LA1LA cycler 4 8\n",
+        b"1RB1LB_1LA1RZ halt 6 4\n0RB---_0LA--- cycler 2 4\n\
+          1RA1RA translated R 1 2 1 1\n1RB0RB_1LA1LA cycler 4 8\n",
         b"ok\nok\nok\nok\n",
     ),
     (
         (true, true, false),
-        b"1RB1LB_1LA1RZ halt 6 4\n0RB---_0LA--- cycler 2 4\n1RA1RA translated R 1 2 1 1\n1RB0RB_1LA1LA cycler 4 8\n",
+        b"1RB1LB_1LA1RZ halt 6 4\n0RB---_0LA--- cycler 2 4\n\
+          1RA1RA translated R 1 2 1 1\n1RB0RB_1LA1LA cycler 4 8\n",
         b"ok\nok\nok\nok\n",
     ),
     (
@@ -140,27 +142,32 @@ static BY_PLAN: [((bool, bool, bool), &[u8], &[u8]); 8] = [
     ),
     (
         (true, false, false),
-        b"1RB1LB_1LA1RZ halt 6 4\n0RB---_0LA--- cycler 2 4\n1RA1RA undecided cells\n1RB0RB_1LA1LA cycler 4 8\n",
+        b"1RB1LB_1LA1RZ halt 6 4\n0RB---_0LA--- cycler 2 4\n\
+          1RA1RA undecided cells\n1RB0RB_1LA1LA cycler 4 8\n",
         b"ok\nok\nopen\nok\n",
     ),
     (
         (false, true, true),
-        b"1RB1LB_1LA1RZ halt 6 4\n0RB---_0LA--- backward 2 4\n1RA1RA translated R 1 2 1 1\n1RB0RB_1LA1LA backward 0 0\n",
+        b"1RB1LB_1LA1RZ halt 6 4\n0RB---_0LA--- backward 2 4\n\
+          1RA1RA translated R 1 2 1 1\n1RB0RB_1LA1LA backward 0 0\n",
         b"ok\nok\nok\nok\n",
     ),
     (
         (false, true, false),
-        b"1RB1LB_1LA1RZ halt 6 4\n0RB---_0LA--- undecided steps\n1RA1RA translated R 1 2 1 1\n1RB0RB_1LA1LA undecided steps\n",
+        b"1RB1LB_1LA1RZ halt 6 4\n0RB---_0LA--- undecided steps\n\
+          1RA1RA translated R 1 2 1 1\n1RB0RB_1LA1LA undecided steps\n",
         b"ok\nopen\nok\nopen\n",
     ),
     (
         (false, false, true),
-        b"1RB1LB_1LA1RZ halt 6 4\n0RB---_0LA--- backward 2 4\n1RA1RA backward 0 0\n1RB0RB_1LA1LA backward 0 0\n",
+        b"1RB1LB_1LA1RZ halt 6 4\n0RB---_0LA--- backward 2 4\n\
+          1RA1RA backward 0 0\n1RB0RB_1LA1LA backward 0 0\n",
         b"ok\nok\nok\nok\n",
     ),
     (
         (false, false, false),
-        b"1RB1LB_1LA1RZ halt 6 4\n0RB---_0LA--- undecided steps\n1RA1RA undecided cells\n1RB0RB_1LA1LA undecided steps\n",
+        b"1RB1LB_1LA1RZ halt 6 4\n0RB---_0LA--- undecided steps\n\
+          1RA1RA undecided cells\n1RB0RB_1LA1LA undecided steps\n",
         b"ok\nopen\nopen\nopen\n",
     ),
 ];
