@@ -57,7 +57,8 @@ same_order p = omega (arith, ints)
 pub numbered_at : (table : Table) (records : Records) (saved : Strip) (n : ℕ)
     (followed : IsFollowed table n records saved) → position_of records.kept ≢ pos 0 → 0 < followed.number
 numbered_at table records saved n followed apart =
-    some_number followed.number (number_of records) followed.number_is (λ none. apart (at_zero records.side _ none))
+    some_number followed.number (number_of records) followed.number_is (λ none. apart
+    (at_zero records.side _ none))
 
 -- where a runner stands, on this content
 abbrev stood : Runner → Content → Configuration
@@ -180,7 +181,8 @@ module _ (table : Table) (runner : Runner) (run saved : Strip) (records : Record
   }
 
   module _ (some : 0 < followed.number) where
-    kept : IsKeptRecord table records.side followed.number (steps_of runner) records.kept (far_of records) saved
+    kept : IsKeptRecord table records.side followed.number (steps_of runner) records.kept
+        (far_of records) saved
     kept = followed.kept some
 
     kept_is : head_at table (steps_of records.kept) ≡ position_of records.kept

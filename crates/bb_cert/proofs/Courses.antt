@@ -1,5 +1,22 @@
 -- What is known of a side's records, as the run goes on by a step.
-use Rattle.std.proofs.Common.{◌≡◌, ℕ, ◌+◌, ◌<◌, ◌↔◌, ℤ, pos, ◌≤ℤ◌, Option, Some, None, IsTrue, false, refl, ap, sym}
+use Rattle.std.proofs.Common.{
+  ◌≡◌,
+  ℕ,
+  ◌+◌,
+  ◌<◌,
+  ◌↔◌,
+  ℤ,
+  pos,
+  ◌≤ℤ◌,
+  Option,
+  Some,
+  None,
+  IsTrue,
+  false,
+  refl,
+  ap,
+  sym,
+}
 use Rattle.std.proofs.Common.{subst, ◌∙◌, arith}
 use Rattle.std.specs.Prelude.{◌<ℤ◌, ◌≢◌}
 use Rattle.std.specs.Int.{int_min}
@@ -19,16 +36,33 @@ use Rattle.bb_cert.specs.declared.following.Course.{Course}
 use Rattle.bb_cert.specs.declared.side_records.Records.{Records}
 use Rattle.bb_cert.specs.declared.verdict.Side.{Side}
 use Rattle.bb_cert.specs.declared.verdict.Side.TheVariants.{L, R}
-use Rattle.bb_cert.specs.Checks.{GoesOn, IsCourse, KeepsSame, KeepsStep, MakesRecord, MakesRecordOutsideZ, Passes}
+use Rattle.bb_cert.specs.Checks.{
+  GoesOn,
+  IsCourse,
+  KeepsSame,
+  KeepsStep,
+  MakesRecord,
+  MakesRecordOutsideZ,
+  Passes,
+}
 use Rattle.bb_cert.specs.Follow.{IsFollowed, IsKeptRecord, IsTop, TellsWidening, far_of, nearer, passed}
 use Rattle.bb_cert.specs.Record.{out, head_at}
 use Rattle.bb_cert.proofs.Heads.{far-next, window_falls, window_rises}
 use Rattle.bb_cert.proofs.Positions.{head_at-is, out-zero}
 use Rattle.bb_cert.proofs.Records.{record_takes_steps}
-use Rattle.bb_cert.proofs.Tops.{MakesJust, farther, makes_just, none_wider, top_at_first, top_farther, top_stays}
+use Rattle.bb_cert.proofs.Tops.{
+  MakesJust,
+  farther,
+  makes_just,
+  none_wider,
+  top_at_first,
+  top_farther,
+  top_stays,
+}
 
 -- at the start there is no record
-abbrev pub followed_at_first : (table : Table) (records : Records) (saved : Strip) → position_of records.kept ≡ pos 0
+abbrev pub followed_at_first : (table : Table) (records : Records) (saved : Strip)
+    → position_of records.kept ≡ pos 0
     → IsFollowed table 0 records saved
 followed_at_first table records saved start = record {
   count = 0;
@@ -45,7 +79,8 @@ none_at_first table side made =
     let some = record_is.positive in
     omega (arith, takes, some)
 
-pub course_at_first : (table : Table) (course : Course) (saved : Strip) → position_of course.records.kept ≡ pos 0
+pub course_at_first : (table : Table) (course : Course) (saved : Strip) → position_of course.records.kept
+    ≡ pos 0
     → course.is_record ≡ false → IsCourse table 0 course saved
 course_at_first table course saved start none = record {
   followed = followed_at_first table course.records saved start;
@@ -74,7 +109,8 @@ nearer_out : (side : Side) (p q : ℤ) → out side (nearer side p q) ≡ int_mi
 nearer_out R p q = refl
 nearer_out L p q = omega (arith, ints, clamps)
 
-module _ (table : Table) (n : ℕ) (records : Records) (saved : Strip) (there : Exists table (n + 1)) (position : ℤ)
+module _ (table : Table) (n : ℕ) (records : Records) (saved : Strip) (there : Exists table (n + 1))
+    (position : ℤ)
     (at : position ≡ head_at table (n + 1)) (followed : IsFollowed table n records saved) where
   pub kept_is : 0 < followed.number
       → IsKeptRecord table records.side followed.number (n + 1) records.kept
@@ -82,7 +118,8 @@ module _ (table : Table) (n : ℕ) (records : Records) (saved : Strip) (there : 
   kept_is some = subst (λ f. IsKeptRecord table records.side followed.number (n + 1) records.kept f saved)
       (sym (nearer_out records.side records.nearest position
       ∙ ap (λ p. int_min (far_of records) (out records.side p)) at))
-      (kept-next table records.side followed.number n records.kept (far_of records) saved (followed.kept some))
+      (kept-next table records.side followed.number n records.kept (far_of records) saved
+      (followed.kept some))
 
   -- farther out than before there is one record more
   abbrev pub followed_farther : pos followed.count <ℤ out records.side (head_at table (n + 1))
@@ -134,10 +171,20 @@ module _ (table : Table) (side : Side) (before after : Runner) (run_before run_a
       let at = stands.at in
       made.1.runs (state_is made.1.here halts (rw next at at) there) where
         state_is : (here : Configuration) → state_of after ≡ Halt
-            → conf table n ≡ Some (record { state = state_of after; head = position_of after; tape = run_after.content })
+            → conf table n ≡ Some (record {
+              state = state_of after;
+              head = position_of after;
+              tape =
+                  run_after.content;
+            })
             → conf table n ≡ Some here → here.state ≡ Halt
         state_is here halts a b =
-            let same : record { state = state_of after; head = position_of after; tape = run_after.content } ≡ here = cc in
+            let same : record {
+              state = state_of after;
+              head = position_of after;
+              tape =
+                  run_after.content;
+            } ≡ here = cc in
             sym (ap (λ (c : Configuration). c.state) same) ∙ halts
 
   running : state_of after ≢ Halt → IsRunningAt table n (head_at table n)
@@ -168,7 +215,8 @@ module _ (table : Table) (side : Side) (before after : Runner) (run_before run_a
     by_side L made = refl
     by_side R made = absurd (just.1 made)
 
-  pub told_by_window : (cells : ℕ) → cells ≡ cells_between (low_of before) (high_of before) → (told : Option Side)
+  pub told_by_window : (cells : ℕ) → cells ≡ cells_between (low_of before) (high_of before) →
+      (told : Option Side)
       → TellsWidening after cells told → (told ≡ Some side) ↔ MakesRecordOutsideZ table side n
   told_by_window cells were told widens = by_state (state_of after) refl where
     by_state : (state : Next) → state_of after ≡ state → (told ≡ Some side) ↔ MakesRecordOutsideZ table side n
@@ -179,7 +227,8 @@ module _ (table : Table) (side : Side) (before after : Runner) (run_before run_a
     )
     by_state (State q) is =
         let runs : state_of after ≢ Halt = λ halts. cc in
-        let just = makes_just table before after run_before run_after stood stands next runs cells were told widens in (
+        let just = makes_just table before after run_before run_after stood stands next runs cells were told
+        widens in (
           λ is. (made_by told just is, running runs),
           λ made. tells_made told just made.0,
         )
@@ -192,7 +241,8 @@ pub course-next : (table : Table) (n : ℕ) (old new : Course) (saved : Strip) (
 course-next table n old new saved position there at is told course = record {
   followed = subst (λ r. IsFollowed table (n + 1) r saved) (sym is)
       (followed-next table n old.records saved there position at course.followed);
-  told = subst (λ (r : Records). IsTrue new.is_record ↔ MakesRecordOutsideZ table r.side (n + 1)) (sym is) told;
+  told = subst (λ (r : Records). IsTrue new.is_record ↔ MakesRecordOutsideZ table r.side (n + 1))
+      (sym is) told;
 }
 
 -- the record of a step stays kept
@@ -216,20 +266,22 @@ pub goes-next : (table : Table) (from : ℕ) (first old new : Course) (before af
     → Stands table after run_after → steps_of after ≡ steps_of before + 1
     → cells ≡ cells_between (low_of before) (high_of before) → Passes after cells old new
     → GoesOn table from (steps_of after) first new
-goes-next table from first old new before after run_before run_after cells goes stood stands next were passes = record {
-  course = λ saved begun. subst (λ k. IsCourse table k new saved) (sym next)
-      (course-next table (steps_of before) old new saved (position_of after)
-      (subst (Exists table) next (record { here = _; exists = stands.at }))
-      (sym (head_at-is table (steps_of after) _ stands.at) ∙ ap (head_at table) next) passes.records told
-      (goes.course saved begun));
-  same = record {
-    side = ap (λ (r : Records). r.side) passes.records ∙ goes.same.side;
-    kept = ap (λ (r : Records). r.kept) passes.records ∙ goes.same.kept;
-  };
-} where
-  is : (passes.told ≡ Some old.records.side) ↔ MakesRecordOutsideZ table old.records.side (steps_of before + 1)
-  is = told_by_window table old.records.side before after run_before run_after stood stands next cells were
-      passes.told passes.widens
+goes-next table from first old new before after run_before run_after cells goes stood stands next were passes
+    = record {
+      course = λ saved begun. subst (λ k. IsCourse table k new saved) (sym next)
+          (course-next table (steps_of before) old new saved (position_of after)
+          (subst (Exists table) next (record { here = _; exists = stands.at }))
+          (sym (head_at-is table (steps_of after) _ stands.at) ∙ ap (head_at table) next) passes.records told
+          (goes.course saved begun));
+      same = record {
+        side = ap (λ (r : Records). r.side) passes.records ∙ goes.same.side;
+        kept = ap (λ (r : Records). r.kept) passes.records ∙ goes.same.kept;
+      };
+    } where
+      is : (passes.told ≡ Some old.records.side) ↔ MakesRecordOutsideZ table old.records.side
+          (steps_of before + 1)
+      is = told_by_window table old.records.side before after run_before run_after stood stands next cells were
+          passes.told passes.widens
 
-  told : IsTrue new.is_record ↔ MakesRecordOutsideZ table old.records.side (steps_of before + 1)
-  told = (λ yes. is.0 (passes.is_told.0 yes), λ made. passes.is_told.1 (is.1 made))
+      told : IsTrue new.is_record ↔ MakesRecordOutsideZ table old.records.side (steps_of before + 1)
+      told = (λ yes. is.0 (passes.is_told.0 yes), λ made. passes.is_told.1 (is.1 made))

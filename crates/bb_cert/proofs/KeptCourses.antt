@@ -151,7 +151,11 @@ kept_at table side step start none old new runner run begun is goes stands here 
 
   known : IsCourse table (steps_of runner) old run
   known = subst (λ n. IsCourse table n old run) (sym here)
-      (goes.course run (course_at_first table (record { records = none; is_record = false }) run start_is refl))
+      (goes.course run (course_at_first table (record {
+        records = none;
+        is_record =
+            false;
+      }) run start_is refl))
 
 -- followed on from there
 module _ (table : Table) (side : Side) (first second : ℕ) (old new : Course) (runner : Runner)
@@ -180,11 +184,13 @@ module _ (table : Table) (side : Side) (first second : ℕ) (old new : Course) (
       (subst (λ b. IsExtent table new.records.side (steps_of new.records.kept) b found) here
       (extent_of_records table runner run saved new.records stands known_on.followed made some found lies)))
 
-  turned : AgreeingRecords table new.records.side first (steps_of runner) → AgreeingRecords table side first second
+  turned : AgreeingRecords table new.records.side first (steps_of runner)
+      → AgreeingRecords table side first second
   turned pair = subst (λ s. AgreeingRecords table s first second) (goes.same.side ∙ kept.side_is)
       (subst (λ n. AgreeingRecords table new.records.side first n) here pair)
 
-  turned_back : AgreeingRecords table side first second → AgreeingRecords table new.records.side first (steps_of runner)
+  turned_back : AgreeingRecords table side first second → AgreeingRecords table new.records.side first
+      (steps_of runner)
   turned_back pair = subst (λ n. AgreeingRecords table new.records.side first n) (sym here)
       (subst (λ s. AgreeingRecords table s first second) (sym (goes.same.side ∙ kept.side_is)) pair)
 

@@ -1,5 +1,24 @@
 -- The stretch that is compared: how far out its ends are, and which positions those are.
-use Rattle.std.proofs.Common.{◌≡◌, ℕ, ◌+◌, ◌*◌, ◌^◌, ◌<◌, ◌↔◌, ℤ, pos, negsuc, neg_ℤ, ◌+ℤ◌, ◌-ℤ◌, ◌≤ℤ◌, inl, inr, refl, ap}
+use Rattle.std.proofs.Common.{
+  ◌≡◌,
+  ℕ,
+  ◌+◌,
+  ◌*◌,
+  ◌^◌,
+  ◌<◌,
+  ◌↔◌,
+  ℤ,
+  pos,
+  negsuc,
+  neg_ℤ,
+  ◌+ℤ◌,
+  ◌-ℤ◌,
+  ◌≤ℤ◌,
+  inl,
+  inr,
+  refl,
+  ap,
+}
 use Rattle.std.proofs.Common.{sym, subst, ◌∙◌, arith}
 use Rattle.std.specs.Int.{int_min}
 use Rattle.std.specs.Int.RustNames.{unsigned_abs}
@@ -14,7 +33,15 @@ use Rattle.bb_cert.specs.declared.verdict.Side.{Side}
 use Rattle.bb_cert.specs.declared.verdict.Side.TheVariants.{L, R}
 use Rattle.bb_cert.specs.Record.{out}
 use Rattle.bb_cert.specs.declared.side_records.Records.{Records}
-use Rattle.bb_cert.specs.Follow.{HasSameCells, IsComparable, IsNarrow, IsWidened, far_of, lesser_of, number_of}
+use Rattle.bb_cert.specs.Follow.{
+  HasSameCells,
+  IsComparable,
+  IsNarrow,
+  IsWidened,
+  far_of,
+  lesser_of,
+  number_of,
+}
 use Rattle.bb_cert.specs.Follow.{top_of}
 use Rattle.bb_cert.proofs.Heads.{out-out}
 
@@ -186,7 +213,8 @@ compared records runner saved run from other len comparable seen from_is other_i
       (turned_back saved records.nearest seen)
       (turned_back saved (position_of records.kept) comparable.number_saved);
   there = stretch_inside side run _ (top_of records runner) other len
-      (moved_from side records.nearest (position_of records.kept) (position_of runner) from other lesser other_is)
+      (moved_from side records.nearest (position_of records.kept)
+      (position_of runner) from other lesser other_is)
       (moved_length (far_of records) (number_of records) (top_of records runner) len long)
       (between_inside side run (far_of records) _ (top_of records runner) order.0 order.1
       (turned_back run records.nearest comparable.far_seen)
@@ -208,7 +236,8 @@ compared records runner saved run from other len comparable seen from_is other_i
 
   order : (far_of records ≤ℤ (far_of records +ℤ (top_of records runner -ℤ number_of records)))
       × ((far_of records +ℤ (top_of records runner -ℤ number_of records)) ≤ℤ top_of records runner)
-  order = moved_order (far_of records) (number_of records) (top_of records runner) comparable.order comparable.later
+  order = moved_order (far_of records) (number_of records)
+      (top_of records runner) comparable.order comparable.later
 
   turned_back : (s : Strip) (p : ℤ) → IsInside s p → IsInside s (out side (out side p))
   turned_back s p = subst (IsInside s) (sym (out-out side p))

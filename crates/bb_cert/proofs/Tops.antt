@@ -17,7 +17,14 @@ use Rattle.bb_sim.specs.Run.{Exists}
 use Rattle.bb_sim.specs.Runner.{Stands, high_of, low_of, position_of, state_of, steps_of}
 use Rattle.bb_sim.specs.Span.{counted_head, counted_position, greatest, least}
 use Rattle.bb_sim.specs.Configuration.{start}
-use Rattle.bb_sim.proofs.Facts.{cells_between-is, conf-start, counted_head-at, greatest_bounds, greatest-next, least_bounds}
+use Rattle.bb_sim.proofs.Facts.{
+  cells_between-is,
+  conf-start,
+  counted_head-at,
+  greatest_bounds,
+  greatest-next,
+  least_bounds,
+}
 use Rattle.bb_sim.proofs.Facts.{least-next, span_is_reached}
 use Rattle.bb_cert.specs.declared.verdict.Side.{Side}
 use Rattle.bb_cert.specs.declared.verdict.Side.TheVariants.{L, R}
@@ -131,7 +138,8 @@ module _ (table : Table) (side : Side) (n count : ℕ) (top : IsTop table side n
   farther made = by_lt_z (pos count) far_out (λ high. high) (λ low. absurd (none_next low made))
 
   pub nearer_on : (MakesRecord table side (n + 1) → ⊥) → far_out ≤ℤ pos count
-  nearer_on none = by_lt_z (pos count) far_out (λ high. absurd (none (count + 1, made_next high))) (λ low. low)
+  nearer_on none = by_lt_z (pos count) far_out (λ high. absurd (none (count + 1, made_next high)))
+      (λ low. low)
 
   pub top_farther : pos count <ℤ far_out → IsTop table side (n + 1) (pos (count + 1))
   top_farther high = subst (IsTop table side (n + 1)) (new_max (pos count) far_out high ∙ number_next high)
@@ -191,7 +199,8 @@ module _ (table : Table) (side : Side) (n : ℕ) (runs : IsRunningAt table n (he
       → MakesRecord table side (n + 1)
   made_beyond beyond = (
     count.0 + 1,
-    made_next table side n count.0 top_is there (subst (λ z. z <ℤ out side (head_at table (n + 1))) count.1 beyond),
+    made_next table side n count.0 top_is there (subst (λ z. z <ℤ out side (head_at table
+        (n + 1))) count.1 beyond),
   )
 
   pub none_within : out side (head_at table (n + 1)) ≤ℤ out side (end table side n)
@@ -206,7 +215,8 @@ order l g p h = omega (arith, ints, clamps, h)
 
 pub same_ends : (l g p : ℤ) → l ≤ℤ p → p ≤ℤ g → cells_between (int_min l p) (int_max g p) ≡ cells_between l g
 same_ends l g p a b =
-    ap (λ low. cells_between low (int_max g p)) (least_same l p a) ∙ ap (cells_between l) (same_max g p b) where
+    ap (λ low. cells_between low (int_max g p)) (least_same l p a) ∙ ap (cells_between l)
+    (same_max g p b) where
       least_same : (x y : ℤ) → x ≤ℤ y → int_min x y ≡ x
       least_same x y h = omega (arith, ints, clamps, h)
 
@@ -254,7 +264,8 @@ module _ (table : Table) (before after : Runner) (run_before run_after : Strip)
   counted : counted_head table (n + 1) ≡ counted_position (state_of after) (position_of after)
   counted = ap (counted_head table) (sym next) ∙ counted_head-at table (steps_of after) _ stands.at
 
-  low_is : low_of after ≡ int_min (least (counted_head table) n) (counted_position (state_of after) (position_of after))
+  low_is : low_of after ≡ int_min (least (counted_head table) n) (counted_position (state_of after)
+      (position_of after))
   low_is = stands.low ∙ ap (least (counted_head table)) next ∙ least-next (counted_head table) n
       ∙ ap (int_min (least (counted_head table) n)) counted
 
@@ -307,7 +318,8 @@ module _ (table : Table) (before after : Runner) (run_before run_after : Strip)
     makes_none side within = none_within table side n running there
         (subst (λ p. out side p ≤ℤ out side (end table side n)) (sym head) within)
 
-    pub makes_just : (cells : ℕ) → cells ≡ cells_between (low_of before) (high_of before) → (told : Option Side)
+    pub makes_just : (cells : ℕ) → cells ≡ cells_between (low_of before) (high_of before) →
+        (told : Option Side)
         → TellsWidening after cells told → MakesJust table (n + 1) told
     makes_just cells were None same = none_of where
       inside : (least (counted_head table) n ≤ℤ position_of after)
@@ -332,12 +344,14 @@ module _ (table : Table) (before after : Runner) (run_before run_after : Strip)
   at_start = counted_head-at table 0 start (conf-start table)
 
   -- into Z nothing widens
-  pub none_wider : state_of after ≡ Halt → (cells : ℕ) → cells ≡ cells_between (low_of before) (high_of before)
+  pub none_wider : state_of after ≡ Halt → (cells : ℕ) → cells ≡ cells_between (low_of before)
+      (high_of before)
       → (side : Side) → TellsWidening after cells (Some side) → ⊥
   none_wider halts cells were side told = by_side side told (cells_are (pos 0)
       (ap (λ s. counted_position s (position_of after)) halts)
       ∙ same_ends _ _ (pos 0)
-      (subst (λ z. least (counted_head table) n ≤ℤ z) at_start (least_bounds (counted_head table) 0 n (omega arith)))
+      (subst (λ z. least (counted_head table) n ≤ℤ z) at_start (least_bounds (counted_head table) 0 n
+      (omega arith)))
       (subst (λ z. z ≤ℤ greatest (counted_head table) n) at_start
       (greatest_bounds (counted_head table) 0 n (omega arith)))
       ∙ sym (were ∙ cells_were)) where

@@ -1,5 +1,23 @@
 -- What a step means for what is known of a side's records, whether it makes one or not.
-use Rattle.std.proofs.Common.{◌≡◌, ℕ, ◌+◌, ◌*◌, ◌<◌, ◌≤◌, inl, inr, Some, None, ℤ, pos, ◌*ℤ◌, ◌≤ℤ◌, refl, ap, sym}
+use Rattle.std.proofs.Common.{
+  ◌≡◌,
+  ℕ,
+  ◌+◌,
+  ◌*◌,
+  ◌<◌,
+  ◌≤◌,
+  inl,
+  inr,
+  Some,
+  None,
+  ℤ,
+  pos,
+  ◌*ℤ◌,
+  ◌≤ℤ◌,
+  refl,
+  ap,
+  sym,
+}
 use Rattle.std.proofs.Common.{subst, ◌∙◌, arith}
 use Rattle.std.specs.Prelude.{◌<ℤ◌}
 use Rattle.std.proofs.Math.Nat.{one-le-pow}
@@ -21,7 +39,14 @@ use Rattle.bb_cert.specs.Extent.{IsExtent}
 use Rattle.bb_cert.specs.Follow.{AgreesWithKept, IsFollowed, passed, top_of, with_kept}
 use Rattle.bb_cert.specs.Record.{out, head_at, IsRecord}
 use Rattle.bb_cert.proofs.Facts.{MakesJust}
-use Rattle.bb_cert.proofs.Facts.{agree_of_cells, at_step, cells_of_agree, comparable, extent_of_records, farther}
+use Rattle.bb_cert.proofs.Facts.{
+  agree_of_cells,
+  at_step,
+  cells_of_agree,
+  comparable,
+  extent_of_records,
+  farther,
+}
 use Rattle.bb_cert.proofs.Facts.{followed_at_first, followed_farther, followed_nearer, head_at-is, keeps}
 use Rattle.bb_cert.proofs.Facts.{made_next, nearer_on, number_narrow, numbered, record_has_one_step}
 use Rattle.bb_cert.proofs.Facts.{records_in_order, stands_on, stays}
@@ -95,7 +120,8 @@ module _ (table : Table) (n : ℕ) (runner : Runner) (run saved : Strip) (old : 
       → GoesOn table (steps_of runner) old.side (passed old (position_of runner)) saved
   passes_by none = record {
     searched = record {
-      followed = at_step table n old saved there (position_of runner) at searched.followed (steps_of runner) next
+      followed = at_step table n old saved there (position_of runner) at searched.followed
+          (steps_of runner) next
           (followed_nearer table n old saved there (position_of runner) at searched.followed
           (nearer_on table old.side n searched.followed.count searched.followed.top there none));
       partner = searched.partner;
@@ -186,7 +212,8 @@ module _ (table : Table) (n : ℕ) (runner : Runner) (run saved : Strip) (old : 
             extent = is.1.extent;
             is = is.1.is;
             pair = pair_of_cells is.0;
-            lies = extent_of_records table runner run saved with_next stands known makes some is.1.extent is.1.lies;
+            lies = extent_of_records table runner run saved with_next stands known makes some is.1.extent
+                is.1.lies;
           }
 
       pub goes_on : Compares (passed old (position_of runner)) runner run saved new new_saved None
@@ -248,13 +275,15 @@ module _ {table : Table} {n : ℕ} {side : Side} {runner : Runner} {run saved : 
         (same ∙ ap (λ (r : Records). r.side) new_is))
 
 -- both sides after a step
-pub record BothGoOn (table : Table) (n : ℕ) (right left : Records) (saved_right saved_left : Strip) : Type 0 where
+pub record BothGoOn (table : Table) (n : ℕ) (right left : Records)
+    (saved_right saved_left : Strip) : Type 0 where
   pub right_goes_on : GoesOn table n R right saved_right
   pub left_goes_on : GoesOn table n L left saved_left
 
 module _ {table : Table} {n : ℕ} {runner : Runner} {run saved_right saved_left : Strip}
     {right left new_right new_left : Records}
-    (right_searched : IsSearched table n right saved_right) (left_searched : IsSearched table n left saved_left)
+    (right_searched : IsSearched table n right saved_right)
+    (left_searched : IsSearched table n left saved_left)
     (right_is : right.side ≡ R) (left_is : left.side ≡ L) (stands : Stands table runner run)
     (next : steps_of runner ≡ n + 1) (new_right_is : new_right ≡ passed right (position_of runner))
     (new_left_is : new_left ≡ passed left (position_of runner)) where
@@ -276,7 +305,8 @@ module _ {table : Table} {n : ℕ} {runner : Runner} {run saved_right saved_left
     pub one_ends : (side : Side) → MakesJust table (n + 1) (Some side) → (verdict : Verdict)
         → Looks side runner run new_right new_left saved_right saved_left looked_right looked_left
         looked_saved_right looked_saved_left (Some verdict) → EndsWith table side (steps_of runner) verdict
-    one_ends R just verdict looks = side_ends right_searched right_is stands next new_right_is just.0 looked_right
+    one_ends R just verdict looks = side_ends right_searched right_is stands next new_right_is just.0
+        looked_right
         looked_saved_right verdict looks.0
     one_ends L just verdict looks = side_ends left_searched left_is stands next new_left_is just.0 looked_left
         looked_saved_left verdict looks.0

@@ -80,12 +80,14 @@ module _ (table : Table) (bounds : Bounds) (n m : ℕ) (next : m ≡ n + 1)
           ends.lies,
         );
         counted = counts;
-        never = agreeing_records_never_halt table side ends.first m (pair_agrees table side ends.first m ends.pair);
+        never = agreeing_records_never_halt table side ends.first m
+            (pair_agrees table side ends.first m ends.pair);
         claim = (pair_agrees table side ends.first m ends.pair, ends.lies);
       })
 
   -- or it isn't made by the next step either
-  pub none_next : ((a : ℕ) → AgreesWithPartner table R a m → ⊥) → ((a : ℕ) → AgreesWithPartner table L a m → ⊥)
+  pub none_next : ((a : ℕ) → AgreesWithPartner table R a m → ⊥) → ((a : ℕ)
+      → AgreesWithPartner table L a m → ⊥)
       → (side : Side) (a b : ℕ) → b ≤ m → IsTranslation table bounds side a b → ⊥
   none_next right left side a b few found = elim (cases_lt n b) [
     | inr before ↦ none side a b before found

@@ -17,11 +17,10 @@ use Rattle.bb_cert.proofs.Facts.{tree_has_one_end}
 use Rattle.bb_decide.specs.declared.plan.Plan.{Plan}
 use Rattle.bb_decide.specs.Cycle.{CountsSearch, FindsCycle}
 use Rattle.bb_decide.specs.Translation.{FindsTranslation}
-use Rattle.bb_decide.specs.Backward.{HasNoTree, without_nodes}
+use Rattle.bb_decide.specs.Backward.{CountsTree, FindsTree, HasNoTree, without_nodes}
 use Rattle.bb_decide.specs.Verdict.{IsVerdict, PassesCycles, PassesTranslations}
-use Rattle.bb_decide.specs.Search.{Adds, BackwardCounts, BackwardFinds, CyclersCount, DecidersCount}
-use Rattle.bb_decide.specs.Search.{DecidersFind, ReachesWalk, SearchesCount, SearchesFind, TranslatedCount}
-use Rattle.bb_decide.specs.Search.{TranslatedFind}
+use Rattle.bb_decide.specs.Search.{Adds, CountsIfOn, DecidersCount, DecidersFind, FindsIfOn, ReachesWalk}
+use Rattle.bb_decide.specs.Search.{SearchesCount, SearchesFind}
 use Rattle.bb_decide.specs.Work.{CountsWalk, CountsWork, CycleSteps, MakesWalk, StepsIfMade, TranslationSteps}
 
 -- what the simulation has counted, from a meter that was begun at 0
@@ -34,7 +33,8 @@ record Simulated (table : Table) (bounds : Bounds) (meter : Meter) : Type 0 wher
   most_levels : meter.most_levels ≡ 0
 
 -- no walk was made, and none was counted
-pub no_walk_counted : (Made : Type 0) (table : Table) (bounds : Bounds) (meter : Meter) → meter.most_levels ≡ 0
+pub no_walk_counted : (Made : Type 0) (table : Table) (bounds : Bounds) (meter : Meter)
+    → meter.most_levels ≡ 0
     → meter.nodes ≡ 0 → (Made → ⊥) → CountsWalk Made table bounds meter
 no_walk_counted Made table bounds meter levels nodes never = record {
   of_tree = λ made h k tree. absurd (never made);
@@ -43,7 +43,8 @@ no_walk_counted Made table bounds meter levels nodes never = record {
   not_made = λ not_made. (levels, nodes);
 }
 
-module _ (table : Table) (bounds : Bounds) (plan : Plan) (begin mid : Meter) (zero : begin ≡ zero_meter) (run : CountsRun table bounds begin mid) where
+module _ (table : Table) (bounds : Bounds) (plan : Plan) (begin mid : Meter) (zero : begin ≡ zero_meter)
+    (run : CountsRun table bounds begin mid) where
   simulated : Simulated table bounds mid
   simulated =
       let is : mid ≡ counted zero_meter run.last (span table run.last) =
@@ -72,7 +73,8 @@ module _ (table : Table) (bounds : Bounds) (plan : Plan) (begin mid : Meter) (ze
     last = s.last;
     is_last = s.is_last;
     most_cells = s.most_cells;
-    walk = no_walk_counted (MakesWalk table bounds plan) table bounds mid s.most_levels s.nodes (λ made. made.0 n halts);
+    walk = no_walk_counted (MakesWalk table bounds plan) table bounds mid s.most_levels s.nodes
+        (λ made. made.0 n halts);
   }
 
   -- no node is counted by then
@@ -83,7 +85,8 @@ module _ (table : Table) (bounds : Bounds) (plan : Plan) (begin mid : Meter) (ze
   no_levels = simulated.most_levels
 
   -- else the deciders that are on are asked
-  pub work_of_deciders : HaltsNowhere table bounds → (meter : Meter) → DecidersCount table bounds plan mid meter
+  pub work_of_deciders : HaltsNowhere table bounds → (meter : Meter)
+      → DecidersCount table bounds plan mid meter
       → CountsWork table bounds plan meter
   work_of_deciders nowhere meter deciders =
       let s = simulated in
@@ -100,7 +103,8 @@ module _ (table : Table) (bounds : Bounds) (plan : Plan) (begin mid : Meter) (ze
           run = s.last;
           is_run = s.is_last;
           cycles = counts.cycles;
-          is_cycles = where_nowhere (IsTrue plan.cyclers) (CycleSteps table bounds) counts.cycles counts.is_cycles;
+          is_cycles = where_nowhere (IsTrue plan.cyclers)
+              (CycleSteps table bounds) counts.cycles counts.is_cycles;
           translations = counts.translations;
           is_translations = elim counts.is_translations [
             | inl made ↦ inl ((nowhere, made.0.0, made.0.1), made.1)
@@ -112,7 +116,8 @@ module _ (table : Table) (bounds : Bounds) (plan : Plan) (begin mid : Meter) (ze
         is_last = s.is_last;
         most_cells = omega (arith, seen, above, below, same_cells);
         walk = record {
-          of_tree = λ made levels nodes tree. deciders.walk.of_tree (made.1, made.2, made.3) levels nodes tree;
+          of_tree = λ made levels nodes tree. deciders.walk.of_tree
+              (made.1, made.2, made.3) levels nodes tree;
           within_levels = deciders.walk.within_levels;
           within_nodes = deciders.walk.within_nodes;
           not_made = λ not_made. deciders.walk.not_made (λ made. not_made (nowhere, made.0, made.1, made.2));
@@ -138,15 +143,18 @@ module _ (table : Table) (bounds : Bounds) where
         most_levels = ap (λ (m : Meter). m.most_levels) same;
       }
 
-  adds_run : (n : ℕ) (old new : Meter) → ((last : ℕ) → IsLastInside table bounds last → n ≤ last) → CountsTo table n old new
+  adds_run : (n : ℕ) (old new : Meter) → ((last : ℕ) → IsLastInside table bounds last → n ≤ last)
+      → CountsTo table n old new
       → Adds table bounds n old new
   adds_run n old new inside counts =
       let steps : new.steps ≡ old.steps + n = ap (λ (m : Meter). m.steps) counts in
-      let cells : new.most_cells ≡ max old.most_cells (span table n) = ap (λ (m : Meter). m.most_cells) counts in
+      let cells : new.most_cells ≡ max old.most_cells (span table n) = ap (λ
+      (m : Meter). m.most_cells) counts in
       record {
         steps = steps;
         cells_kept = omega (arith, cells);
-        cells = λ last is_last. let grows = span_grows table n last (inside last is_last) in omega (arith, cells, grows);
+        cells = λ last is_last. let grows = span_grows table n last (inside last is_last) in omega
+            (arith, cells, grows);
         nodes = ap (λ (m : Meter). m.nodes) counts;
         most_levels = ap (λ (m : Meter). m.most_levels) counts;
       }
@@ -161,7 +169,8 @@ module _ (table : Table) (bounds : Bounds) where
       record {
         steps = omega (arith, a, b);
         cells_kept = omega (arith, c, d);
-        cells = λ last is_last. let e = one.cells last is_last in let f = other.cells last is_last in omega (arith, e, f);
+        cells = λ last is_last. let e = one.cells last is_last in let f = other.cells last is_last in
+            omega (arith, e, f);
         nodes = other.nodes ∙ one.nodes;
         most_levels = other.most_levels ∙ one.most_levels;
       }
@@ -172,15 +181,23 @@ module _ (table : Table) (bounds : Bounds) where
     is_steps : StepsIfMade Made Cost steps
     adds : Adds table bounds steps old new
 
-  not_made : (Made : Type 0) (Cost : ℕ → Type 0) (old new : Meter) → (Made → ⊥) → new ≡ old → Searched Made Cost old new
-  not_made Made Cost old new off same = record { steps = 0; is_steps = inr (off, refl); adds = adds_nothing old new same }
+  not_made : (Made : Type 0) (Cost : ℕ → Type 0) (old new : Meter) → (Made → ⊥) → new ≡ old
+      → Searched Made Cost old new
+  not_made Made Cost old new off same = record {
+    steps = 0;
+    is_steps = inr (off, refl);
+    adds =
+        adds_nothing old new same;
+  }
 
-  cycles_searched : (Made : Type 0) (found : Option Verdict) (old new : Meter) → Made → CountsSearch table bounds old new found
+  cycles_searched : (Made : Type 0) (found : Option Verdict) (old new : Meter) → Made
+      → CountsSearch table bounds old new found
       → FindsCycle table bounds found → Searched Made (CycleSteps table bounds) old new
   cycles_searched Made None old new made counts none = record {
     steps = counts.last;
     is_steps = inl (made, inr (none, counts.is_last));
-    adds = adds_run counts.last old new (λ last is_last. is_last.greatest counts.last counts.is_last.inside) counts.counts;
+    adds = adds_run counts.last old new (λ last is_last. is_last.greatest counts.last counts.is_last.inside)
+        counts.counts;
   }
   cycles_searched Made (Some (Cycler first second)) old new made counts finds = record {
     steps = second;
@@ -198,12 +215,14 @@ module _ (table : Table) (bounds : Bounds) where
   translations_searched Made None old new made counts none = record {
     steps = counts.last;
     is_steps = inl (made, inr (none, counts.is_last));
-    adds = adds_run counts.last old new (λ last is_last. is_last.greatest counts.last counts.is_last.inside) counts.counts;
+    adds = adds_run counts.last old new (λ last is_last. is_last.greatest counts.last counts.is_last.inside)
+        counts.counts;
   }
   translations_searched Made (Some (Translated side first second extent)) old new made counts finds = record {
     steps = second;
     is_steps = inl (made, inl (side, first, finds.0));
-    adds = adds_run second old new (λ last is_last. is_last.greatest second finds.0.translation.inside) counts;
+    adds = adds_run second old new (λ last is_last. is_last.greatest second finds.0.translation.inside)
+        counts;
   }
   translations_searched Made (Some (Halt steps score)) old new made counts finds = absurd finds
   translations_searched Made (Some (Cycler first second)) old new made counts finds = absurd finds
@@ -211,24 +230,30 @@ module _ (table : Table) (bounds : Bounds) where
   translations_searched Made (Some (Undecided why)) old new made counts finds = absurd finds
 
   module _ (plan : Plan) where
-    cycle_search : (found : Option Verdict) (old new : Meter) → CyclersCount table bounds plan old new found
+    cycle_search : (found : Option Verdict) (old new : Meter)
+        → CountsIfOn plan.cyclers (FindsCycle table bounds) (CountsSearch table bounds) old new found
         → Searched (IsTrue plan.cyclers) (CycleSteps table bounds) old new
-    cycle_search found old new (inl made) = cycles_searched (IsTrue plan.cyclers) found old new made.0 made.1 made.2
+    cycle_search found old new (inl made) = cycles_searched
+        (IsTrue plan.cyclers) found old new made.0 made.1 made.2
     cycle_search found old new (inr off) =
         not_made (IsTrue plan.cyclers) (CycleSteps table bounds) old new (λ on. let no = off.0 in cc) off.1
 
     translation_search : (found : Option Verdict) (old new : Meter) → PassesCycles table bounds plan
-        → TranslatedCount table bounds plan old new found
-        → Searched (PassesCycles table bounds plan × IsTrue plan.translated) (TranslationSteps table bounds) old new
+        → CountsIfOn plan.translated (FindsTranslation table bounds) (CountsSearch table bounds) old new found
+        → Searched (PassesCycles table bounds plan × IsTrue plan.translated)
+        (TranslationSteps table bounds) old new
     translation_search found old new passes (inl made) =
-        translations_searched (PassesCycles table bounds plan × IsTrue plan.translated) found old new (passes, made.0) made.1 made.2
+        translations_searched (PassesCycles table bounds plan × IsTrue plan.translated) found old new
+        (passes, made.0) made.1 made.2
     translation_search found old new passes (inr off) =
-        not_made (PassesCycles table bounds plan × IsTrue plan.translated) (TranslationSteps table bounds) old new
+        not_made (PassesCycles table bounds plan × IsTrue plan.translated)
+        (TranslationSteps table bounds) old new
         (λ both. let on = both.1 in let no = off.0 in cc) off.1
 
     -- where no cycle was found, both searches may have been made
     pub counts_both : (found : Option Verdict) (old mid new : Meter) → PassesCycles table bounds plan
-        → CyclersCount table bounds plan old mid None → TranslatedCount table bounds plan mid new found
+        → CountsIfOn plan.cyclers (FindsCycle table bounds) (CountsSearch table bounds) old mid None
+        → CountsIfOn plan.translated (FindsTranslation table bounds) (CountsSearch table bounds) mid new found
         → SearchesCount table bounds plan old new
     counts_both found old mid new passes first second =
         let one = cycle_search None old mid first in
@@ -243,7 +268,8 @@ module _ (table : Table) (bounds : Bounds) where
 
     -- where one was found, the other isn't made
     pub counts_cycles : (verdict : Verdict) (old new : Meter) → (PassesCycles table bounds plan → ⊥)
-        → CyclersCount table bounds plan old new (Some verdict) → SearchesCount table bounds plan old new
+        → CountsIfOn plan.cyclers (FindsCycle table bounds) (CountsSearch table bounds) old new (Some verdict)
+        → SearchesCount table bounds plan old new
     counts_cycles verdict old new found first =
         let one = cycle_search (Some verdict) old new first in
         record {
@@ -273,7 +299,8 @@ module _ (table : Table) (bounds : Bounds) where
     cycle_of_searches (Backward levels nodes) found = absurd found.1
     cycle_of_searches (Undecided why) found = absurd found.1
 
-    pub found_by_searches : (found : Option Verdict) → PassesCycles table bounds plan → TranslatedFind table bounds plan found
+    pub found_by_searches : (found : Option Verdict) → PassesCycles table bounds plan
+        → FindsIfOn plan.translated (FindsTranslation table bounds) found
         → SearchesFind table bounds plan found
     found_by_searches None passes none = (passes, none)
     found_by_searches (Some (Translated side first second extent)) passes found =
@@ -315,12 +342,14 @@ walk_of_none Made table bounds old new within none made =
       not_made = λ not_made. absurd (not_made made);
     }
 
-module _ (table : Table) (bounds : Bounds) (plan : Plan) (passes : PassesCycles table bounds plan × PassesTranslations table bounds plan) where
+module _ (table : Table) (bounds : Bounds) (plan : Plan) (passes : PassesCycles table bounds plan
+    × PassesTranslations table bounds plan) where
   reached : IsTrue plan.backward → ReachesWalk table bounds plan
   reached on = (passes.0, passes.1, on)
 
   counts_walk : (found : Option Verdict) (old new : Meter) → old.most_levels ≡ 0 → old.nodes ≡ 0
-      → BackwardCounts table bounds plan old new found → CountsWalk (ReachesWalk table bounds plan) table bounds new
+      → CountsIfOn plan.backward (FindsTree table bounds) (CountsTree bounds) old new found
+      → CountsWalk (ReachesWalk table bounds plan) table bounds new
   counts_walk None old new levels nodes (inl made) =
       walk_of_none (ReachesWalk table bounds plan) table bounds old new made.1 made.2 (reached made.0)
   counts_walk (Some (Backward h k)) old new levels nodes (inl made) =
@@ -330,11 +359,13 @@ module _ (table : Table) (bounds : Bounds) (plan : Plan) (passes : PassesCycles 
   counts_walk (Some (Translated side first second extent)) old new levels nodes (inl made) = absurd made.2
   counts_walk (Some (Undecided why)) old new levels nodes (inl made) = absurd made.2
   counts_walk found old new levels nodes (inr off) =
-      no_walk_counted (ReachesWalk table bounds plan) table bounds new (ap (λ (m : Meter). m.most_levels) off.1 ∙ levels)
+      no_walk_counted (ReachesWalk table bounds plan) table bounds new (ap (λ
+      (m : Meter). m.most_levels) off.1 ∙ levels)
       (ap (λ (m : Meter). m.nodes) off.1 ∙ nodes) (λ made. let on = made.2 in let no = off.0 in cc)
 
   -- neither steps nor cells
-  walk_keeps : (found : Option Verdict) (old new : Meter) → BackwardCounts table bounds plan old new found
+  walk_keeps : (found : Option Verdict) (old new : Meter)
+      → CountsIfOn plan.backward (FindsTree table bounds) (CountsTree bounds) old new found
       → (new.steps ≡ old.steps) × (new.most_cells ≡ old.most_cells)
   walk_keeps None old new (inl made) = (made.1.steps, made.1.most_cells)
   walk_keeps (Some (Backward h k)) old new (inl made) =
@@ -343,11 +374,16 @@ module _ (table : Table) (bounds : Bounds) (plan : Plan) (passes : PassesCycles 
   walk_keeps (Some (Cycler first second)) old new (inl made) = absurd made.2
   walk_keeps (Some (Translated side first second extent)) old new (inl made) = absurd made.2
   walk_keeps (Some (Undecided why)) old new (inl made) = absurd made.2
-  walk_keeps found old new (inr off) = (ap (λ (m : Meter). m.steps) off.1, ap (λ (m : Meter). m.most_cells) off.1)
+  walk_keeps found old new (inr off) = (
+    ap (λ (m : Meter). m.steps) off.1,
+    ap (λ
+        (m : Meter). m.most_cells) off.1,
+  )
 
   -- where the searches found nothing, the walk may have been made
   pub counts_all : (found : Option Verdict) (begin old new : Meter) → begin.most_levels ≡ 0 → begin.nodes ≡ 0
-      → SearchesCount table bounds plan begin old → BackwardCounts table bounds plan old new found
+      → SearchesCount table bounds plan begin old
+      → CountsIfOn plan.backward (FindsTree table bounds) (CountsTree bounds) old new found
       → DecidersCount table bounds plan begin new
   counts_all found begin old new levels nodes searches walk =
       let kept = walk_keeps found old new walk in
@@ -356,10 +392,12 @@ module _ (table : Table) (bounds : Bounds) (plan : Plan) (passes : PassesCycles 
         searches = searches;
         steps = kept.0;
         most_cells = kept.1;
-        walk = counts_walk found old new (searches.adds.most_levels ∙ levels) (searches.adds.nodes ∙ nodes) walk;
+        walk = counts_walk found old new (searches.adds.most_levels ∙ levels) (searches.adds.nodes
+            ∙ nodes) walk;
       }
 
-  pub found_by_all : (found : Option Verdict) → BackwardFinds table bounds plan found → DecidersFind table bounds plan found
+  pub found_by_all : (found : Option Verdict) → FindsIfOn plan.backward (FindsTree table bounds) found
+      → DecidersFind table bounds plan found
   found_by_all None none = (passes.0, passes.1, none)
   found_by_all (Some (Backward levels nodes)) found = (passes.0, passes.1, found.0, found.1)
   found_by_all (Some (Halt steps score)) found = absurd found.1
@@ -400,16 +438,19 @@ module _ (table : Table) (bounds : Bounds) (plan : Plan) where
   search_of_all (Undecided why) found = absurd found
 
 -- what holds of an answer, from what else holds of it
-pub if_ok_map : {A E : Type 0} (r : Result A E) (P Q : A → Type 0) → ((x : A) → P x → Q x) → IfOk r P → IfOk r Q
+pub if_ok_map : {A E : Type 0} (r : Result A E) (P Q : A → Type 0) → ((x : A) → P x → Q x) → IfOk r P
+    → IfOk r Q
 if_ok_map (Ok x) P Q f holds = f x holds
 if_ok_map (Err e) P Q f holds = tt
 
-pub if_ok_on : {A E : Type 0} (r : Result A E) (P : A → Type 0) (Q : Type 0) → ((x : A) → P x → Q) → IfOk r P → OnOk r Q
+pub if_ok_on : {A E : Type 0} (r : Result A E) (P : A → Type 0) (Q : Type 0) → ((x : A) → P x → Q)
+    → IfOk r P → OnOk r Q
 if_ok_on (Ok x) P Q f holds = f x holds
 if_ok_on (Err e) P Q f holds = tt
 
 -- the verdict, where the machine doesn't halt inside the bounds and a decider has found it
-pub verdict_of_deciders : (table : Table) (bounds : Bounds) (plan : Plan) (verdict : Verdict) → HaltsNowhere table bounds
+pub verdict_of_deciders : (table : Table) (bounds : Bounds) (plan : Plan) (verdict : Verdict)
+    → HaltsNowhere table bounds
     → DecidersFind table bounds plan (Some verdict) → IsVerdict table bounds plan verdict
 verdict_of_deciders table bounds plan (Cycler first second) nowhere found = (nowhere, found.0, found.1)
 verdict_of_deciders table bounds plan (Translated side first second extent) nowhere found =

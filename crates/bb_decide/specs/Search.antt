@@ -1,6 +1,6 @@
 -- What the deciders that are on find, as the functions of this crate tell one another; no public contract
 -- cites it.
-use Rattle.std.specs.Prelude.{◌≡◌, ℕ, ◌+◌, ◌*◌, ◌≤◌, ◌⊎◌, max, false, IsTrue, Option, Some, None}
+use Rattle.std.specs.Prelude.{◌≡◌, ℕ, ◌+◌, ◌*◌, ◌≤◌, ◌⊎◌, max, Bool, false, IsTrue, Option, Some, None}
 use Rattle.bb_machine.specs.Limits.{Bounds}
 use Rattle.bb_machine.specs.Machine.{Table}
 use Rattle.bb_sim.specs.declared.meter.Meter.{Meter}
@@ -10,47 +10,21 @@ use Rattle.bb_cert.specs.declared.verdict.Verdict.TheVariants.{Halt, Cycler, Tra
 use Rattle.bb_cert.specs.Extent.{TellsExtent}
 use Rattle.bb_cert.specs.Tree.{Back}
 use Rattle.bb_decide.specs.declared.plan.Plan.{Plan}
-use Rattle.bb_decide.specs.Backward.{CountsTree, FindsTree}
-use Rattle.bb_decide.specs.Cycle.{CountsSearch, FindsCycle, IsFirstCycle}
-use Rattle.bb_decide.specs.Translation.{FindsTranslation, IsFirstTranslation}
-use Rattle.bb_decide.specs.Verdict.{PassesAll, PassesCycles, PassesTranslations, PassesTrees}
+use Rattle.bb_decide.specs.Cycle.{IsFirstCycle}
+use Rattle.bb_decide.specs.Translation.{IsFirstTranslation}
+use Rattle.bb_decide.specs.Verdict.{PassesAll, PassesCycles, PassesTranslations}
 use Rattle.bb_decide.specs.Work.{CountsWalk, CycleSteps, StepsIfMade, TranslationSteps}
 
--- the cyclers find a pair, where they are on; none where they are off, or there is none
-abbrev pub CyclersFind : Table → Bounds → Plan → Option Verdict → Type 0
-CyclersFind table bounds plan None = PassesCycles table bounds plan
-CyclersFind table bounds plan (Some verdict) = IsTrue plan.cyclers × FindsCycle table bounds (Some verdict)
+-- what a decider finds where it is on: none where it is off, or there is nothing to find
+abbrev pub FindsIfOn : Bool → (Option Verdict → Type 0) → Option Verdict → Type 0
+FindsIfOn on finds None = IsTrue on → finds None
+FindsIfOn on finds (Some verdict) = IsTrue on × finds (Some verdict)
 
--- their search was counted, or nothing where they are off
-abbrev pub CyclersCount : Table → Bounds → Plan → Meter → Meter → Option Verdict → Type 0
-CyclersCount table bounds plan old new found =
-    (IsTrue plan.cyclers × CountsSearch table bounds old new found × FindsCycle table bounds found)
-    ⊎ ((plan.cyclers ≡ false) × (new ≡ old))
-
--- a record that agrees with its partner is found, where that search is on; none where it is off, or there is
--- none
-abbrev pub TranslatedFind : Table → Bounds → Plan → Option Verdict → Type 0
-TranslatedFind table bounds plan None = PassesTranslations table bounds plan
-TranslatedFind table bounds plan (Some verdict) =
-    IsTrue plan.translated × FindsTranslation table bounds (Some verdict)
-
--- this search was counted, or nothing where it is off
-abbrev pub TranslatedCount : Table → Bounds → Plan → Meter → Meter → Option Verdict → Type 0
-TranslatedCount table bounds plan old new found =
-    (IsTrue plan.translated × CountsSearch table bounds old new found × FindsTranslation table bounds found)
-    ⊎ ((plan.translated ≡ false) × (new ≡ old))
-
--- the tree's levels and nodes are found, where backward reasoning is on; none where it is off, or there are
--- none
-abbrev pub BackwardFinds : Table → Bounds → Plan → Option Verdict → Type 0
-BackwardFinds table bounds plan None = PassesTrees table bounds plan
-BackwardFinds table bounds plan (Some verdict) = IsTrue plan.backward × FindsTree table bounds (Some verdict)
-
--- the walk was counted, or nothing where backward reasoning is off
-abbrev pub BackwardCounts : Table → Bounds → Plan → Meter → Meter → Option Verdict → Type 0
-BackwardCounts table bounds plan old new found =
-    (IsTrue plan.backward × CountsTree bounds old new found × FindsTree table bounds found)
-    ⊎ ((plan.backward ≡ false) × (new ≡ old))
+-- and what it counts: its search, or nothing where it is off
+abbrev pub CountsIfOn : Bool → (Option Verdict → Type 0) → (Meter → Meter → Option Verdict → Type 0) → Meter
+    → Meter → Option Verdict → Type 0
+CountsIfOn on finds counts old new found =
+    (IsTrue on × counts old new found × finds found) ⊎ ((on ≡ false) × (new ≡ old))
 
 -- what the two searches find, that for cycles first
 abbrev pub SearchesFind : Table → Bounds → Plan → Option Verdict → Type 0

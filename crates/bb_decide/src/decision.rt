@@ -10,24 +10,14 @@ ghost use Rattle.bb_cert.specs.Line.{IsLineOf, line_text};
 ghost use Rattle.bb_cert.specs.Path.{depth_of};
 ghost use Rattle.bb_cert.specs.Verdict.{HasNumbers};
 ghost use Rattle.bb_cert.specs.WalkMeter.{IsWithinWalk};
-ghost use Rattle.bb_decide.specs.Backward.{without_nodes};
+ghost use Rattle.bb_decide.specs.Backward.{CountsTree, FindsTree, without_nodes};
 ghost use Rattle.bb_decide.specs.Bench.{HasCells};
 ghost use Rattle.bb_decide.specs.FewCells.{DecidesFewCells};
-ghost use Rattle.bb_decide.specs.Search.{
-  BackwardCounts,
-  BackwardFinds,
-  CyclersCount,
-  CyclersFind,
-  DecidersCount,
-  DecidersFind,
-  IsWithinDeciders,
-  IsWithinSearches,
-  SearchesCount,
-  SearchesFind,
-  TranslatedCount,
-  TranslatedFind,
-};
+ghost use Rattle.bb_decide.specs.Cycle.{CountsSearch, FindsCycle};
+ghost use Rattle.bb_decide.specs.Search.{CountsIfOn, DecidersCount, DecidersFind, FindsIfOn};
+ghost use Rattle.bb_decide.specs.Search.{IsWithinDeciders, IsWithinSearches, SearchesCount, SearchesFind};
 ghost use Rattle.bb_decide.specs.Sure.{KeepsEarlier};
+ghost use Rattle.bb_decide.specs.Translation.{FindsTranslation};
 ghost use Rattle.bb_decide.specs.Verdict.{IsVerdict};
 ghost use Rattle.bb_decide.specs.Work.{CountsWork, IsWithinWork};
 
@@ -148,8 +138,9 @@ fn cyclers_if_on<T: Tape>(
 ) -> Result<Option<Verdict>, Memory>
     requires tapes { HasCells T.strip limits.now.cells bench.old }
     requires room { meter.old.steps ≤ 2 * limits.now.steps }
-    ensures found { IfOk result (CyclersFind machine.now limits.now plan) }
-    ensures counted { IfOk result (CyclersCount machine.now limits.now plan meter.old meter.new) }
+    ensures found { IfOk result (FindsIfOn plan.cyclers (FindsCycle machine.now limits.now)) }
+    ensures counted { IfOk result (CountsIfOn plan.cyclers (FindsCycle machine.now limits.now)
+        (CountsSearch machine.now limits.now) meter.old meter.new) }
     ensures within { IsWithinRun limits.now meter.old meter.new }
     ensures claim { IfOk result (λ found. IfSome found (Claim machine.now)) }
     ensures numbers { IfOk result (λ found. IfSome found HasNumbers) }
@@ -173,8 +164,9 @@ fn translated_if_on<T: Tape>(
 ) -> Result<Option<Verdict>, Memory>
     requires tapes { HasCells T.strip limits.now.cells bench.old }
     requires room { meter.old.steps ≤ 2 * limits.now.steps }
-    ensures found { IfOk result (TranslatedFind machine.now limits.now plan) }
-    ensures counted { IfOk result (TranslatedCount machine.now limits.now plan meter.old meter.new) }
+    ensures found { IfOk result (FindsIfOn plan.translated (FindsTranslation machine.now limits.now)) }
+    ensures counted { IfOk result (CountsIfOn plan.translated (FindsTranslation machine.now limits.now)
+        (CountsSearch machine.now limits.now) meter.old meter.new) }
     ensures within { IsWithinRun limits.now meter.old meter.new }
     ensures claim { IfOk result (λ found. IfSome found (Claim machine.now)) }
     ensures numbers { IfOk result (λ found. IfSome found HasNumbers) }
@@ -200,8 +192,9 @@ fn backward_if_on<T: Tape>(
     requires path { depth_of bench.old.path ≡ limits.now.depth }
     requires nodes { meter.old.nodes ≡ 0 }
     requires most_levels { meter.old.most_levels ≡ 0 }
-    ensures found { IfOk result (BackwardFinds machine.now limits.now plan) }
-    ensures counted { IfOk result (BackwardCounts machine.now limits.now plan meter.old meter.new) }
+    ensures found { IfOk result (FindsIfOn plan.backward (FindsTree machine.now limits.now)) }
+    ensures counted { IfOk result (CountsIfOn plan.backward (FindsTree machine.now limits.now)
+        (CountsTree limits.now) meter.old meter.new) }
     ensures within { IsWithinWalk limits.now.depth limits.now.nodes meter.old meter.new }
     ensures claim { IfOk result (λ found. IfSome found (Claim machine.now)) }
     ensures numbers { IfOk result (λ found. IfSome found HasNumbers) }

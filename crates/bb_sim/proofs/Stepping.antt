@@ -79,6 +79,14 @@ module _ (table : Table) (old : Runner) (strip : Strip) (stands : Stands table o
       → HaltsAt table old.steps
   halts_undefined here = halts_here table old.steps _ stands.at (sym here)
 
+-- what is to be shown of a call that made a step
+pub record Made (table : Table) (bounds : Bounds) (old new : Runner) (strip strip_new : Strip)
+    (meter_old meter_new : Meter) : Type 0 where
+  pub answers : Answers table bounds old.steps moved.Stepped
+  pub moves : Moves table old new strip strip_new meter_old meter_new moved.Stepped
+  pub reaches : Reaches table bounds new strip_new moved.Stepped
+  pub end : Stands table new strip_new
+
 module _ (table : Table) (old : Runner) (strip : Strip) (write : ℕ) (dir : Dir) (next : Next)
     (stands : Stands table old strip)
     (here : Go write dir next ≡ entry_at table old.state (cell strip.content old.position)) where
@@ -135,14 +143,6 @@ module _ (table : Table) (old : Runner) (strip : Strip) (write : ℕ) (dir : Dir
             (symbols_stay strip.content old.position write (symbols_of table) named.0 stands.symbols_named p);
       }
 
-  -- what is to be shown of a call that made the step
-  pub record Made
-      (bounds : Bounds) (new : Runner) (strip_new : Strip) (meter_old meter_new : Meter) : Type 0 where
-    pub answers : Answers table bounds old.steps moved.Stepped
-    pub moves : Moves table old new strip strip_new meter_old meter_new moved.Stepped
-    pub reaches : Reaches table bounds new strip_new moved.Stepped
-    pub end : Stands table new strip_new
-
   pub wanted : (bounds : Bounds) → old.steps ≢ bounds.steps → strip.limit ≡ bounds.cells
       → cells_between (int_min strip.low counts_for) (int_max strip.high counts_for) ≤ strip.limit
       → Answers table bounds old.steps moved.Stepped
@@ -158,7 +158,7 @@ module _ (table : Table) (old : Runner) (strip : Strip) (write : ℕ) (dir : Dir
       → strip.limit ≡ bounds.cells → old.steps ≤ bounds.steps → old.steps ≢ bounds.steps
       → cells_between (int_min strip.low counts_for) (int_max strip.high counts_for) ≤ strip.limit
       → Stepped new strip_new → meter_new ≡ stepped meter_old (cells_between (low_of new) (high_of new))
-      → Made bounds new strip_new meter_old meter_new
+      → Made table bounds old new strip strip_new meter_old meter_new
   made bounds new strip_new meter_old meter_new sound named limit few apart fits is counts =
       let low : low_of new ≡ int_min strip.low counts_for = is.low
       ∙ ap (λ l. int_min l counts_for) (sym stands.window_low) in
@@ -275,4 +275,25 @@ goes table old strip q symbol step state read is named =
       here = rw (state, ← read) (sym by.is);
       named = rw by.is at named;
       position = by.position;
+    }
+
+-- and where it leads, once the position is known
+pub record Leads (table : Table) (old : Runner) (strip : Strip) (step : Step) (position : ℤ) : Type 0 where
+  pub dir : Dir
+  pub here : Go step.write dir (State step.state) ≡ entry_at table old.state (cell strip.content old.position)
+  pub named : IsEntryOf (length table) (symbols_of table) (Go step.write dir (State step.state))
+  pub there : position ≡ beside dir old.position
+
+pub leads : {table : Table} (old : Runner) (strip : Strip) {q symbol : ℕ} {step : Step} {position : ℤ}
+    → old.state ≡ State q → symbol ≡ cell strip.content old.position
+    → Some step ≡ step_of (entry_of table q symbol)
+    → IsEntryOf (length table) (symbols_of table) (entry_of table q symbol)
+    → position ≡ old.position +ℤ step.offset → Leads table old strip step position
+leads {table} old strip {q} {symbol} {step} {position} state read is named moved =
+    let by = goes table old strip q symbol step state read is named in
+    record {
+      dir = by.dir;
+      here = by.here;
+      named = by.named;
+      there = moved ∙ by.position old.position;
     }

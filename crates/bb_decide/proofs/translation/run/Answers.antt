@@ -18,8 +18,10 @@ loop-runner-init g c =
     let start = starts _ _ _ c.start-runner.ensures.stands zero in
     record {
       stands = c.start-runner.ensures.stands;
-      right = rw zero (searched_at_first _ _ _ (ap (λ (r : Records). position_of r.kept) c.new-right.ensures ∙ start));
-      left = rw zero (searched_at_first _ _ _ (ap (λ (r : Records). position_of r.kept) c.new-left.ensures ∙ start));
+      right = rw zero (searched_at_first _ _ _ (ap (λ
+          (r : Records). position_of r.kept) c.new-right.ensures ∙ start));
+      left = rw zero (searched_at_first _ _ _ (ap (λ
+          (r : Records). position_of r.kept) c.new-left.ensures ∙ start));
       right_side = ap (λ (r : Records). r.side) c.new-right.ensures;
       left_side = ap (λ (r : Records). r.side) c.new-left.ensures;
       tapes = record {
@@ -57,11 +59,13 @@ returns-in_default g c =
 
 -- a step into Z ends the run
 in_Z : (g : given.Over) (c : goal.In_default-state g)
-    → IsEnd c.args.machine.now c.args.limits.now (steps_of c.advance.new.self) c.args.meter.now c.advance.new.meter
+    → IsEnd c.args.machine.now c.args.limits.now (steps_of c.advance.new.self) c.args.meter.now
+    c.advance.new.meter
 in_Z g c =
     let moves = rw c.in-Stepped.is at c.in_ok-advance.ensures.moves in
     let reaches = rw c.in-Stepped.is at c.in_ok-advance.ensures.reaches in
-    ends_in_Z c.in_ok-advance.ensures.stands (in_no_state _ _ c.state.ensures c.in_default-state.not-Some) reaches.0
+    ends_in_Z c.in_ok-advance.ensures.stands (in_no_state _ _ c.state.ensures c.in_default-state.not-Some)
+    reaches.0
     (rw moves.0 (counts_next _ _ _ _ _ c.loop-runner.invariant.meter moves.1))
 
 pub returns-in_default-state-clause-found : goal.returns-in_default-state-clause-found
@@ -85,11 +89,13 @@ loop-runner-preserved-in_default-widened_side g c =
     let left_fits : FitsSigned w64 c.position-in-loop-runner.result = search rules in
     let right_is = rw c.position.ensures at (simp to_z-of_z at c.pass.ensures) in
     let left_is = rw c.position-in-loop-runner.ensures at (simp to_z-of_z at c.pass-in-loop-runner.ensures) in
-    let just = makes_just _ _ _ _ _ here.stands stands moves.0 (not_in_Z c.in-Some.ensures) _ c.cells-cells.ensures _
+    let just = makes_just _ _ _ _ _ here.stands stands moves.0
+    (not_in_Z c.in-Some.ensures) _ c.cells-cells.ensures _
     c.widened_side.ensures in
     let reaches = rw c.in-Stepped.is at c.in_ok-advance.ensures.reaches in
     let none = rw (is_none _ c.in_default-widened_side.not-Some) at just in
-    let both = both_pass_by here.right here.left here.right_side here.left_side stands moves.0 right_is left_is none in
+    let both = both_pass_by here.right here.left here.right_side here.left_side stands moves.0 right_is
+    left_is none in
     record {
       stands = stands;
       right = both.right_goes_on.searched;
@@ -117,7 +123,8 @@ look_on-requires-clause-ready g c =
     let left_fits : FitsSigned w64 c.position-in-loop-runner.result = search rules in
     let right_is = rw c.position.ensures at (simp to_z-of_z at c.pass.ensures) in
     let left_is = rw c.position-in-loop-runner.ensures at (simp to_z-of_z at c.pass-in-loop-runner.ensures) in
-    let just = makes_just _ _ _ _ _ here.stands stands moves.0 (not_in_Z c.in-Some.ensures) _ c.cells-cells.ensures
+    let just = makes_just _ _ _ _ _ here.stands stands moves.0
+    (not_in_Z c.in-Some.ensures) _ c.cells-cells.ensures
     (Some c.in-Some-widened_side.side) c.in-Some-widened_side.ensures in
     one_ready here.right here.left here.right_side here.left_side stands moves.0 right_is left_is _ just
     (g.met.T.Tape.sound c.advance.new.tape)
@@ -132,7 +139,8 @@ found_here g c =
     let left_fits : FitsSigned w64 c.position-in-loop-runner.result = search rules in
     let right_is = rw c.position.ensures at (simp to_z-of_z at c.pass.ensures) in
     let left_is = rw c.position-in-loop-runner.ensures at (simp to_z-of_z at c.pass-in-loop-runner.ensures) in
-    let just = makes_just _ _ _ _ _ here.stands stands moves.0 (not_in_Z c.in-Some.ensures) _ c.cells-cells.ensures
+    let just = makes_just _ _ _ _ _ here.stands stands moves.0
+    (not_in_Z c.in-Some.ensures) _ c.cells-cells.ensures
     (Some c.in-Some-widened_side.side) c.in-Some-widened_side.ensures in
     let reaches = rw c.in-Stepped.is at c.in_ok-advance.ensures.reaches in
     let looks = rw c.in-Some-2.is at c.in_ok-verdict.ensures.looks in
@@ -163,7 +171,8 @@ loop-runner-preserved g c =
     let left_fits : FitsSigned w64 c.position-in-loop-runner.result = search rules in
     let right_is = rw c.position.ensures at (simp to_z-of_z at c.pass.ensures) in
     let left_is = rw c.position-in-loop-runner.ensures at (simp to_z-of_z at c.pass-in-loop-runner.ensures) in
-    let just = makes_just _ _ _ _ _ here.stands stands moves.0 (not_in_Z c.in-Some.ensures) _ c.cells-cells.ensures
+    let just = makes_just _ _ _ _ _ here.stands stands moves.0
+    (not_in_Z c.in-Some.ensures) _ c.cells-cells.ensures
     (Some c.in-Some-widened_side.side) c.in-Some-widened_side.ensures in
     let reaches = rw c.in-Stepped.is at c.in_ok-advance.ensures.reaches in
     let looks = rw c.in-None.is at c.in_ok-verdict.ensures.looks in

@@ -1,16 +1,15 @@
-use Rattle.std.proofs.Common.{◌≡◌, ◌≢◌, ◌+ℤ◌, refl, ap, ◌∙◌, arith, rules, w64, w8, FitsSigned}
+use Rattle.std.proofs.Common.{◌≡◌, ◌≢◌, refl, ap, ◌∙◌, arith, rules, w64, w8, FitsSigned}
 use Rattle.std.proofs.lemmas.Int.{ints, to_z-of_z}
 use Rattle.bb_machine.specs.declared.entry.Next.TheVariants.{State, Halt}
-use Rattle.bb_tape.specs.Content.{cell}
 use Rattle.bb_sim.specs.declared.runner.Runner.{Runner}
-use Rattle.bb_sim.specs.Configuration.{beside}
 use Rattle.bb_sim.specs.Meter.{stepped}
 use Rattle.bb_sim.specs.Widening.{StepsTo, IsWidened}
 use Rattle.bb_sim.proofs.Outcomes.{inside_here, halts_last, steps_last, cells_last}
 use Rattle.bb_sim.proofs.Standing.{near_head, head_inside}
 use Rattle.bb_sim.proofs.Stepping.{halts_undefined, running, moves_on, next-span, wanted, made, into_state}
-use Rattle.bb_sim.proofs.Stepping.{cells_stay, goes, inside_visited}
+use Rattle.bb_sim.proofs.Stepping.{Made, cells_stay, goes, inside_visited, leads}
 use Rattle.bb_sim.proofs.runner.Runner.advance.Goals as goal
+use Rattle.bb_sim.proofs.runner.Runner.advance.Given as given
 
 pub returns-in_default-clause-before : goal.returns-in_default-clause-before
 returns-in_default-clause-before g c =
@@ -68,12 +67,9 @@ returns-then-self-steps-clause-answers g c =
     let table = c.args.machine.now in
     let old = c.args.self.now in
     let strip = g.T.Tape.strip c.args.tape.now in
-    let sound = g.met.T.Tape.sound c.args.tape.now in
     let fits : FitsSigned w64 old.position = search rules in
-    let read : c.read_inside-symbol.result ≡ cell strip.content old.position =
-    simp to_z-of_z at c.read_inside-symbol.ensures in
     let by = goes table old strip c.in-State.state c.read_inside-symbol.result c.in-Some.step c.in-State.is
-    read c.in-Some.ensures.value c.in-Some.ensures.named in
+    (simp to_z-of_z at c.read_inside-symbol.ensures) c.in-Some.ensures.value c.in-Some.ensures.named in
     (moves_on table old strip _ _ _ c.requires.stands by.here, cc)
 
 pub returns-then-self-steps-clause-reaches : goal.returns-then-self-steps-clause-reaches
@@ -83,80 +79,47 @@ returns-then-self-steps-clause-reaches g c =
     c.requires.steps in
     steps_last _ _ _ inside cc
 
-pub moved_by-position-requires-clause-low : goal.moved_by-position-requires-clause-low
-moved_by-position-requires-clause-low g c =
+pub moved_by-position-requires : goal.moved_by-position-requires
+moved_by-position-requires g c =
     let table = c.args.machine.now in
     let old = c.args.self.now in
     let strip = g.T.Tape.strip c.args.tape.now in
-    let sound = g.met.T.Tape.sound c.args.tape.now in
     let fits : FitsSigned w64 old.position = search rules in
-    let read : c.read_inside-symbol.result ≡ cell strip.content old.position =
-    simp to_z-of_z at c.read_inside-symbol.ensures in
     let by = goes table old strip c.in-State.state c.read_inside-symbol.result c.in-Some.step c.in-State.is
-    read c.in-Some.ensures.value c.in-Some.ensures.named in
+    (simp to_z-of_z at c.read_inside-symbol.ensures) c.in-Some.ensures.value c.in-Some.ensures.named in
     let near =
     near_head table old strip by.dir c.requires.stands
-    (running table old strip _ _ _ c.requires.stands by.here) sound in
+    (running table old strip _ _ _ c.requires.stands by.here) (g.met.T.Tape.sound c.args.tape.now) in
     let low = near.small.0 in
-    omega (arith, ints)
-
-pub moved_by-position-requires-clause-high : goal.moved_by-position-requires-clause-high
-moved_by-position-requires-clause-high g c =
-    let table = c.args.machine.now in
-    let old = c.args.self.now in
-    let strip = g.T.Tape.strip c.args.tape.now in
-    let sound = g.met.T.Tape.sound c.args.tape.now in
-    let fits : FitsSigned w64 old.position = search rules in
-    let read : c.read_inside-symbol.result ≡ cell strip.content old.position =
-    simp to_z-of_z at c.read_inside-symbol.ensures in
-    let by = goes table old strip c.in-State.state c.read_inside-symbol.result c.in-Some.step c.in-State.is
-    read c.in-Some.ensures.value c.in-Some.ensures.named in
-    let near =
-    near_head table old strip by.dir c.requires.stands
-    (running table old strip _ _ _ c.requires.stands by.here) sound in
     let high = near.small.1 in
-    omega (arith, ints)
+    record { low = omega (arith, ints); high = omega (arith, ints) }
 
 pub enter-requires-clause-near : goal.enter-requires-clause-near
 enter-requires-clause-near g c =
-    let table = c.args.machine.now in
     let old = c.args.self.now in
-    let strip = g.T.Tape.strip c.args.tape.now in
-    let sound = g.met.T.Tape.sound c.args.tape.now in
     let fits : FitsSigned w64 old.position = search rules in
-    let read : c.read_inside-symbol.result ≡ cell strip.content old.position =
-    simp to_z-of_z at c.read_inside-symbol.ensures in
-    let by = goes table old strip c.in-State.state c.read_inside-symbol.result c.in-Some.step c.in-State.is
-    read c.in-Some.ensures.value c.in-Some.ensures.named in
-    let near =
-    near_head table old strip by.dir c.requires.stands
-    (running table old strip _ _ _ c.requires.stands by.here) sound in
     let offset_fits : FitsSigned w8 c.in-Some.step.offset = search rules in
     let result_fits : FitsSigned w64 c.moved_by-position.result = search rules in
-    let moved : c.moved_by-position.result ≡ old.position +ℤ c.in-Some.step.offset =
-    simp to_z-of_z at c.moved_by-position.ensures in
-    let there : c.moved_by-position.result ≡ beside by.dir old.position = moved ∙ by.position old.position in
-    simp to_z-of_z (rw there near.near)
+    let led = leads old (g.T.Tape.strip c.args.tape.now) c.in-State.is
+    (simp to_z-of_z at c.read_inside-symbol.ensures) c.in-Some.ensures.value c.in-Some.ensures.named
+    (simp to_z-of_z at c.moved_by-position.ensures) in
+    let near =
+    near_head _ old _ led.dir c.requires.stands (running _ _ _ _ _ _ c.requires.stands led.here)
+    (g.met.T.Tape.sound c.args.tape.now) in
+    simp to_z-of_z (rw led.there near.near)
 
 pub returns-then-not-enter-clause-answers : goal.returns-then-not-enter-clause-answers
 returns-then-not-enter-clause-answers g c =
-    let table = c.args.machine.now in
     let old = c.args.self.now in
-    let strip = g.T.Tape.strip c.args.tape.now in
-    let sound = g.met.T.Tape.sound c.args.tape.now in
     let fits : FitsSigned w64 old.position = search rules in
-    let read : c.read_inside-symbol.result ≡ cell strip.content old.position =
-    simp to_z-of_z at c.read_inside-symbol.ensures in
-    let by = goes table old strip c.in-State.state c.read_inside-symbol.result c.in-Some.step c.in-State.is
-    read c.in-Some.ensures.value c.in-Some.ensures.named in
     let offset_fits : FitsSigned w8 c.in-Some.step.offset = search rules in
     let result_fits : FitsSigned w64 c.moved_by-position.result = search rules in
-    let moved : c.moved_by-position.result ≡ old.position +ℤ c.in-Some.step.offset =
-    simp to_z-of_z at c.moved_by-position.ensures in
-    let there : c.moved_by-position.result ≡ beside by.dir old.position = moved ∙ by.position old.position in
-    let full = rw there at (simp to_z-of_z at c.if-not-enter.ensures.0) in
-    let spans = next-span table old strip _ _ _ c.requires.stands by.here in (
-      moves_on table old strip _ _ _ c.requires.stands by.here,
+    let led = leads old (g.T.Tape.strip c.args.tape.now) c.in-State.is
+    (simp to_z-of_z at c.read_inside-symbol.ensures) c.in-Some.ensures.value c.in-Some.ensures.named
+    (simp to_z-of_z at c.moved_by-position.ensures) in
+    let full = rw led.there at (simp to_z-of_z at c.if-not-enter.ensures.0) in
+    let spans = next-span _ _ _ _ _ _ c.requires.stands led.here in (
+      moves_on _ _ _ _ _ _ c.requires.stands led.here,
       λ e. c.if-self-steps.false cc,
       omega (arith, spans, full, c.requires.limit),
     )
@@ -173,172 +136,72 @@ returns-then-not-enter-clause-reaches g c =
 
 pub step_to-requires-clause-inside : goal.step_to-requires-clause-inside
 step_to-requires-clause-inside g c =
-    let table = c.args.machine.now in
     let old = c.args.self.now in
-    let strip = g.T.Tape.strip c.args.tape.now in
-    let sound = g.met.T.Tape.sound c.args.tape.now in
     let fits : FitsSigned w64 old.position = search rules in
-    let read : c.read_inside-symbol.result ≡ cell strip.content old.position =
-    simp to_z-of_z at c.read_inside-symbol.ensures in
-    let by = goes table old strip c.in-State.state c.read_inside-symbol.result c.in-Some.step c.in-State.is
-    read c.in-Some.ensures.value c.in-Some.ensures.named in
-    let near =
-    near_head table old strip by.dir c.requires.stands
-    (running table old strip _ _ _ c.requires.stands by.here) sound in
+    let offset_fits : FitsSigned w8 c.in-Some.step.offset = search rules in
     let result_fits : FitsSigned w64 c.moved_by-position.result = search rules in
-    let visited_is = simp to_z-of_z at c.if-not-enter.ensures.1 in
+    let led = leads old (g.T.Tape.strip c.args.tape.now) c.in-State.is
+    (simp to_z-of_z at c.read_inside-symbol.ensures) c.in-Some.ensures.value c.in-Some.ensures.named
+    (simp to_z-of_z at c.moved_by-position.ensures) in
+    let near =
+    near_head _ old _ led.dir c.requires.stands (running _ _ _ _ _ _ c.requires.stands led.here)
+    (g.met.T.Tape.sound c.args.tape.now) in
     let wider : IsWidened old c.enter.new.self c.moved_by-position.result =
     simp to_z-of_z at c.if-not-enter.ensures.2 in
-    rw wider.head (inside_visited strip _ _ old.position visited_is near.here)
+    rw wider.head (inside_visited (g.T.Tape.strip c.args.tape.now) _ _ old.position
+    (simp to_z-of_z at c.if-not-enter.ensures.1) near.here)
 
 pub returns-in_default-step_to-clause-wanted : goal.returns-in_default-step_to-clause-wanted
 returns-in_default-step_to-clause-wanted g c =
-    let table = c.args.machine.now in
     let old = c.args.self.now in
-    let strip = g.T.Tape.strip c.args.tape.now in
-    let sound = g.met.T.Tape.sound c.args.tape.now in
     let fits : FitsSigned w64 old.position = search rules in
-    let read : c.read_inside-symbol.result ≡ cell strip.content old.position =
-    simp to_z-of_z at c.read_inside-symbol.ensures in
-    let by = goes table old strip c.in-State.state c.read_inside-symbol.result c.in-Some.step c.in-State.is
-    read c.in-Some.ensures.value c.in-Some.ensures.named in
     let offset_fits : FitsSigned w8 c.in-Some.step.offset = search rules in
     let result_fits : FitsSigned w64 c.moved_by-position.result = search rules in
-    let moved : c.moved_by-position.result ≡ old.position +ℤ c.in-Some.step.offset =
-    simp to_z-of_z at c.moved_by-position.ensures in
-    let there : c.moved_by-position.result ≡ beside by.dir old.position = moved ∙ by.position old.position in
-    let room = rw there at (simp to_z-of_z at c.if-not-enter.ensures.0) in
-    wanted table old strip _ _ _ c.requires.stands by.here c.args.limits.now (λ e. c.if-self-steps.false cc)
-    c.requires.limit room
+    let led = leads old (g.T.Tape.strip c.args.tape.now) c.in-State.is
+    (simp to_z-of_z at c.read_inside-symbol.ensures) c.in-Some.ensures.value c.in-Some.ensures.named
+    (simp to_z-of_z at c.moved_by-position.ensures) in
+    wanted _ _ _ _ _ _ c.requires.stands led.here c.args.limits.now (λ e. c.if-self-steps.false cc)
+    c.requires.limit (rw led.there at (simp to_z-of_z at c.if-not-enter.ensures.0))
+
+-- what all clauses of a step follow from
+made_here : (g : given.Over) (c : goal.In-Ok g)
+    → Made c.args.machine.now c.args.limits.now c.args.self.now c.step_to.new.self
+    (g.T.Tape.strip c.args.tape.now) (g.T.Tape.strip c.step_to.new.tape) c.args.meter.now c.step_to.new.meter
+made_here g c =
+    let table = c.args.machine.now in
+    let strip = g.T.Tape.strip c.args.tape.now in
+    let old = c.args.self.now in
+    let fits : FitsSigned w64 old.position = search rules in
+    let offset_fits : FitsSigned w8 c.in-Some.step.offset = search rules in
+    let result_fits : FitsSigned w64 c.moved_by-position.result = search rules in
+    let led = leads old (g.T.Tape.strip c.args.tape.now) c.in-State.is
+    (simp to_z-of_z at c.read_inside-symbol.ensures) c.in-Some.ensures.value c.in-Some.ensures.named
+    (simp to_z-of_z at c.moved_by-position.ensures) in
+    let visited_is = simp to_z-of_z at c.if-not-enter.ensures.1 in
+    let wider : IsWidened old c.enter.new.self c.moved_by-position.result =
+    simp to_z-of_z at c.if-not-enter.ensures.2 in
+    let room = rw led.there at (simp to_z-of_z at c.if-not-enter.ensures.0) in
+    let steps : StepsTo c.enter.new.self c.step_to.new.self (State
+    c.in-Some.step.state) c.moved_by-position.result = simp to_z-of_z at c.in-Ok.ensures.steps in
+    let stepped_is =
+    into_state table old strip c.in-Some.step.write led.dir c.in-Some.step.state c.requires.stands led.here
+    c.enter.new.self c.step_to.new.self (g.T.Tape.strip c.enter.new.tape) (g.T.Tape.strip c.step_to.new.tape)
+    c.moved_by-position.result led.there wider visited_is steps c.in-Ok.ensures.written in
+    made table old strip c.in-Some.step.write led.dir (State c.in-Some.step.state) c.requires.stands led.here
+    c.args.limits.now c.step_to.new.self (g.T.Tape.strip c.step_to.new.tape) c.args.meter.now
+    c.step_to.new.meter (g.met.T.Tape.sound c.args.tape.now) led.named c.requires.limit c.requires.steps
+    (λ e. c.if-self-steps.false cc) room stepped_is
+    (c.in-Ok.ensures.counted
+    ∙ ap (stepped c.args.meter.now) (cells_stay c.enter.new.self c.step_to.new.self _ _ steps))
 
 pub returns-clause-answers : goal.returns-clause-answers
-returns-clause-answers g c =
-    let table = c.args.machine.now in
-    let old = c.args.self.now in
-    let strip = g.T.Tape.strip c.args.tape.now in
-    let sound = g.met.T.Tape.sound c.args.tape.now in
-    let fits : FitsSigned w64 old.position = search rules in
-    let read : c.read_inside-symbol.result ≡ cell strip.content old.position =
-    simp to_z-of_z at c.read_inside-symbol.ensures in
-    let by = goes table old strip c.in-State.state c.read_inside-symbol.result c.in-Some.step c.in-State.is
-    read c.in-Some.ensures.value c.in-Some.ensures.named in
-    let offset_fits : FitsSigned w8 c.in-Some.step.offset = search rules in
-    let result_fits : FitsSigned w64 c.moved_by-position.result = search rules in
-    let moved : c.moved_by-position.result ≡ old.position +ℤ c.in-Some.step.offset =
-    simp to_z-of_z at c.moved_by-position.ensures in
-    let there : c.moved_by-position.result ≡ beside by.dir old.position = moved ∙ by.position old.position in
-    let visited_is = simp to_z-of_z at c.if-not-enter.ensures.1 in
-    let wider : IsWidened old c.enter.new.self c.moved_by-position.result =
-    simp to_z-of_z at c.if-not-enter.ensures.2 in
-    let room = rw there at (simp to_z-of_z at c.if-not-enter.ensures.0) in
-    let steps : StepsTo c.enter.new.self c.step_to.new.self (State
-    c.in-Some.step.state) c.moved_by-position.result = simp to_z-of_z at c.in-Ok.ensures.steps in
-    let stepped_is =
-    into_state table old strip c.in-Some.step.write by.dir c.in-Some.step.state c.requires.stands by.here
-    c.enter.new.self c.step_to.new.self (g.T.Tape.strip c.enter.new.tape) (g.T.Tape.strip c.step_to.new.tape)
-    c.moved_by-position.result there wider visited_is steps c.in-Ok.ensures.written in
-    (made table old strip c.in-Some.step.write by.dir (State c.in-Some.step.state) c.requires.stands by.here
-    c.args.limits.now c.step_to.new.self (g.T.Tape.strip c.step_to.new.tape) c.args.meter.now
-    c.step_to.new.meter
-    sound by.named c.requires.limit c.requires.steps (λ e. c.if-self-steps.false cc) room stepped_is
-    (c.in-Ok.ensures.counted
-    ∙ ap (stepped c.args.meter.now) (cells_stay c.enter.new.self c.step_to.new.self _ _ steps))).answers
+returns-clause-answers g c = (made_here g c).answers
 
 pub returns-clause-moves : goal.returns-clause-moves
-returns-clause-moves g c =
-    let table = c.args.machine.now in
-    let old = c.args.self.now in
-    let strip = g.T.Tape.strip c.args.tape.now in
-    let sound = g.met.T.Tape.sound c.args.tape.now in
-    let fits : FitsSigned w64 old.position = search rules in
-    let read : c.read_inside-symbol.result ≡ cell strip.content old.position =
-    simp to_z-of_z at c.read_inside-symbol.ensures in
-    let by = goes table old strip c.in-State.state c.read_inside-symbol.result c.in-Some.step c.in-State.is
-    read c.in-Some.ensures.value c.in-Some.ensures.named in
-    let offset_fits : FitsSigned w8 c.in-Some.step.offset = search rules in
-    let result_fits : FitsSigned w64 c.moved_by-position.result = search rules in
-    let moved : c.moved_by-position.result ≡ old.position +ℤ c.in-Some.step.offset =
-    simp to_z-of_z at c.moved_by-position.ensures in
-    let there : c.moved_by-position.result ≡ beside by.dir old.position = moved ∙ by.position old.position in
-    let visited_is = simp to_z-of_z at c.if-not-enter.ensures.1 in
-    let wider : IsWidened old c.enter.new.self c.moved_by-position.result =
-    simp to_z-of_z at c.if-not-enter.ensures.2 in
-    let room = rw there at (simp to_z-of_z at c.if-not-enter.ensures.0) in
-    let steps : StepsTo c.enter.new.self c.step_to.new.self (State
-    c.in-Some.step.state) c.moved_by-position.result = simp to_z-of_z at c.in-Ok.ensures.steps in
-    let stepped_is =
-    into_state table old strip c.in-Some.step.write by.dir c.in-Some.step.state c.requires.stands by.here
-    c.enter.new.self c.step_to.new.self (g.T.Tape.strip c.enter.new.tape) (g.T.Tape.strip c.step_to.new.tape)
-    c.moved_by-position.result there wider visited_is steps c.in-Ok.ensures.written in
-    (made table old strip c.in-Some.step.write by.dir (State c.in-Some.step.state) c.requires.stands by.here
-    c.args.limits.now c.step_to.new.self (g.T.Tape.strip c.step_to.new.tape) c.args.meter.now
-    c.step_to.new.meter
-    sound by.named c.requires.limit c.requires.steps (λ e. c.if-self-steps.false cc) room stepped_is
-    (c.in-Ok.ensures.counted
-    ∙ ap (stepped c.args.meter.now) (cells_stay c.enter.new.self c.step_to.new.self _ _ steps))).moves
+returns-clause-moves g c = (made_here g c).moves
 
 pub returns-clause-reaches : goal.returns-clause-reaches
-returns-clause-reaches g c =
-    let table = c.args.machine.now in
-    let old = c.args.self.now in
-    let strip = g.T.Tape.strip c.args.tape.now in
-    let sound = g.met.T.Tape.sound c.args.tape.now in
-    let fits : FitsSigned w64 old.position = search rules in
-    let read : c.read_inside-symbol.result ≡ cell strip.content old.position =
-    simp to_z-of_z at c.read_inside-symbol.ensures in
-    let by = goes table old strip c.in-State.state c.read_inside-symbol.result c.in-Some.step c.in-State.is
-    read c.in-Some.ensures.value c.in-Some.ensures.named in
-    let offset_fits : FitsSigned w8 c.in-Some.step.offset = search rules in
-    let result_fits : FitsSigned w64 c.moved_by-position.result = search rules in
-    let moved : c.moved_by-position.result ≡ old.position +ℤ c.in-Some.step.offset =
-    simp to_z-of_z at c.moved_by-position.ensures in
-    let there : c.moved_by-position.result ≡ beside by.dir old.position = moved ∙ by.position old.position in
-    let visited_is = simp to_z-of_z at c.if-not-enter.ensures.1 in
-    let wider : IsWidened old c.enter.new.self c.moved_by-position.result =
-    simp to_z-of_z at c.if-not-enter.ensures.2 in
-    let room = rw there at (simp to_z-of_z at c.if-not-enter.ensures.0) in
-    let steps : StepsTo c.enter.new.self c.step_to.new.self (State
-    c.in-Some.step.state) c.moved_by-position.result = simp to_z-of_z at c.in-Ok.ensures.steps in
-    let stepped_is =
-    into_state table old strip c.in-Some.step.write by.dir c.in-Some.step.state c.requires.stands by.here
-    c.enter.new.self c.step_to.new.self (g.T.Tape.strip c.enter.new.tape) (g.T.Tape.strip c.step_to.new.tape)
-    c.moved_by-position.result there wider visited_is steps c.in-Ok.ensures.written in
-    (made table old strip c.in-Some.step.write by.dir (State c.in-Some.step.state) c.requires.stands by.here
-    c.args.limits.now c.step_to.new.self (g.T.Tape.strip c.step_to.new.tape) c.args.meter.now
-    c.step_to.new.meter
-    sound by.named c.requires.limit c.requires.steps (λ e. c.if-self-steps.false cc) room stepped_is
-    (c.in-Ok.ensures.counted
-    ∙ ap (stepped c.args.meter.now) (cells_stay c.enter.new.self c.step_to.new.self _ _ steps))).reaches
+returns-clause-reaches g c = (made_here g c).reaches
 
 pub returns-clause-stands : goal.returns-clause-stands
-returns-clause-stands g c =
-    let table = c.args.machine.now in
-    let old = c.args.self.now in
-    let strip = g.T.Tape.strip c.args.tape.now in
-    let sound = g.met.T.Tape.sound c.args.tape.now in
-    let fits : FitsSigned w64 old.position = search rules in
-    let read : c.read_inside-symbol.result ≡ cell strip.content old.position =
-    simp to_z-of_z at c.read_inside-symbol.ensures in
-    let by = goes table old strip c.in-State.state c.read_inside-symbol.result c.in-Some.step c.in-State.is
-    read c.in-Some.ensures.value c.in-Some.ensures.named in
-    let offset_fits : FitsSigned w8 c.in-Some.step.offset = search rules in
-    let result_fits : FitsSigned w64 c.moved_by-position.result = search rules in
-    let moved : c.moved_by-position.result ≡ old.position +ℤ c.in-Some.step.offset =
-    simp to_z-of_z at c.moved_by-position.ensures in
-    let there : c.moved_by-position.result ≡ beside by.dir old.position = moved ∙ by.position old.position in
-    let visited_is = simp to_z-of_z at c.if-not-enter.ensures.1 in
-    let wider : IsWidened old c.enter.new.self c.moved_by-position.result =
-    simp to_z-of_z at c.if-not-enter.ensures.2 in
-    let room = rw there at (simp to_z-of_z at c.if-not-enter.ensures.0) in
-    let steps : StepsTo c.enter.new.self c.step_to.new.self (State
-    c.in-Some.step.state) c.moved_by-position.result = simp to_z-of_z at c.in-Ok.ensures.steps in
-    let stepped_is =
-    into_state table old strip c.in-Some.step.write by.dir c.in-Some.step.state c.requires.stands by.here
-    c.enter.new.self c.step_to.new.self (g.T.Tape.strip c.enter.new.tape) (g.T.Tape.strip c.step_to.new.tape)
-    c.moved_by-position.result there wider visited_is steps c.in-Ok.ensures.written in
-    (made table old strip c.in-Some.step.write by.dir (State c.in-Some.step.state) c.requires.stands by.here
-    c.args.limits.now c.step_to.new.self (g.T.Tape.strip c.step_to.new.tape) c.args.meter.now
-    c.step_to.new.meter
-    sound by.named c.requires.limit c.requires.steps (λ e. c.if-self-steps.false cc) room stepped_is
-    (c.in-Ok.ensures.counted
-    ∙ ap (stepped c.args.meter.now) (cells_stay c.enter.new.self c.step_to.new.self _ _ steps))).end
+returns-clause-stands g c = (made_here g c).end

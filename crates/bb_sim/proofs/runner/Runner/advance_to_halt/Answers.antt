@@ -79,10 +79,8 @@ returns-in_default-step_to-clause-wanted g c =
     (λ e. c.if-self-steps.false cc) c.requires.limit fits
 
 made_here : (g : given.Over) (c : goal.In-Ok g)
-    → Made c.args.machine.now c.args.self.now (g.T.Tape.strip c.args.tape.now) c.in-Go.write c.in-Go.dir
-    c.in-Go.next c.requires.stands (sym c.in-Go.is ∙ c.requires.entry)
-    c.args.limits.now c.step_to.new.self (g.T.Tape.strip c.step_to.new.tape) c.args.meter.now
-    c.step_to.new.meter
+    → Made c.args.machine.now c.args.limits.now c.args.self.now c.step_to.new.self
+    (g.T.Tape.strip c.args.tape.now) (g.T.Tape.strip c.step_to.new.tape) c.args.meter.now c.step_to.new.meter
 made_here g c =
     let table = c.args.machine.now in
     let old = c.args.self.now in
