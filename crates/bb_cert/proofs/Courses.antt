@@ -50,15 +50,7 @@ use Rattle.bb_cert.specs.Record.{out, head_at}
 use Rattle.bb_cert.proofs.Heads.{far-next, window_falls, window_rises}
 use Rattle.bb_cert.proofs.Positions.{head_at-is, out-zero}
 use Rattle.bb_cert.proofs.Records.{record_takes_steps}
-use Rattle.bb_cert.proofs.Tops.{
-  MakesJust,
-  farther,
-  makes_just,
-  none_wider,
-  top_at_first,
-  top_farther,
-  top_stays,
-}
+use Rattle.bb_cert.proofs.Tops.{MakesJust, makes_just, none_wider, top_at_first, top_farther, top_stays}
 
 -- at the start there is no record
 abbrev pub followed_at_first : (table : Table) (records : Records) (saved : Strip)

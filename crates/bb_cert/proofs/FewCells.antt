@@ -1,10 +1,9 @@
 -- Why halts in few cells are early, and long runs in few cells never halt.
-use Rattle.std.proofs.Common.{ℕ, ◌<◌, ◌≤◌, inl, inr, arith}
+use Rattle.std.proofs.Common.{ℕ, inl, inr, arith}
 use Rattle.std.proofs.lemmas.Bool.{cases_lt}
-use Rattle.bb_machine.specs.Machine.{Table, IsMachine}
+use Rattle.bb_machine.specs.Machine.{Table}
 use Rattle.bb_sim.specs.FewCells.{configurations_in, RepeatsBy}
-use Rattle.bb_sim.specs.Run.{Exists, HaltsAt, Never}
-use Rattle.bb_sim.specs.Span.{span}
+use Rattle.bb_sim.specs.Run.{Exists, Never}
 use Rattle.bb_sim.proofs.Facts.{few_cells_repeat_before, running_below, span_grows}
 use Rattle.bb_cert.specs.FewCells.{HaltsInFewCellsAreEarly, LongRunsInFewCellsNeverHalt}
 use Rattle.bb_cert.proofs.Repeats.{repeats_never_halt}

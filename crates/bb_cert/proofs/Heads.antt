@@ -1,5 +1,5 @@
 -- Where the head stands on a side, step by step.
-use Rattle.std.proofs.Common.{◌≡◌, ◌≢◌, ℕ, zero, suc, ◌+◌, ◌-◌, ◌<◌, ◌≤◌, inl, inr, Some, None, ℤ, pos, ◌≤ℤ◌}
+use Rattle.std.proofs.Common.{◌≡◌, ◌≢◌, ℕ, zero, suc, ◌+◌, ◌-◌, ◌<◌, ◌≤◌, inl, inr, Some, None, ℤ, ◌≤ℤ◌}
 use Rattle.std.proofs.Common.{refl, ap, sym, subst, ◌∙◌, arith}
 use Rattle.std.specs.Prelude.{◌<ℤ◌}
 use Rattle.std.specs.Int.{int_min, int_max}
@@ -16,7 +16,7 @@ use Rattle.bb_sim.proofs.Facts.{least-next, greatest-next, least_bounds, span_is
 use Rattle.bb_cert.specs.declared.verdict.Side.{Side}
 use Rattle.bb_cert.specs.declared.verdict.Side.TheVariants.{L, R}
 use Rattle.bb_cert.specs.Record.{out, head_at, far}
-use Rattle.bb_cert.proofs.Positions.{head_at-is, head_at-start, out-zero}
+use Rattle.bb_cert.proofs.Positions.{head_at-is}
 use Rattle.bb_cert.proofs.Runs.{earlier, moves}
 
 -- as far out as one is

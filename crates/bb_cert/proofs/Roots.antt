@@ -1,17 +1,16 @@
 -- The trees of the halting entries, one after another.
-use Rattle.std.proofs.Common.{◌≡◌, ℕ, ◌+◌, ◌-◌, ◌*◌, ◌<◌, ◌≤◌, true, false, List, [], ◌∷◌, length, get_or}
+use Rattle.std.proofs.Common.{◌≡◌, ℕ, ◌+◌, ◌-◌, ◌<◌, ◌≤◌, true, false, List, [], ◌∷◌, length, get_or}
 use Rattle.std.proofs.Common.{map, slice_range, pos, ap, sym, subst, ◌∙◌, arith}
 use Rattle.std.proofs.lemmas.Int.{ints}
 use Rattle.bb_machine.specs.declared.entry.Next.TheVariants.{Halt}
 use Rattle.bb_machine.specs.Machine.{Table}
 use Rattle.bb_tape.specs.Content.{Content, blank}
-use Rattle.bb_tape.specs.Strip.{fresh}
 use Rattle.bb_tape.proofs.Facts.{cell-blank}
 use Rattle.bb_cert.specs.declared.rules.Rule.{Rule}
 use Rattle.bb_cert.specs.declared.walk.Branch.{Branch}
 use Rattle.bb_cert.specs.declared.walk.Count.{Count}
 use Rattle.bb_cert.specs.Tree.{halting_node, EndsNowhere}
-use Rattle.bb_cert.specs.Walk.{AreRules, IsBranch, IsRange, IsRule, IsWalked, HasRoom, branch_node}
+use Rattle.bb_cert.specs.Walk.{AreRules, IsBranch, IsRange, IsRule, IsWalked, branch_node}
 use Rattle.bb_cert.specs.Steps.{Explores, IsWithin, WalksAll}
 use Rattle.bb_cert.proofs.Comb.{walk_begins, walk_ends}
 use Rattle.bb_cert.proofs.Shown.{blank_others, halting_shown, named_at, no_rule, slice_none, slice_step}

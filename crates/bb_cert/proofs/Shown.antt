@@ -13,8 +13,6 @@ use Rattle.bb_machine.specs.declared.entry.Next.{Next}
 use Rattle.bb_machine.specs.declared.entry.Next.TheVariants.{State}
 use Rattle.bb_machine.specs.declared.entry.Entry.{Entry}
 use Rattle.bb_machine.specs.declared.entry.Entry.TheVariants.{Undefined, Go}
-use Rattle.bb_machine.specs.declared.machine.TheConstants.{MAX_SYMBOLS}
-use Rattle.bb_machine.specs.Entry.{IsEntryOf}
 use Rattle.bb_tape.specs.Content.{Content, blank, cell, with_cell, score}
 use Rattle.bb_tape.proofs.Facts.{cell-blank, cell-with_cell-same, cell-with_cell-other, by_position}
 use Rattle.bb_tape.proofs.Facts.{same_content, score-blank, score-with_cell}

@@ -1,7 +1,6 @@
-use Rattle.std.proofs.Common.{◌≡◌, Some, None, refl, ◌∙◌, ap, arith, w64, rules, FitsSigned}
+use Rattle.std.proofs.Common.{Some, refl, ◌∙◌, ap, arith, w64, rules, FitsSigned}
 use Rattle.std.proofs.lemmas.Int.{to_z-of_z}
-use Rattle.bb_machine.specs.declared.entry.Next.TheVariants.{Halt}
-use Rattle.bb_sim.specs.Runner.{position_of, state_of, steps_of}
+use Rattle.bb_sim.specs.Runner.{position_of, steps_of}
 use Rattle.bb_sim.proofs.Facts.{IsEnd, counts_next, counts_start, ends_in_Z, ends_stopped, stopped}
 use Rattle.bb_cert.specs.declared.side_records.Records.{Records}
 use Rattle.bb_cert.specs.declared.verdict.Side.TheVariants.{L, R}

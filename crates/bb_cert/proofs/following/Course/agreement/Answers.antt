@@ -1,5 +1,4 @@
-use Rattle.bb_cert.specs.Follow.{IsComparable}
-use Rattle.bb_cert.proofs.Stretches.{AreNarrow, are_narrow}
+use Rattle.bb_cert.proofs.Stretches.{are_narrow}
 use Rattle.bb_cert.proofs.following.Course.agreement.Goals as goal
 
 pub agrees-requires-clause-comparable : goal.agrees-requires-clause-comparable

@@ -1,6 +1,5 @@
 use Rattle.std.proofs.Common.{w64, rules, FitsSigned}
 use Rattle.std.proofs.lemmas.Int.{to_z-of_z}
-use Rattle.bb_sim.specs.Runner.{position_of}
 use Rattle.bb_cert.proofs.Stretches.{IsCompared, are_narrow, compared, lesser_narrow}
 use Rattle.bb_cert.proofs.side_records.Records.has_same_cells.Goals as goal
 use Rattle.bb_cert.proofs.side_records.Records.has_same_cells.Given as given
