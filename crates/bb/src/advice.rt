@@ -8,7 +8,9 @@ use std::fmt::{Display, Formatter};
 /// Which number was refused, and which would do.
 #[derive(Drop)]
 pub struct Advice {
+    /// The fault of the limits.
     pub fault: LimitFault,
+    /// The numbers that were given for them.
     pub numbers: Numbers,
 }
 

@@ -57,7 +57,9 @@ pub enum Work {
 /// A command line that was read.
 #[derive(Debug, Drop)]
 pub struct Asked {
+    /// What is to be done.
     pub work: Work,
+    /// Under which limits.
     pub limits: Limits,
     /// Where the list is read from; standard input where there is none. A trace reads none.
     pub file: Option<String>,
@@ -126,9 +128,13 @@ pub fn ask(alloc: Global, words: &[&str]) -> Result<Asked, Stop>
 /// The numbers that a command line gives for its limits, accepted or not.
 #[derive(Clone, Copy, Debug)]
 pub struct Numbers {
+    /// What is given for the steps.
     pub steps: u64,
+    /// What is given for the cells.
     pub cells: u64,
+    /// What is given for the levels.
     pub depth: u64,
+    /// What is given for the nodes.
     pub nodes: u64,
     /// Whether they are those of a trace, whose steps are told by `--upto`, and which has no tree.
     pub is_of_trace: bool,

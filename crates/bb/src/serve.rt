@@ -1,8 +1,8 @@
 //! Does what was asked for, and says how it ended.
 ghost use Rattle.std.specs.Prelude.{◌≡◌, ◌↔◌, false, true, IfOk};
-ghost use Rattle.bb_cert.specs.Pair.{HasCells as HasPairCells};
-ghost use Rattle.bb_cert.specs.Path.{depth_of};
-ghost use Rattle.bb_decide.specs.Bench.{HasCells};
+ghost use Rattle.bb_cert.specs.checker.Pair.{PairHasCells};
+ghost use Rattle.bb_cert.specs.tree.Path.{depth_of};
+ghost use Rattle.bb_decide.specs.Bench.{BenchHasCells};
 ghost use Rattle.bb_decide.specs.declared.plan.Plan.{Plan};
 ghost use Rattle.bb_lines.specs.Watched.{is_marked, watched_inner};
 ghost use Rattle.bb_run.specs.BorneOut.{VerdictsAreBorneOut};
@@ -68,7 +68,7 @@ pub fn serve<R: Read, W: Write>(
 
 /// A bench of three rings for machines under these limits.
 fn bench_of(alloc: Global, limits: &Limits) -> Result<Bench<RingTape>, Memory>
-    ensures tapes { IfOk result (HasCells ⟦<RingTape as Tape>⟧.strip limits.now.cells) }
+    ensures tapes { IfOk result (BenchHasCells ⟦<RingTape as Tape>⟧.strip limits.now.cells) }
     ensures path { IfOk result (λ bench. depth_of bench.path ≡ limits.now.depth) }
 {
     let cells = limits.cells();
@@ -80,7 +80,7 @@ fn bench_of(alloc: Global, limits: &Limits) -> Result<Bench<RingTape>, Memory>
 
 /// Two rings and a path for claims under these limits.
 fn pair_of(alloc: Global, limits: &Limits) -> Result<(Pair<RingTape>, Path), Memory>
-    ensures tapes { IfOk result (λ made. HasPairCells ⟦<RingTape as Tape>⟧.strip limits.now.cells made.0) }
+    ensures tapes { IfOk result (λ made. PairHasCells ⟦<RingTape as Tape>⟧.strip limits.now.cells made.0) }
     ensures path { IfOk result (λ made. depth_of made.1 ≡ limits.now.depth) }
 {
     let cells = limits.cells();

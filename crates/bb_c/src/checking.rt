@@ -3,7 +3,7 @@ ghost use Rattle.std.specs.Prelude.{◌≡◌, ◌≢◌, ◌+◌, ◌*◌, ◌�
 ghost use Rattle.std.specs.List.{AllByRecursion};
 ghost use Rattle.bb_lines.specs.Lines.{AreReplies, lines};
 ghost use Rattle.bb_machine.specs.Limits.{IsAccepted};
-ghost use Rattle.bb_cert.specs.Answer.{IsAnswer};
+ghost use Rattle.bb_cert.specs.checker.Answer.{IsAnswer};
 ghost use Rattle.bb_run.specs.CheckReply.{IsCheckReply};
 ghost use Rattle.bb_run.specs.CheckSeen.{is_fine};
 ghost use Rattle.bb_run.specs.CheckSummary.{IsFine};

@@ -1,8 +1,8 @@
 //! The tapes of one call.
 ghost use Rattle.std.specs.Prelude.{◌≡◌, IfOk};
-ghost use Rattle.bb_cert.specs.Pair.{HasCells as HasPairCells};
-ghost use Rattle.bb_cert.specs.Path.{depth_of};
-ghost use Rattle.bb_decide.specs.Bench.{HasCells};
+ghost use Rattle.bb_cert.specs.checker.Pair.{PairHasCells};
+ghost use Rattle.bb_cert.specs.tree.Path.{depth_of};
+ghost use Rattle.bb_decide.specs.Bench.{BenchHasCells};
 
 use bb_cert::{Pair, Path};
 use bb_decide::Bench;
@@ -12,7 +12,7 @@ use std::alloc::Global;
 
 /// A bench of three rings for machines under these limits.
 pub(crate) fn bench_of(alloc: Global, limits: &Limits) -> Result<Bench<RingTape>, Memory>
-    ensures tapes { IfOk result (HasCells ⟦<RingTape as Tape>⟧.strip limits.now.cells) }
+    ensures tapes { IfOk result (BenchHasCells ⟦<RingTape as Tape>⟧.strip limits.now.cells) }
     ensures path { IfOk result (λ bench. depth_of bench.path ≡ limits.now.depth) }
 {
     let cells = limits.cells();
@@ -24,7 +24,7 @@ pub(crate) fn bench_of(alloc: Global, limits: &Limits) -> Result<Bench<RingTape>
 
 /// Two rings and a path for claims under these limits.
 pub(crate) fn pair_of(alloc: Global, limits: &Limits) -> Result<(Pair<RingTape>, Path), Memory>
-    ensures tapes { IfOk result (λ made. HasPairCells ⟦<RingTape as Tape>⟧.strip limits.now.cells made.0) }
+    ensures tapes { IfOk result (λ made. PairHasCells ⟦<RingTape as Tape>⟧.strip limits.now.cells made.0) }
     ensures path { IfOk result (λ made. depth_of made.1 ≡ limits.now.depth) }
 {
     let cells = limits.cells();

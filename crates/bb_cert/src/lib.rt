@@ -1,23 +1,20 @@
 //! Verdicts on machines, and the lines in which they are written.
 #![tactic(auto)]
 
-pub mod answer;
-pub mod checking;
-pub mod compare;
-mod following;
-pub mod laws;
-pub mod line;
-pub mod path;
-pub mod reader;
-mod rules;
-pub mod side_records;
+pub mod checker;
+pub mod claims;
+pub mod records;
+pub mod tree;
 pub mod verdict;
-pub mod walk;
 
-pub use answer::Answer;
-pub use checking::{Pair, check};
-pub use compare::is_same;
-pub use line::{LINE_BUFFER, LONGEST, line_into, lines_are_short, refusal_into, verdict_into};
-pub use path::Path;
-pub use reader::{Line, Said, read_line, read_line_anew};
+pub use checker::answer::Answer;
+pub use checker::checking::{Pair, check};
+pub use claims::configurations::is_same;
+pub use claims::laws;
+pub use tree::path::Path;
+pub use tree::walk::walk;
+pub use verdict::line::{
+    LINE_BUFFER, LONGEST, line_into, lines_are_short, refusal_into, verdict_into,
+};
+pub use verdict::reader::{Line, LineContent, read_line, read_line_in_place};
 pub use verdict::{Extent, Side, Verdict, Why};

@@ -1,14 +1,22 @@
+//! Verdicts on machines, and their lines.
+
+pub mod line;
+pub mod reader;
 /// Where a machine's records lie: to the left of the start or to the right.
 #[derive(Clone, Copy, Debug, PartialEq, Eq)]
 pub enum Side {
+    /// The left.
     L,
+    /// The right.
     R,
 }
 
 /// Which limit left a machine undecided.
 #[derive(Clone, Copy, Debug, PartialEq, Eq)]
 pub enum Why {
+    /// The limit of steps.
     Steps,
+    /// The limit of cells.
     Cells,
 }
 

@@ -6,9 +6,11 @@ use Rattle.bb_cert.specs.declared.verdict.Side.{Side}
 use Rattle.bb_cert.specs.declared.verdict.Why.TheVariants.{Steps, Cells}
 use Rattle.bb_cert.specs.declared.verdict.Verdict.{Verdict}
 use Rattle.bb_cert.specs.declared.verdict.Verdict.TheVariants.{Halt, Cycler, Translated, Backward, Undecided}
-use Rattle.bb_cert.specs.Answer.{Applies, IsOutOfOrder, IsUndecided, NamesTooMuch, NeedsTooMuch, Rule, rank}
-use Rattle.bb_cert.specs.Answer.{undecided, too_much_named, out_of_order, too_much_needed, claim_holds}
-use Rattle.bb_cert.specs.Answer.{all_else}
+use Rattle.bb_cert.specs.checker.Answer.{Applies, IsOutOfOrder, IsUndecided, NamesTooMuch, NeedsTooMuch}
+use Rattle.bb_cert.specs.checker.Answer.{Rule, rank}
+use Rattle.bb_cert.specs.checker.Answer.{undecided, too_much_named, out_of_order, too_much_needed}
+use Rattle.bb_cert.specs.checker.Answer.{claim_holds}
+use Rattle.bb_cert.specs.checker.Answer.{all_else}
 use Rattle.bb_cert.proofs.Facts.{records_in_order, told_is_said}
 use Rattle.bb_decide.specs.declared.plan.Plan.{Plan}
 use Rattle.bb_decide.specs.Laws.{VerdictsAreConfirmed, VerdictsHold}
@@ -17,7 +19,8 @@ use Rattle.bb_decide.specs.Verdict.{IsVerdict}
 
 -- the record that agrees with its partner is the later one
 later : (table : Table) (side : Side) (a b : ℕ) → AgreesWithPartner table side a b → a < b
-later table side a b pair = (records_in_order table side pair.first_number pair.second_number a b pair.first_record
+later table side a b pair =
+    (records_in_order table side pair.first_number pair.second_number a b pair.first_record
     pair.second_record).0 pair.partner.below
 
 pub verdicts_hold : VerdictsHold
@@ -64,9 +67,11 @@ module _ (table : Table) (bounds : Bounds) (plan : Plan) where
   in_order (Backward levels nodes) is not = not
   in_order (Undecided why) is not = not
 
-  needs_few : (verdict : Verdict) → IsVerdict table bounds plan verdict → NeedsTooMuch table bounds verdict → ⊥
+  needs_few : (verdict : Verdict) → IsVerdict table bounds plan verdict → NeedsTooMuch table bounds verdict
+      → ⊥
   needs_few (Halt steps score) is over = let few = is.0.inside.within_cells in omega (arith, few, over)
-  needs_few (Cycler first second) is over = let few = is.2.cycle.inside.within_cells in omega (arith, few, over)
+  needs_few (Cycler first second) is over = let few = is.2.cycle.inside.within_cells in
+      omega (arith, few, over)
   needs_few (Translated side first second extent) is over =
       let few = is.3.translation.inside.within_cells in omega (arith, few, over)
   needs_few (Backward levels nodes) is over = over

@@ -5,13 +5,14 @@ use Rattle.std.proofs.lemmas.Bool.{cases_lt}
 use Rattle.bb_machine.specs.Limits.{Bounds}
 use Rattle.bb_machine.specs.Machine.{Table}
 use Rattle.bb_sim.specs.Span.{Inside}
-use Rattle.bb_cert.specs.Repeat.{Same}
+use Rattle.bb_cert.specs.claims.Repeat.{Same}
 use Rattle.bb_cert.proofs.Facts.{no_repeat_at_once}
 use Rattle.bb_decide.specs.Partner.{IsKept, IsPartner}
 use Rattle.bb_decide.specs.Cycle.{IsCycle, IsFirstCycle}
 use Rattle.bb_decide.proofs.Partners.{partner_is_unique}
 
-module _ (table : Table) (bounds : Bounds) (k n : ℕ) (kept : IsKept k n) (none : (a t : ℕ) → t ≤ n → IsCycle table bounds a t → ⊥) where
+module _ (table : Table) (bounds : Bounds) (k n : ℕ) (kept : IsKept k n) (none : (a t : ℕ) → t ≤ n
+    → IsCycle table bounds a t → ⊥) where
   -- where the next step has the configuration of what is kept, that is its partner: it isn't the start
   pub kept_partner : Same table k (n + 1) → IsPartner k (n + 1)
   kept_partner same = elim kept [
@@ -49,7 +50,8 @@ module _ (table : Table) (bounds : Bounds) (k n : ℕ) (kept : IsKept k n) (none
 
     by_kept : IsCycle table bounds a (n + 1) → ⊥
     by_kept found = elim kept [
-      | inl first ↦ absurd (let some = positive a found.partner in let low = found.partner.below in omega (arith, first.0, some, low))
+      | inl first ↦ absurd (let some = positive a found.partner in let low = found.partner.below in
+          omega (arith, first.0, some, low))
       | inr partner ↦
           let same = partner_is_unique a k (n + 1) found.partner partner in
           apart (subst (λ m. Same table m (n + 1)) same found.same)

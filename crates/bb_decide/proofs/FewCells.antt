@@ -11,7 +11,7 @@ use Rattle.bb_sim.proofs.Facts.{earlier_is_inside, few_cells_repeat_before, runs
 use Rattle.bb_cert.specs.declared.verdict.Verdict.{Verdict}
 use Rattle.bb_cert.specs.declared.verdict.Verdict.TheVariants.{Halt, Cycler, Translated, Backward, Undecided}
 use Rattle.bb_cert.specs.declared.verdict.Why.TheVariants.{Steps, Cells}
-use Rattle.bb_cert.specs.Repeat.{Same}
+use Rattle.bb_cert.specs.claims.Repeat.{Same}
 use Rattle.bb_decide.specs.Cycle.{FindsCycle}
 use Rattle.bb_decide.specs.FewCells.{HasStepsForCells, FindsInFewCells, FewCellsAreDecided}
 use Rattle.bb_decide.specs.Sure.{IsFoundBy, IsLeastPower}

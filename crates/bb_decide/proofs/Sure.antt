@@ -10,9 +10,9 @@ use Rattle.bb_cert.specs.declared.verdict.Side.{Side}
 use Rattle.bb_cert.specs.declared.verdict.Why.TheVariants.{Steps, Cells}
 use Rattle.bb_cert.specs.declared.verdict.Verdict.{Verdict}
 use Rattle.bb_cert.specs.declared.verdict.Verdict.TheVariants.{Halt, Cycler, Translated, Backward, Undecided}
-use Rattle.bb_cert.specs.Agree.{Agree}
-use Rattle.bb_cert.specs.Repeat.{Same}
-use Rattle.bb_cert.specs.Tree.{Back}
+use Rattle.bb_cert.specs.records.Agree.{Agree}
+use Rattle.bb_cert.specs.claims.Repeat.{Same}
+use Rattle.bb_cert.specs.tree.Tree.{Back}
 use Rattle.bb_cert.proofs.Facts.{agreeing_records_never_halt, agreeing_records_never_repeat}
 use Rattle.bb_cert.proofs.Facts.{clear_trees_never_halt, record_has_one_step, record_pair}
 use Rattle.bb_cert.proofs.Facts.{repeats_keep_distance, repeats_never_halt, tree_has_one_end}
@@ -45,7 +45,8 @@ repeats_are_found table bounds a p power positive same is inside = record {
 }
 
 pub agreeing_records_are_found : AgreeingRecordsAreFound
-agreeing_records_are_found table bounds side i r a b power n positive first second agree is record_there inside =
+agreeing_records_are_found table bounds side i r a b power n positive first second agree is record_there
+    inside =
     let there = record_pair table side i r a b power positive first second agree is.not_below_first in
     let step = record_has_one_step table side (power + r) there.1 n there.3 record_there in (
       there.0,
@@ -69,29 +70,38 @@ finds_repeats table bounds None none a p power positive same is inside =
 finds_repeats table bounds (Some (Cycler first second)) found a p power positive same is inside =
     found.first power (power + p) (repeats_are_found table bounds a p power positive same is inside)
 finds_repeats table bounds (Some (Halt steps score)) found a p power positive same is inside = found
-finds_repeats table bounds (Some (Translated side first second extent)) found a p power positive same is inside =
+finds_repeats table bounds (Some (Translated side first second extent)) found a p power positive same is
+    inside =
     absurd found
 finds_repeats table bounds (Some (Backward levels nodes)) found a p power positive same is inside = found
 finds_repeats table bounds (Some (Undecided why)) found a p power positive same is inside = found
 
 pub finds_agreeing_records : (table : Table) (bounds : Bounds) (found : Option Verdict)
     → FindsTranslation table bounds found → FindsAgreeingRecords table bounds found
-finds_agreeing_records table bounds None none side i r a b power n positive first second agree is there inside =
-    let pair = agreeing_records_are_found table bounds side i r a b power n positive first second agree is there
+finds_agreeing_records table bounds None none side i r a b power n positive first second agree is there
+    inside =
+    let pair = agreeing_records_are_found table bounds side i r a b power n positive first second agree is
+    there
     inside in
     absurd (none side pair.0 n pair.1)
-finds_agreeing_records table bounds (Some (Translated other one two extent)) found side i r a b power n positive first second
+finds_agreeing_records table bounds (Some (Translated other one two extent)) found side i r a b power n
+    positive first second
     agree is there inside =
-    let pair = agreeing_records_are_found table bounds side i r a b power n positive first second agree is there
+    let pair = agreeing_records_are_found table bounds side i r a b power n positive first second agree is
+    there
     inside in
     found.0.first side pair.0 n pair.1
-finds_agreeing_records table bounds (Some (Halt steps score)) found side i r a b power n positive first second agree is
+finds_agreeing_records table bounds (Some (Halt steps score)) found side i r a b power n positive first
+    second agree is
     there inside = found
-finds_agreeing_records table bounds (Some (Cycler one two)) found side i r a b power n positive first second agree is
+finds_agreeing_records table bounds (Some (Cycler one two)) found side i r a b power n positive first second
+    agree is
     there inside = absurd found
-finds_agreeing_records table bounds (Some (Backward levels nodes)) found side i r a b power n positive first second
+finds_agreeing_records table bounds (Some (Backward levels nodes)) found side i r a b power n positive first
+    second
     agree is there inside = found
-finds_agreeing_records table bounds (Some (Undecided why)) found side i r a b power n positive first second agree is
+finds_agreeing_records table bounds (Some (Undecided why)) found side i r a b power n positive first second
+    agree is
     there inside = found
 
 module _ (table : Table) (lower upper : Bounds) (within : NoneIsSmaller lower upper) where
@@ -118,7 +128,8 @@ module _ (table : Table) (lower upper : Bounds) (within : NoneIsSmaller lower up
   cycle_upper a t cycle =
       record { partner = cycle.partner; inside = inside_upper t cycle.inside; same = cycle.same }
 
-  translation_upper : (side : Side) (a b : ℕ) → IsTranslation table lower side a b → IsTranslation table upper side a b
+  translation_upper : (side : Side) (a b : ℕ) → IsTranslation table lower side a b
+      → IsTranslation table upper side a b
   translation_upper side a b translation =
       record { pair = translation.pair; inside = inside_upper b translation.inside }
 
@@ -141,7 +152,8 @@ module _ (table : Table) (lower upper : Bounds) (within : NoneIsSmaller lower up
   first_cycle_lower a t b u one other = record {
     cycle = record {
       partner = other.cycle.partner;
-      inside = earlier_is_inside table lower u t (other.first a t (cycle_upper a t one.cycle)) one.cycle.inside;
+      inside = earlier_is_inside table lower u t (other.first a t (cycle_upper a t one.cycle))
+          one.cycle.inside;
       same = other.cycle.same;
     };
     first = λ c d cycle. other.first c d (cycle_upper c d cycle);
@@ -165,7 +177,8 @@ larger_limits_keep table lower upper plan (Halt n ones) (Halt m twos) machine wi
     (halts_upper table lower upper within n a.0, a.1) in cc
 larger_limits_keep table lower upper plan (Halt n ones) (Cycler first second) machine within a b =
     absurd (b.0 n (halts_upper table lower upper within n a.0))
-larger_limits_keep table lower upper plan (Halt n ones) (Translated side first second extent) machine within a b =
+larger_limits_keep table lower upper plan (Halt n ones) (Translated side first second extent) machine within
+    a b =
     absurd (b.0 n (halts_upper table lower upper within n a.0))
 larger_limits_keep table lower upper plan (Halt n ones) (Backward levels nodes) machine within a b =
     absurd (b.0 n (halts_upper table lower upper within n a.0))
@@ -182,7 +195,8 @@ larger_limits_keep table lower upper plan (Cycler first second) (Cycler third fo
       b.1,
       first_cycle_lower table lower upper within first second third fourth a.2 b.2,
     ) a
-larger_limits_keep table lower upper plan (Cycler first second) (Translated side third fourth extent) machine within a b =
+larger_limits_keep table lower upper plan (Cycler first second) (Translated side third fourth extent) machine
+    within a b =
     absurd (b.1 a.1 first second (cycle_upper table lower upper within first second a.2.cycle))
 larger_limits_keep table lower upper plan (Cycler first second) (Backward levels nodes) machine within a b =
     absurd (b.1 a.1 first second (cycle_upper table lower upper within first second a.2.cycle))
@@ -190,32 +204,45 @@ larger_limits_keep table lower upper plan (Cycler first second) (Undecided Steps
     absurd (b.1.0 a.1 first second (cycle_upper table lower upper within first second a.2.cycle))
 larger_limits_keep table lower upper plan (Cycler first second) (Undecided Cells) machine within a b =
     absurd (b.1.0 a.1 first second (cycle_upper table lower upper within first second a.2.cycle))
-larger_limits_keep table lower upper plan (Translated side first second extent) (Halt n ones) machine within a b =
+larger_limits_keep table lower upper plan (Translated side first second extent) (Halt n ones) machine within
+    a b =
     let agree = verdicts_hold table lower plan (Translated side first second extent) a in
     absurd ((agreeing_records_never_halt table side first second agree.0).never n b.0.halts)
-larger_limits_keep table lower upper plan (Translated side first second extent) (Cycler third fourth) machine within a b =
+larger_limits_keep table lower upper plan (Translated side first second extent) (Cycler third fourth) machine
+    within a b =
     let agree = verdicts_hold table lower plan (Translated side first second extent) a in
     let cycle = b.2.cycle in
-    absurd (agreeing_records_never_repeat table side first second third fourth agree.0 cycle.partner.below cycle.same)
-larger_limits_keep table lower upper plan (Translated side first second extent) (Translated other third fourth told) machine within
+    absurd (agreeing_records_never_repeat table side first second third fourth agree.0 cycle.partner.below
+    cycle.same)
+larger_limits_keep table lower upper plan (Translated side first second extent)
+    (Translated other third fourth told) machine within
     a b =
-    verdict_is_unique table lower plan (Translated other third fourth told) (Translated side first second extent) (
+    verdict_is_unique table lower plan (Translated other third fourth told)
+    (Translated side first second extent) (
       a.0,
       a.1,
       b.2,
       first_translation_lower table lower upper within side other first second third fourth a.3 b.3,
       b.4,
     ) a
-larger_limits_keep table lower upper plan (Translated side first second extent) (Backward levels nodes) machine within a b =
-    absurd (b.2 a.2 side first second (translation_upper table lower upper within side first second a.3.translation))
-larger_limits_keep table lower upper plan (Translated side first second extent) (Undecided Steps) machine within a b =
-    absurd (b.1.1 a.2 side first second (translation_upper table lower upper within side first second a.3.translation))
-larger_limits_keep table lower upper plan (Translated side first second extent) (Undecided Cells) machine within a b =
-    absurd (b.1.1 a.2 side first second (translation_upper table lower upper within side first second a.3.translation))
+larger_limits_keep table lower upper plan (Translated side first second extent) (Backward levels nodes)
+    machine within a b =
+    absurd (b.2 a.2 side first second
+    (translation_upper table lower upper within side first second a.3.translation))
+larger_limits_keep table lower upper plan (Translated side first second extent) (Undecided Steps) machine
+    within a b =
+    absurd (b.1.1 a.2 side first second
+    (translation_upper table lower upper within side first second a.3.translation))
+larger_limits_keep table lower upper plan (Translated side first second extent) (Undecided Cells) machine
+    within a b =
+    absurd (b.1.1 a.2 side first second
+    (translation_upper table lower upper within side first second a.3.translation))
 larger_limits_keep table lower upper plan (Backward levels nodes) (Halt n ones) machine within a b =
     absurd ((clear_trees_never_halt table levels nodes machine a.4.ends a.4.clear).never n b.0.halts)
-larger_limits_keep table lower upper plan (Backward levels nodes) (Cycler first second) machine within a b = inr tt
-larger_limits_keep table lower upper plan (Backward levels nodes) (Translated side first second extent) machine within a b =
+larger_limits_keep table lower upper plan (Backward levels nodes) (Cycler first second) machine within a b =
+    inr tt
+larger_limits_keep table lower upper plan (Backward levels nodes) (Translated side first second extent)
+    machine within a b =
     inr tt
 larger_limits_keep table lower upper plan (Backward levels nodes) (Backward h k) machine within a b =
     let same = tree_has_one_end table h k levels nodes b.4.ends a.4.ends in

@@ -27,17 +27,17 @@ use Rattle.bb_tape.specs.Strip.{Strip, IsSound}
 use Rattle.bb_sim.specs.declared.runner.Runner.{Runner}
 use Rattle.bb_sim.specs.Run.{Exists}
 use Rattle.bb_sim.specs.Runner.{Stands, position_of, steps_of}
-use Rattle.bb_cert.specs.declared.side_records.Records.{Records}
+use Rattle.bb_cert.specs.declared.records.Records.{Records}
 use Rattle.bb_cert.specs.declared.verdict.Extent.{Extent}
 use Rattle.bb_cert.specs.declared.verdict.Side.{Side}
 use Rattle.bb_cert.specs.declared.verdict.Side.TheVariants.{L, R}
 use Rattle.bb_cert.specs.declared.verdict.Verdict.{Verdict}
 use Rattle.bb_cert.specs.declared.verdict.Verdict.TheVariants.{Translated}
-use Rattle.bb_cert.specs.Agree.{Agree}
-use Rattle.bb_cert.specs.Checks.{MakesRecord}
-use Rattle.bb_cert.specs.Extent.{IsExtent}
-use Rattle.bb_cert.specs.Follow.{AgreesWithKept, IsFollowed, passed, top_of, with_kept}
-use Rattle.bb_cert.specs.Record.{out, head_at, IsRecord}
+use Rattle.bb_cert.specs.records.Agree.{Agree}
+use Rattle.bb_cert.specs.inside.Checks.{MakesRecord}
+use Rattle.bb_cert.specs.verdict.Extent.{IsExtent}
+use Rattle.bb_cert.specs.records.Follow.{AgreesWithKept, IsFollowed, passed, top_of, with_kept}
+use Rattle.bb_cert.specs.records.Record.{out, head_at, IsRecord}
 use Rattle.bb_cert.proofs.Facts.{MakesJust}
 use Rattle.bb_cert.proofs.Facts.{
   agree_of_cells,
@@ -50,7 +50,7 @@ use Rattle.bb_cert.proofs.Facts.{
 use Rattle.bb_cert.proofs.Facts.{followed_at_first, followed_farther, followed_nearer, head_at-is, keeps}
 use Rattle.bb_cert.proofs.Facts.{made_next, nearer_on, number_narrow, numbered, record_has_one_step}
 use Rattle.bb_cert.proofs.Facts.{records_in_order, stands_on, stays}
-use Rattle.bb_decide.specs.Follow.{Compares, IsReady, IsSearched, KeepsByTurn, Looks, on_side}
+use Rattle.bb_decide.specs.inside.Follow.{Compares, IsReady, IsSearched, KeepsByTurn, Looks, on_side}
 use Rattle.bb_decide.specs.Partner.{IsKept, IsPartner}
 use Rattle.bb_decide.specs.Translation.{AgreesWithPartner}
 use Rattle.bb_decide.proofs.Partners.{kept_at_first, kept_below, keeps_next, keeps_on, partner_is_unique}

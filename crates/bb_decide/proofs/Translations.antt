@@ -14,8 +14,8 @@ use Rattle.bb_sim.specs.Span.{Inside}
 use Rattle.bb_cert.specs.declared.verdict.Side.{Side}
 use Rattle.bb_cert.specs.declared.verdict.Side.TheVariants.{L, R}
 use Rattle.bb_cert.specs.declared.verdict.Verdict.{Verdict}
-use Rattle.bb_cert.specs.Agree.{AgreeingRecords}
-use Rattle.bb_cert.specs.Claim.{Claim}
+use Rattle.bb_cert.specs.records.Agree.{AgreeingRecords}
+use Rattle.bb_cert.specs.claims.Claim.{Claim}
 use Rattle.bb_cert.proofs.Facts.{agreeing_records_never_halt, record_takes_steps, records_in_order}
 use Rattle.bb_decide.proofs.Halting.{no_pair_in_Z}
 use Rattle.bb_decide.specs.Cycle.{CountsSearch}

@@ -10,8 +10,8 @@ use Rattle.bb_cert.specs.declared.verdict.Verdict.TheVariants.{Halt, Cycler, Tra
 use Rattle.bb_cert.specs.declared.verdict.Extent.{Extent}
 use Rattle.bb_cert.specs.declared.verdict.Side.{Side}
 use Rattle.bb_cert.specs.declared.verdict.Side.TheVariants.{L, R}
-use Rattle.bb_cert.specs.Extent.{TellsExtent}
-use Rattle.bb_cert.specs.Record.{IsRecord}
+use Rattle.bb_cert.specs.verdict.Extent.{TellsExtent}
+use Rattle.bb_cert.specs.records.Record.{IsRecord}
 use Rattle.bb_cert.proofs.Facts.{record_has_one_step, stands_on, told_is_one, tree_has_one_end}
 use Rattle.bb_decide.specs.Cycle.{IsFirstCycle}
 use Rattle.bb_decide.specs.Partner.{IsPartner}
@@ -22,7 +22,8 @@ use Rattle.bb_decide.specs.Work.{TranslationSteps}
 use Rattle.bb_decide.proofs.Partners.{partner_is_unique}
 
 -- there is one first cycle
-module _ (table : Table) (bounds : Bounds) (a t b u : ℕ) (one : IsFirstCycle table bounds a t) (other : IsFirstCycle table bounds b u) where
+module _ (table : Table) (bounds : Bounds) (a t b u : ℕ) (one : IsFirstCycle table bounds a t)
+    (other : IsFirstCycle table bounds b u) where
   first_cycle_is_one : t ≡ u
   first_cycle_is_one =
       let below = one.first b u other.cycle in
@@ -45,7 +46,8 @@ module _ (table : Table) (bounds : Bounds) where
       let above = other.first s a b one.translation in
       omega arith
 
-  left_or_right : (a b c : ℕ) → IsFirstTranslation table bounds L a b → IsFirstTranslation table bounds R c b → ⊥
+  left_or_right : (a b c : ℕ) → IsFirstTranslation table bounds L a b → IsFirstTranslation table bounds R c b
+      → ⊥
   left_or_right a b c one other =
       let left = one.translation.pair.second_record in
       let right = other.translation.pair.second_record in
@@ -54,7 +56,8 @@ module _ (table : Table) (bounds : Bounds) where
         not_both : (p : ℤ) (i j : ℕ) → neg_ℤ p ≡ pos i → p ≡ pos j → 0 < i → 0 < j → ⊥
         not_both p i j a b c d = omega (arith, ints, a, b, c, d)
 
-  side_is_one : (s r : Side) (a b c : ℕ) → IsFirstTranslation table bounds s a b → IsFirstTranslation table bounds r c b → s ≡ r
+  side_is_one : (s r : Side) (a b c : ℕ) → IsFirstTranslation table bounds s a b
+      → IsFirstTranslation table bounds r c b → s ≡ r
   side_is_one L L a b c one other = refl
   side_is_one R R a b c one other = refl
   side_is_one L R a b c one other = absurd (left_or_right a b c one other)
@@ -120,16 +123,19 @@ verdict_is_unique table bounds plan (Undecided Steps) (Undecided Cells) a b =
     let same = outcome_is_unique table bounds NoSteps NoCells a.0 b.0 in cc
 verdict_is_unique table bounds plan (Undecided Cells) (Undecided Steps) a b =
     let same = outcome_is_unique table bounds NoCells NoSteps a.0 b.0 in cc
-verdict_is_unique table bounds plan (Translated side first second extent) (Halt m twos) a b = absurd (a.0 m b.0)
+verdict_is_unique table bounds plan (Translated side first second extent) (Halt m twos) a b =
+    absurd (a.0 m b.0)
 verdict_is_unique table bounds plan (Translated side first second extent) (Cycler third fourth) a b =
     absurd (a.1 b.1 third fourth b.2.cycle)
-verdict_is_unique table bounds plan (Translated side first second extent) (Translated other third fourth told) a b =
+verdict_is_unique table bounds plan (Translated side first second extent)
+    (Translated other third fourth told) a b =
     translations_are_one table bounds side other first second third fourth extent told a.3 b.3 a.4 b.4
 verdict_is_unique table bounds plan (Translated side first second extent) (Undecided Steps) a b =
     absurd (b.1.1 a.2 side first second a.3.translation)
 verdict_is_unique table bounds plan (Translated side first second extent) (Undecided Cells) a b =
     absurd (b.1.1 a.2 side first second a.3.translation)
-verdict_is_unique table bounds plan (Halt n ones) (Translated side third fourth extent) a b = absurd (b.0 n a.0)
+verdict_is_unique table bounds plan (Halt n ones) (Translated side third fourth extent) a b =
+    absurd (b.0 n a.0)
 verdict_is_unique table bounds plan (Cycler first second) (Translated side third fourth extent) a b =
     absurd (b.1 a.1 first second a.2.cycle)
 verdict_is_unique table bounds plan (Undecided Steps) (Translated side third fourth extent) a b =
@@ -162,12 +168,14 @@ verdict_is_unique table bounds plan (Undecided Cells) (Backward levels nodes) a 
 
 module _ (table : Table) (bounds : Bounds) where
   cycle_steps_are_one : (n m : ℕ) → CycleSteps table bounds n → CycleSteps table bounds m → n ≡ m
-  cycle_steps_are_one n m (inl one) (inl other) = first_cycle_is_one table bounds one.0 n other.0 m one.1 other.1
+  cycle_steps_are_one n m (inl one) (inl other) = first_cycle_is_one table bounds one.0 n other.0 m one.1
+      other.1
   cycle_steps_are_one n m (inl one) (inr none) = absurd (none.0 one.0 n one.1.cycle)
   cycle_steps_are_one n m (inr none) (inl other) = absurd (none.0 other.0 m other.1.cycle)
   cycle_steps_are_one n m (inr one) (inr other) = last_step_is_unique table bounds n m one.1 other.1
 
-  translation_steps_are_one : (n m : ℕ) → TranslationSteps table bounds n → TranslationSteps table bounds m → n ≡ m
+  translation_steps_are_one : (n m : ℕ) → TranslationSteps table bounds n → TranslationSteps table bounds m
+      → n ≡ m
   translation_steps_are_one n m (inl one) (inl other) =
       first_translation_is_one table bounds one.0 other.0 one.1 n other.1 m one.2 other.2
   translation_steps_are_one n m (inl one) (inr none) = absurd (none.0 one.0 one.1 n one.2.translation)
@@ -187,8 +195,10 @@ work_is_unique table bounds plan a b first second =
     let run = last_step_is_unique table bounds first.run second.run first.is_run second.is_run in
     let cycles = steps_if_made_are_one (MakesCycleSearch table bounds plan) (CycleSteps table bounds)
     (cycle_steps_are_one table bounds) first.cycles second.cycles first.is_cycles second.is_cycles in
-    let translations = steps_if_made_are_one (MakesTranslationSearch table bounds plan) (TranslationSteps table bounds)
-    (translation_steps_are_one table bounds) first.translations second.translations first.is_translations second.is_translations in
+    let translations = steps_if_made_are_one (MakesTranslationSearch table bounds plan)
+    (TranslationSteps table bounds)
+    (translation_steps_are_one table bounds) first.translations second.translations first.is_translations
+    second.is_translations in
     let one = first.sum in
     let other = second.sum in
     omega arith
@@ -201,7 +211,8 @@ few_if_made Made Cost most few n (inr not_made) = let none = not_made.1 in omega
 pub work_is_bounded : WorkIsBounded
 work_is_bounded table bounds plan work is =
     let run = is.is_run.inside.within_steps in
-    let cycles = few_if_made (MakesCycleSearch table bounds plan) (CycleSteps table bounds) bounds.steps few_cycle_steps
+    let cycles = few_if_made (MakesCycleSearch table bounds plan) (CycleSteps table bounds) bounds.steps
+    few_cycle_steps
     is.cycles is.is_cycles in
     let translations = few_if_made (MakesTranslationSearch table bounds plan) (TranslationSteps table bounds)
     bounds.steps few_translation_steps is.translations is.is_translations in

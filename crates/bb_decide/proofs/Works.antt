@@ -11,16 +11,17 @@ use Rattle.bb_sim.specs.Span.{span, IsLastInside}
 use Rattle.bb_sim.proofs.Facts.{span_grows}
 use Rattle.bb_cert.specs.declared.verdict.Verdict.{Verdict}
 use Rattle.bb_cert.specs.declared.verdict.Verdict.TheVariants.{Halt, Cycler, Translated, Backward, Undecided}
-use Rattle.bb_cert.specs.Tree.{Back}
-use Rattle.bb_cert.specs.WalkMeter.{IsWithinWalk, walked}
+use Rattle.bb_cert.specs.tree.Tree.{Back}
+use Rattle.bb_cert.specs.tree.WalkMeter.{IsWithinWalk, walked}
 use Rattle.bb_cert.proofs.Facts.{tree_has_one_end}
 use Rattle.bb_decide.specs.declared.plan.Plan.{Plan}
 use Rattle.bb_decide.specs.Cycle.{CountsSearch, FindsCycle}
 use Rattle.bb_decide.specs.Translation.{FindsTranslation}
 use Rattle.bb_decide.specs.Backward.{CountsTree, FindsTree, HasNoTree, without_nodes}
 use Rattle.bb_decide.specs.Verdict.{IsVerdict, PassesCycles, PassesTranslations}
-use Rattle.bb_decide.specs.Search.{Adds, CountsIfOn, DecidersCount, DecidersFind, FindsIfOn, ReachesWalk}
-use Rattle.bb_decide.specs.Search.{SearchesCount, SearchesFind}
+use Rattle.bb_decide.specs.inside.Search.{Adds, CountsIfOn, DecidersCount, DecidersFind, FindsIfOn}
+use Rattle.bb_decide.specs.inside.Search.{ReachesWalk}
+use Rattle.bb_decide.specs.inside.Search.{SearchesCount, SearchesFind}
 use Rattle.bb_decide.specs.Work.{CountsWalk, CountsWork, CycleSteps, MakesWalk, StepsIfMade, TranslationSteps}
 
 -- what the simulation has counted, from a meter that was begun at 0

@@ -4,7 +4,7 @@ use Rattle.bb_tape.specs.Strip.{Strip}
 use Rattle.bb_decide.specs.declared.bench.Bench.{Bench}
 
 -- each tape has room for so many cells
-pub record HasCells {T : Type 0} (strip : T → Strip) (cells : ℕ) (bench : Bench T) : Type 0 where
+pub record BenchHasCells {T : Type 0} (strip : T → Strip) (cells : ℕ) (bench : Bench T) : Type 0 where
   pub run : (strip bench.run).limit ≡ cells
   pub right : (strip bench.right).limit ≡ cells
   pub left : (strip bench.left).limit ≡ cells

@@ -8,7 +8,7 @@ use Rattle.bb_sim.specs.Meter.{CountsTo, CountsRun}
 use Rattle.bb_sim.specs.Span.{Inside}
 use Rattle.bb_cert.specs.declared.verdict.Verdict.{Verdict}
 use Rattle.bb_cert.specs.declared.verdict.Verdict.TheVariants.{Halt, Cycler, Translated, Backward, Undecided}
-use Rattle.bb_cert.specs.Repeat.{Same}
+use Rattle.bb_cert.specs.claims.Repeat.{Same}
 use Rattle.bb_decide.specs.Partner.{IsPartner}
 
 -- step t is inside, and its configuration is that of its partner a

@@ -3,14 +3,14 @@ use Rattle.std.specs.Prelude.{◌≡◌, ℕ, ◌+◌, ◌*◌, ◌<◌, ◌≤�
 use Rattle.bb_machine.specs.Limits.{Bounds}
 use Rattle.bb_machine.specs.Machine.{Table, IsMachine}
 use Rattle.bb_sim.specs.Span.{Inside}
-use Rattle.bb_cert.specs.declared.answer.Answer.TheVariants.{Ok}
+use Rattle.bb_cert.specs.declared.checker.answer.Answer.TheVariants.{Ok}
 use Rattle.bb_cert.specs.declared.verdict.Side.{Side}
 use Rattle.bb_cert.specs.declared.verdict.Verdict.{Verdict}
-use Rattle.bb_cert.specs.Agree.{Agree}
-use Rattle.bb_cert.specs.Answer.{IsAnswer, IsUndecided}
-use Rattle.bb_cert.specs.Claim.{Claim}
-use Rattle.bb_cert.specs.Record.{IsRecord}
-use Rattle.bb_cert.specs.Repeat.{Same}
+use Rattle.bb_cert.specs.records.Agree.{Agree}
+use Rattle.bb_cert.specs.checker.Answer.{IsAnswer, IsUndecided}
+use Rattle.bb_cert.specs.claims.Claim.{Claim}
+use Rattle.bb_cert.specs.records.Record.{IsRecord}
+use Rattle.bb_cert.specs.claims.Repeat.{Same}
 use Rattle.bb_decide.specs.declared.plan.Plan.{Plan}
 use Rattle.bb_decide.specs.Cycle.{IsCycle}
 use Rattle.bb_decide.specs.Sure.{IsLeastPower, NoneIsSmaller, StaysAs}

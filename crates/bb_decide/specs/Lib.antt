@@ -1,11 +1,10 @@
+pub mod inside
 pub mod Backward
 pub mod Bench
 pub mod Cycle
 pub mod FewCells
-pub mod Follow
 pub mod Laws
 pub mod Partner
-pub mod Search
 pub mod Sure
 pub mod Translation
 pub mod Verdict

@@ -7,9 +7,9 @@ use Rattle.bb_sim.specs.Span.{Inside}
 use Rattle.bb_cert.specs.declared.verdict.Side.{Side}
 use Rattle.bb_cert.specs.declared.verdict.Verdict.{Verdict}
 use Rattle.bb_cert.specs.declared.verdict.Verdict.TheVariants.{Halt, Cycler, Translated, Backward, Undecided}
-use Rattle.bb_cert.specs.Agree.{Agree}
-use Rattle.bb_cert.specs.Extent.{TellsExtent}
-use Rattle.bb_cert.specs.Record.{IsRecord}
+use Rattle.bb_cert.specs.records.Agree.{Agree}
+use Rattle.bb_cert.specs.verdict.Extent.{TellsExtent}
+use Rattle.bb_cert.specs.records.Record.{IsRecord}
 use Rattle.bb_decide.specs.Partner.{IsPartner}
 
 -- a record of a side is made at step b, and agrees with the record of that side, at step a, whose number is

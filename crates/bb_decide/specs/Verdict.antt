@@ -7,8 +7,8 @@ use Rattle.bb_sim.specs.Outcome.{HaltsNowhere, IsOutcome}
 use Rattle.bb_cert.specs.declared.verdict.Why.TheVariants.{Steps, Cells}
 use Rattle.bb_cert.specs.declared.verdict.Verdict.{Verdict}
 use Rattle.bb_cert.specs.declared.verdict.Verdict.TheVariants.{Halt, Cycler, Translated, Backward, Undecided}
-use Rattle.bb_cert.specs.Extent.{TellsExtent}
-use Rattle.bb_cert.specs.Tree.{Back}
+use Rattle.bb_cert.specs.verdict.Extent.{TellsExtent}
+use Rattle.bb_cert.specs.tree.Tree.{Back}
 use Rattle.bb_decide.specs.declared.plan.Plan.{Plan}
 use Rattle.bb_decide.specs.Backward.{HasNoTree}
 use Rattle.bb_decide.specs.Cycle.{HasNoCycle, IsFirstCycle}

@@ -1,7 +1,7 @@
 //! What a machine is decided with.
 ghost use Rattle.std.specs.Prelude.{◌≡◌, IfOk};
-ghost use Rattle.bb_cert.specs.Path.{depth_of};
-ghost use Rattle.bb_decide.specs.Bench.{HasCells, HasTapes};
+ghost use Rattle.bb_cert.specs.tree.Path.{depth_of};
+ghost use Rattle.bb_decide.specs.Bench.{BenchHasCells, HasTapes};
 
 use bb_cert::Path;
 use bb_machine::Limits;
@@ -11,9 +11,13 @@ use std::alloc::Global;
 /// The tapes that deciding a machine uses, and the room for its walk. Each call resets what it uses.
 #[derive(Drop)]
 pub struct Bench<T> {
+    /// The tape of the run at work.
     pub run: T,
+    /// The tape that is kept for the cyclers, and for the right side's records.
     pub right: T,
+    /// The tape that is kept for the left side's records.
     pub left: T,
+    /// The way through the backward tree.
     pub path: Path,
 }
 
@@ -31,7 +35,7 @@ impl<T: Tape> Bench<T> {
         requires right { (T.strip right).limit ≡ limits.now.cells }
         requires left { (T.strip left).limit ≡ limits.now.cells }
         ensures given { IfOk result (HasTapes run right left) }
-        ensures room { IfOk result (HasCells T.strip limits.now.cells) }
+        ensures room { IfOk result (BenchHasCells T.strip limits.now.cells) }
         ensures path { IfOk result (λ bench. depth_of bench.path ≡ limits.now.depth) }
     {
         let path = Path::new(alloc, limits.depth())?;

@@ -2,9 +2,9 @@
 ghost use Rattle.std.specs.Prelude.{◌≡◌, ◌*◌, ◌≤◌, IfOk, IfSome, IsTrue, OnErr, OnOk};
 ghost use Rattle.bb_sim.specs.Meter.{IsWithinRun};
 ghost use Rattle.bb_sim.specs.Run.{Never};
-ghost use Rattle.bb_cert.specs.Claim.{Claim};
-ghost use Rattle.bb_cert.specs.Verdict.{HasNumbers};
-ghost use Rattle.bb_decide.specs.Bench.{HasCells};
+ghost use Rattle.bb_cert.specs.claims.Claim.{Claim};
+ghost use Rattle.bb_cert.specs.verdict.Verdict.{HasNumbers};
+ghost use Rattle.bb_decide.specs.Bench.{BenchHasCells};
 ghost use Rattle.bb_decide.specs.Cycle.{CountsSearch, FindsCycle};
 ghost use Rattle.bb_decide.specs.FewCells.{FindsInFewCells};
 ghost use Rattle.bb_decide.specs.Sure.{FindsRepeats};
@@ -26,7 +26,7 @@ pub fn cyclers<T: Tape>(
     bench: &mut Bench<T>,
     meter: &mut Meter,
 ) -> Result<Option<Verdict>, Memory>
-    requires tapes { HasCells T.strip limits.now.cells bench.old }
+    requires tapes { BenchHasCells T.strip limits.now.cells bench.old }
     requires room { meter.old.steps ≤ 2 * limits.now.steps }
     ensures found { IfOk result (FindsCycle machine.now limits.now) }
     ensures sure { IfOk result (FindsRepeats machine.now limits.now) }
@@ -36,7 +36,7 @@ pub fn cyclers<T: Tape>(
     ensures never { IfOk result (λ found. IfSome found (λ verdict. Never machine.now)) }
     ensures claim { IfOk result (λ found. IfSome found (Claim machine.now)) }
     ensures numbers { IfOk result (λ found. IfSome found HasNumbers) }
-    ensures tapes { HasCells T.strip limits.now.cells bench.new }
+    ensures tapes { BenchHasCells T.strip limits.now.cells bench.new }
     ensures path { bench.new.path ≡ bench.old.path }
     ensures memory { OnErr result (IsTrue T.GROWS) }
 {
@@ -56,7 +56,7 @@ fn run<T: Tape>(
     bench: &mut Bench<T>,
     meter: &mut Meter,
 ) -> Result<Option<Verdict>, Memory>
-    requires tapes { HasCells T.strip limits.now.cells bench.old }
+    requires tapes { BenchHasCells T.strip limits.now.cells bench.old }
     requires room { meter.old.steps ≤ 2 * limits.now.steps }
     ensures found { IfOk result (FindsCycle machine.now limits.now) }
     ensures counted { IfOk result (CountsSearch machine.now limits.now meter.old meter.new) }
@@ -64,7 +64,7 @@ fn run<T: Tape>(
     ensures never { IfOk result (λ found. IfSome found (λ verdict. Never machine.now)) }
     ensures claim { IfOk result (λ found. IfSome found (Claim machine.now)) }
     ensures numbers { IfOk result (λ found. IfSome found HasNumbers) }
-    ensures tapes { HasCells T.strip limits.now.cells bench.new }
+    ensures tapes { BenchHasCells T.strip limits.now.cells bench.new }
     ensures path { bench.new.path ≡ bench.old.path }
     ensures memory { OnErr result (IsTrue T.GROWS) }
 {

@@ -2,20 +2,20 @@
 ghost use Rattle.std.specs.Prelude.{◌≡◌, ◌*◌, ◌≤◌, IfOk, IfSome, IsTrue, OnErr, OnOk};
 ghost use Rattle.bb_sim.specs.Meter.{IsWithinRun};
 ghost use Rattle.bb_sim.specs.Run.{Never};
-ghost use Rattle.bb_cert.specs.declared.answer.Answer.{Answer};
-ghost use Rattle.bb_cert.specs.declared.reader.Line.{Line};
-ghost use Rattle.bb_cert.specs.Answer.{IsAnswer, IsUndecided};
-ghost use Rattle.bb_cert.specs.Claim.{Claim, SaysNever};
-ghost use Rattle.bb_cert.specs.Line.{IsLineOf, line_text};
-ghost use Rattle.bb_cert.specs.Path.{depth_of};
-ghost use Rattle.bb_cert.specs.Verdict.{HasNumbers};
-ghost use Rattle.bb_cert.specs.WalkMeter.{IsWithinWalk};
+ghost use Rattle.bb_cert.specs.declared.checker.answer.Answer.{Answer};
+ghost use Rattle.bb_cert.specs.declared.verdict.reader.Line.{Line};
+ghost use Rattle.bb_cert.specs.checker.Answer.{IsAnswer, IsUndecided};
+ghost use Rattle.bb_cert.specs.claims.Claim.{Claim, SaysNever};
+ghost use Rattle.bb_cert.specs.verdict.Line.{IsLineOf, line_text};
+ghost use Rattle.bb_cert.specs.tree.Path.{depth_of};
+ghost use Rattle.bb_cert.specs.verdict.Verdict.{HasNumbers};
+ghost use Rattle.bb_cert.specs.tree.WalkMeter.{IsWithinWalk};
 ghost use Rattle.bb_decide.specs.Backward.{CountsTree, FindsTree, without_nodes};
-ghost use Rattle.bb_decide.specs.Bench.{HasCells};
+ghost use Rattle.bb_decide.specs.Bench.{BenchHasCells};
 ghost use Rattle.bb_decide.specs.FewCells.{DecidesFewCells};
 ghost use Rattle.bb_decide.specs.Cycle.{CountsSearch, FindsCycle};
-ghost use Rattle.bb_decide.specs.Search.{CountsIfOn, DecidersCount, DecidersFind, FindsIfOn};
-ghost use Rattle.bb_decide.specs.Search.{IsWithinDeciders, IsWithinSearches, SearchesCount, SearchesFind};
+ghost use Rattle.bb_decide.specs.inside.Search.{CountsIfOn, DecidersCount, DecidersFind, FindsIfOn};
+ghost use Rattle.bb_decide.specs.inside.Search.{IsWithinDeciders, IsWithinSearches, SearchesCount, SearchesFind};
 ghost use Rattle.bb_decide.specs.Sure.{KeepsEarlier};
 ghost use Rattle.bb_decide.specs.Translation.{FindsTranslation};
 ghost use Rattle.bb_decide.specs.Verdict.{IsVerdict};
@@ -41,7 +41,7 @@ pub fn decide<T: Tape>(
     bench: &mut Bench<T>,
     meter: &mut Meter,
 ) -> Result<Verdict, Memory>
-    requires tapes { HasCells T.strip limits.now.cells bench.old }
+    requires tapes { BenchHasCells T.strip limits.now.cells bench.old }
     requires path { depth_of bench.old.path ≡ limits.now.depth }
     ensures verdict { IfOk result (IsVerdict machine.now limits.now plan) }
     ensures earlier { IfOk result (KeepsEarlier machine.now limits.now plan) }
@@ -55,7 +55,7 @@ pub fn decide<T: Tape>(
         IsLineOf (Line.Claim machine.now verdict) (line_text machine.now verdict)) }
     ensures counted { OnOk result (CountsWork machine.now limits.now plan meter.new) }
     ensures within { IsWithinWork limits.now meter.new }
-    ensures tapes { HasCells T.strip limits.now.cells bench.new }
+    ensures tapes { BenchHasCells T.strip limits.now.cells bench.new }
     ensures path { depth_of bench.new.path ≡ depth_of bench.old.path }
     ensures memory { OnErr result (IsTrue T.GROWS) }
 {
@@ -81,7 +81,7 @@ fn find<T: Tape>(
     bench: &mut Bench<T>,
     meter: &mut Meter,
 ) -> Result<Option<Verdict>, Memory>
-    requires tapes { HasCells T.strip limits.now.cells bench.old }
+    requires tapes { BenchHasCells T.strip limits.now.cells bench.old }
     requires path { depth_of bench.old.path ≡ limits.now.depth }
     requires room { meter.old.steps ≤ limits.now.steps }
     requires nodes { meter.old.nodes ≡ 0 }
@@ -91,7 +91,7 @@ fn find<T: Tape>(
     ensures within { IsWithinDeciders limits.now meter.old meter.new }
     ensures claim { IfOk result (λ found. IfSome found (Claim machine.now)) }
     ensures numbers { IfOk result (λ found. IfSome found HasNumbers) }
-    ensures tapes { HasCells T.strip limits.now.cells bench.new }
+    ensures tapes { BenchHasCells T.strip limits.now.cells bench.new }
     ensures path { depth_of bench.new.path ≡ depth_of bench.old.path }
     ensures memory { OnErr result (IsTrue T.GROWS) }
 {
@@ -110,14 +110,14 @@ fn search<T: Tape>(
     bench: &mut Bench<T>,
     meter: &mut Meter,
 ) -> Result<Option<Verdict>, Memory>
-    requires tapes { HasCells T.strip limits.now.cells bench.old }
+    requires tapes { BenchHasCells T.strip limits.now.cells bench.old }
     requires room { meter.old.steps ≤ limits.now.steps }
     ensures found { IfOk result (SearchesFind machine.now limits.now plan) }
     ensures counted { OnOk result (SearchesCount machine.now limits.now plan meter.old meter.new) }
     ensures within { IsWithinSearches limits.now meter.old meter.new }
     ensures claim { IfOk result (λ found. IfSome found (Claim machine.now)) }
     ensures numbers { IfOk result (λ found. IfSome found HasNumbers) }
-    ensures tapes { HasCells T.strip limits.now.cells bench.new }
+    ensures tapes { BenchHasCells T.strip limits.now.cells bench.new }
     ensures path { bench.new.path ≡ bench.old.path }
     ensures memory { OnErr result (IsTrue T.GROWS) }
 {
@@ -136,7 +136,7 @@ fn cyclers_if_on<T: Tape>(
     bench: &mut Bench<T>,
     meter: &mut Meter,
 ) -> Result<Option<Verdict>, Memory>
-    requires tapes { HasCells T.strip limits.now.cells bench.old }
+    requires tapes { BenchHasCells T.strip limits.now.cells bench.old }
     requires room { meter.old.steps ≤ 2 * limits.now.steps }
     ensures found { IfOk result (FindsIfOn plan.cyclers (FindsCycle machine.now limits.now)) }
     ensures counted { IfOk result (CountsIfOn plan.cyclers (FindsCycle machine.now limits.now)
@@ -144,7 +144,7 @@ fn cyclers_if_on<T: Tape>(
     ensures within { IsWithinRun limits.now meter.old meter.new }
     ensures claim { IfOk result (λ found. IfSome found (Claim machine.now)) }
     ensures numbers { IfOk result (λ found. IfSome found HasNumbers) }
-    ensures tapes { HasCells T.strip limits.now.cells bench.new }
+    ensures tapes { BenchHasCells T.strip limits.now.cells bench.new }
     ensures path { bench.new.path ≡ bench.old.path }
     ensures memory { OnErr result (IsTrue T.GROWS) }
 {
@@ -162,7 +162,7 @@ fn translated_if_on<T: Tape>(
     bench: &mut Bench<T>,
     meter: &mut Meter,
 ) -> Result<Option<Verdict>, Memory>
-    requires tapes { HasCells T.strip limits.now.cells bench.old }
+    requires tapes { BenchHasCells T.strip limits.now.cells bench.old }
     requires room { meter.old.steps ≤ 2 * limits.now.steps }
     ensures found { IfOk result (FindsIfOn plan.translated (FindsTranslation machine.now limits.now)) }
     ensures counted { IfOk result (CountsIfOn plan.translated (FindsTranslation machine.now limits.now)
@@ -170,7 +170,7 @@ fn translated_if_on<T: Tape>(
     ensures within { IsWithinRun limits.now meter.old meter.new }
     ensures claim { IfOk result (λ found. IfSome found (Claim machine.now)) }
     ensures numbers { IfOk result (λ found. IfSome found HasNumbers) }
-    ensures tapes { HasCells T.strip limits.now.cells bench.new }
+    ensures tapes { BenchHasCells T.strip limits.now.cells bench.new }
     ensures path { bench.new.path ≡ bench.old.path }
     ensures memory { OnErr result (IsTrue T.GROWS) }
 {
@@ -188,7 +188,7 @@ fn backward_if_on<T: Tape>(
     bench: &mut Bench<T>,
     meter: &mut Meter,
 ) -> Result<Option<Verdict>, Memory>
-    requires tapes { HasCells T.strip limits.now.cells bench.old }
+    requires tapes { BenchHasCells T.strip limits.now.cells bench.old }
     requires path { depth_of bench.old.path ≡ limits.now.depth }
     requires nodes { meter.old.nodes ≡ 0 }
     requires most_levels { meter.old.most_levels ≡ 0 }
@@ -198,7 +198,7 @@ fn backward_if_on<T: Tape>(
     ensures within { IsWithinWalk limits.now.depth limits.now.nodes meter.old meter.new }
     ensures claim { IfOk result (λ found. IfSome found (Claim machine.now)) }
     ensures numbers { IfOk result (λ found. IfSome found HasNumbers) }
-    ensures tapes { HasCells T.strip limits.now.cells bench.new }
+    ensures tapes { BenchHasCells T.strip limits.now.cells bench.new }
     ensures path { depth_of bench.new.path ≡ depth_of bench.old.path }
     ensures memory { OnErr result (IsTrue T.GROWS) }
 {

@@ -1,10 +1,10 @@
 //! Which record of a side is kept while a search goes on, to be compared with the next.
 ghost use Rattle.std.specs.Prelude.{◌≡◌, IfOk, IfSome, IsTrue, OnErr};
-ghost use Rattle.bb_cert.specs.Verdict.{HasNumbers};
-ghost use Rattle.bb_decide.specs.Follow.{Compares, IsReady};
+ghost use Rattle.bb_cert.specs.verdict.Verdict.{HasNumbers};
+ghost use Rattle.bb_decide.specs.inside.Follow.{Compares, IsReady};
 
 use bb_cert::Verdict;
-use bb_cert::side_records::Records;
+use bb_cert::records::Records;
 use bb_sim::Runner;
 use bb_tape::{Memory, Tape};
 

@@ -1,16 +1,15 @@
 //! Backward reasoning: from the halting entries back, until nothing could come before.
 ghost use Rattle.std.specs.Prelude.{◌≡◌, IfOk, IfSome, IsTrue, OnErr};
 ghost use Rattle.bb_sim.specs.Run.{Never};
-ghost use Rattle.bb_cert.specs.Claim.{Claim};
-ghost use Rattle.bb_cert.specs.Path.{depth_of};
-ghost use Rattle.bb_cert.specs.Verdict.{HasNumbers};
-ghost use Rattle.bb_cert.specs.WalkMeter.{IsWithinWalk};
+ghost use Rattle.bb_cert.specs.claims.Claim.{Claim};
+ghost use Rattle.bb_cert.specs.tree.Path.{depth_of};
+ghost use Rattle.bb_cert.specs.verdict.Verdict.{HasNumbers};
+ghost use Rattle.bb_cert.specs.tree.WalkMeter.{IsWithinWalk};
 ghost use Rattle.bb_decide.specs.Backward.{CountsTree, FindsTree, without_nodes};
-ghost use Rattle.bb_decide.specs.Bench.{HasCells};
+ghost use Rattle.bb_decide.specs.Bench.{BenchHasCells};
 
 use crate::bench::Bench;
-use bb_cert::Verdict;
-use bb_cert::walk::walk;
+use bb_cert::{Verdict, walk};
 use bb_machine::{Limits, Machine};
 use bb_sim::Meter;
 use bb_tape::{Memory, Tape};
@@ -25,7 +24,7 @@ pub fn backward<T: Tape>(
     bench: &mut Bench<T>,
     meter: &mut Meter,
 ) -> Result<Option<Verdict>, Memory>
-    requires tapes { HasCells T.strip limits.now.cells bench.old }
+    requires tapes { BenchHasCells T.strip limits.now.cells bench.old }
     requires path { depth_of bench.old.path ≡ limits.now.depth }
     ensures found { IfOk result (FindsTree machine.now limits.now) }
     ensures counted { IfOk result (CountsTree limits.now meter.old meter.new) }
@@ -33,7 +32,7 @@ pub fn backward<T: Tape>(
     ensures never { IfOk result (λ found. IfSome found (λ verdict. Never machine.now)) }
     ensures claim { IfOk result (λ found. IfSome found (Claim machine.now)) }
     ensures numbers { IfOk result (λ found. IfSome found HasNumbers) }
-    ensures tapes { HasCells T.strip limits.now.cells bench.new }
+    ensures tapes { BenchHasCells T.strip limits.now.cells bench.new }
     ensures path { depth_of bench.new.path ≡ depth_of bench.old.path }
     ensures memory { OnErr result (IsTrue T.GROWS) }
 {

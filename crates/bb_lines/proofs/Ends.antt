@@ -8,7 +8,7 @@ use Rattle.bb_lines.specs.declared.fault.Fault.{Fault}
 use Rattle.bb_lines.specs.declared.fault.Fault.TheVariants.{Memory, Read, Write}
 use Rattle.bb_lines.specs.Lines.{complete, lines, unfinished, unless_empty}
 use Rattle.bb_lines.specs.Ends.{MatchEnd, ListEnds, AppendsReplies, AppendsSome, AppendsPrefixOfReplies}
-use Rattle.bb_lines.specs.Progress.{prefixes, AreAnswered}
+use Rattle.bb_lines.specs.inside.Progress.{prefixes, AreAnswered}
 use Rattle.bb_lines.proofs.Replies.{AppendsReplies-prefixes, AppendsSome-prefixes}
 use Rattle.bb_lines.proofs.Replies.{AppendsPrefixOfReplies-prefixes, FoldsTo-prefixes}
 use Rattle.bb_lines.proofs.Prefixes.{prefixes-lines}

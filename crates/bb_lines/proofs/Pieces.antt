@@ -6,7 +6,7 @@ use Rattle.std.specs.List.{slice_split, onto_first}
 use Rattle.std.proofs.lemmas.List.{append-nil}
 use Rattle.std.proofs.Math.Seq.{take-append_seam, get_or-append_seam}
 use Rattle.bb_lines.specs.Lines.{pieces, complete, unfinished, lines, unless_empty}
-use Rattle.bb_lines.specs.Progress.{HasNoNewline, none, other}
+use Rattle.bb_lines.specs.inside.Progress.{HasNoNewline, none, other}
 
 -- the last of the parts with a byte added to it
 add_to_last : ℕ → List (List ℕ) → List (List ℕ)

@@ -7,7 +7,7 @@ use Rattle.std.proofs.Math.Numerals.{add-one}
 use Rattle.std.proofs.lemmas.Bool.{eqb-true}
 use Rattle.std.proofs.lemmas.List.{append-nil, map-append, take-append-drop, take-take}
 use Rattle.bb_lines.specs.Lines.{complete, unfinished, lines, unless_empty}
-use Rattle.bb_lines.specs.Progress.{HasNoNewline, none, other, prefixes}
+use Rattle.bb_lines.specs.inside.Progress.{HasNoNewline, none, other, prefixes}
 use Rattle.bb_lines.proofs.Pieces.{LinesAre-newline, LinesAre-other, LinesAre-one, LinesAre-line}
 use Rattle.bb_lines.proofs.Pieces.{LinesAre-more, lines-parts}
 

@@ -11,7 +11,7 @@ use Rattle.bb_lines.specs.declared.fault.Fault.TheVariants.{Memory, Read, Write}
 use Rattle.bb_lines.specs.Lines.{AreReplies}
 use Rattle.bb_lines.specs.Ends.{MatchEnd, AppendsPrefix, AppendsReplies, AppendsSome, AppendsPrefixOfReplies}
 use Rattle.bb_lines.specs.Output.{Sends}
-use Rattle.bb_lines.specs.Progress.{AreAnswered, WritesSome, WritesPrefix}
+use Rattle.bb_lines.specs.inside.Progress.{AreAnswered, WritesSome, WritesPrefix}
 use Rattle.bb_lines.proofs.Replies.{AreReplies-append, AreReplies-weaker, FoldsTo-append}
 use Rattle.bb_lines.proofs.Sends.{Sends-none, Sends-trans, Sends-written, AppendsPrefix-after}
 use Rattle.bb_lines.proofs.Sends.{AppendsPrefix-further, Appends-further, Appends-sent}

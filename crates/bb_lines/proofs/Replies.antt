@@ -4,7 +4,7 @@ use Rattle.std.specs.List.{FoldsTo}
 use Rattle.std.proofs.lemmas.List.{length-map, take-map}
 use Rattle.bb_lines.specs.Lines.{AreReplies}
 use Rattle.bb_lines.specs.Ends.{AppendsReplies, AppendsSome, AppendsPrefixOfReplies}
-use Rattle.bb_lines.specs.Progress.{prefixes}
+use Rattle.bb_lines.specs.inside.Progress.{prefixes}
 
 pub FoldsTo-append : {A : Type 0} (saw : A → List ℕ → A → Type 0) (first now next : A) (xs ys : List (List ℕ))
     → FoldsTo saw first xs now → FoldsTo saw now ys next → FoldsTo saw first (xs ++ ys) next

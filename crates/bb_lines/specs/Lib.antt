@@ -1,6 +1,6 @@
+pub mod inside
 pub mod Fault
 pub mod Watched
 pub mod Lines
 pub mod Ends
 pub mod Output
-pub mod Progress

@@ -8,13 +8,13 @@ ghost use Rattle.bb_lines.specs.Watched.{watched_inner, is_marked, reads_of};
 ghost use Rattle.bb_lines.specs.Lines.{complete, lines, unfinished, unless_empty};
 ghost use Rattle.bb_lines.specs.Ends.{MatchEnd, AppendsPrefixOfReplies};
 ghost use Rattle.bb_lines.specs.Ends.{AppendsReplies, AppendsSome, ListEnds};
-ghost use Rattle.bb_lines.specs.Progress.{prefixes, HasNoNewline, AreAnswered};
-ghost use Rattle.bb_lines.specs.Progress.{WritesSome, WritesPrefix, KeepsReferences};
+ghost use Rattle.bb_lines.specs.inside.Progress.{prefixes, HasNoNewline, AreAnswered};
+ghost use Rattle.bb_lines.specs.inside.Progress.{WritesSome, WritesPrefix, KeepsReferences};
 ghost use Rattle.arrayvec.specs.ArrayVec.{array_vec_len};
 
 use crate::fault::Fault;
 use crate::output::{Waiting, add_line, write_and_flush, write_waiting};
-use crate::responder::{LONG_WORK, MOST_KEPT, REPLY, Responder};
+use crate::responder::{LONG_WORK, MAX_KEPT, REPLY, Responder};
 use crate::watched::{Failed, Watched};
 use arrayvec::ArrayVec;
 use memchr::memchr;
@@ -63,7 +63,7 @@ struct Engine<'a, R, W, A> {
     writer: &'a mut Watched<W>,
     responder: &'a mut A,
     // The first bytes of the line at work.
-    kept: ArrayVec<u8, MOST_KEPT>,
+    kept: ArrayVec<u8, MAX_KEPT>,
     // The last reply.
     text: ArrayVec<u8, REPLY>,
     // The replies that aren't written yet.
@@ -269,9 +269,9 @@ impl<'a, R: Read, W: Write, A: Responder> Engine<'a, R, W, A> {
 }
 
 // Keeps the first `most` bytes of what is kept and a piece that comes after it.
-fn keep_prefix(kept: &mut ArrayVec<u8, MOST_KEPT>, piece: &[u8], most: usize)
+fn keep_prefix(kept: &mut ArrayVec<u8, MAX_KEPT>, piece: &[u8], most: usize)
     requires kept { array_vec_len kept.old ≤ most }
-    requires most { most ≤ MOST_KEPT }
+    requires most { most ≤ MAX_KEPT }
     ensures { kept.new.items ≡ take most (kept.old.items ++ piece.now) }
 {
     let n = piece.len().min(most - kept.len());

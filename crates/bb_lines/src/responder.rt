@@ -1,7 +1,7 @@
 //! What replies to a line.
 ghost use Rattle.std.specs.Prelude.{◌≡◌, ℕ, ◌<◌, ◌≤◌, Bool, List, []};
 ghost use Rattle.std.specs.Prelude.{length, take, IsTrue, IfOk, OnOk, OnErr};
-ghost use Rattle.bb_lines.specs.declared.responder.TheConstants.{MOST_KEPT};
+ghost use Rattle.bb_lines.specs.declared.responder.TheConstants.{MAX_KEPT};
 
 use arrayvec::ArrayVec;
 use std::alloc::AllocError;
@@ -10,7 +10,7 @@ use std::alloc::AllocError;
 pub const REPLY: usize = 1023;
 
 /// The most bytes of a line that are kept for any responder.
-pub const MOST_KEPT: usize = 1024;
+pub const MAX_KEPT: usize = 1024;
 
 /// More work than this is long: its reply is written before the next line is begun.
 pub const LONG_WORK: u64 = 100_000;
@@ -67,7 +67,7 @@ pub trait Responder {
     // A line is kept up to here: at least one byte, and no more than there is room for.
     ghost keeps_some: { 0 < KEEP };
 
-    ghost keeps_few: { KEEP ≤ MOST_KEPT };
+    ghost keeps_few: { KEEP ≤ MAX_KEPT };
 
     // The kept bytes of a line decide all.
     ghost reply_by_kept: { (a : Self) (line text : List ℕ)

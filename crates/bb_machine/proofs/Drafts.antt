@@ -10,8 +10,9 @@ use Rattle.bb_machine.specs.declared.entry.Entry.{Entry}
 use Rattle.bb_machine.specs.Entry.{IsEntryOf}
 use Rattle.bb_machine.specs.Machine.{IsGroup, IsMachine, symbols_of}
 use Rattle.bb_machine.specs.Rows.{IsTable}
-use Rattle.bb_machine.specs.Draft.{Begun, begun_entries, symbols_limit, IsBegunWithin, IsDraft, IsWhole}
-use Rattle.bb_machine.specs.Draft.{IsWholeWithin, table_of}
+use Rattle.bb_machine.specs.inside.Draft.{Begun, begun_entries, symbols_limit, IsBegunWithin, IsDraft}
+use Rattle.bb_machine.specs.inside.Draft.{IsWhole}
+use Rattle.bb_machine.specs.inside.Draft.{IsWholeWithin, table_of}
 use Rattle.bb_machine.proofs.Groups.{every-append, every-prefix, every-at, every-weaker, entries_weaker}
 use Rattle.bb_machine.proofs.Groups.{machine_by}
 use Rattle.bb_machine.proofs.Viable.{begun_push, begun_close}

@@ -11,7 +11,7 @@ use Rattle.bb_machine.specs.declared.entry.Entry.{Entry}
 use Rattle.bb_machine.specs.declared.entry.Entry.TheVariants.{Undefined, Go}
 use Rattle.bb_machine.specs.Entry.{dir_letter, next_letter, entry_text, IsNextOf, IsEntryOf}
 use Rattle.bb_machine.specs.Column.{BeginsWith}
-use Rattle.bb_machine.specs.Draft.{IsEntryStop}
+use Rattle.bb_machine.specs.inside.Draft.{IsEntryStop}
 
 -- a prefix of a list has its elements
 reads : (whole bytes : List ℕ) (n i : ℕ) → BeginsWith whole (take (n + 1) bytes) → n < length bytes → i ≤ n

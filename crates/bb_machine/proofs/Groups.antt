@@ -8,7 +8,7 @@ use Rattle.bb_machine.specs.declared.entry.Entry.{Entry}
 use Rattle.bb_machine.specs.declared.entry.Entry.TheVariants.{Undefined, Go}
 use Rattle.bb_machine.specs.Entry.{IsNextOf, IsEntryOf}
 use Rattle.bb_machine.specs.Machine.{symbols_of, IsGroup, IsMachineWithin}
-use Rattle.bb_machine.specs.Draft.{symbols_limit}
+use Rattle.bb_machine.specs.inside.Draft.{symbols_limit}
 use Rattle.bb_machine.proofs.Texts.{ArePlain}
 
 module _ {X : Type 0} (P : X → Type 0) where

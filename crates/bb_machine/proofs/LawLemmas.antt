@@ -8,7 +8,7 @@ use Rattle.bb_machine.specs.declared.machine.TheConstants.{MAX_STATES, MAX_SYMBO
 use Rattle.bb_machine.specs.declared.entry.Entry.{Entry}
 use Rattle.bb_machine.specs.Machine.{IsMachine, IsMachineWithin, text}
 use Rattle.bb_machine.specs.Column.{IsViable, IsLongestPrefix, IsColumn}
-use Rattle.bb_machine.specs.Draft.{Begun, begun_text, table_of}
+use Rattle.bb_machine.specs.inside.Draft.{Begun, begun_text, table_of}
 use Rattle.bb_machine.specs.Laws.{PrefixIsEnough}
 use Rattle.bb_machine.proofs.Texts.{ArePlain, GoesOn, text_peel}
 use Rattle.bb_machine.proofs.Groups.{machine_plain, every-prefix, every-at}

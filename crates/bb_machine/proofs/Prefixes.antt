@@ -9,7 +9,7 @@ use Rattle.bb_machine.specs.declared.machine.TheConstants.{MAX_STATES, MAX_SYMBO
 use Rattle.bb_machine.specs.declared.entry.Entry.{Entry}
 use Rattle.bb_machine.specs.Machine.{IsMachine, text}
 use Rattle.bb_machine.specs.Column.{IsViableWithin, IsViable, IsLongestPrefix}
-use Rattle.bb_machine.specs.Draft.{Begun, begun_text, IsBegun, IsStopWithin, IsStop, table_of}
+use Rattle.bb_machine.specs.inside.Draft.{Begun, begun_text, IsBegun, IsStopWithin, IsStop, table_of}
 use Rattle.bb_machine.proofs.Texts.{text_on}
 use Rattle.bb_machine.proofs.Viable.{viable_begun}
 use Rattle.bb_machine.proofs.Stops.{whole_text}

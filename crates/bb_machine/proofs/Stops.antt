@@ -9,8 +9,9 @@ use Rattle.bb_machine.specs.declared.entry.Entry.TheVariants.{Undefined, Go}
 use Rattle.bb_machine.specs.Entry.{entry_text, IsEntryOf}
 use Rattle.bb_machine.specs.Machine.{symbols_of, IsGroup, IsMachineWithin, group_text, text}
 use Rattle.bb_machine.specs.Column.{BeginsWith, IsViableWithin}
-use Rattle.bb_machine.specs.Draft.{Begun, begun_text, symbols_limit, IsBegunWithin, IsWholeWithin, table_of}
-use Rattle.bb_machine.specs.Draft.{IsStopWithin, IsEntryStop}
+use Rattle.bb_machine.specs.inside.Draft.{Begun, begun_text, symbols_limit, IsBegunWithin, IsWholeWithin}
+use Rattle.bb_machine.specs.inside.Draft.{table_of}
+use Rattle.bb_machine.specs.inside.Draft.{IsStopWithin, IsEntryStop}
 use Rattle.bb_machine.proofs.Texts.{tail_text, GoesOn, text_peel, bar_peel}
 use Rattle.bb_machine.proofs.Groups.{every-at, entry_weaker, entries_weaker, groups_plain, machine_plain}
 use Rattle.bb_machine.proofs.Groups.{symbols_within}

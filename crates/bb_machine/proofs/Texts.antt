@@ -12,7 +12,7 @@ use Rattle.bb_machine.specs.declared.entry.Entry.{Entry}
 use Rattle.bb_machine.specs.declared.entry.Entry.TheVariants.{Undefined, Go}
 use Rattle.bb_machine.specs.Entry.{dir_letter, next_letter, entry_text, IsNextOf, IsEntryOf}
 use Rattle.bb_machine.specs.Machine.{group_text, text}
-use Rattle.bb_machine.specs.Draft.{Begun, begun_text}
+use Rattle.bb_machine.specs.inside.Draft.{Begun, begun_text}
 
 -- an entry whose letters and digit are apart from all others
 abbrev pub IsPlain : Entry → Type 0

@@ -9,7 +9,7 @@ use Rattle.bb_machine.specs.declared.entry.Entry.TheVariants.{Undefined}
 use Rattle.bb_machine.specs.Entry.{entry_text, IsEntryOf}
 use Rattle.bb_machine.specs.Machine.{IsGroup, group_text}
 use Rattle.bb_machine.specs.Column.{IsViableWithin}
-use Rattle.bb_machine.specs.Draft.{Begun, begun_text, symbols_limit, IsBegunWithin, IsWholeWithin}
+use Rattle.bb_machine.specs.inside.Draft.{Begun, begun_text, symbols_limit, IsBegunWithin, IsWholeWithin}
 use Rattle.bb_machine.proofs.Texts.{tail_text, text_on}
 use Rattle.bb_machine.proofs.Groups.{every-append, every-push, every-replicate, symbols_fixed, machine_by}
 

@@ -1,7 +1,7 @@
+pub mod inside
 pub mod Entry
 pub mod Machine
 pub mod Rows
 pub mod Column
 pub mod Limits
-pub mod Draft
 pub mod Laws

@@ -1,7 +1,7 @@
 -- The limits of a run and of the backward tree, which of them are accepted, and the text of each
 -- refusal. Ranges, their order and the texts are this project's own.
 use Rattle.std.specs.Prelude.{ℕ, ◌+◌, ◌*◌, ◌<◌, ◌≤◌, ◌⊎◌, List, codes}
-use Rattle.bb_machine.specs.declared.limits.TheConstants.{MOST_STEPS, MOST_CELLS, MOST_LEVELS, MOST_NODES}
+use Rattle.bb_machine.specs.declared.limits.TheConstants.{MAX_STEPS, MAX_CELLS, MAX_LEVELS, MAX_NODES}
 use Rattle.bb_machine.specs.declared.limits.LimitFault.{LimitFault}
 use Rattle.bb_machine.specs.declared.limits.LimitFault.TheVariants.{Steps, Cells, Depth, Nodes, DepthCells}
 
@@ -15,19 +15,19 @@ pub record Bounds : Type 0 where
 
 -- limits that are accepted; so `2 * depth - 1` cells, which a backward walk may touch, fit
 pub record IsAccepted (b : Bounds) : Type 0 where
-  pub steps : b.steps ≤ MOST_STEPS
+  pub steps : b.steps ≤ MAX_STEPS
   pub some_cell : 1 ≤ b.cells
-  pub cells : b.cells ≤ MOST_CELLS
-  pub depth : b.depth ≤ MOST_LEVELS
-  pub nodes : b.nodes ≤ MOST_NODES
+  pub cells : b.cells ≤ MAX_CELLS
+  pub depth : b.depth ≤ MAX_LEVELS
+  pub nodes : b.nodes ≤ MAX_NODES
   pub depth_fits : 2 * b.depth ≤ b.cells + 1
 
 -- where a fault holds, whatever other faults do
 abbrev pub Holds : Bounds → LimitFault → Type 0
-Holds b Steps = MOST_STEPS < b.steps
-Holds b Cells = (b.cells < 1) ⊎ (MOST_CELLS < b.cells)
-Holds b Depth = MOST_LEVELS < b.depth
-Holds b Nodes = MOST_NODES < b.nodes
+Holds b Steps = MAX_STEPS < b.steps
+Holds b Cells = (b.cells < 1) ⊎ (MAX_CELLS < b.cells)
+Holds b Depth = MAX_LEVELS < b.depth
+Holds b Nodes = MAX_NODES < b.nodes
 Holds b DepthCells = b.cells + 1 < 2 * b.depth
 
 -- the rank of a fault in the order in which faults are told

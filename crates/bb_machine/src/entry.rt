@@ -4,14 +4,18 @@ use crate::machine::{MAX_STATES, MAX_SYMBOLS};
 /// The direction of a move: `L` to the next lower position, `R` to the next higher one.
 #[derive(Clone, Copy, Debug, PartialEq, Eq)]
 pub enum Dir {
+    /// To the left: one position less.
     L,
+    /// To the right: one position more.
     R,
 }
 
 /// Where an entry goes to: a state, counted from 0 for A, or the halting state Z.
 #[derive(Clone, Copy, Debug, PartialEq, Eq)]
 pub enum Next {
+    /// A state, from 0 for A.
     State(u8),
+    /// The halting state.
     Halt,
 }
 
@@ -19,7 +23,9 @@ pub enum Next {
 /// symbol, moves one cell and goes to a state.
 #[derive(Clone, Copy, Debug, PartialEq, Eq)]
 pub enum Entry {
+    /// There is no step.
     Undefined,
+    /// A step writes `write`, moves by `dir` and leads to `next`.
     Go { write: u8, dir: Dir, next: Next },
 }
 
@@ -111,7 +117,7 @@ impl Entry {
     ghost use Rattle.bb_machine.specs.declared.entry.Entry.{Entry};
     ghost use Rattle.bb_machine.specs.Entry.{entry_text, IsEntryOf};
     ghost use Rattle.bb_machine.specs.Column.{BeginsWith};
-    ghost use Rattle.bb_machine.specs.Draft.{IsEntryStop};
+    ghost use Rattle.bb_machine.specs.inside.Draft.{IsEntryStop};
 
     /// The entry's text.
     pub(crate) fn bytes(self) -> [u8; 3]

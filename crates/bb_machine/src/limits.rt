@@ -1,3 +1,4 @@
+//! The limits of a run and of a walk.
 ghost use Rattle.std.specs.Prelude.{◌≡◌, ℕ, ◌+◌, ◌*◌, ◌≤◌, ◌<◌, ◌⊎◌, ◌↔◌, IfOk, IfErr};
 
 use std::fmt;
@@ -5,24 +6,29 @@ use std::fmt::{Display, Formatter};
 use std::marker::Model;
 
 /// The greatest limit of the steps of one simulation.
-pub const MOST_STEPS: u64 = 1_000_000_000_000;
+pub const MAX_STEPS: u64 = 1_000_000_000_000;
 
 /// The greatest limit of the cells of one tape.
-pub const MOST_CELLS: u64 = 67_108_864;
+pub const MAX_CELLS: u64 = 67_108_864;
 
 /// The greatest limit of the levels of one backward tree.
-pub const MOST_LEVELS: u64 = 10_000;
+pub const MAX_LEVELS: u64 = 10_000;
 
 /// The greatest limit of the nodes of one backward tree.
-pub const MOST_NODES: u64 = 1_000_000_000_000;
+pub const MAX_NODES: u64 = 1_000_000_000_000;
 
 /// Why limits are refused. Its text is what a program prints.
 #[derive(Clone, Copy, Debug, PartialEq, Eq)]
 pub enum LimitFault {
+    /// The steps are out of their range.
     Steps = 1,
+    /// The cells are out of their range.
     Cells = 2,
+    /// The levels are out of their range.
     Depth = 3,
+    /// The nodes are out of their range.
     Nodes = 4,
+    /// 2 times the levels, less 1, is above the cells.
     DepthCells = 5,
 }
 
@@ -79,13 +85,13 @@ impl Limits {
         ensures first_fault { IfErr result
             (IsFirstFault (record { steps = t; cells = s; depth = d; nodes = n })) }
     {
-        if t > MOST_STEPS {
+        if t > MAX_STEPS {
             Err(LimitFault::Steps)
-        } else if s < 1 || s > MOST_CELLS {
+        } else if s < 1 || s > MAX_CELLS {
             Err(LimitFault::Cells)
-        } else if d > MOST_LEVELS {
+        } else if d > MAX_LEVELS {
             Err(LimitFault::Depth)
-        } else if n > MOST_NODES {
+        } else if n > MAX_NODES {
             Err(LimitFault::Nodes)
         } else if 2 * d > s + 1 {
             Err(LimitFault::DepthCells)

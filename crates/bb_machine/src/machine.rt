@@ -30,6 +30,7 @@ const SLOTS: usize = MAX_STATES * STRIDE;
 #[derive(Clone, Copy, Debug, PartialEq, Eq, Error)]
 #[error("refused at column {column}")]
 pub struct Refused {
+    /// 1 plus the length of the longest prefix of the line that begins a machine.
     pub column: u32,
 }
 
@@ -131,8 +132,11 @@ impl Slot {
 /// and goes to the state.
 #[derive(Clone, Copy, Debug, PartialEq, Eq)]
 pub struct Step {
+    /// The symbol that is written.
     pub write: u8,
+    /// How far the head moves: 1 or -1.
     pub offset: i8,
+    /// The next state, from 0 for A.
     pub state: u8,
 }
 
@@ -183,7 +187,7 @@ impl Machine {
         ensures bounded { IfErr result (λ refused. refused.column ≤ LINE + 1) }
     {
         let mut machine = Machine::blank();
-        match machine.read_anew(line) {
+        match machine.read_in_place(line) {
             Ok(()) => Ok(machine),
             Err(refused) => Err(refused),
         }

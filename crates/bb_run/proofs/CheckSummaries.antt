@@ -6,11 +6,11 @@ use Rattle.std.specs.List.{AllByRecursion, FoldsTo}
 use Rattle.bb_machine.specs.Limits.{Bounds}
 use Rattle.bb_sim.specs.declared.meter.Meter.{Meter}
 use Rattle.bb_sim.specs.Meter.{zero_meter}
-use Rattle.bb_cert.specs.declared.answer.Answer.{Answer}
-use Rattle.bb_cert.specs.declared.answer.Answer.TheVariants as answer
-use Rattle.bb_cert.specs.declared.reader.Line.TheVariants.{Claim}
-use Rattle.bb_cert.specs.Answer.{answer_text}
-use Rattle.bb_cert.specs.ClaimMeter.{last_step, levels_of, nodes_of}
+use Rattle.bb_cert.specs.declared.checker.answer.Answer.{Answer}
+use Rattle.bb_cert.specs.declared.checker.answer.Answer.TheVariants as answer
+use Rattle.bb_cert.specs.declared.verdict.reader.Line.TheVariants.{Claim}
+use Rattle.bb_cert.specs.checker.Answer.{answer_text}
+use Rattle.bb_cert.specs.checker.ClaimMeter.{last_step, levels_of, nodes_of}
 use Rattle.bb_run.specs.declared.summary.Summary.{Summary}
 use Rattle.bb_run.specs.CheckReply.{IsCheckReply, unread_text}
 use Rattle.bb_run.specs.CheckSeen.{CheckSaw, SawAnswer, SawOpen, SawUnread, is_fine}

@@ -3,10 +3,10 @@ use Rattle.std.proofs.Common.{◌≡◌, ◌≢◌, ℕ, List, IsTrue, inl, inr,
 use Rattle.bb_machine.specs.Limits.{Bounds}
 use Rattle.bb_machine.specs.Machine.{Table, IsTextOf}
 use Rattle.bb_machine.proofs.Facts.{text_unique}
-use Rattle.bb_cert.specs.declared.reader.Line.TheVariants.{Claim}
+use Rattle.bb_cert.specs.declared.verdict.reader.Line.TheVariants.{Claim}
 use Rattle.bb_cert.specs.declared.verdict.Why.TheVariants.{Steps}
 use Rattle.bb_cert.specs.declared.verdict.Verdict.TheVariants.{Undecided}
-use Rattle.bb_cert.specs.Line.{IsLineOf, line_text}
+use Rattle.bb_cert.specs.verdict.Line.{IsLineOf, line_text}
 use Rattle.bb_cert.proofs.Facts.{line_unique}
 use Rattle.bb_decide.specs.declared.plan.Plan.{Plan}
 use Rattle.bb_decide.specs.FewCells.{HasStepsForCells}

@@ -8,10 +8,10 @@ use Rattle.bb_machine.specs.Column.{IsColumn}
 use Rattle.bb_machine.specs.Limits.{Bounds}
 use Rattle.bb_machine.specs.Machine.{text}
 use Rattle.bb_machine.proofs.Facts.{text_short}
-use Rattle.bb_cert.specs.declared.answer.Answer.{Answer}
-use Rattle.bb_cert.specs.declared.answer.Answer.TheVariants as answer
-use Rattle.bb_cert.specs.Answer.{answer_text}
-use Rattle.bb_cert.specs.Line.{refusal_text, verdict_text}
+use Rattle.bb_cert.specs.declared.checker.answer.Answer.{Answer}
+use Rattle.bb_cert.specs.declared.checker.answer.Answer.TheVariants as answer
+use Rattle.bb_cert.specs.checker.Answer.{answer_text}
+use Rattle.bb_cert.specs.verdict.Line.{refusal_text, verdict_text}
 use Rattle.bb_cert.proofs.Facts.{length-verdict_text}
 use Rattle.bb_decide.specs.declared.plan.Plan.{Plan}
 use Rattle.bb_run.specs.CheckReply.{IsCheckReply}

@@ -7,7 +7,7 @@ use Rattle.bb_machine.specs.Limits.{Bounds}
 use Rattle.bb_machine.specs.Machine.{Table, IsMachineLine, IsTextOf}
 use Rattle.bb_machine.specs.Column.{IsColumn}
 use Rattle.bb_sim.specs.Span.{span, IsLastInside}
-use Rattle.bb_cert.specs.Line.{refusal_text}
+use Rattle.bb_cert.specs.verdict.Line.{refusal_text}
 use Rattle.bb_lines.specs.declared.fault.Fault.{Fault}
 use Rattle.bb_lines.specs.declared.fault.Fault.TheVariants.{Memory, Read, Write}
 use Rattle.bb_lines.specs.Ends.{AppendsPrefix, MatchEnd}

@@ -3,10 +3,10 @@ use Rattle.std.specs.Prelude.{ℕ, ◌*◌, ◌≤◌}
 use Rattle.bb_machine.specs.Limits.{Bounds}
 use Rattle.bb_machine.specs.Machine.{Table, IsMachine}
 use Rattle.bb_sim.specs.Run.{Never}
-use Rattle.bb_cert.specs.declared.answer.Answer.TheVariants.{Ok}
+use Rattle.bb_cert.specs.declared.checker.answer.Answer.TheVariants.{Ok}
 use Rattle.bb_cert.specs.declared.verdict.Verdict.{Verdict}
-use Rattle.bb_cert.specs.Answer.{IsAnswer, IsUndecided}
-use Rattle.bb_cert.specs.Claim.{SaysNever}
+use Rattle.bb_cert.specs.checker.Answer.{IsAnswer, IsUndecided}
+use Rattle.bb_cert.specs.claims.Claim.{SaysNever}
 use Rattle.bb_decide.specs.declared.plan.Plan.{Plan}
 use Rattle.bb_decide.specs.Verdict.{IsVerdict}
 use Rattle.bb_decide.specs.Work.{IsWork}

@@ -5,10 +5,10 @@ use Rattle.std.proofs.Common.{◌≡◌, ℕ, ◌+◌, ◌<◌, ◌⊎◌, List,
 use Rattle.std.proofs.lemmas.Bool.{cases_lt}
 use Rattle.std.proofs.lemmas.List.{take_all, length-take}
 use Rattle.bb_machine.specs.Limits.{Bounds}
-use Rattle.bb_cert.specs.declared.line.TheConstants.{LINE_BUFFER}
-use Rattle.bb_cert.specs.declared.reader.Line.{Line}
-use Rattle.bb_cert.specs.declared.reader.Line.TheVariants.{Claim, Refusal}
-use Rattle.bb_cert.specs.Line.{IsLineOf}
+use Rattle.bb_cert.specs.declared.verdict.line.TheConstants.{LINE_BUFFER}
+use Rattle.bb_cert.specs.declared.verdict.reader.Line.{Line}
+use Rattle.bb_cert.specs.declared.verdict.reader.Line.TheVariants.{Claim, Refusal}
+use Rattle.bb_cert.specs.verdict.Line.{IsLineOf}
 use Rattle.bb_cert.proofs.Facts.{length-line}
 use Rattle.bb_run.specs.declared.summary.Summary.{Summary}
 use Rattle.bb_run.specs.CheckReply.{IsCheckReply}

@@ -2,13 +2,13 @@
 use Rattle.std.specs.Prelude.{◌≡◌, ℕ, ◌⊎◌, List, codes}
 use Rattle.bb_machine.specs.Limits.{Bounds}
 use Rattle.bb_machine.specs.Machine.{Table}
-use Rattle.bb_cert.specs.declared.answer.Answer.{Answer}
-use Rattle.bb_cert.specs.declared.answer.Answer.TheVariants.{Open}
-use Rattle.bb_cert.specs.declared.reader.Line.{Line}
-use Rattle.bb_cert.specs.declared.reader.Line.TheVariants.{Claim, Refusal}
+use Rattle.bb_cert.specs.declared.checker.answer.Answer.{Answer}
+use Rattle.bb_cert.specs.declared.checker.answer.Answer.TheVariants.{Open}
+use Rattle.bb_cert.specs.declared.verdict.reader.Line.{Line}
+use Rattle.bb_cert.specs.declared.verdict.reader.Line.TheVariants.{Claim, Refusal}
 use Rattle.bb_cert.specs.declared.verdict.Verdict.{Verdict}
-use Rattle.bb_cert.specs.Answer.{IsAnswer, answer_text}
-use Rattle.bb_cert.specs.Line.{IsLineOf}
+use Rattle.bb_cert.specs.checker.Answer.{IsAnswer, answer_text}
+use Rattle.bb_cert.specs.verdict.Line.{IsLineOf}
 
 -- the word for a line that is no verdict line
 abbrev pub unread_text : List ℕ

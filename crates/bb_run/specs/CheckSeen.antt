@@ -5,14 +5,14 @@ use Rattle.bb_machine.specs.Limits.{Bounds}
 use Rattle.bb_machine.specs.Machine.{Table}
 use Rattle.bb_sim.specs.declared.meter.Meter.{Meter}
 use Rattle.bb_sim.specs.Meter.{greatest_of}
-use Rattle.bb_cert.specs.declared.answer.Answer.{Answer}
-use Rattle.bb_cert.specs.declared.answer.Answer.TheVariants as answer
-use Rattle.bb_cert.specs.declared.reader.Line.{Line}
-use Rattle.bb_cert.specs.declared.reader.Line.TheVariants.{Claim, Refusal}
+use Rattle.bb_cert.specs.declared.checker.answer.Answer.{Answer}
+use Rattle.bb_cert.specs.declared.checker.answer.Answer.TheVariants as answer
+use Rattle.bb_cert.specs.declared.verdict.reader.Line.{Line}
+use Rattle.bb_cert.specs.declared.verdict.reader.Line.TheVariants.{Claim, Refusal}
 use Rattle.bb_cert.specs.declared.verdict.Verdict.{Verdict}
-use Rattle.bb_cert.specs.Answer.{IsAnswer}
-use Rattle.bb_cert.specs.ClaimMeter.{CountsClaim, IsWithinClaim}
-use Rattle.bb_cert.specs.Line.{IsLineOf}
+use Rattle.bb_cert.specs.checker.Answer.{IsAnswer}
+use Rattle.bb_cert.specs.checker.ClaimMeter.{CountsClaim, IsWithinClaim}
+use Rattle.bb_cert.specs.verdict.Line.{IsLineOf}
 use Rattle.bb_run.specs.declared.summary.Summary.{Summary}
 
 -- the answers that leave a run clean

@@ -4,12 +4,12 @@ use Rattle.std.specs.List.{AllByRecursion}
 use Rattle.bb_machine.specs.Limits.{Bounds}
 use Rattle.bb_machine.specs.Machine.{Table}
 use Rattle.bb_sim.specs.declared.meter.Meter.{Meter}
-use Rattle.bb_cert.specs.declared.answer.Answer.TheVariants.{Ok, Open}
-use Rattle.bb_cert.specs.declared.reader.Line.TheVariants.{Claim}
+use Rattle.bb_cert.specs.declared.checker.answer.Answer.TheVariants.{Ok, Open}
+use Rattle.bb_cert.specs.declared.verdict.reader.Line.TheVariants.{Claim}
 use Rattle.bb_cert.specs.declared.verdict.Verdict.{Verdict}
-use Rattle.bb_cert.specs.Answer.{IsAnswer, answer_text}
-use Rattle.bb_cert.specs.ClaimMeter.{last_step, levels_of, nodes_of}
-use Rattle.bb_cert.specs.Line.{IsLineOf}
+use Rattle.bb_cert.specs.checker.Answer.{IsAnswer, answer_text}
+use Rattle.bb_cert.specs.checker.ClaimMeter.{last_step, levels_of, nodes_of}
+use Rattle.bb_cert.specs.verdict.Line.{IsLineOf}
 use Rattle.bb_run.specs.declared.summary.Summary.{Summary}
 use Rattle.bb_run.specs.CheckReply.{IsCheckReply}
 

@@ -4,8 +4,8 @@ use Rattle.bb_machine.specs.Column.{IsColumn}
 use Rattle.bb_machine.specs.Limits.{Bounds}
 use Rattle.bb_machine.specs.Machine.{Table, IsMachineLine, IsTextOf}
 use Rattle.bb_cert.specs.declared.verdict.Verdict.{Verdict}
-use Rattle.bb_cert.specs.declared.reader.Line.TheVariants.{Claim}
-use Rattle.bb_cert.specs.Line.{IsLineOf, refusal_text}
+use Rattle.bb_cert.specs.declared.verdict.reader.Line.TheVariants.{Claim}
+use Rattle.bb_cert.specs.verdict.Line.{IsLineOf, refusal_text}
 use Rattle.bb_decide.specs.declared.plan.Plan.{Plan}
 use Rattle.bb_decide.specs.Verdict.{IsVerdict}
 

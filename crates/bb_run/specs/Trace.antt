@@ -14,7 +14,7 @@ use Rattle.bb_sim.specs.Configuration.{Configuration}
 use Rattle.bb_sim.specs.Run.{conf}
 use Rattle.bb_sim.specs.Span.{counted_head, least, span, IsLastInside}
 use Rattle.bb_sim.specs.Meter.{zero_meter}
-use Rattle.bb_cert.specs.Line.{refusal_text}
+use Rattle.bb_cert.specs.verdict.Line.{refusal_text}
 use Rattle.bb_run.specs.declared.summary.Summary.{Summary}
 
 -- the digits of so many cells, from one position on

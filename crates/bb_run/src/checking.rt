@@ -1,14 +1,14 @@
 //! Answers to the verdict lines of a list, a word each.
 ghost use Rattle.std.specs.Prelude.{◌≡◌, ◌↔◌, ◌≤◌, [], false, true, IsTrue, length};
-ghost use Rattle.bb_cert.specs.Pair.{HasCells};
-ghost use Rattle.bb_cert.specs.Path.{depth_of};
+ghost use Rattle.bb_cert.specs.checker.Pair.{PairHasCells};
+ghost use Rattle.bb_cert.specs.tree.Path.{depth_of};
 ghost use Rattle.bb_lines.specs.Watched.{is_marked, watched_inner};
 ghost use Rattle.bb_run.specs.CheckEnds.{CheckEnds};
 ghost use Rattle.bb_run.specs.CheckSeen.{is_fine};
 
 use crate::summary::Summary;
 use arrayvec::ArrayVec;
-use bb_cert::{Answer, LINE_BUFFER, Pair, Path, Said, check, read_line_anew};
+use bb_cert::{Answer, LINE_BUFFER, LineContent, Pair, Path, check, read_line_in_place};
 use bb_lines::fault::Fault;
 use bb_lines::lines::run;
 use bb_lines::responder::{REPLY, Responder};
@@ -35,9 +35,9 @@ struct Checker<'a, T> {
 impl<T: Tape> Responder for Checker<'_, T> {
     ghost use Rattle.std.specs.Prelude.{◌≡◌, ◌+◌, ◌≤◌};
     ghost use Rattle.std.proofs.Common.{rules, subst};
-    ghost use Rattle.bb_cert.specs.declared.line.TheConstants.{LINE_BUFFER};
-    ghost use Rattle.bb_cert.specs.Pair.{HasCells};
-    ghost use Rattle.bb_cert.specs.Path.{depth_of};
+    ghost use Rattle.bb_cert.specs.declared.verdict.line.TheConstants.{LINE_BUFFER};
+    ghost use Rattle.bb_cert.specs.checker.Pair.{PairHasCells};
+    ghost use Rattle.bb_cert.specs.tree.Path.{depth_of};
     ghost use Rattle.bb_run.specs.CheckReply.{IsCheckReply};
     ghost use Rattle.bb_run.specs.CheckSeen.{CheckSaw};
     ghost use Rattle.bb_run.specs.CheckKept.{check_reply_kept, check_reply_of_kept, check_saw_of_kept};
@@ -52,7 +52,7 @@ impl<T: Tape> Responder for Checker<'_, T> {
     ghost keeps = { λ a b. (b.limits ≡ a.limits) × (b.pair.ghost_name ≡ a.pair.ghost_name)
         × (b.path.ghost_name ≡ a.path.ghost_name) × (depth_of b.path.now ≡ depth_of a.path.now) };
 
-    ghost is_ready = { λ c. HasCells T.strip c.limits.cells c.pair.now
+    ghost is_ready = { λ c. PairHasCells T.strip c.limits.cells c.pair.now
         × (c.limits.depth ≤ depth_of c.path.now) };
 
     ghost GROWS = { T.GROWS };
@@ -80,9 +80,9 @@ impl<T: Tape> Responder for Checker<'_, T> {
     }
 
     fn respond(&mut self, line: &[u8], text: &mut ArrayVec<u8, REPLY>) -> Result<u64, AllocError> {
-        let verdict = match read_line_anew(line, &mut self.machine) {
-            Some(Said::Claim(verdict)) => verdict,
-            Some(Said::Refusal(_)) => {
+        let verdict = match read_line_in_place(line, &mut self.machine) {
+            Some(LineContent::Claim(verdict)) => verdict,
+            Some(LineContent::Refusal(_)) => {
                 self.last_effort = 0;
                 put(Answer::Open.word(), text);
                 return Ok(0);
@@ -147,7 +147,7 @@ pub fn run_check<R: Read, W: Write, T: Tape>(
 ) -> Result<Summary, Fault>
     requires reader { is_marked reader.old ≡ false }
     requires writer { is_marked writer.old ≡ false }
-    requires tapes { HasCells T.strip limits.now.cells pair.old }
+    requires tapes { PairHasCells T.strip limits.now.cells pair.old }
     requires path { limits.now.depth ≤ depth_of path.old }
 
     // How the run ends, and what is written then.
@@ -160,7 +160,7 @@ pub fn run_check<R: Read, W: Write, T: Tape>(
     ensures read { (result ≡ Err Fault.Read) ↔ (is_marked reader.new ≡ true) }
     ensures write { (result ≡ Err Fault.Write) ↔ (is_marked writer.new ≡ true) }
 
-    ensures tapes { HasCells T.strip limits.now.cells pair.new }
+    ensures tapes { PairHasCells T.strip limits.now.cells pair.new }
     ensures path { depth_of path.new ≡ depth_of path.old }
 {
     let mut checker = Checker {

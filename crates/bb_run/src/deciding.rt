@@ -1,7 +1,7 @@
 //! Verdicts on the machines of a list, a line each.
 ghost use Rattle.std.specs.Prelude.{◌≡◌, ◌↔◌, false, true, IsTrue};
-ghost use Rattle.bb_cert.specs.Path.{depth_of};
-ghost use Rattle.bb_decide.specs.Bench.{HasCells};
+ghost use Rattle.bb_cert.specs.tree.Path.{depth_of};
+ghost use Rattle.bb_decide.specs.Bench.{BenchHasCells};
 ghost use Rattle.bb_lines.specs.Watched.{is_marked, watched_inner};
 ghost use Rattle.bb_run.specs.BorneOut.{VerdictsAreBorneOut};
 ghost use Rattle.bb_run.specs.Ends.{DecideEnds};
@@ -40,8 +40,8 @@ impl<T: Tape> Responder for Decider<'_, T> {
     ghost use Rattle.std.proofs.Common.{rules, subst};
     ghost use Rattle.bb_machine.specs.Limits.{Bounds};
     ghost use Rattle.bb_machine.specs.declared.machine.TheConstants.{LINE};
-    ghost use Rattle.bb_cert.specs.Path.{depth_of};
-    ghost use Rattle.bb_decide.specs.Bench.{HasCells};
+    ghost use Rattle.bb_cert.specs.tree.Path.{depth_of};
+    ghost use Rattle.bb_decide.specs.Bench.{BenchHasCells};
     ghost use Rattle.bb_run.specs.Reply.{IsReply};
     ghost use Rattle.bb_run.specs.Seen.{Saw};
     ghost use Rattle.bb_run.specs.KeptBytes.{reply_kept, reply_of_kept, saw_of_kept};
@@ -56,7 +56,7 @@ impl<T: Tape> Responder for Decider<'_, T> {
     ghost keeps = { λ a b. (b.limits ≡ a.limits) × (b.plan ≡ a.plan)
         × (b.bench.ghost_name ≡ a.bench.ghost_name) };
 
-    ghost is_ready = { λ d. HasCells T.strip d.limits.cells d.bench.now
+    ghost is_ready = { λ d. BenchHasCells T.strip d.limits.cells d.bench.now
         × (depth_of d.bench.now.path ≡ d.limits.depth) };
 
     ghost GROWS = { T.GROWS };
@@ -84,7 +84,7 @@ impl<T: Tape> Responder for Decider<'_, T> {
     }
 
     fn respond(&mut self, line: &[u8], text: &mut ArrayVec<u8, REPLY>) -> Result<u64, AllocError> {
-        match self.machine.read_anew(line) {
+        match self.machine.read_in_place(line) {
             Ok(()) => {}
             Err(refused) => {
                 self.summary.clean = false;
@@ -127,7 +127,7 @@ pub fn run_decide<R: Read, W: Write, T: Tape>(
 ) -> Result<Summary, Fault>
     requires reader { is_marked reader.old ≡ false }
     requires writer { is_marked writer.old ≡ false }
-    requires tapes { HasCells T.strip limits.now.cells bench.old }
+    requires tapes { BenchHasCells T.strip limits.now.cells bench.old }
     requires path { depth_of bench.old.path ≡ limits.now.depth }
 
     // How the run ends, and what is written then.
@@ -144,7 +144,7 @@ pub fn run_decide<R: Read, W: Write, T: Tape>(
     ensures read { (result ≡ Err Fault.Read) ↔ (is_marked reader.new ≡ true) }
     ensures write { (result ≡ Err Fault.Write) ↔ (is_marked writer.new ≡ true) }
 
-    ensures tapes { HasCells T.strip limits.now.cells bench.new }
+    ensures tapes { BenchHasCells T.strip limits.now.cells bench.new }
     ensures path { depth_of bench.new.path ≡ depth_of bench.old.path }
 {
     let mut decider = Decider {

@@ -1,3 +1,4 @@
+//! What a list came to.
 use bb_sim::Meter;
 
 /// What a run came to.

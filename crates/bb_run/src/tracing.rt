@@ -2,13 +2,13 @@
 ghost use Rattle.std.specs.Prelude.{◌≡◌, ◌≢◌, ◌+◌, ◌+ℤ◌, ◌++◌, ◌∷◌, ◌<◌, ◌≤◌, ◌≤ℤ◌, ◌↔◌, ℕ, [], false};
 ghost use Rattle.std.specs.Prelude.{is_err, length, pos, true, IsOkUnless, IsTrue, List, OnErr, OnOk};
 ghost use Rattle.bb_tape.specs.Content.{cell};
-ghost use Rattle.bb_tape.specs.declared.tape.TheConstants.{MOST_CELLS};
+ghost use Rattle.bb_tape.specs.declared.tape.TheConstants.{MAX_CELLS};
 ghost use Rattle.bb_sim.specs.CellsBetween.{cells_between};
 ghost use Rattle.bb_machine.specs.declared.machine.TheConstants.{MAX_STATES};
 ghost use Rattle.bb_machine.specs.Entry.{next_letter, IsNextOf};
 ghost use Rattle.bb_sim.specs.Runner.{high_of, low_of, position_of, state_of, steps_of, Stands};
 ghost use Rattle.bb_sim.specs.Span.{span, IsLastInside};
-ghost use Rattle.bb_cert.specs.Line.{refusal_text};
+ghost use Rattle.bb_cert.specs.verdict.Line.{refusal_text};
 ghost use Rattle.bb_lines.specs.Ends.{AppendsPrefix, MatchEnd};
 ghost use Rattle.bb_lines.specs.Output.{Sends};
 ghost use Rattle.bb_lines.specs.Watched.{is_marked, watched_inner};
@@ -222,7 +222,7 @@ fn add_cells<W: Write, T: Tape>(
     waiting: &mut Waiting,
 ) -> Result<(), Fault>
     requires order { (low_of runner.now) ≤ℤ (high_of runner.now) }
-    requires small { cells_between (low_of runner.now) (high_of runner.now) ≤ MOST_CELLS }
+    requires small { cells_between (low_of runner.now) (high_of runner.now) ≤ MAX_CELLS }
     requires zero { (low_of runner.now) ≤ℤ pos 0 }
     requires writer { is_marked writer.old ≡ false }
     ensures sent { OnOk result (Sends (W.contents (watched_inner writer.old))
@@ -245,7 +245,7 @@ fn add_cells<W: Write, T: Tape>(
 /// The digit of a cell of a runner's window, counted from the lowest.
 fn digit<T: Tape>(runner: &Runner, tape: &T, i: u64) -> u8
     requires zero { (low_of runner.now) ≤ℤ pos 0 }
-    requires few { i < MOST_CELLS }
+    requires few { i < MAX_CELLS }
     ensures { result ≡ 48 + cell (T.strip tape.now).content ((low_of runner.now) +ℤ pos i) }
 {
     b'0' + tape.read(runner.low() + i as i64)

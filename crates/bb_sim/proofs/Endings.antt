@@ -35,7 +35,8 @@ pub ends_stopped : {table : Table} {bounds : Bounds} {old new : Runner} {strip_o
     {first meter_old meter_new : Meter}
     → Stopped table bounds old new strip_old strip_new meter_old meter_new
     → CountsTo table (steps_of old) first meter_old → IsEnd table bounds (steps_of old) first meter_new
-ends_stopped {table} {bounds} {old} {new} {strip_old} {strip_new} {first} {meter_old} {meter_new} stop counts =
+ends_stopped {table} {bounds} {old} {new} {strip_old} {strip_new} {first} {meter_old} {meter_new} stop
+    counts =
     subst (λ r. IsEnd table bounds (steps_of r) first meter_new) stop.stays.runner
     (ends_at table bounds (steps_of new) first meter_new stop.last
     (counts_stopped table bounds old new strip_old strip_new meter_old meter_new first stop counts))
@@ -48,7 +49,12 @@ halts_in_Z table runner run stands halts = record {
   last = _;
   exists = stands.at;
   no_next =
-      let c : Configuration = record { state = state_of runner; head = position_of runner; tape = run.content } in
+      let c : Configuration = record {
+        state = state_of runner;
+        head = position_of runner;
+        tape =
+            run.content;
+      } in
       ap (λ s. followed (entry_at table s (cell c.tape c.head)) c) halts;
 }
 

@@ -8,7 +8,7 @@ use Rattle.bb_machine.specs.declared.entry.Dir.TheVariants.{L, R}
 use Rattle.bb_machine.specs.declared.entry.Next.{Next}
 use Rattle.bb_machine.specs.declared.entry.Next.TheVariants.{State, Halt}
 use Rattle.bb_machine.specs.Machine.{Table, IsMachine}
-use Rattle.bb_tape.specs.declared.tape.TheConstants.{MOST_CELLS}
+use Rattle.bb_tape.specs.declared.tape.TheConstants.{MAX_CELLS}
 use Rattle.bb_tape.specs.Content.{cell}
 use Rattle.bb_tape.specs.Strip.{Strip, fresh, visited, width, IsInside, IsBeside, IsSound}
 use Rattle.bb_tape.proofs.Facts.{cell-blank}
@@ -66,7 +66,7 @@ beside_inside strip p R inside =
 
 -- a window's position is a small number
 pub small_position : (strip : Strip) (p : ℤ) → IsSound strip → IsInside strip p
-    → (neg_ℤ (pos MOST_CELLS) ≤ℤ p) × (p ≤ℤ pos MOST_CELLS)
+    → (neg_ℤ (pos MAX_CELLS) ≤ℤ p) × (p ≤ℤ pos MAX_CELLS)
 small_position strip p sound inside =
     let a = sound.from_zero in
     let b = sound.to_zero in
@@ -87,7 +87,7 @@ inside_stays strip p inside = same _ _ (min-same strip.low p inside.0) (max-same
 pub record Near (strip : Strip) (p : ℤ) (dir : Dir) : Type 0 where
   pub here : IsInside strip p
   pub near : IsBeside strip (beside dir p)
-  pub small : (neg_ℤ (pos MOST_CELLS) ≤ℤ p) × (p ≤ℤ pos MOST_CELLS)
+  pub small : (neg_ℤ (pos MAX_CELLS) ≤ℤ p) × (p ≤ℤ pos MAX_CELLS)
 
 pub near_head : (table : Table) (runner : Runner) (strip : Strip) (dir : Dir) → Stands table runner strip
     → runner.state ≢ Halt → IsSound strip → Near strip runner.position dir
@@ -153,7 +153,7 @@ pub high_grows : (low p : ℤ) (cells : ℕ) → p ≡ ((low +ℤ pos cells) -�
 high_grows low p cells next = omega (arith, ints, clamps)
 
 -- one test without a sign tells whether a difference that is at least -1 is in a window
-unsigned_below : (d : ℤ) (cells : ℕ) → cells ≤ MOST_CELLS → neg_ℤ (pos 1) ≤ℤ d
+unsigned_below : (d : ℤ) (cells : ℕ) → cells ≤ MAX_CELLS → neg_ℤ (pos 1) ≤ℤ d
     → (of_z w64 d < cells → (pos 0 ≤ℤ d) × (d <ℤ pos cells))
     × ((pos 0 ≤ℤ d) × (d <ℤ pos cells) → of_z w64 d < cells)
 unsigned_below (pos n) cells few least =
@@ -161,7 +161,7 @@ unsigned_below (pos n) cells few least =
 unsigned_below (negsuc n) cells few least =
     (λ h. absurd (omega (arith, ints, few, least, h)), λ h. absurd (omega (arith, ints, h.0)))
 
-pub inside_test : (low p : ℤ) (cells : ℕ) → cells ≤ MOST_CELLS → low ≤ℤ (p +ℤ pos 1)
+pub inside_test : (low p : ℤ) (cells : ℕ) → cells ≤ MAX_CELLS → low ≤ℤ (p +ℤ pos 1)
     → (of_z w64 (p -ℤ low) < cells → (low ≤ℤ p) × (p ≤ℤ ((low +ℤ pos cells) -ℤ pos 1)))
     × ((low ≤ℤ p) × (p ≤ℤ ((low +ℤ pos cells) -ℤ pos 1)) → of_z w64 (p -ℤ low) < cells)
 inside_test low p cells few near =

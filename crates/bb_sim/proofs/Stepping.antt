@@ -23,7 +23,7 @@ use Rattle.bb_sim.specs.CellsBetween.{cells_between}
 use Rattle.bb_sim.specs.Span.{counted_position, counted_head, span}
 use Rattle.bb_sim.specs.Runner.{Stands, Answers, Moves, Reaches, state_of, position_of, steps_of, low_of}
 use Rattle.bb_sim.specs.Runner.{high_of}
-use Rattle.bb_sim.specs.Widening.{GoesNowhere, IsWidened, StepsTo}
+use Rattle.bb_sim.specs.inside.Widening.{GoesNowhere, IsWidened, StepsTo}
 use Rattle.bb_sim.specs.Meter.{stepped}
 use Rattle.bb_sim.specs.declared.meter.Meter.{Meter}
 use Rattle.bb_sim.specs.declared.runner.Moved.TheVariants as moved

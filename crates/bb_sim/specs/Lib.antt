@@ -1,10 +1,10 @@
+pub mod inside
 pub mod Configuration
 pub mod Run
 pub mod CellsBetween
 pub mod Span
 pub mod Meter
 pub mod Runner
-pub mod Widening
 pub mod Outcome
 pub mod Laws
 pub mod FewCells

@@ -1,3 +1,4 @@
+//! What a run and a walk cost.
 ghost use Rattle.std.specs.Prelude.{◌≡◌};
 ghost use Rattle.bb_sim.specs.Meter.{greatest_of, zero_meter};
 

@@ -1,11 +1,12 @@
+//! One step of a run.
 ghost use Rattle.std.specs.Prelude.{◌≡◌, ◌≢◌, ◌+◌, ◌<◌, ◌≤◌, ◌^◌, ◌↔◌, ◌≤ℤ◌, ◌+ℤ◌};
 ghost use Rattle.std.specs.Prelude.{neg_ℤ, pos, IfOk, IsTrue, MatchOption, OnErr, OnOk};
-ghost use Rattle.bb_tape.specs.declared.tape.TheConstants.{MOST_CELLS};
+ghost use Rattle.bb_tape.specs.declared.tape.TheConstants.{MAX_CELLS};
 ghost use Rattle.bb_sim.specs.Configuration as configuration;
 
 use crate::meter::Meter;
 use bb_machine::{Dir, Entry, Limits, Machine, Next};
-use bb_tape::{MOST_CELLS, MOST_SYMBOL, Memory, Tape};
+use bb_tape::{MAX_CELLS, MAX_SYMBOL, Memory, Tape};
 
 /// What a call of `Runner::advance` did. All but `Stepped` change nothing.
 #[derive(Clone, Copy, Debug, PartialEq, Eq)]
@@ -31,9 +32,9 @@ pub struct Runner {
     /// How many cells the window has.
     cells: u64,
     ghost some_cell: { 0 < cells },
-    ghost few_cells: { cells ≤ MOST_CELLS },
+    ghost few_cells: { cells ≤ MAX_CELLS },
     ghost low_to_zero: { low ≤ℤ pos 0 },
-    ghost low_small: { neg_ℤ (pos MOST_CELLS) ≤ℤ low },
+    ghost low_small: { neg_ℤ (pos MAX_CELLS) ≤ℤ low },
 }
 
 impl Runner {
@@ -47,7 +48,7 @@ impl Runner {
     ghost use Rattle.bb_sim.specs.Runner.{Answers, Moves, Reaches, Stands, high_of};
     ghost use Rattle.bb_sim.specs.Runner.{low_of, position_of, state_of, steps_of};
     ghost use Rattle.bb_sim.specs.Span.{Inside};
-    ghost use Rattle.bb_sim.specs.Widening.{GoesNowhere, Widens, StepsTo};
+    ghost use Rattle.bb_sim.specs.inside.Widening.{GoesNowhere, Widens, StepsTo};
     ghost use Rattle.bb_sim.specs.declared.runner.Moved.{Moved};
 
     /// Resets the tape and stands at configuration 0: state A, at position 0.
@@ -194,7 +195,7 @@ impl Runner {
         position: i64,
     ) -> Result<(), Memory>
         requires inside { IsInside (T.strip tape.old) (position_of self.old) }
-        requires symbol { write ≤ MOST_SYMBOL }
+        requires symbol { write ≤ MAX_SYMBOL }
         requires steps { steps_of self.old + 1 < 2 ^ 64 }
         requires room { meter.old.steps + 1 < 2 ^ 64 }
         ensures steps { OnOk result (StepsTo self.old self.new next position) }
@@ -288,8 +289,8 @@ impl Runner {
 /// The position beside another.
 #[inline]
 fn beside(position: i64, dir: Dir) -> i64
-    requires low { neg_ℤ (pos MOST_CELLS) ≤ℤ position }
-    requires high { position ≤ℤ pos MOST_CELLS }
+    requires low { neg_ℤ (pos MAX_CELLS) ≤ℤ position }
+    requires high { position ≤ℤ pos MAX_CELLS }
     ensures { result ≡ configuration.beside dir position }
 {
     match dir {
@@ -301,8 +302,8 @@ fn beside(position: i64, dir: Dir) -> i64
 /// The position an offset of one cell away.
 #[inline]
 fn moved_by(position: i64, offset: i8) -> i64
-    requires low { neg_ℤ (pos MOST_CELLS) ≤ℤ position }
-    requires high { position ≤ℤ pos MOST_CELLS }
+    requires low { neg_ℤ (pos MAX_CELLS) ≤ℤ position }
+    requires high { position ≤ℤ pos MAX_CELLS }
     ensures { result ≡ position +ℤ offset }
 {
     position + i64::from(offset)

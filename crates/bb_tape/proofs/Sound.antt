@@ -3,7 +3,7 @@ use Rattle.std.proofs.Common.{arith, ◌≡◌, ◌≢◌, ◌≤◌, ◌<◌, �
 use Rattle.std.proofs.lemmas.Int.{ints, clamps}
 use Rattle.std.specs.Int.{int_min, int_max}
 use Rattle.bb_tape.specs.declared.window.Window.{Window}
-use Rattle.bb_tape.specs.declared.tape.TheConstants.{MOST_SYMBOL}
+use Rattle.bb_tape.specs.declared.tape.TheConstants.{MAX_SYMBOL}
 use Rattle.bb_tape.specs.Content.{Content, HasSymbols, blank, cell, with_cell}
 use Rattle.bb_tape.specs.Strip.{Strip, IsSound, IsInside, IsStretch}
 use Rattle.bb_tape.specs.Windowed.{strip_of}
@@ -32,17 +32,17 @@ sound_wider c w p p' v s same low high =
     sound_from c v (λ q ne. let old : IsInside (strip_of c w) q = s.nothing_outside q ne in
     (omega (arith, ints, clamps), omega (arith, ints, clamps))) s.symbols
 
-symbols_written : (c : Content) (p : ℤ) (v : ℕ) → HasSymbols c → v ≤ MOST_SYMBOL
+symbols_written : (c : Content) (p : ℤ) (v : ℕ) → HasSymbols c → v ≤ MAX_SYMBOL
     → HasSymbols (with_cell c p v)
 symbols_written c p v s small q =
     by_position q p _
-    (λ here. subst (λ x. cell (with_cell c p v) x ≤ MOST_SYMBOL) (sym here)
+    (λ here. subst (λ x. cell (with_cell c p v) x ≤ MAX_SYMBOL) (sym here)
     (omega (arith, cell-with_cell-same c p v)))
     (λ there. omega (arith, cell-with_cell-other c p v q there, s q))
 
 -- after a write in the window
 pub sound_written : (c : Content) (w : Window) (p : ℤ) (v : ℕ) → IsSound (strip_of c w) → w.low ≤ℤ p
-    → p ≤ℤ w.high → v ≤ MOST_SYMBOL → IsSound (strip_of (with_cell c p v) w)
+    → p ≤ℤ w.high → v ≤ MAX_SYMBOL → IsSound (strip_of (with_cell c p v) w)
 sound_written c w p v s low high small = sound_from (with_cell c p v) w
     (λ q ne.
     by_position q p _

@@ -3,10 +3,10 @@ use Rattle.std.proofs.Common.{arith, ◌≡◌, ℕ, ◌+◌, ℤ, pos, negsuc, 
 use Rattle.std.proofs.lemmas.Int.{ints, clamps, to_z-of_z}
 use Rattle.std.specs.Int.{int_min, int_max}
 use mir.Val.{SFits}
-use Rattle.bb_tape.specs.declared.tape.TheConstants.{MOST_CELLS}
+use Rattle.bb_tape.specs.declared.tape.TheConstants.{MAX_CELLS}
 use Rattle.bb_tape.specs.Window.{IsWindow}
 
-pub narrow_fits : (z : ℤ) → (pos 0 -ℤ pos (MOST_CELLS + 2)) ≤ℤ z → z ≤ℤ pos (MOST_CELLS + 2) → SFits w64 z
+pub narrow_fits : (z : ℤ) → (pos 0 -ℤ pos (MAX_CELLS + 2)) ≤ℤ z → z ≤ℤ pos (MAX_CELLS + 2) → SFits w64 z
 narrow_fits (pos n) a b = record { sfits = omega (arith, ints) }
 narrow_fits (negsuc n) a b = record { sfits = omega (arith, ints) }
 

@@ -4,7 +4,7 @@
 use Rattle.std.specs.Prelude.{ℕ, zero, suc, ◌+◌, ◌≤◌, ℤ, Option, Some, None}
 use Rattle.std.specs.Ordering.{int_cmp}
 use Rattle.std.specs.FinMap.{FinMap, empty, get, insert, remove, len}
-use Rattle.bb_tape.specs.declared.tape.TheConstants.{MOST_SYMBOL}
+use Rattle.bb_tape.specs.declared.tape.TheConstants.{MAX_SYMBOL}
 
 -- The finite map of the positions that aren't 0. The number k in it stands for the symbol k + 1,
 -- so that no position of the map has 0, and two tapes with the same cells are one map.
@@ -29,9 +29,9 @@ unfoldable pub with_cell : Content → ℤ → ℕ → Content
 with_cell c p zero = remove c p
 with_cell c p (suc k) = insert c p k
 
--- each cell has one of the symbols 0 to MOST_SYMBOL
+-- each cell has one of the symbols 0 to MAX_SYMBOL
 abbrev pub HasSymbols : Content → Type 0
-HasSymbols c = (p : ℤ) → cell c p ≤ MOST_SYMBOL
+HasSymbols c = (p : ℤ) → cell c p ≤ MAX_SYMBOL
 
 -- how many cells aren't 0: the score of a busy beaver (Lin and Radó 1965), where the machine halts
 unfoldable pub score : Content → ℕ

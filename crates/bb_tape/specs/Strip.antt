@@ -1,7 +1,7 @@
 -- A tape as its calls see it: this project's own.
 use Rattle.std.specs.Prelude.{◌≡◌, ◌≢◌, ℕ, ◌<◌, ◌≤◌, ℤ, pos, ◌+ℤ◌, ◌-ℤ◌, ◌<ℤ◌, ◌≤ℤ◌}
 use Rattle.std.specs.Int.{int_min, int_max}
-use Rattle.bb_tape.specs.declared.tape.TheConstants.{MOST_CELLS}
+use Rattle.bb_tape.specs.declared.tape.TheConstants.{MAX_CELLS}
 use Rattle.bb_tape.specs.Content.{Content, HasSymbols, blank, cell, with_cell}
 
 -- The cells, the window of positions from low to high that were visited, both counted, and the most
@@ -50,6 +50,6 @@ pub record IsSound (s : Strip) : Type 0 where
   pub from_zero : s.low ≤ℤ pos 0
   pub to_zero : pos 0 ≤ℤ s.high
   pub within : (s.high -ℤ s.low) <ℤ pos s.limit
-  pub limited : s.limit ≤ MOST_CELLS
+  pub limited : s.limit ≤ MAX_CELLS
   pub nothing_outside : (p : ℤ) → cell s.content p ≢ 0 → IsInside s p
   pub symbols : HasSymbols s.content

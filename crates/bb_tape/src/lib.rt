@@ -10,4 +10,4 @@ mod window;
 
 pub use map::MapTape;
 pub use ring::RingTape;
-pub use tape::{MOST_CELLS, MOST_SYMBOL, Memory, Tape, TapeFault};
+pub use tape::{MAX_CELLS, MAX_SYMBOL, Memory, Tape, TapeFault};

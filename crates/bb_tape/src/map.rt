@@ -6,7 +6,7 @@ ghost use Rattle.bb_tape.specs.Strip.{fresh, IsSound};
 ghost use Rattle.bb_tape.specs.Windowed.{strip_of};
 ghost use Rattle.bb_tape.specs.Entries.{content_of};
 
-use crate::tape::{MOST_CELLS, Tape, TapeFault};
+use crate::tape::{MAX_CELLS, Tape, TapeFault};
 use crate::window::Window;
 use std::alloc::{AllocError, Allocator, Global};
 use std::collections::BTreeMap;
@@ -24,7 +24,7 @@ impl MapTape {
     /// A blank tape whose window is the cell 0, and may have up to `s` cells. It takes no memory.
     pub fn new(alloc: Global, s: u64) -> MapTape
         requires some { 0 < s }
-        requires most { s ≤ MOST_CELLS }
+        requires most { s ≤ MAX_CELLS }
         ensures { ⟦<MapTape as Tape>⟧.strip result ≡ fresh s }
     {
         MapTape::new_in(alloc, s)
@@ -35,7 +35,7 @@ impl<A: Allocator + Clone + Drop> MapTape<A> {
     /// The same with any allocator.
     pub fn new_in(alloc: A, s: u64) -> MapTape<A>
         requires some { 0 < s }
-        requires most { s ≤ MOST_CELLS }
+        requires most { s ≤ MAX_CELLS }
         ensures { ⟦<MapTape<A> as Tape>⟧.strip result ≡ fresh s }
     {
         MapTape {

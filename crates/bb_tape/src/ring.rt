@@ -8,7 +8,7 @@ ghost use Rattle.bb_tape.specs.Windowed.{strip_of};
 ghost use Rattle.bb_tape.specs.Ring.{IsClear, ring_content, symbols};
 
 use crate::kernels::{count_nonzero, equal};
-use crate::tape::{MOST_CELLS, Memory, Tape, TapeFault};
+use crate::tape::{MAX_CELLS, Memory, Tape, TapeFault};
 use crate::window::Window;
 use std::alloc::Global;
 
@@ -28,7 +28,7 @@ impl RingTape {
     /// A blank tape whose window is the cell 0, and may have up to `s` cells.
     pub fn new(alloc: Global, s: u64) -> Result<RingTape, Memory>
         requires some { 0 < s }
-        requires most { s ≤ MOST_CELLS }
+        requires most { s ≤ MAX_CELLS }
         ensures { IfOk result (λ tape. ⟦<RingTape as Tape>⟧.strip tape ≡ fresh s) }
     {
         match vec![in alloc; 0u8; s as usize] {

@@ -6,10 +6,10 @@ ghost use Rattle.bb_tape.specs.Strip.{Strip, fresh, visited, written, width, IsI
 ghost use Rattle.bb_tape.specs.Strip.{IsBeside, IsStretch, AgreesFrom, IsSound};
 
 /// The greatest limit that a tape may have.
-pub const MOST_CELLS: u64 = 67_108_864;
+pub const MAX_CELLS: u64 = 67_108_864;
 
 /// The greatest symbol that a cell may have.
-pub const MOST_SYMBOL: u8 = 10;
+pub const MAX_SYMBOL: u8 = 10;
 
 /// A growth was refused.
 #[derive(thiserror::Error, Debug, Drop)]
@@ -28,7 +28,7 @@ pub enum TapeFault {
 }
 
 /// A tape that is endless both ways, of which a window of a limited number of cells may be visited. Positions
-/// are signed, and a new tape's window is the cell 0 alone. A cell has a symbol from 0 to `MOST_SYMBOL`.
+/// are signed, and a new tape's window is the cell 0 alone. A cell has a symbol from 0 to `MAX_SYMBOL`.
 ///
 /// There is no way to make a tape here, nor to clone one: who is generic over it has only the tapes that it
 /// was lent. The calls that have a body here are for tapes that do them faster.
@@ -88,7 +88,7 @@ pub trait Tape: Drop {
     /// Puts a symbol into a cell of the window. It is never refused for want of cells.
     fn write(&mut self, p: i64, v: u8) -> Result<(), TapeFault>
         requires inside { IsInside (strip self.old) p }
-        requires symbol { v ≤ MOST_SYMBOL }
+        requires symbol { v ≤ MAX_SYMBOL }
         ensures ok { OnOk result (strip self.new ≡ written (strip self.old) p v) }
         ensures err { OnErr result (strip self.new ≡ strip self.old) }
         ensures only_memory { OnErr result ((result ≡ Err TapeFault.Memory) × IsTrue GROWS) };

@@ -5,7 +5,7 @@ ghost use Rattle.std.specs.Int.{int_min, int_max};
 ghost use Rattle.bb_tape.specs.Window.{IsWindow};
 ghost use Rattle.bb_tape.specs.RingIndex.{ring_index};
 
-use crate::tape::MOST_CELLS;
+use crate::tape::MAX_CELLS;
 
 /// The positions from `low` to `high`, both counted. 0 is among them.
 #[derive(Clone, Copy)]
@@ -22,7 +22,7 @@ impl Window {
     #[inline]
     pub(crate) fn new(limit: u64) -> Window
         requires some { 0 < limit }
-        requires most { limit ≤ MOST_CELLS }
+        requires most { limit ≤ MAX_CELLS }
         ensures low { result.low ≡ pos 0 }
         ensures high { result.high ≡ pos 0 }
         ensures limit { result.limit ≡ limit }

@@ -3,8 +3,8 @@
 #![tactic(auto)]
 
 ghost use Rattle.std.specs.Prelude.{◌≡◌, IfOk};
-ghost use Rattle.bb_cert.specs.Path.{depth_of};
-ghost use Rattle.bb_decide.specs.Bench.{HasCells};
+ghost use Rattle.bb_cert.specs.tree.Path.{depth_of};
+ghost use Rattle.bb_decide.specs.Bench.{BenchHasCells};
 
 use bb_decide::{Bench, Plan};
 use bb_lines::fault::Fault;
@@ -54,7 +54,7 @@ fn decided(rt: &HostRuntime, limits: &Limits) -> Result<Summary, Fault> {
 
 /// Three tapes and a path, which take memory here and never again.
 fn bench(alloc: Global, limits: &Limits) -> Result<Bench<RingTape>, Memory>
-    ensures tapes { IfOk result (HasCells ⟦<RingTape as Tape>⟧.strip limits.now.cells) }
+    ensures tapes { IfOk result (BenchHasCells ⟦<RingTape as Tape>⟧.strip limits.now.cells) }
     ensures path { IfOk result (λ bench. depth_of bench.path ≡ limits.now.depth) }
 {
     let cells = limits.cells();

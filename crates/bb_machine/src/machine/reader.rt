@@ -20,7 +20,7 @@ struct Draft {
 impl Draft {
     ghost use Rattle.bb_machine.specs.Entry.{IsEntryOf};
     ghost use Rattle.bb_machine.specs.Machine.{IsMachine};
-    ghost use Rattle.bb_machine.specs.Draft.{Begun, IsDraft, begun_text, IsWhole, table_of, IsStop};
+    ghost use Rattle.bb_machine.specs.inside.Draft.{Begun, IsDraft, begun_text, IsWhole, table_of, IsStop};
 
     fn new() -> Draft
         ensures { IsDraft result (record { groups = []; group = [] }) }
@@ -111,7 +111,7 @@ impl Machine {
     /// Reads the machine whose text the line is in place of this one, as `read` does; where there is none,
     /// this one stays. What it costs goes with the line: no table is cleared or moved.
     #[inline]
-    pub fn read_anew(&mut self, line: &[u8]) -> Result<(), Refused>
+    pub fn read_in_place(&mut self, line: &[u8]) -> Result<(), Refused>
         ensures found { OnOk result (IsMachine self.new × (text self.new ≡ line.now)) }
         ensures none { OnErr result ((machine : Table) → IsMachine machine → text machine ≢ line.now) }
         ensures stays { OnErr result (self.new ≡ self.old) }
@@ -136,7 +136,7 @@ ghost use Rattle.bb_machine.specs.declared.entry.Entry.{Entry};
 ghost use Rattle.bb_machine.specs.Machine.{IsMachine, IsGroup, group_text, text};
 ghost use Rattle.bb_machine.specs.Rows.{IsTable, entries_in, table_in};
 ghost use Rattle.bb_machine.specs.Column.{BeginsWith, IsViable, IsLongestPrefix};
-ghost use Rattle.bb_machine.specs.Draft.{Begun, IsDraft, begun_text, IsStop};
+ghost use Rattle.bb_machine.specs.inside.Draft.{Begun, IsDraft, begun_text, IsStop};
 
 /// How many states and symbols the machine has whose text the line is, or how many of the line's first bytes
 /// begin some machine's text.

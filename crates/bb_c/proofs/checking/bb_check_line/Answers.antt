@@ -1,7 +1,7 @@
 use Rattle.std.proofs.Common.{rules, refl, inl, inr, ◌∙◌}
-use Rattle.bb_cert.specs.Answer.{answer_text, IsAnswer}
-use Rattle.bb_cert.specs.Line.{IsLineOf}
-use Rattle.bb_cert.specs.declared.reader.Line.TheVariants.{Claim}
+use Rattle.bb_cert.specs.checker.Answer.{answer_text, IsAnswer}
+use Rattle.bb_cert.specs.verdict.Line.{IsLineOf}
+use Rattle.bb_cert.specs.declared.verdict.reader.Line.TheVariants.{Claim}
 use Rattle.bb_c.specs.Call.{bounds_of}
 use Rattle.bb_run.specs.CheckReply.{unread_text}
 use Rattle.bb_run.proofs.Facts.{fine_by_word, fine_reply, unread_is_apart}

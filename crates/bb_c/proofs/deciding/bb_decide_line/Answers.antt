@@ -1,5 +1,5 @@
 use Rattle.std.proofs.Common.{rules, ◌≡◌, arith, ap, length}
-use Rattle.bb_cert.specs.Line.{refusal_text}
+use Rattle.bb_cert.specs.verdict.Line.{refusal_text}
 use Rattle.bb_run.proofs.Facts.{refusal_short, reply_short}
 use Rattle.bb_c.proofs.deciding.bb_decide_line.Goals as goal
 

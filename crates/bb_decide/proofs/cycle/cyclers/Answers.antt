@@ -5,7 +5,8 @@ use Rattle.bb_decide.proofs.cycle.cyclers.Goals as goal
 
 pub returns-clause-sure : goal.returns-clause-sure
 returns-clause-sure g c =
-    if_ok_map c.run-found.result _ _ (finds_repeats c.args.machine.now c.args.limits.now) c.run-found.ensures.found
+    if_ok_map c.run-found.result _ _ (finds_repeats c.args.machine.now c.args.limits.now)
+    c.run-found.ensures.found
 
 pub returns-clause-few_cells : goal.returns-clause-few_cells
 returns-clause-few_cells g c =

@@ -118,11 +118,13 @@ loop-runner-preserved g c =
 
 -- a step into Z ends the run
 in_Z : (g : given.Over) (c : goal.In_default-state g)
-    → IsEnd c.args.machine.now c.args.limits.now (steps_of c.advance.new.self) c.args.meter.now c.advance.new.meter
+    → IsEnd c.args.machine.now c.args.limits.now (steps_of c.advance.new.self) c.args.meter.now
+    c.advance.new.meter
 in_Z g c =
     let moves = rw c.in-Stepped.is at c.in_ok-advance.ensures.moves in
     let reaches = rw c.in-Stepped.is at c.in_ok-advance.ensures.reaches in
-    ends_in_Z c.in_ok-advance.ensures.stands (in_no_state _ _ c.state.ensures c.in_default-state.not-Some) reaches.0
+    ends_in_Z c.in_ok-advance.ensures.stands (in_no_state _ _ c.state.ensures c.in_default-state.not-Some)
+    reaches.0
     (rw moves.0 (counts_next _ _ _ _ _ c.loop-runner.invariant.meter moves.1))
 
 pub returns-in_default-state-clause-found : goal.returns-in_default-state-clause-found

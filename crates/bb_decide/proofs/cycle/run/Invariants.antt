@@ -1,7 +1,7 @@
 use Rattle.std.proofs.Common.{◌≡◌, ℕ, ◌*◌, ◌≤◌, ◌-◌}
 use Rattle.bb_sim.specs.Meter.{CountsTo}
 use Rattle.bb_sim.specs.Runner.{Stands, steps_of}
-use Rattle.bb_decide.specs.Bench.{HasCells}
+use Rattle.bb_decide.specs.Bench.{BenchHasCells}
 use Rattle.bb_decide.specs.Cycle.{IsCycle}
 use Rattle.bb_decide.specs.Partner.{IsKept}
 use Rattle.bb_decide.proofs.cycle.run.Given as goal
@@ -12,7 +12,7 @@ abbrev pub invariant-loop-runner : goal.invariant-loop-runner
 invariant-loop-runner g l = record {
   stands : Stands l.machine l.runner (g.T.Tape.strip l.bench.run);
   kept : Stands l.machine l.kept (g.T.Tape.strip l.bench.right);
-  tapes : HasCells g.T.Tape.strip l.limits.cells l.bench;
+  tapes : BenchHasCells g.T.Tape.strip l.limits.cells l.bench;
   path : l.bench.path ≡ l.fn.bench.path;
   steps : steps_of l.runner ≤ l.limits.steps;
   meter : CountsTo l.machine (steps_of l.runner) l.fn.meter l.meter;

@@ -22,20 +22,24 @@ pub returns-in-Some-clause-counted : goal.returns-in-Some-clause-counted
 returns-in-Some-clause-counted g c = elim c.match-branch-2.branch [
   | in-NoSteps w ↦
       let outcome = rw w.in-NoSteps.is at c.in_ok-steps.ensures.outcome in
-      work_of_deciders _ _ _ _ _ c.new.ensures c.in_ok-steps.ensures.counted outcome.0 _ c.in_ok-verdict.ensures.counted
+      work_of_deciders _ _ _ _ _ c.new.ensures c.in_ok-steps.ensures.counted outcome.0 _
+      c.in_ok-verdict.ensures.counted
   | in-NoCells w ↦
       let outcome = rw w.in-NoCells.is at c.in_ok-steps.ensures.outcome in
-      work_of_deciders _ _ _ _ _ c.new.ensures c.in_ok-steps.ensures.counted outcome.0 _ c.in_ok-verdict.ensures.counted
+      work_of_deciders _ _ _ _ _ c.new.ensures c.in_ok-steps.ensures.counted outcome.0 _
+      c.in_ok-verdict.ensures.counted
 ]
 
 pub returns-in-None-clause-counted : goal.returns-in-None-clause-counted
 returns-in-None-clause-counted g c = elim c.match-branch-2.branch [
   | in-NoSteps w ↦
       let outcome = rw w.in-NoSteps.is at c.in_ok-steps.ensures.outcome in
-      work_of_deciders _ _ _ _ _ c.new.ensures c.in_ok-steps.ensures.counted outcome.0 _ c.in_ok-verdict.ensures.counted
+      work_of_deciders _ _ _ _ _ c.new.ensures c.in_ok-steps.ensures.counted outcome.0 _
+      c.in_ok-verdict.ensures.counted
   | in-NoCells w ↦
       let outcome = rw w.in-NoCells.is at c.in_ok-steps.ensures.outcome in
-      work_of_deciders _ _ _ _ _ c.new.ensures c.in_ok-steps.ensures.counted outcome.0 _ c.in_ok-verdict.ensures.counted
+      work_of_deciders _ _ _ _ _ c.new.ensures c.in_ok-steps.ensures.counted outcome.0 _
+      c.in_ok-verdict.ensures.counted
 ]
 
 pub returns-in-Some-clause-verdict : goal.returns-in-Some-clause-verdict
@@ -69,7 +73,8 @@ returns-in-Halt-clause-confirmed g c = λ claims.
 
 pub returns-in-Some-clause-confirmed : goal.returns-in-Some-clause-confirmed
 returns-in-Some-clause-confirmed g c =
-    verdicts_are_confirmed c.args.machine.now c.args.limits.now c.args.plan _ (returns-in-Some-clause-verdict g c)
+    verdicts_are_confirmed c.args.machine.now c.args.limits.now c.args.plan _
+    (returns-in-Some-clause-verdict g c)
 
 pub returns-in-None-clause-confirmed : goal.returns-in-None-clause-confirmed
 returns-in-None-clause-confirmed g c = λ claims. absurd (claims tt)

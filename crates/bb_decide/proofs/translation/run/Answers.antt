@@ -2,7 +2,7 @@ use Rattle.std.proofs.Common.{Some, refl, ◌∙◌, ap, arith, w64, rules, Fits
 use Rattle.std.proofs.lemmas.Int.{to_z-of_z}
 use Rattle.bb_sim.specs.Runner.{position_of, steps_of}
 use Rattle.bb_sim.proofs.Facts.{IsEnd, counts_next, counts_start, ends_in_Z, ends_stopped, stopped}
-use Rattle.bb_cert.specs.declared.side_records.Records.{Records}
+use Rattle.bb_cert.specs.declared.records.Records.{Records}
 use Rattle.bb_cert.specs.declared.verdict.Side.TheVariants.{L, R}
 use Rattle.bb_cert.proofs.Facts.{makes_just, starts}
 use Rattle.bb_decide.proofs.Halting.{in_no_state, is_none, not_in_Z}

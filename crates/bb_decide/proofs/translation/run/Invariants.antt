@@ -3,8 +3,8 @@ use Rattle.bb_sim.specs.Meter.{CountsTo}
 use Rattle.bb_sim.specs.Runner.{Stands, steps_of}
 use Rattle.bb_cert.specs.declared.verdict.Side.{Side}
 use Rattle.bb_cert.specs.declared.verdict.Side.TheVariants.{L, R}
-use Rattle.bb_decide.specs.Bench.{HasCells}
-use Rattle.bb_decide.specs.Follow.{IsSearched}
+use Rattle.bb_decide.specs.Bench.{BenchHasCells}
+use Rattle.bb_decide.specs.inside.Follow.{IsSearched}
 use Rattle.bb_decide.specs.Translation.{IsTranslation}
 use Rattle.bb_decide.proofs.translation.run.Given as goal
 
@@ -17,7 +17,7 @@ invariant-loop-runner g l = record {
   left : IsSearched l.machine (steps_of l.runner) l.left (g.T.Tape.strip l.bench.left);
   right_side : l.right.side ≡ R;
   left_side : l.left.side ≡ L;
-  tapes : HasCells g.T.Tape.strip l.limits.cells l.bench;
+  tapes : BenchHasCells g.T.Tape.strip l.limits.cells l.bench;
   path : l.bench.path ≡ l.fn.bench.path;
   steps : steps_of l.runner ≤ l.limits.steps;
   meter : CountsTo l.machine (steps_of l.runner) l.fn.meter l.meter;

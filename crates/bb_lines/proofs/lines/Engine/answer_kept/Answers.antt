@@ -1,7 +1,7 @@
 use Rattle.bb_lines.specs.Watched.{watched_inner}
 use Rattle.std.proofs.Common.{[], ◌∷◌}
 use Rattle.std.proofs.lemmas.Result.{err_from_is_err_and}
-use Rattle.bb_lines.specs.Progress.{AreAnswered}
+use Rattle.bb_lines.specs.inside.Progress.{AreAnswered}
 use Rattle.bb_lines.proofs.Progress.{answered_one, ends_written, prefix_before}
 use Rattle.bb_lines.proofs.lines.Engine.answer_kept.Given.{Over}
 use Rattle.bb_lines.proofs.lines.Engine.answer_kept.Goals as goal

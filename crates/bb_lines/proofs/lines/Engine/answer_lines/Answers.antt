@@ -3,7 +3,7 @@ use Rattle.std.proofs.Common.{append_assoc, arith}
 use Rattle.std.proofs.lemmas.Result.{err_from_is_err_and}
 use Rattle.std.proofs.Math.Seq.{take-length}
 use Rattle.bb_lines.specs.Lines.{complete, unfinished}
-use Rattle.bb_lines.specs.Progress.{HasNoNewline, none, prefixes}
+use Rattle.bb_lines.specs.inside.Progress.{HasNoNewline, none, prefixes}
 use Rattle.bb_lines.proofs.Prefixes.{HasNoNewline-append, HasNoNewline-take, no_newline_before, line_split}
 use Rattle.bb_lines.proofs.Prefixes.{kept_more, kept_at_first, prefixes_line, kept_after_line}
 use Rattle.bb_lines.proofs.Prefixes.{prefixes_after_line, prefixes_none, kept_none}
@@ -124,7 +124,8 @@ none_left g c =
     (λ k l. c.in_default.ensures k (omega arith) l))
 
 kept_now : (g : Over) (c : After-keep_prefix-2 g)
-    → c.keep_prefix-2.new.kept.items ≡ take g.A.Responder.KEEP (c.loop-at.self.kept.items ++ c.loop-at.rest.now)
+    → c.keep_prefix-2.new.kept.items ≡ take g.A.Responder.KEEP
+    (c.loop-at.self.kept.items ++ c.loop-at.rest.now)
 kept_now g c = c.keep_prefix-2.ensures
     ∙ ap (λ k. take k (c.loop-at.self.kept.items ++ c.loop-at.rest.now)) c.bytes_kept-most.ensures
 
@@ -144,7 +145,8 @@ pub returns-clause-kept : goal.returns-clause-kept
 returns-clause-kept g c =
     rw (← all g c)
     (kept_none g.A.Responder.KEEP _ c.loop-at.rest.now _ (none_left g c)
-    (kept_more g.A.Responder.KEEP _ c.loop-at.rest.now c.loop-at.self.kept.items c.keep_prefix-2.new.kept.items
+    (kept_more g.A.Responder.KEEP _ c.loop-at.rest.now c.loop-at.self.kept.items
+    c.keep_prefix-2.new.kept.items
     c.loop-at.invariant.kept (kept_now g c)))
 
 pub returns-clause-one_line : goal.returns-clause-one_line

@@ -2,7 +2,7 @@ use Rattle.std.proofs.Common.{◌≡◌, ◌<◌, List, ℕ, [], ◌++◌, false
 use Rattle.bb_lines.specs.declared.responder.TheConstants.{LONG_WORK}
 use Rattle.bb_lines.specs.Lines.{complete, unfinished}
 use Rattle.bb_lines.specs.Watched.{is_marked, watched_inner}
-use Rattle.bb_lines.specs.Progress.{prefixes, HasNoNewline, AreAnswered, KeepsReferences}
+use Rattle.bb_lines.specs.inside.Progress.{prefixes, HasNoNewline, AreAnswered, KeepsReferences}
 use Rattle.bb_lines.proofs.lines.Engine.answer_lines.Given as goal
 
 -- the lines that end in the piece before what is left of it are answered

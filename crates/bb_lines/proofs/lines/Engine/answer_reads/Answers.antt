@@ -2,7 +2,7 @@ use Rattle.std.proofs.Common.{rules, [], ◌++◌, take, ◌∙◌, ap, refl}
 use Rattle.std.proofs.lemmas.Result.{err_from_is_err_and}
 use Rattle.std.proofs.KnownBytes.{Consumes-nil, Consumes-trans}
 use Rattle.bb_lines.specs.Lines.{complete, unfinished, unless_empty}
-use Rattle.bb_lines.specs.Progress.{none, prefixes, AreAnswered}
+use Rattle.bb_lines.specs.inside.Progress.{none, prefixes, AreAnswered}
 use Rattle.bb_lines.specs.Watched.{watched_inner}
 use Rattle.bb_lines.proofs.Pieces.{LinesAre-none}
 use Rattle.bb_lines.proofs.Prefixes.{take_none, AfterPiece, after_piece, prefixes-lines}

@@ -2,7 +2,7 @@ use Rattle.std.proofs.Common.{◌≡◌, ℕ, ◌-◌, ◌^◌, List, [], false,
 use Rattle.std.specs.Io.KnownBytes.{Consumes}
 use Rattle.bb_lines.specs.Lines.{complete, unfinished}
 use Rattle.bb_lines.specs.Watched.{is_marked, watched_inner}
-use Rattle.bb_lines.specs.Progress.{prefixes, HasNoNewline, AreAnswered, KeepsReferences}
+use Rattle.bb_lines.specs.inside.Progress.{prefixes, HasNoNewline, AreAnswered, KeepsReferences}
 use Rattle.bb_lines.proofs.lines.Engine.answer_reads.Given as goal
 
 -- the lines that end in the bytes that were taken so far are answered

@@ -1,7 +1,7 @@
 use Rattle.std.proofs.Common.{◌∙◌, IsTrue, rules}
 use Rattle.std.proofs.lemmas.Result.{err_from_is_err_and}
 use Rattle.bb_machine.specs.Machine.{IsMachine}
-use Rattle.bb_machine.specs.Draft.{table_of}
+use Rattle.bb_machine.specs.inside.Draft.{table_of}
 use Rattle.bb_machine.proofs.Drafts.{draft_table}
 use Rattle.bb_machine.proofs.Prefixes.{longest_prefix, prefix_bounded, whole_prefix, whole_table}
 use Rattle.bb_machine.proofs.Prefixes.{text-table_of}

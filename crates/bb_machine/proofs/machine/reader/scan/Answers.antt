@@ -2,7 +2,7 @@ use Rattle.std.proofs.Common.{◌≡◌, ◌-◌, ◌++◌, ◌∙◌, List, ℕ
 use Rattle.std.proofs.lemmas.List.{length-drop, take_rest}
 use Rattle.std.proofs.Math.Seq.{take-add}
 use Rattle.bb_machine.specs.declared.machine.TheConstants.{MAX_STATES, MAX_SYMBOLS}
-use Rattle.bb_machine.specs.Draft.{begun_text, IsStop}
+use Rattle.bb_machine.specs.inside.Draft.{begun_text, IsStop}
 use Rattle.bb_machine.proofs.Prefixes.{stop_joined}
 use Rattle.bb_machine.proofs.machine.reader.scan.Goals as goal
 

@@ -1,5 +1,5 @@
 use Rattle.std.proofs.Common.{◌≡◌, ◌≤◌, ◌-◌, length, take}
-use Rattle.bb_machine.specs.Draft.{Begun, IsDraft, begun_text}
+use Rattle.bb_machine.specs.inside.Draft.{Begun, IsDraft, begun_text}
 use Rattle.bb_machine.proofs.machine.reader.scan.Given as goal
 
 -- the bytes so far are what was read

@@ -2,7 +2,7 @@ use Rattle.std.proofs.Common.{◌≡◌, ◌≤◌, ◌+◌, rules, refl, sym, a
 use Rattle.arrayvec.specs.ArrayVec.{array_vec_len}
 use Rattle.bb_machine.specs.declared.machine.TheConstants.{MAX_STATES, MAX_SYMBOLS}
 use Rattle.bb_machine.specs.Machine.{text}
-use Rattle.bb_cert.specs.Line.{verdict_text}
+use Rattle.bb_cert.specs.verdict.Line.{verdict_text}
 use Rattle.bb_machine.proofs.Facts.{text_short}
 use Rattle.bb_run.proofs.deciding.DeciderResponder.respond.Goals as goal
 
@@ -29,8 +29,9 @@ returns-in-Err-clause-saw g c = (
 pub verdict_into-requires : goal.verdict_into-requires
 verdict_into-requires g c =
     let of = c.in-Ok.ensures.found in
-    let short = text_short MAX_STATES MAX_SYMBOLS c.read_anew.new.self of.0 in
-    let long = c.lines_are_short.ensures c.read_anew.new.self c.in-Ok-decide.verdict (omega (arith, short))
+    let short = text_short MAX_STATES MAX_SYMBOLS c.read_in_place.new.self of.0 in
+    let long = c.lines_are_short.ensures c.read_in_place.new.self c.in-Ok-decide.verdict
+    (omega (arith, short))
     c.in-Ok-decide.ensures.numbers in
     let filled : array_vec_len c.try_extend_from_slice.new.self ≡ array_vec_len c.args.text.now + length
     c.args.line.now = search rules in
@@ -39,7 +40,7 @@ verdict_into-requires g c =
     omega (
       arith,
       long,
-      length-append (text c.read_anew.new.self) (verdict_text c.in-Ok-decide.verdict),
+      length-append (text c.read_in_place.new.self) (verdict_text c.in-Ok-decide.verdict),
       filled,
       ap length of.1,
       ap length c.requires.empty,
@@ -48,7 +49,7 @@ verdict_into-requires g c =
 
 pub returns-clause-reply : goal.returns-clause-reply
 returns-clause-reply g c = inl (record {
-  table = c.read_anew.new.self;
+  table = c.read_in_place.new.self;
   of = record { machine = c.in-Ok.ensures.found.0; is_text = c.in-Ok.ensures.found.1 };
   verdict = c.in-Ok-decide.verdict;
   is_verdict = c.in-Ok-decide.ensures.verdict;
@@ -60,7 +61,7 @@ returns-clause-saw g c = (
   refl,
   refl,
   inl (record {
-    table = c.read_anew.new.self;
+    table = c.read_in_place.new.self;
     of = record { machine = c.in-Ok.ensures.found.0; is_text = c.in-Ok.ensures.found.1 };
     cost = _;
     counts = c.in-Ok-decide.ensures.counted;

@@ -3,7 +3,7 @@ use Rattle.std.proofs.lemmas.Int.{ints, to_z-of_z}
 use Rattle.bb_machine.specs.declared.entry.Next.TheVariants.{State, Halt}
 use Rattle.bb_sim.specs.declared.runner.Runner.{Runner}
 use Rattle.bb_sim.specs.Meter.{stepped}
-use Rattle.bb_sim.specs.Widening.{StepsTo, IsWidened}
+use Rattle.bb_sim.specs.inside.Widening.{StepsTo, IsWidened}
 use Rattle.bb_sim.proofs.Outcomes.{inside_here, halts_last, steps_last, cells_last}
 use Rattle.bb_sim.proofs.Standing.{near_head, head_inside}
 use Rattle.bb_sim.proofs.Stepping.{halts_undefined, running, moves_on, next-span, wanted, made, into_state}

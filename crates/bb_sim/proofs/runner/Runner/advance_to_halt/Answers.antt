@@ -3,7 +3,7 @@ use Rattle.std.proofs.lemmas.Int.{ints, to_z-of_z}
 use Rattle.bb_machine.specs.declared.entry.Entry.TheVariants.{Go}
 use Rattle.bb_sim.specs.Configuration.{beside}
 use Rattle.bb_sim.specs.Meter.{stepped}
-use Rattle.bb_sim.specs.Widening.{StepsTo, GoesNowhere}
+use Rattle.bb_sim.specs.inside.Widening.{StepsTo, GoesNowhere}
 use Rattle.bb_sim.proofs.Outcomes.{inside_here, halts_last, steps_last}
 use Rattle.bb_sim.proofs.Standing.{near_head, head_inside}
 use Rattle.bb_sim.proofs.Stepping.{halts_undefined, running, moves_on, wanted, made, Made, into_Z, fits_Z}

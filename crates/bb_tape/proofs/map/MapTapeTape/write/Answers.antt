@@ -1,6 +1,6 @@
 use Rattle.std.proofs.Common.{◌≡◌, ◌≤◌, ◌-◌, ◌+◌, arith, ap, w64, None, Some, ◌∙◌, sym}
 use Rattle.std.proofs.lemmas.Int.{to_z-of_z}
-use Rattle.bb_tape.specs.declared.tape.TheConstants.{MOST_SYMBOL}
+use Rattle.bb_tape.specs.declared.tape.TheConstants.{MAX_SYMBOL}
 use Rattle.bb_tape.specs.Content.{with_cell}
 use Rattle.bb_tape.specs.Entries.{content_of}
 use Rattle.bb_tape.specs.Windowed.{strip_of}
@@ -36,7 +36,7 @@ invariant_of-self-2 g c =
     let e : content_of c.insert.new.self.entries
     ≡ with_cell (content_of a.cells.entries) c.args.p (c.args.v - 1 + 1) =
     content_of-updated _ _ c.args.p _ (Some (c.args.v - 1)) (to_z-of_z w64 _ c.ranges.p) put.0 in
-    let v : c.args.v - 1 + 1 ≤ MOST_SYMBOL = omega (arith, c.requires.symbol) in
+    let v : c.args.v - 1 + 1 ≤ MAX_SYMBOL = omega (arith, c.requires.symbol) in
     record {
       sound =
           rw e (sound_written _ a.window c.args.p (c.args.v - 1 + 1) a.sound c.requires.inside.0

@@ -1,6 +1,0 @@
-use Rattle.std.proofs.Common.{◌≡◌}
-use Rattle.base_tests.proofs.tape.each_growth_of_a_map_refused.Given as goal
-
--- the source keeps its limit
-abbrev pub invariant-loop-left : goal.invariant-loop-left
-invariant-loop-left g l = l.source.window.limit ≡ 100

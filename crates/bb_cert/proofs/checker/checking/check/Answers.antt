@@ -1,0 +1,32 @@
+use Rattle.std.proofs.Common.{◌≡◌, subst}
+use Rattle.bb_sim.specs.Run.{Never}
+use Rattle.bb_cert.specs.declared.checker.answer.Answer.{Answer}
+use Rattle.bb_cert.specs.declared.checker.answer.Answer.TheVariants as answer
+use Rattle.bb_cert.specs.checker.Answer.{IsAnswer}
+use Rattle.bb_cert.specs.inside.Checks.{Checks}
+use Rattle.bb_cert.specs.claims.Claim.{SaysNever}
+use Rattle.bb_cert.proofs.checker_lemmas.AnswerRules.{checked_answer, settled_answer, where_ok}
+use Rattle.bb_cert.proofs.claim_lemmas.Claims.{claims_never_halt}
+use Rattle.bb_cert.proofs.checker.checking.check.Goals as goal
+
+pub returns-in-Some-clause-answer : goal.returns-in-Some-clause-answer
+returns-in-Some-clause-answer g c =
+    let settled = rw c.in-Some.is at c.settle.ensures in
+    settled_answer c.args.machine.now c.args.limits.now c.args.verdict.now c.in-Some.answer settled
+
+pub returns-in-None-clause-answer : goal.returns-in-None-clause-answer
+returns-in-None-clause-answer g c =
+    let unsettled = rw c.in-None.is at c.settle.ensures in
+    where_ok (Checks c.args.machine.now c.args.limits.now c.args.verdict.now)
+    (IsAnswer c.args.machine.now c.args.limits.now c.args.verdict.now) _
+    (checked_answer c.args.machine.now c.args.limits.now c.args.verdict.now unsettled)
+    c.check_claim.ensures.checks
+
+pub returns-in-None-clause-never : goal.returns-in-None-clause-never
+returns-in-None-clause-never g c =
+    where_ok (Checks c.args.machine.now c.args.limits.now c.args.verdict.now)
+    (λ (given : Answer). given ≡ answer.Ok → SaysNever c.args.verdict.now → Never c.args.machine.now) _
+    (λ given checks is says.
+    let claim = subst (Checks c.args.machine.now c.args.limits.now c.args.verdict.now) is checks in
+    claims_never_halt c.args.machine.now c.args.verdict.now c.states-states.ensures.machine says claim.1)
+    c.check_claim.ensures.checks

@@ -1,0 +1,41 @@
+use Rattle.std.proofs.Common.{refl, ◌∙◌, arith}
+use Rattle.bb_cert.proofs.record_lemmas.UnderWay.{under_way_within}
+use Rattle.bb_cert.proofs.checker.replay.run_to.Goals as goal
+
+pub loop-runner-init : goal.loop-runner-init
+loop-runner-init g c = record { under_way = c.requires.under_way; ahead = c.requires.ahead; limit = refl }
+
+pub step_on-requires-clause-under_way : goal.step_on-requires-clause-under_way
+step_on-requires-clause-under_way g c = c.loop-runner.invariant.under_way
+
+pub loop-runner-preserved : goal.loop-runner-preserved
+loop-runner-preserved g c =
+    let one_on = rw c.in-None.is at c.in_ok-answer.ensures.steps in
+    let more = one_on.one_more in
+    let before = c.loop-runner-test.true in
+    let steps = c.steps.ensures in
+    record {
+      under_way = one_on.under_way;
+      ahead = omega (arith, more, before, steps);
+      limit = c.step_on.ensures.limit ∙ c.loop-runner.invariant.limit;
+    }
+
+pub returns-in_err-answer-clause-limit : goal.returns-in_err-answer-clause-limit
+returns-in_err-answer-clause-limit g c = c.step_on.ensures.limit ∙ c.loop-runner.invariant.limit
+
+pub returns-in-Some-clause-limit : goal.returns-in-Some-clause-limit
+returns-in-Some-clause-limit g c = c.step_on.ensures.limit ∙ c.loop-runner.invariant.limit
+
+pub returns-clause-runs : goal.returns-clause-runs
+returns-clause-runs g c =
+    let here = c.loop-runner.invariant in
+    let ahead = here.ahead in
+    let there = c.loop-runner-test.false in
+    let steps = c.steps.ensures in
+    record { under_way = here.under_way; at = omega (arith, ahead, there, steps) }
+
+pub returns-clause-within : goal.returns-clause-within
+returns-clause-within g c = under_way_within _ _ _ _ _ c.loop-runner.invariant.under_way
+
+pub returns-clause-limit : goal.returns-clause-limit
+returns-clause-limit g c = c.loop-runner.invariant.limit

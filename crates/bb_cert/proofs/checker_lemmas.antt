@@ -1,0 +1,3 @@
+-- The checker of a claim.
+pub mod AnswerRules
+pub mod ClaimChecks

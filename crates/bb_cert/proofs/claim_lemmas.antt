@@ -1,0 +1,8 @@
+-- What a verdict claims, and the laws of claims.
+pub mod Runs
+pub mod Regions
+pub mod Repeats
+pub mod NoRecords
+pub mod Claims
+pub mod Standing
+pub mod FewCells

@@ -1,5 +1,0 @@
-use Rattle.bb_cert.proofs.Lengths.{line_of_smaller}
-use Rattle.bb_cert.proofs.laws.smaller_lines_are_lines.Goals as goal
-
-pub returns : goal.returns
-returns c = line_of_smaller

@@ -1,0 +1,12 @@
+-- The records of a side of a run.
+pub mod Positions
+pub mod Records
+pub mod Agreements
+pub mod RecordPairs
+pub mod Heads
+pub mod Tops
+pub mod Stretches
+pub mod UnderWay
+pub mod Courses
+pub mod Comparing
+pub mod KeptCourses

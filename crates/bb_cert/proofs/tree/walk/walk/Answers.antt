@@ -1,0 +1,9 @@
+use Rattle.std.proofs.Common.{◌≡◌, true, rules}
+use Rattle.bb_cert.proofs.tree_lemmas.TreeEnds.{clear_trees_never_halt}
+use Rattle.bb_cert.proofs.tree.walk.walk.Goals as goal
+
+pub returns-then-branch-clause-never : goal.returns-then-branch-clause-never
+returns-then-branch-clause-never g c =
+    let e : c.in_ok-ends.field-0 ≡ true = search rules in
+    let walked = rw e at c.in_ok-ends.ensures.walked in
+    clear_trees_never_halt c.args.machine.now _ _ c.explore_all-ends.ensures.machine walked.0 walked.1

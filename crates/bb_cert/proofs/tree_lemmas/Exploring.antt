@@ -1,0 +1,384 @@
+-- What a walk knows between its steps, and why each step keeps it.
+use Rattle.std.proofs.Common.{◌≡◌, ℕ, ◌+◌, ◌-◌, ◌<◌, ◌≤◌, max, true, false, List, [], ◌∷◌, ◌++◌, length}
+use Rattle.std.proofs.Common.{reverse, slice_index, slice_range, ℤ, pos, neg_ℤ, ◌+ℤ◌, ◌≤ℤ◌, refl, ap, sym}
+use Rattle.std.proofs.Common.{subst, ◌∙◌, length-append, arith}
+use Rattle.std.specs.Int.{int_min, int_max}
+use Rattle.std.specs.List.{flat_map}
+use Rattle.std.proofs.lemmas.Int.{ints, clamps}
+use Rattle.std.proofs.lemmas.List.{reverse-append, length-reverse}
+use Rattle.bb_machine.specs.declared.entry.Next.TheVariants.{State}
+use Rattle.bb_machine.specs.declared.limits.TheConstants.{MAX_LEVELS}
+use Rattle.bb_machine.specs.Machine.{Table}
+use Rattle.bb_tape.specs.Content.{Content, HasSymbols, blank, with_cell}
+use Rattle.bb_tape.specs.Strip.{Strip, IsInside, IsBeside, written}
+use Rattle.bb_tape.proofs.Facts.{put_back}
+use Rattle.bb_cert.specs.declared.tree.path.Frame.{Frame}
+use Rattle.bb_cert.specs.declared.tree.rules.Rule.{Rule}
+use Rattle.bb_cert.specs.declared.tree.walk.Branch.{Branch}
+use Rattle.bb_cert.specs.declared.tree.walk.Count.{Count}
+use Rattle.bb_cert.specs.tree.Tree.{Node, before, before_by}
+use Rattle.bb_cert.specs.inside.Walk.{AreRules, AreFrames, IsFrame, IsBranch, IsRange, IsWalked, HasOthers}
+use Rattle.bb_cert.specs.inside.Walk.{Refused}
+use Rattle.bb_cert.specs.inside.Walk.{shown_node, branches, comb_of, content_in, branch_node}
+use Rattle.bb_cert.specs.inside.Steps.{HasTable, Enters, Explores, IsFirstBranch, entered_on}
+use Rattle.bb_cert.proofs.tree_lemmas.Comb.{walk_enters, walk_leaves, walk_refused}
+
+frame_wider : (list : List Rule) (low high low' high' : ℤ) (content : Content) (level : ℕ) (f : Frame)
+    → low' ≤ℤ low → high ≤ℤ high' → IsFrame list low high content level f
+    → IsFrame list low' high' content level f
+frame_wider list low high low' high' content level f below above is = record {
+  not_below = is.not_below;
+  not_above = is.not_above;
+  from_low = let a = is.from_low in omega (arith, ints, a, below);
+  to_high = let a = is.to_high in omega (arith, ints, a, above);
+  symbol = is.symbol;
+  in_order = is.in_order;
+  in_rules = is.in_rules;
+  others = is.others;
+  few_others = is.few_others;
+}
+
+frames_wider : (list : List Rule) (low high low' high' : ℤ) → low' ≤ℤ low → high ≤ℤ high'
+    → (fs : List Frame) (content : Content) → AreFrames list low high content fs
+    → AreFrames list low' high' content fs
+frames_wider list low high low' high' below above [] content are = are
+frames_wider list low high low' high' below above (f ∷ fs) content are = (
+  frame_wider list low high low' high' content (length fs) f below above are.0,
+  frames_wider list low high
+      low' high' below above fs (with_cell content f.position f.before) are.1,
+)
+
+pub comb_long : (list : List Rule) (rest : List Node) (fs : List Frame) (content : Content)
+    → length (comb_of list rest content fs) ≡ length fs + 1
+comb_long list rest [] content = omega arith
+comb_long list rest (f ∷ fs) content = let e =
+    comb_long list rest fs (with_cell content f.position f.before) in omega (arith, e)
+
+int_min_below : (a b : ℤ) → int_min a b ≤ℤ a
+int_min_below a b = omega (arith, ints, clamps)
+
+int_max_above : (a b : ℤ) → a ≤ℤ int_max a b
+int_max_above a b = omega (arith, ints, clamps)
+
+min_second : (a b : ℤ) → int_min a b ≤ℤ b
+min_second a b = omega (arith, ints, clamps)
+
+max_second : (a b : ℤ) → b ≤ℤ int_max a b
+max_second a b = omega (arith, ints, clamps)
+
+-- a branch was entered
+
+module _ (list : List Rule) (starts : List ℕ) (known : HasTable list starts) (branch : Branch) (level : ℕ)
+    (old new : Strip) (frame : Frame) (enters : Enters starts branch level old new frame)
+    (is : IsBranch (length starts - 2) old.content level branch) (symbols : HasSymbols old.content) where
+  undone : with_cell new.content frame.position frame.before ≡ old.content
+  undone =
+      ap (λ p. with_cell new.content p frame.before) enters.position
+      ∙ ap (λ c. with_cell c branch.position frame.before) enters.content
+      ∙ ap (with_cell (content_in old.content branch) branch.position) (enters.before ∙ is.held)
+      ∙ put_back old.content branch.position (branch.symbol + 1)
+
+  in_states : (table : Table) → AreRules table list starts → branch.state < length table
+  in_states table rules = let n = rules.count in let s = is.state in omega (arith, n, s)
+
+  range : IsRange known.0 list frame.next frame.end (State branch.state)
+  range =
+      subst (λ n. IsRange known.0 list n frame.end (State branch.state)) (sym enters.next)
+      (subst (λ t. IsRange known.0 list (slice_index starts branch.state) t (State branch.state))
+      (sym enters.to)
+      (known.1.to_state branch.state (in_states known.0 known.1)))
+
+  frame_is : IsFrame list new.low new.high new.content level frame
+  frame_is = record {
+    not_below = subst (λ p. neg_ℤ (pos level) ≤ℤ p) (sym enters.position) is.not_below;
+    not_above = subst (λ p. p ≤ℤ pos level) (sym enters.position) is.not_above;
+    from_low = subst (λ p. new.low ≤ℤ p) (sym enters.position)
+        (subst (λ l. l ≤ℤ branch.position) (sym enters.low) (min_second old.low branch.position));
+    to_high = subst (λ p. p ≤ℤ new.high) (sym enters.position)
+        (subst (λ h. branch.position ≤ℤ h) (sym enters.high) (max_second old.high branch.position));
+    symbol = let most = symbols branch.position in let e = enters.before ∙ is.held in omega (arith, most, e);
+    in_order = range.in_order;
+    in_rules = range.within;
+    others = enters.others;
+    few_others = enters.few_others;
+  }
+
+  pub frames_entered : (fs : List Frame) → length fs ≡ level → AreFrames list old.low old.high old.content fs
+      → AreFrames list new.low new.high new.content (frame ∷ fs)
+  frames_entered fs long are = (
+    subst (λ n. IsFrame list new.low new.high new.content n frame) (sym long) frame_is,
+    frames_wider list old.low old.high new.low new.high
+        (subst (λ l. l ≤ℤ old.low) (sym enters.low) (int_min_below old.low branch.position))
+        (subst (λ h. old.high ≤ℤ h) (sym enters.high) (int_max_above old.high branch.position))
+        fs _ (subst (λ c. AreFrames list old.low old.high c fs) (sym undone) are),
+  )
+
+  branches_before : (table : Table) → AreRules table list starts
+      → branches list new.content frame ≡ before table (branch_node old.content branch)
+  branches_before table rules =
+      ap (λ c. flat_map (before_by (shown_node c frame.position frame.state))
+      (slice_range list frame.next frame.end)) enters.content
+      ∙ ap (λ p. flat_map (before_by (shown_node (content_in old.content branch) p frame.state))
+      (slice_range list frame.next frame.end)) enters.position
+      ∙ ap (λ s. flat_map (before_by (shown_node (content_in old.content branch) branch.position s))
+      (slice_range list frame.next frame.end)) enters.state
+      ∙ ap (λ n. flat_map (before_by (branch_node old.content branch)) (slice_range list n frame.end))
+      enters.next
+      ∙ ap (λ t. flat_map (before_by (branch_node old.content branch))
+      (slice_range list (slice_index starts branch.state) t)) enters.to
+      ∙ ap (flat_map (before_by (branch_node old.content branch)))
+      (rules.to_state branch.state (in_states table rules)).are
+
+  -- where the frames fs lie on the way to the branch
+  pub walked_entered : (table : Table) (rest more : List Node) (fs : List Frame) (tail : List (List Node))
+      (nodes levels : ℕ) → AreRules table list starts → length tail ≡ level
+      → comb_of list rest old.content fs ≡ more ∷ tail
+      → IsWalked table ((branch_node old.content branch ∷ more) ∷ tail) nodes levels
+      → IsWalked table (comb_of list rest new.content (frame ∷ fs)) (nodes + 1) (max levels (level + 1))
+  walked_entered table rest more fs tail nodes levels rules long comb walked =
+      let entered = walk_enters table (branch_node old.content branch) more tail nodes levels walked
+      enters.apart in
+      let deep : max levels (length tail + 1) ≡ max levels (level + 1) = ap (λ n. max levels (n + 1)) long in
+      let below : comb_of list rest (with_cell new.content frame.position frame.before) fs ≡ more ∷ tail =
+      ap (λ c. comb_of list rest c fs) undone ∙ comb in
+      let all : comb_of list rest new.content (frame ∷ fs) ≡ before table (branch_node old.content branch) ∷
+      more ∷ tail =
+      ap (λ ns. ns ∷ comb_of list rest (with_cell new.content frame.position frame.before) fs)
+      (branches_before table rules)
+      ∙ ap (λ comb. before table (branch_node old.content branch) ∷ comb) below in
+      subst (λ comb. IsWalked table comb (nodes + 1) (max levels (level + 1))) (sym all)
+      (subst (λ l. IsWalked table (before table (branch_node old.content branch) ∷ more ∷ tail) (nodes + 1)
+      l) deep entered)
+
+-- what a walk from a root knows between its steps
+
+abbrev pub WalkedTo : List Rule → List ℕ → Branch → Count → Content → List Frame → Count → Type 0
+WalkedTo list starts root old content fs entered = (table : Table) (rest : List Node)
+    → AreRules table list starts
+    → IsWalked table ((branch_node blank root ∷ rest) ∷ []) old.nodes old.levels
+    → IsWalked table (comb_of list rest content fs) entered.nodes entered.levels
+
+pub record IsExploring (list : List Rule) (starts : List ℕ) (root : Branch) (old most : Count)
+    (strip : Strip) (top : Frame) (frames : List Frame) (entered : Count) : Type 0 where
+  pub are : AreFrames list strip.low strip.high strip.content (top ∷ reverse frames)
+  pub few : length frames < most.levels
+  pub walked : WalkedTo list starts root old strip.content (top ∷ reverse frames) entered
+
+pub exploring_begins : (list : List Rule) (starts : List ℕ) (root : Branch) (old most : Count)
+    (before after : Strip) (frame : Frame) (entered : Count) → HasTable list starts
+    → IsBranch (length starts - 2) blank 0 root → before.content ≡ blank → HasSymbols before.content
+    → Enters starts root 0 before after frame → 0 < most.levels → entered ≡ entered_on 0 old
+    → IsExploring list starts root old most after frame [] entered
+exploring_begins list starts root old most before after frame entered known is blank_before symbols enters
+    some counted =
+    let is_here : IsBranch (length starts - 2) before.content 0 root =
+    subst (λ c. IsBranch (length starts - 2) c 0 root) (sym blank_before) is in
+    record {
+      are = frames_entered list starts known root 0 before after frame enters is_here symbols [] refl
+          blank_before;
+      few = some;
+      walked = λ table rest rules walked.
+          let here = subst (λ c. IsWalked table ((branch_node c root ∷ rest) ∷ []) old.nodes old.levels)
+          (sym blank_before) walked in
+          let now = walked_entered list starts known root 0 before after frame enters is_here symbols table
+          rest rest [] [] old.nodes old.levels rules refl refl here in
+          subst (λ e. IsWalked table (comb_of list rest after.content (frame ∷ [])) e.nodes e.levels)
+          (sym counted) now;
+    }
+
+-- the frames of a node whose rules were tried up to one
+
+tried_frame : (list : List Rule) (low high : ℤ) (content : Content) (level : ℕ) (f : Frame) (next : ℕ)
+    → next ≤ f.end → IsFrame list low high content level f
+    → IsFrame list low high content level (record f { next = next })
+tried_frame list low high content level f next within is = record {
+  not_below = is.not_below;
+  not_above = is.not_above;
+  from_low = is.from_low;
+  to_high = is.to_high;
+  symbol = is.symbol;
+  in_order = within;
+  in_rules = is.in_rules;
+  others = is.others;
+  few_others = is.few_others;
+}
+
+below_more : (p q : ℤ) (n : ℕ) → neg_ℤ (pos n) ≤ℤ p → p ≤ℤ (q +ℤ pos 1) → neg_ℤ (pos (n + 1)) ≤ℤ q
+below_more p q n a b = omega (arith, ints, a, b)
+
+above_more : (p q : ℤ) (n : ℕ) → p ≤ℤ pos n → q ≤ℤ (p +ℤ pos 1) → q ≤ℤ pos (n + 1)
+above_more p q n a b = omega (arith, ints, a, b)
+
+beside_low : (low p q : ℤ) → low ≤ℤ p → p ≤ℤ (q +ℤ pos 1) → low ≤ℤ (q +ℤ pos 1)
+beside_low low p q a b = omega (arith, ints, a, b)
+
+beside_high : (high p q : ℤ) → p ≤ℤ high → q ≤ℤ (p +ℤ pos 1) → q ≤ℤ (high +ℤ pos 1)
+beside_high high p q a b = omega (arith, ints, a, b)
+
+far_low : (p : ℤ) (n most : ℕ) → n ≤ most → neg_ℤ (pos n) ≤ℤ p → neg_ℤ (pos most) ≤ℤ p
+far_low p n most h a = omega (arith, ints, h, a)
+
+far_high : (p : ℤ) (n most : ℕ) → n ≤ most → p ≤ℤ pos n → p ≤ℤ pos most
+far_high p n most h a = omega (arith, ints, h, a)
+
+module _ (list : List Rule) (starts : List ℕ) (root : Branch) (old most : Count) (strip : Strip)
+    (top : Frame) (frames : List Frame) (entered : Count)
+    (now : IsExploring list starts root old most strip top frames entered) where
+  long : length (reverse frames) ≡ length frames
+  long = length-reverse frames
+
+  pub top_is : IsFrame list strip.low strip.high strip.content (length frames) top
+  top_is = subst (λ n. IsFrame list strip.low strip.high strip.content n top) long now.are.0
+
+  pub top_low : most.levels ≤ MAX_LEVELS → neg_ℤ (pos MAX_LEVELS) ≤ℤ top.position
+  top_low h = let few = now.few in far_low top.position (length frames) MAX_LEVELS (omega (arith, h, few))
+      top_is.not_below
+
+  pub top_high : most.levels ≤ MAX_LEVELS → top.position ≤ℤ pos MAX_LEVELS
+  top_high h = let few = now.few in far_high top.position (length frames) MAX_LEVELS (omega (arith, h, few))
+      top_is.not_above
+
+  pub top_inside : IsInside strip top.position
+  top_inside = (top_is.from_low, top_is.to_high)
+
+  -- a branch was found
+
+  module _ (branch : Branch) (next : ℕ)
+      (first : IsFirstBranch list (length starts - 2) strip.content top branch next) where
+    pub branch_is : IsBranch (length starts - 2) strip.content (length frames + 1) branch
+    branch_is = record {
+      not_below = below_more top.position branch.position (length frames) top_is.not_below first.not_below;
+      not_above = above_more top.position branch.position (length frames) top_is.not_above first.not_above;
+      state = first.state;
+      symbol = first.symbol;
+      held = first.held;
+      others = subst (HasOthers strip.content) (sym first.others) top_is.others;
+      few_others = let few = top_is.few_others in let e = first.others in omega (arith, few, e);
+    }
+
+    pub branch_beside : IsBeside strip branch.position
+    branch_beside = (
+      beside_low strip.low top.position branch.position top_is.from_low first.not_below,
+      beside_high strip.high top.position branch.position top_is.to_high first.not_above,
+    )
+
+    abbrev tried_top : Frame
+    tried_top = record top { next = next }
+
+    abbrev tail_of : List Node → List (List Node)
+    tail_of rest = comb_of list rest (with_cell strip.content top.position top.before) (reverse frames)
+
+    comb_first : (rest : List Node)
+        → comb_of list rest strip.content (top ∷ reverse frames) ≡
+        (branch_node strip.content branch ∷ branches list strip.content tried_top) ∷ tail_of rest
+    comb_first rest = ap (λ ns. ns ∷ tail_of rest) first.first
+
+    tail_long : (rest : List Node) → length (tail_of rest) ≡ length frames + 1
+    tail_long rest = let e = comb_long list rest (reverse frames)
+        (with_cell strip.content top.position top.before) in let l = long in omega (arith, e, l)
+
+    walked_first : (table : Table) (rest : List Node) → AreRules table list starts
+        → IsWalked table ((branch_node blank root ∷ rest) ∷ []) old.nodes old.levels
+        → IsWalked table ((branch_node strip.content branch ∷ branches list strip.content tried_top) ∷
+        tail_of rest) entered.nodes entered.levels
+    walked_first table rest rules walked = subst (λ comb. IsWalked table comb entered.nodes entered.levels)
+        (comb_first rest) (now.walked table rest rules walked)
+
+    pub branch_refused : Refused (branch_node strip.content branch) (length frames + 1) entered.nodes
+        most.nodes most.levels → (content : Content) (new : Count)
+        → Explores list starts root most old new content false
+    branch_refused refused content new table rest rules walked =
+        walk_refused table (branch_node strip.content branch) (branches list strip.content tried_top)
+        (tail_of rest) entered.nodes entered.levels most.nodes most.levels
+        (walked_first table rest rules walked)
+        (subst (λ n. Refused (branch_node strip.content branch) n entered.nodes most.nodes most.levels)
+        (sym (tail_long rest)) refused)
+
+    reversed : reverse (frames ++ (tried_top ∷ [])) ≡ tried_top ∷ reverse frames
+    reversed = reverse-append frames (tried_top ∷ [])
+
+    pub exploring_descends : (after : Strip) (child : Frame) (then_entered : Count)
+        (then_frames : List Frame) → HasTable list starts → HasSymbols strip.content
+        → Enters starts branch (length frames + 1) strip after child → length frames + 1 < most.levels
+        → then_entered ≡ entered_on (length frames + 1) entered → then_frames ≡ frames ++ (tried_top ∷ [])
+        → IsExploring list starts root old most after child then_frames then_entered
+    exploring_descends after child then_entered then_frames known symbols enters deep counted pushed =
+        let order : reverse then_frames ≡ tried_top ∷ reverse frames = ap reverse pushed ∙ reversed in
+        let are_tried : AreFrames list strip.low strip.high strip.content (tried_top ∷ reverse frames) = (
+          tried_frame list strip.low strip.high strip.content (length (reverse frames)) top next
+              first.within now.are.0,
+          now.are.1,
+        ) in
+        let deep_frames : length (tried_top ∷ reverse frames) ≡ length frames + 1 = let l = long in
+        omega (arith, l) in
+        record {
+          are = subst (λ fs. AreFrames list after.low after.high after.content (child ∷ fs)) (sym order)
+              (frames_entered list starts known branch (length frames + 1) strip after child enters branch_is
+              symbols (tried_top ∷ reverse frames) deep_frames are_tried);
+          few = let n : length then_frames ≡ length frames + 1 = ap length pushed
+              ∙ length-append frames (tried_top ∷ []) in omega (arith, n, deep);
+          walked = λ table rest rules walked.
+              let here = walked_entered list starts known branch (length frames + 1) strip after child enters
+              branch_is symbols table rest (branches list strip.content tried_top)
+              (tried_top ∷ reverse frames) (tail_of rest) entered.nodes entered.levels rules
+              (tail_long rest) refl (walked_first table rest rules walked) in
+              subst (λ fs. IsWalked table (comb_of list rest after.content (child ∷ fs)) then_entered.nodes
+              then_entered.levels) (sym order)
+              (subst (λ e. IsWalked table
+              (comb_of list rest after.content (child ∷ tried_top ∷ reverse frames)) e.nodes e.levels)
+              (sym counted) here);
+        }
+
+  -- nothing is left before the top node
+
+  module _ (none : branches list strip.content top ≡ []) (after : Strip)
+      (left : after ≡ written strip top.position top.before) where
+    walked_left : WalkedTo list starts root old (with_cell strip.content top.position top.before)
+        (reverse frames) entered
+    walked_left table rest rules walked =
+        walk_leaves table (comb_of list rest (with_cell strip.content top.position top.before)
+        (reverse frames)) entered.nodes entered.levels
+        (subst (λ ns. IsWalked table
+        (ns ∷ comb_of list rest (with_cell strip.content top.position top.before) (reverse frames))
+        entered.nodes entered.levels) none (now.walked table rest rules walked))
+
+    pub explored : frames ≡ [] → (content : Content) → content ≡ after.content
+        → Explores list starts root most old entered content true
+    explored empty content same =
+        let gone : reverse frames ≡ [] = ap reverse empty in (
+          same ∙ ap (λ s. s.content) left
+              ∙ subst (λ fs. AreFrames list strip.low strip.high
+              (with_cell strip.content top.position top.before) fs) gone now.are.1,
+          λ table rest rules walked. subst
+              (λ fs. IsWalked table (comb_of list rest (with_cell strip.content top.position top.before) fs)
+              entered.nodes entered.levels) gone (walked_left table rest rules walked),
+        )
+
+    pub exploring_returns : (parent : Frame) (then_frames : List Frame)
+        → frames ≡ then_frames ++ (parent ∷ [])
+        → IsExploring list starts root old most after parent then_frames entered
+    exploring_returns parent then_frames popped =
+        let order : reverse frames ≡ parent ∷ reverse then_frames = ap reverse popped
+        ∙ reverse-append then_frames (parent ∷ []) in
+        record {
+          are = subst (λ s. AreFrames list s.low s.high s.content (parent ∷ reverse then_frames)) (sym left)
+              (subst (λ fs. AreFrames list strip.low strip.high
+              (with_cell strip.content top.position top.before) fs) order now.are.1);
+          few = let n : length frames ≡ length then_frames + 1 = ap length popped
+              ∙ length-append then_frames (parent ∷ []) in let few = now.few in omega (arith, n, few);
+          walked = λ table rest rules walked.
+              subst (λ s. IsWalked table (comb_of list rest s.content (parent ∷ reverse then_frames))
+              entered.nodes entered.levels) (sym left)
+              (subst (λ fs. IsWalked table
+              (comb_of list rest (with_cell strip.content top.position top.before) fs) entered.nodes
+              entered.levels) order (walked_left table rest rules walked));
+        }
+
+-- the root itself is refused
+pub root_refused : (list : List Rule) (starts : List ℕ) (root : Branch) (old most new : Count)
+    (content after : Content) → content ≡ blank
+    → Refused (branch_node content root) 0 old.nodes most.nodes most.levels
+    → Explores list starts root most old new after false
+root_refused list starts root old most new content after blank_before refused table rest rules walked =
+    walk_refused table (branch_node blank root) rest [] old.nodes old.levels most.nodes most.levels walked
+    (subst (λ c. Refused (branch_node c root) 0 old.nodes most.nodes most.levels) blank_before refused)

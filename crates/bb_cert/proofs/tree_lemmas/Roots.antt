@@ -1,0 +1,98 @@
+-- The trees of the halting entries, one after another.
+use Rattle.std.proofs.Common.{◌≡◌, ℕ, ◌+◌, ◌-◌, ◌<◌, ◌≤◌, true, false, List, [], ◌∷◌, length, get_or}
+use Rattle.std.proofs.Common.{map, slice_range, pos, ap, sym, subst, ◌∙◌, arith}
+use Rattle.std.proofs.lemmas.Int.{ints}
+use Rattle.bb_machine.specs.declared.entry.Next.TheVariants.{Halt}
+use Rattle.bb_machine.specs.Machine.{Table}
+use Rattle.bb_tape.specs.Content.{Content, blank}
+use Rattle.bb_tape.proofs.Facts.{cell-blank}
+use Rattle.bb_cert.specs.declared.tree.rules.Rule.{Rule}
+use Rattle.bb_cert.specs.declared.tree.walk.Branch.{Branch}
+use Rattle.bb_cert.specs.declared.tree.walk.Count.{Count}
+use Rattle.bb_cert.specs.tree.Tree.{halting_node, EndsNowhere}
+use Rattle.bb_cert.specs.inside.Walk.{AreRules, IsBranch, IsRange, IsRule, IsWalked, branch_node}
+use Rattle.bb_cert.specs.inside.Steps.{Explores, IsWithin, WalksAll}
+use Rattle.bb_cert.proofs.tree_lemmas.Comb.{walk_begins, walk_ends}
+use Rattle.bb_cert.proofs.tree_lemmas.Shown.{blank_others, halting_shown, named_at, no_rule, slice_none}
+use Rattle.bb_cert.proofs.tree_lemmas.Shown.{slice_step}
+
+-- the branch of a halting rule
+abbrev pub root_of : Rule → Branch
+root_of rule = record { position = pos 0; state = rule.state; symbol = rule.symbol; held = 0; others = 0 }
+
+module _ (table : Table) (list seen : List Rule) (starts : List ℕ) (rules : AreRules table list starts)
+    (same : seen ≡ list) (index to : ℕ) (less : index < to) (within : to ≤ length list) where
+  there : get_or seen index no_rule ≡ get_or list index no_rule
+  there = ap (λ xs. get_or xs index no_rule) same
+
+  pub root_is : IsBranch (length starts - 2) blank 0 (root_of (get_or seen index no_rule))
+  root_is =
+      let is : IsRule (length table) (get_or seen index no_rule) = subst (IsRule (length table))
+      (sym there) (named_at (length table) list rules.named index no_rule (omega
+      (arith, less, within))) in
+      record {
+        not_below = omega (arith, ints);
+        not_above = omega (arith, ints);
+        state = let s = is.state in let n = rules.count in omega (arith, s, n);
+        symbol = is.symbol;
+        held = sym (cell-blank (pos 0));
+        others = blank_others;
+        few_others = omega arith;
+      }
+
+  pub roots_first : map halting_node (slice_range list index to) ≡ branch_node blank (root_of
+      (get_or seen index no_rule)) ∷ map halting_node (slice_range list (index + 1) to)
+  roots_first =
+      ap (map halting_node) (slice_step list index to no_rule less (omega (arith, less, within)))
+      ∙ ap (λ n. n ∷ map halting_node (slice_range list (index + 1) to)) (halting_shown
+      (get_or list index no_rule) (pos 0) ∙ ap (λ r. branch_node blank (root_of r)) (sym there))
+
+  pub root_explored : (old new most : Count) (content : Content) → Explores list starts (root_of
+      (get_or seen index no_rule)) most old new content true → IsWalked table (map halting_node
+      (slice_range list index to) ∷ []) old.nodes old.levels → IsWalked table (map halting_node
+      (slice_range list (index + 1) to) ∷ []) new.nodes new.levels
+  root_explored old new most content explores walked =
+      explores.1 table (map halting_node (slice_range list (index + 1) to)) rules
+      (subst (λ ns. IsWalked table (ns ∷ []) old.nodes old.levels) roots_first walked)
+
+  pub root_stops : (old new most : Count) (content : Content) → Explores list starts (root_of
+      (get_or seen index no_rule)) most old new content false → IsWalked table (map halting_node
+      (slice_range list index to) ∷ []) old.nodes old.levels → EndsNowhere table most.levels most.nodes
+  root_stops old new most content explores walked =
+      explores table (map halting_node (slice_range list (index + 1) to)) rules
+      (subst (λ ns. IsWalked table (ns ∷ []) old.nodes old.levels) roots_first walked)
+
+pub roots_begin : (table : Table) (list : List Rule) (from to nodes levels : ℕ)
+    → IsRange table list from to Halt → nodes ≡ 0 → levels ≡ 0 → IsWalked table (map halting_node
+    (slice_range list from to) ∷ []) nodes levels
+roots_begin table list from to nodes levels range none no_levels =
+    subst (λ n. IsWalked table (map halting_node (slice_range list from to) ∷ []) n levels) (sym none)
+    (subst (λ l. IsWalked table (map halting_node (slice_range list from to) ∷ []) 0 l) (sym no_levels)
+    (subst (λ rs. IsWalked table (map halting_node rs ∷ []) 0 0) (sym range.are) (walk_begins table)))
+
+pub roots_end : (table : Table) (list : List Rule) (index to : ℕ) (most entered : Count) → to ≤ index
+    → IsWalked table (map halting_node (slice_range list index to) ∷ []) entered.nodes entered.levels
+    → WalksAll table most entered true
+roots_end table list index to most entered past walked =
+    walk_ends table entered.nodes entered.levels
+    (subst (λ rs. IsWalked table (map halting_node rs ∷ []) entered.nodes entered.levels)
+    (slice_none list index to past) walked)
+
+pub no_more : (most entered : Count) → entered.nodes ≡ 0 → entered.levels ≡ 0 → IsWithin most entered
+no_more most entered none no_levels = record {
+  nodes = omega (arith, none);
+  levels = omega
+      (arith, no_levels);
+}
+
+-- where the halting rules end, as the code reads it
+pub end_at : (seen starts : List ℕ) (states n : ℕ) → seen ≡ starts → states ≡ n → get_or seen
+    (states + 1) 0 ≡ get_or starts (n + 1) 0
+end_at seen starts states n same e = ap (λ xs. get_or xs (states + 1) 0) same ∙ ap (λ k. get_or starts
+    (k + 1) 0) e
+
+pub before_end : (index read to : ℕ) → read ≡ to → index < read → index < to
+before_end index read to e h = omega (arith, e, h)
+
+pub past_end : (index read to : ℕ) → read ≡ to → read ≤ index → to ≤ index
+past_end index read to e h = omega (arith, e, h)

@@ -1,0 +1,44 @@
+-- Two records have one extent.
+use Rattle.std.proofs.Common.{◌≡◌, ℕ, ◌↔◌, Option, Some, None, ℤ, pos, ap, sym, subst, ◌∙◌, arith}
+use Rattle.std.specs.Prelude.{IfSome}
+use Rattle.std.proofs.lemmas.Int.{ints}
+use Rattle.bb_machine.specs.Machine.{Table}
+use Rattle.bb_cert.specs.declared.verdict.Extent.{Extent}
+use Rattle.bb_cert.specs.declared.verdict.Side.{Side}
+use Rattle.bb_cert.specs.verdict.Extent.{IsExtent, SaysExtent, TellsExtent}
+
+one_number : (i j : ℕ) (p : ℤ) → pos i ≡ p → pos j ≡ p → i ≡ j
+one_number i j p a b = omega (arith, ints, a, b)
+
+pub extent_is_one : (table : Table) (side : Side) (a b : ℕ) (one other : Extent) → IsExtent table side a b one
+    → IsExtent table side a b other → one ≡ other
+extent_is_one table side a b one other first second =
+    let shifts = one_number one.shift other.shift _ first.shift second.shift in
+    let lengths = one_number one.length other.length _ first.length second.length in
+    ap (λ n. record one { shift = n }) shifts ∙ ap (λ n. record other { length = n }) lengths
+
+-- an extent that is told is right
+pub told_is_said : (table : Table) (side : Side) (a b : ℕ) (extent : Option Extent)
+    → TellsExtent table side a b extent
+    → SaysExtent table side a b extent
+told_is_said table side a b None tells = absurd tells
+told_is_said table side a b (Some extent) tells = tells
+
+-- and there is one only
+pub told_is_one : (table : Table) (side : Side) (a b : ℕ) (one other : Option Extent)
+    → TellsExtent table side a b one
+    → TellsExtent table side a b other → one ≡ other
+told_is_one table side a b None other first second = absurd first
+told_is_one table side a b (Some one) None first second = absurd second
+told_is_one table side a b (Some one) (Some other) first second =
+    ap Some (extent_is_one table side a b one other first second)
+
+-- one that may be told is right where it is the one that was found
+pub said_as_found : (table : Table) (side : Side) (a b : ℕ) (found : Extent) → IsExtent table side a b found
+    → (told : Option Extent) → IfSome told (λ extent. extent ≡ found) ↔ SaysExtent table side a b told
+said_as_found table side a b found is None = (λ none. tt, λ none. tt)
+said_as_found table side a b found is (Some told) = (
+  λ same. subst (IsExtent table side a b) (sym same) is,
+  λ says. extent_is_one table side a b told found
+      says is,
+)

@@ -1,0 +1,4 @@
+-- The checker of a claim.
+pub mod Answer
+pub mod ClaimMeter
+pub mod Pair

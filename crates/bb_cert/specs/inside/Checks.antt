@@ -1,0 +1,102 @@
+-- What the functions of the checker tell one another; no public contract cites it.
+use Rattle.std.specs.Prelude.{◌≡◌, ◌≢◌, ℕ, ◌+◌, ◌<◌, ◌≤◌, ◌↔◌, Option, Some, None, IsTrue, pos}
+use Rattle.bb_machine.specs.Limits.{Bounds}
+use Rattle.bb_machine.specs.Machine.{Table}
+use Rattle.bb_tape.specs.Strip.{Strip, IsBeside}
+use Rattle.bb_sim.specs.declared.meter.Meter.{Meter}
+use Rattle.bb_sim.specs.declared.runner.Runner.{Runner}
+use Rattle.bb_sim.specs.Meter.{CountsTo, zero_meter}
+use Rattle.bb_sim.specs.Laws.{IsRunningAt}
+use Rattle.bb_sim.specs.Run.{Exists}
+use Rattle.bb_sim.specs.Runner.{Stands, position_of, steps_of}
+use Rattle.bb_sim.specs.Span.{Inside, span}
+use Rattle.bb_cert.specs.declared.checker.answer.Answer.{Answer}
+use Rattle.bb_cert.specs.declared.checker.answer.Answer.TheVariants as answer
+use Rattle.bb_cert.specs.declared.checker.replay.Course.{Course}
+use Rattle.bb_cert.specs.declared.records.Records.{Records}
+use Rattle.bb_cert.specs.declared.verdict.Side.{Side}
+use Rattle.bb_cert.specs.declared.verdict.Verdict.{Verdict}
+use Rattle.bb_cert.specs.checker.Answer.{IsOutOfOrder, IsSettled, IsUndecided, NamesTooMuch, NeedsTooMuch}
+use Rattle.bb_cert.specs.claims.Claim.{Claim}
+use Rattle.bb_cert.specs.records.Follow.{IsFollowed, TellsWidening, passed}
+use Rattle.bb_cert.specs.records.Record.{IsRecord, head_at}
+
+-- the answer where nothing has to be run; none where that is not settled so
+abbrev pub Settles : Bounds → Verdict → Option Answer → Type 0
+Settles bounds verdict None = IsSettled bounds verdict → ⊥
+Settles bounds verdict (Some answer.Open) = IsUndecided verdict
+Settles bounds verdict (Some answer.Over) = NamesTooMuch bounds verdict
+Settles bounds verdict (Some answer.Bad) = (NamesTooMuch bounds verdict → ⊥) × IsOutOfOrder verdict
+Settles bounds verdict (Some answer.Ok) = ⊥
+
+-- the answer where it is not settled so
+abbrev pub Checks : Table → Bounds → Verdict → Answer → Type 0
+Checks table bounds verdict answer.Over = NeedsTooMuch table bounds verdict
+Checks table bounds verdict answer.Ok = (NeedsTooMuch table bounds verdict → ⊥) × Claim table verdict
+Checks table bounds verdict answer.Bad =
+    (NeedsTooMuch table bounds verdict → ⊥) × (Claim table verdict → ⊥)
+Checks table bounds verdict answer.Open = ⊥
+
+-- why a run can't come to its limit of steps: there is no such step, though its span fits; or the span does
+-- not
+abbrev pub IsCut : Table → Bounds → Answer → Type 0
+IsCut table bounds answer.Bad = (Exists table bounds.steps → ⊥) × (span table bounds.steps ≤ bounds.cells)
+IsCut table bounds answer.Over = bounds.cells < span table bounds.steps
+IsCut table bounds answer.Ok = ⊥
+IsCut table bounds answer.Open = ⊥
+
+-- a run has come inside the bounds to where its runner stands, and just that was counted
+pub record IsUnderWay (table : Table) (bounds : Bounds) (runner : Runner) (strip : Strip) (meter : Meter)
+    : Type 0 where
+  pub stands : Stands table runner strip
+  pub inside : Inside table bounds (steps_of runner)
+  pub limit : strip.limit ≡ bounds.cells
+  pub counts : CountsTo table (steps_of runner) zero_meter meter
+
+-- it has made a step, its head is in the window or next to it
+pub record IsOneOn (table : Table) (bounds : Bounds) (old new : Runner) (strip : Strip) (meter : Meter)
+    : Type 0 where
+  pub under_way : IsUnderWay table bounds new strip meter
+  pub one_more : steps_of new ≡ steps_of old + 1
+  pub near : IsBeside strip (position_of new)
+
+-- it has come to this step
+pub record IsAtStep (table : Table) (bounds : Bounds) (step : ℕ) (runner : Runner) (strip : Strip)
+    (meter : Meter) : Type 0 where
+  pub under_way : IsUnderWay table bounds runner strip meter
+  pub at : steps_of runner ≡ step
+
+-- step n makes a record of the side
+abbrev pub MakesRecord : Table → Side → ℕ → Type 0
+MakesRecord table side n = (j : ℕ) × IsRecord table side j n
+
+-- it does so in a state other than Z
+abbrev pub MakesRecordOutsideZ : Table → Side → ℕ → Type 0
+MakesRecordOutsideZ table side n = MakesRecord table side n × IsRunningAt table n (head_at table n)
+
+-- the records of a side are known up to step n, and whether it makes one outside Z
+pub record IsCourse (table : Table) (n : ℕ) (course : Course) (saved : Strip) : Type 0 where
+  pub followed : IsFollowed table n course.records saved
+  pub told : IsTrue course.is_record ↔ MakesRecordOutsideZ table course.records.side n
+
+-- a course has taken in the step that a runner has just made, before which its window had so many cells
+pub record Passes (runner : Runner) (cells : ℕ) (old new : Course) : Type 0 where
+  pub records : new.records ≡ passed old.records (position_of runner)
+  pub told : Option Side
+  pub widens : TellsWidening runner cells told
+  pub is_told : IsTrue new.is_record ↔ (told ≡ Some old.records.side)
+
+-- the same record is kept
+pub record KeepsSame (old new : Records) : Type 0 where
+  pub side : new.side ≡ old.side
+  pub kept : new.kept ≡ old.kept
+
+-- what was known of a course is known of it now, up to a later step, with the same record kept
+pub record GoesOn (table : Table) (from to : ℕ) (old new : Course) : Type 0 where
+  pub course : (saved : Strip) → IsCourse table from old saved → IsCourse table to new saved
+  pub same : KeepsSame old.records new.records
+
+-- the record of this step is kept, just where it makes one outside Z
+pub record KeepsStep (table : Table) (step : ℕ) (records : Records) : Type 0 where
+  pub made : MakesRecordOutsideZ table records.side step → position_of records.kept ≢ pos 0
+  pub at : position_of records.kept ≢ pos 0 → steps_of records.kept ≡ step

@@ -1,0 +1,149 @@
+-- How a walk in depth holds the nodes of the tree. No public contract speaks of it.
+use Rattle.std.specs.Prelude.{◌≡◌, ◌≢◌, ℕ, zero, suc, ◌+◌, ◌-◌, ◌*◌, ◌<◌, ◌≤◌, ◌⊎◌, Option, Some, None, List}
+use Rattle.std.specs.Prelude.{[], ◌∷◌, ◌++◌, length, slice_index, slice_range, ℤ, pos, neg_ℤ, ◌+ℤ◌, ◌≤ℤ◌}
+use Rattle.std.specs.List.{flat_map, AllByRecursion}
+use Rattle.bb_machine.specs.declared.entry.Next.{Next}
+use Rattle.bb_machine.specs.declared.entry.Next.TheVariants.{State, Halt}
+use Rattle.bb_machine.specs.declared.machine.TheConstants.{MAX_SYMBOLS}
+use Rattle.bb_machine.specs.Entry.{IsEntryOf}
+use Rattle.bb_machine.specs.Machine.{Table}
+use Rattle.bb_tape.specs.Content.{Content, blank, cell, with_cell, score}
+use Rattle.bb_tape.specs.Strip.{Strip}
+use Rattle.bb_sim.specs.Configuration.{start}
+use Rattle.bb_cert.specs.declared.tree.path.Frame.{Frame}
+use Rattle.bb_cert.specs.declared.tree.rules.Rule.{Rule}
+use Rattle.bb_cert.specs.declared.tree.walk.Branch.{Branch}
+use Rattle.bb_cert.specs.tree.Tree.{Node, Matches, MatchesOne, before_by, grown, level, grown_below}
+use Rattle.bb_cert.specs.tree.Tree.{nodes_below}
+use Rattle.bb_cert.specs.tree.Tree.{rules_to}
+
+-- a tape shows the symbol r as r + 1, and an unknown cell as 0
+abbrev pub shown_symbol : ℕ → Option ℕ
+shown_symbol zero = None
+shown_symbol (suc symbol) = Some symbol
+
+-- what a tape shows at distances from a position
+abbrev pub shown : Content → ℤ → ℤ → Option ℕ
+shown content position distance = shown_symbol (cell content (position +ℤ distance))
+
+-- the node of this state that a tape shows from a position
+abbrev pub shown_node : Content → ℤ → ℕ → Node
+shown_node content position state = record { state = state; known = shown content position }
+
+-- of the cells that a tape shows, so many are known to be other than 0
+pub record HasOthers (content : Content) (others : ℕ) : Type 0 where
+  pub one_less : Content
+  pub each : (p : ℤ) → cell one_less p ≡ cell content p - 1
+  pub counted : others ≡ score one_less
+
+-- what could come before a frame's node by the rules that are still to be tried
+abbrev pub branches : List Rule → Content → Frame → List Node
+branches rules content f =
+    flat_map (before_by (shown_node content f.position f.state)) (slice_range rules f.next f.end)
+
+-- The nodes that are still to be entered: before each frame's node, the deepest frame first, with the tape as
+-- it was when that node was entered last; and then the halting nodes. Those before a list are a level
+-- further.
+abbrev pub comb_of : List Rule → List Node → Content → List Frame → List (List Node)
+comb_of rules roots content [] = roots ∷ []
+comb_of rules roots content (f ∷ fs) =
+    branches rules content f ∷ comb_of rules roots (with_cell content f.position f.before) fs
+
+-- how many nodes of the levels below h there are in the trees that these nodes begin
+abbrev pub comb_below : Table → List (List Node) → ℕ → ℕ
+comb_below table [] h = 0
+comb_below table (nodes ∷ comb) h = grown_below table nodes (h - length comb) + comb_below table comb h
+
+-- the start matches a node of level i in the trees that these nodes begin
+abbrev pub CombMatches : Table → List (List Node) → ℕ → Type 0
+CombMatches table [] i = ⊥
+CombMatches table (nodes ∷ comb) i =
+    ((length comb ≤ i) × MatchesOne (grown table nodes (i - length comb)) start) ⊎ CombMatches table comb i
+
+-- a stretch of a list
+pub record IsPart (part whole : List Node) : Type 0 where
+  pub earlier : List Node
+  pub rest : List Node
+  pub is : whole ≡ earlier ++ (part ++ rest)
+
+-- each list is a part of its level
+abbrev pub AreParts : Table → List (List Node) → Type 0
+AreParts table [] = Unit {0}
+AreParts table (nodes ∷ comb) = IsPart nodes (level table (length comb)) × AreParts table comb
+
+-- a walk entered so many nodes, the deepest on level `levels` - 1, none of which the start matches, and these
+-- are still to be entered
+pub record IsWalked (table : Table) (comb : List (List Node)) (nodes levels : ℕ) : Type 0 where
+  pub counted : (h : ℕ) → levels ≤ h → nodes_below table h ≡ nodes + comb_below table comb h
+  pub reached : (i : ℕ) → i < levels → level table i ≢ []
+  pub parts : AreParts table comb
+  pub matches : (i : ℕ) → MatchesOne (level table i) start → CombMatches table comb i
+
+-- a frame of a node on a level, whose node the tape shows
+pub record IsFrame (rules : List Rule) (low high : ℤ) (content : Content) (level : ℕ) (f : Frame)
+    : Type 0 where
+  pub not_below : neg_ℤ (pos level) ≤ℤ f.position
+  pub not_above : f.position ≤ℤ pos level
+  pub from_low : low ≤ℤ f.position
+  pub to_high : f.position ≤ℤ high
+  pub symbol : f.before ≤ 10
+  pub in_order : f.next ≤ f.end
+  pub in_rules : f.end ≤ length rules
+  pub others : HasOthers content f.others
+  pub few_others : f.others ≤ level + 1
+
+-- the frames of the nodes on the way to one, the deepest first; when all are left the tape is blank
+abbrev pub AreFrames : List Rule → ℤ → ℤ → Content → List Frame → Type 0
+AreFrames rules low high content [] = content ≡ blank
+AreFrames rules low high content (f ∷ fs) = IsFrame rules low high content (length fs) f
+    × AreFrames rules low high (with_cell content f.position f.before) fs
+
+-- a rule of a machine of so many states
+pub record IsRule (states : ℕ) (rule : Rule) : Type 0 where
+  pub state : rule.state < states
+  pub symbol : rule.symbol < MAX_SYMBOLS
+  pub entry : IsEntryOf states MAX_SYMBOLS rule.entry
+
+-- between two places of a list stand the rules that lead to a state, or those that halt
+pub record IsRange (table : Table) (list : List Rule) (from to : ℕ) (next : Next) : Type 0 where
+  pub in_order : from ≤ to
+  pub within : to ≤ length list
+  pub are : slice_range list from to ≡ rules_to table next
+
+-- the rules of a table, ordered by where they lead, and where those of each state begin, and the halting ones
+pub record AreRules (table : Table) (list : List Rule) (starts : List ℕ) : Type 0 where
+  pub named : AllByRecursion (IsRule (length table)) list
+  pub count : length starts ≡ length table + 2
+  pub to_state : (state : ℕ) → state < length table
+      → IsRange table list (slice_index starts state) (slice_index starts (state + 1)) (State state)
+  pub halting :
+      IsRange table list (slice_index starts (length table)) (slice_index starts (length table + 1)) Halt
+
+-- what could come before a node, as the tape shows that node, on a level
+pub record IsBranch (states : ℕ) (content : Content) (level : ℕ) (branch : Branch) : Type 0 where
+  pub not_below : neg_ℤ (pos level) ≤ℤ branch.position
+  pub not_above : branch.position ≤ℤ pos level
+  pub state : branch.state < states
+  pub symbol : branch.symbol < MAX_SYMBOLS
+  pub held : branch.held ≡ cell content branch.position
+  pub others : HasOthers content branch.others
+  pub few_others : branch.others ≤ level
+
+-- what a tape has when a branch is entered, and its node
+abbrev pub content_in : Content → Branch → Content
+content_in content branch = with_cell content branch.position (branch.symbol + 1)
+
+abbrev pub branch_node : Content → Branch → Node
+branch_node content branch = shown_node (content_in content branch) branch.position branch.state
+
+-- the window keeps within so many levels of 0, and there is room for all of them
+pub record HasRoom (strip : Strip) (levels : ℕ) : Type 0 where
+  pub not_below : neg_ℤ (pos (levels - 1)) ≤ℤ strip.low
+  pub not_above : strip.high ≤ℤ pos (levels - 1)
+  pub limit : 2 * levels ≤ strip.limit + 1
+
+-- why a walk doesn't go on with a node
+pub data Refused (node : Node) (level nodes most_nodes most_levels : ℕ) : Type 0 where
+  too_deep : most_levels ≤ level → Refused node level nodes most_nodes most_levels
+  too_many : most_nodes ≤ nodes → Refused node level nodes most_nodes most_levels
+  matched : Matches node start → Refused node level nodes most_nodes most_levels

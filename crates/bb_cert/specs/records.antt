@@ -1,0 +1,4 @@
+-- The records of a side of a run.
+pub mod Record
+pub mod Agree
+pub mod Follow

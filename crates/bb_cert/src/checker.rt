@@ -1,0 +1,5 @@
+//! The checker of a claim, whoever made it.
+
+pub mod answer;
+pub mod checking;
+mod replay;

@@ -1,0 +1,30 @@
+//! What is answered to a verdict line.
+ghost use Rattle.std.specs.Prelude.{◌≡◌};
+ghost use Rattle.bb_cert.specs.checker.Answer.{answer_text};
+
+/// What is answered to a verdict, by the first rule that applies.
+#[derive(Clone, Copy, Debug, PartialEq, Eq)]
+pub enum Answer {
+    /// What is claimed holds.
+    Ok = 1,
+    /// It doesn't.
+    Bad = 2,
+    /// It names more steps, levels or nodes than the limits have, or needs more cells.
+    Over = 3,
+    /// Nothing is claimed.
+    Open = 4,
+}
+
+impl Answer {
+    /// The word that is printed.
+    pub fn word(self) -> &'static [u8]
+        ensures { result.now ≡ answer_text self }
+    {
+        match self {
+            Answer::Ok => b"ok",
+            Answer::Bad => b"bad",
+            Answer::Over => b"over",
+            Answer::Open => b"open",
+        }
+    }
+}

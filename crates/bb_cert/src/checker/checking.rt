@@ -1,0 +1,348 @@
+//! The checker: whether what a verdict claims of a machine holds, whoever found it.
+ghost use Rattle.std.specs.Prelude.{◌≡◌, ◌<◌, ◌≤◌, ◌↔◌, IfOk, IfSome, IsTrue, OnErr};
+ghost use Rattle.bb_sim.specs.Meter.{zero_meter};
+ghost use Rattle.bb_sim.specs.Run.{Never};
+ghost use Rattle.bb_cert.specs.declared.checker.answer.Answer.{Answer};
+ghost use Rattle.bb_cert.specs.declared.verdict.Verdict.{Verdict};
+ghost use Rattle.bb_cert.specs.checker.Answer.{IsAnswer, IsSettled};
+ghost use Rattle.bb_cert.specs.inside.Checks.{Checks, Settles};
+ghost use Rattle.bb_cert.specs.claims.Claim.{Claim, SaysNever};
+ghost use Rattle.bb_cert.specs.checker.ClaimMeter.{CountsClaim, IsWithinClaim};
+ghost use Rattle.bb_cert.specs.checker.Pair.{PairHasCells};
+ghost use Rattle.bb_cert.specs.tree.Path.{depth_of};
+
+use crate::checker::answer::Answer;
+use crate::checker::replay::{Course, begin, follow_to, run_to};
+use crate::claims::configurations::is_same;
+use crate::records::Records;
+use crate::tree::path::Path;
+use crate::tree::walk::walk;
+use crate::verdict::{Extent, Side, Verdict};
+use bb_machine::{Limits, Machine};
+use bb_sim::{Meter, Outcome, Runner, simulate};
+use bb_tape::{Memory, Tape};
+
+/// The tapes with which a claim is checked. Each call resets what it uses.
+#[derive(Drop)]
+pub struct Pair<T> {
+    /// The tape of the run, and of the walk.
+    pub run: T,
+    /// What is kept of it from the first step of a pair.
+    pub saved: T,
+}
+
+/// What is answered to a verdict on a machine, and under the meter what that cost: the meter is begun at 0,
+/// and nothing past what the verdict names is run or walked.
+///
+/// After an error nothing is said of what the tapes hold; the next call resets them.
+pub fn check<T: Tape>(
+    machine: &Machine,
+    verdict: &Verdict,
+    limits: &Limits,
+    pair: &mut Pair<T>,
+    path: &mut Path,
+    meter: &mut Meter,
+) -> Result<Answer, Memory>
+    requires tapes { PairHasCells T.strip limits.now.cells pair.old }
+    requires path { limits.now.depth ≤ depth_of path.old }
+    ensures answer { IfOk result (IsAnswer machine.now limits.now verdict.now) }
+    ensures claim { IfOk result (λ answer. answer ≡ Answer.Ok → Claim machine.now verdict.now) }
+    ensures never { IfOk result (λ answer. answer ≡ Answer.Ok → SaysNever verdict.now → Never machine.now) }
+    ensures counted { IfOk result (λ answer. answer ≡ Answer.Ok → CountsClaim verdict.now meter.new) }
+    ensures within { IsWithinClaim limits.now verdict.now meter.new }
+    ensures settled { IsSettled limits.now verdict.now → meter.new ≡ zero_meter }
+    ensures tapes { PairHasCells T.strip limits.now.cells pair.new }
+    ensures depth { depth_of path.new ≡ depth_of path.old }
+    ensures memory { OnErr result (IsTrue T.GROWS) }
+{
+    *meter = Meter::new();
+    let _states = machine.states();
+    match settle(verdict, limits) {
+        Some(answer) => Ok(answer),
+        None => check_claim(machine, *verdict, limits, pair, path, meter),
+    }
+}
+
+/// The answer where nothing has to be run.
+fn settle(verdict: &Verdict, limits: &Limits) -> Option<Answer>
+    ensures { Settles limits.now verdict.now result }
+{
+    match *verdict {
+        Verdict::Halt { steps, .. } => {
+            if steps > limits.steps() {
+                return Some(Answer::Over);
+            }
+            None
+        }
+        Verdict::Cycler { first, second } => settle_pair(first, second, limits),
+        Verdict::Translated { first, second, .. } => settle_pair(first, second, limits),
+        Verdict::Backward { levels, nodes } => {
+            if levels > limits.depth() {
+                return Some(Answer::Over);
+            }
+            if nodes > limits.nodes() {
+                return Some(Answer::Over);
+            }
+            None
+        }
+        Verdict::Undecided(_) => Some(Answer::Open),
+    }
+}
+
+/// The answer to a pair of steps where nothing has to be run.
+fn settle_pair(first: u64, second: u64, limits: &Limits) -> Option<Answer>
+    ensures { Settles limits.now (Verdict.Cycler first second) result }
+{
+    if first > limits.steps() {
+        return Some(Answer::Over);
+    }
+    if second > limits.steps() {
+        return Some(Answer::Over);
+    }
+    if first >= second {
+        return Some(Answer::Bad);
+    }
+    None
+}
+
+/// The answer to a claim for which something has to be run.
+fn check_claim<T: Tape>(
+    machine: &Machine,
+    verdict: Verdict,
+    limits: &Limits,
+    pair: &mut Pair<T>,
+    path: &mut Path,
+    meter: &mut Meter,
+) -> Result<Answer, Memory>
+    requires open { IsSettled limits.now verdict → ⊥ }
+    requires tapes { PairHasCells T.strip limits.now.cells pair.old }
+    requires path { limits.now.depth ≤ depth_of path.old }
+    requires meter { meter.old ≡ zero_meter }
+    ensures checks { IfOk result (Checks machine.now limits.now verdict) }
+    ensures counted { IfOk result (λ answer. answer ≡ Answer.Ok → CountsClaim verdict meter.new) }
+    ensures within { IsWithinClaim limits.now verdict meter.new }
+    ensures tapes { PairHasCells T.strip limits.now.cells pair.new }
+    ensures depth { depth_of path.new ≡ depth_of path.old }
+    ensures memory { OnErr result (IsTrue T.GROWS) }
+{
+    match verdict {
+        Verdict::Halt { steps, score } => {
+            check_halt(machine, steps, score, limits, &mut pair.run, meter)
+        }
+        Verdict::Cycler { first, second } => {
+            check_cycler(machine, first, second, limits, pair, meter)
+        }
+        Verdict::Translated {
+            side,
+            first,
+            second,
+            extent,
+        } => check_translated(machine, side, first, second, extent, limits, pair, meter),
+        Verdict::Backward { levels, nodes } => {
+            check_backward(machine, levels, nodes, limits, &mut pair.run, path, meter)
+        }
+        Verdict::Undecided(_) => Ok(Answer::Open),
+    }
+}
+
+/// These limits, but with so many steps.
+fn with_steps(limits: &Limits, steps: u64) -> Limits
+    requires { steps ≤ limits.now.steps }
+    ensures { result ≡ record limits.now { steps = steps } }
+{
+    match Limits::new(steps, limits.cells(), limits.depth(), limits.nodes()) {
+        Ok(limits) => limits,
+        Err(_) => unreachable!(),
+    }
+}
+
+/// Whether the machine halts after so many steps with such a score: one simulation with no more steps.
+fn check_halt<T: Tape>(
+    machine: &Machine,
+    steps: u64,
+    score: u64,
+    limits: &Limits,
+    tape: &mut T,
+    meter: &mut Meter,
+) -> Result<Answer, Memory>
+    requires steps { steps ≤ limits.now.steps }
+    requires limit { (T.strip tape.old).limit ≡ limits.now.cells }
+    requires meter { meter.old ≡ zero_meter }
+    ensures checks { IfOk result (Checks machine.now limits.now (Verdict.Halt steps score)) }
+    ensures counted { IfOk result (λ answer. answer ≡ Answer.Ok
+        → CountsClaim (Verdict.Halt steps score) meter.new) }
+    ensures within { IsWithinClaim limits.now (Verdict.Halt steps score) meter.new }
+    ensures limit { (T.strip tape.new).limit ≡ (T.strip tape.old).limit }
+    ensures memory { OnErr result (IsTrue T.GROWS) }
+{
+    let limits = with_steps(limits, steps);
+    match simulate(machine, tape, &limits, meter)? {
+        Outcome::Halt {
+            steps: made,
+            score: found,
+        } => {
+            if made != steps {
+                return Ok(Answer::Bad);
+            }
+            if found != score {
+                return Ok(Answer::Bad);
+            }
+            Ok(Answer::Ok)
+        }
+        Outcome::NoSteps => Ok(Answer::Bad),
+        Outcome::NoCells => Ok(Answer::Over),
+    }
+}
+
+/// Whether the configuration of one step comes again at another: one run, and a copy of its tape.
+fn check_cycler<T: Tape>(
+    machine: &Machine,
+    first: u64,
+    second: u64,
+    limits: &Limits,
+    pair: &mut Pair<T>,
+    meter: &mut Meter,
+) -> Result<Answer, Memory>
+    requires order { first < second }
+    requires steps { second ≤ limits.now.steps }
+    requires tapes { PairHasCells T.strip limits.now.cells pair.old }
+    requires meter { meter.old ≡ zero_meter }
+    ensures checks { IfOk result (Checks machine.now limits.now (Verdict.Cycler first second)) }
+    ensures counted { IfOk result (λ answer. answer ≡ Answer.Ok
+        → CountsClaim (Verdict.Cycler first second) meter.new) }
+    ensures within { IsWithinClaim limits.now (Verdict.Cycler first second) meter.new }
+    ensures tapes { PairHasCells T.strip limits.now.cells pair.new }
+    ensures memory { OnErr result (IsTrue T.GROWS) }
+{
+    let limits = with_steps(limits, second);
+    let mut runner = begin(machine, &mut pair.run, &limits, meter);
+    match run_to(machine, &mut runner, &mut pair.run, &limits, first, meter)? {
+        Some(answer) => return Ok(answer),
+        None => {}
+    }
+    let kept = runner;
+    let Ok(()) = pair.saved.copy_from(&pair.run) else {
+        return Err(Memory);
+    };
+    match run_to(machine, &mut runner, &mut pair.run, &limits, second, meter)? {
+        Some(answer) => return Ok(answer),
+        None => {}
+    }
+    if is_same(&runner, &pair.run, &kept, &pair.saved) {
+        return Ok(Answer::Ok);
+    }
+    Ok(Answer::Bad)
+}
+
+/// Whether two steps make records of a side that agree, and lie as was told: one run, and a copy of its tape.
+fn check_translated<T: Tape>(
+    machine: &Machine,
+    side: Side,
+    first: u64,
+    second: u64,
+    extent: Option<Extent>,
+    limits: &Limits,
+    pair: &mut Pair<T>,
+    meter: &mut Meter,
+) -> Result<Answer, Memory>
+    requires order { first < second }
+    requires steps { second ≤ limits.now.steps }
+    requires tapes { PairHasCells T.strip limits.now.cells pair.old }
+    requires meter { meter.old ≡ zero_meter }
+    ensures checks { IfOk result
+        (Checks machine.now limits.now (Verdict.Translated side first second extent)) }
+    ensures counted { IfOk result (λ answer. answer ≡ Answer.Ok
+        → CountsClaim (Verdict.Translated side first second extent) meter.new) }
+    ensures within { IsWithinClaim limits.now (Verdict.Translated side first second extent) meter.new }
+    ensures tapes { PairHasCells T.strip limits.now.cells pair.new }
+    ensures memory { OnErr result (IsTrue T.GROWS) }
+{
+    let limits = with_steps(limits, second);
+    let mut runner = begin(machine, &mut pair.run, &limits, meter);
+    let mut course = Course {
+        records: Records::new(side, runner),
+        is_record: false,
+    };
+    match follow_to(
+        machine,
+        &mut runner,
+        &mut pair.run,
+        &limits,
+        first,
+        &mut course,
+        meter,
+    )? {
+        Some(answer) => return Ok(answer),
+        None => {}
+    }
+    let Ok(()) = pair.saved.copy_from(&pair.run) else {
+        return Err(Memory);
+    };
+    course.keep(&runner);
+    match follow_to(
+        machine,
+        &mut runner,
+        &mut pair.run,
+        &limits,
+        second,
+        &mut course,
+        meter,
+    )? {
+        Some(answer) => return Ok(answer),
+        None => {}
+    }
+    let Some(found) = course.agreement(&runner, &pair.run, &mut pair.saved) else {
+        return Ok(Answer::Bad);
+    };
+    if !is_as_told(extent, found) {
+        return Ok(Answer::Bad);
+    }
+    Ok(Answer::Ok)
+}
+
+/// Whether an extent, if one was told, is this one.
+fn is_as_told(told: Option<Extent>, found: Extent) -> bool
+    ensures { IsTrue result ↔ IfSome told (λ extent. extent ≡ found) }
+{
+    match told {
+        Some(extent) => extent == found,
+        None => true,
+    }
+}
+
+/// Whether the tree of what could come before a halt ends in so many levels with so many nodes, and the start
+/// matches none of them: one walk with no more levels and nodes.
+fn check_backward<T: Tape>(
+    machine: &Machine,
+    levels: u64,
+    nodes: u64,
+    limits: &Limits,
+    tape: &mut T,
+    path: &mut Path,
+    meter: &mut Meter,
+) -> Result<Answer, Memory>
+    requires levels { levels ≤ limits.now.depth }
+    requires nodes { nodes ≤ limits.now.nodes }
+    requires limit { (T.strip tape.old).limit ≡ limits.now.cells }
+    requires path { limits.now.depth ≤ depth_of path.old }
+    requires meter { meter.old ≡ zero_meter }
+    ensures checks { IfOk result (Checks machine.now limits.now (Verdict.Backward levels nodes)) }
+    ensures counted { IfOk result (λ answer. answer ≡ Answer.Ok
+        → CountsClaim (Verdict.Backward levels nodes) meter.new) }
+    ensures within { IsWithinClaim limits.now (Verdict.Backward levels nodes) meter.new }
+    ensures limit { (T.strip tape.new).limit ≡ (T.strip tape.old).limit }
+    ensures depth { depth_of path.new ≡ depth_of path.old }
+    ensures memory { OnErr result (IsTrue T.GROWS) }
+{
+    let _accepted = limits.depth();
+    let Some((found_levels, found_nodes)) = walk(machine, levels, nodes, tape, path, meter)? else {
+        return Ok(Answer::Bad);
+    };
+    if found_levels != levels {
+        return Ok(Answer::Bad);
+    }
+    if found_nodes != nodes {
+        return Ok(Answer::Bad);
+    }
+    Ok(Answer::Ok)
+}

@@ -1,0 +1,183 @@
+//! The run of a claim, up to the steps that the claim names.
+ghost use Rattle.std.specs.Prelude.{◌≡◌, ◌<◌, ◌≤◌, ◌↔◌, IfOk, IfSome, IsTrue, MatchBool, MatchOption, OnErr};
+ghost use Rattle.bb_tape.specs.Strip.{IsBeside};
+ghost use Rattle.bb_sim.specs.Meter.{IsWithinRun, zero_meter};
+ghost use Rattle.bb_sim.specs.Run.{Exists};
+ghost use Rattle.bb_sim.specs.Runner.{position_of, steps_of};
+ghost use Rattle.bb_cert.specs.inside.Checks.{GoesOn, IsAtStep, IsCut, IsOneOn, IsUnderWay, Passes};
+ghost use Rattle.bb_cert.specs.records.Follow.{AgreesWithKept, IsComparable, IsKeptInStateOf, LiesAs, with_kept};
+
+use crate::checker::answer::Answer;
+use crate::records::{Records, widened_side};
+use crate::verdict::{Extent, Side};
+use bb_machine::{Limits, Machine};
+use bb_sim::{Meter, Moved, Runner};
+use bb_tape::{Memory, Tape};
+
+/// The records of a side of a run, and whether the last step makes one.
+#[derive(Clone, Copy, Debug)]
+pub(crate) struct Course {
+    pub(crate) records: Records,
+    pub(crate) is_record: bool,
+}
+
+impl Course {
+    /// Takes in the step that the runner has just made, before which its window had so many cells.
+    pub(crate) fn pass(&mut self, runner: &Runner, cells: u64)
+        ensures { Passes runner.now cells self.old self.new }
+    {
+        self.records.pass(runner.position());
+        self.is_record = match widened_side(runner, cells) {
+            Some(side) => side == self.records.side,
+            None => false,
+        };
+    }
+
+    /// Keeps the record that the last step makes, if it makes one. The runner stands there.
+    pub(crate) fn keep(&mut self, runner: &Runner)
+        ensures { MatchBool self.old.is_record
+            (self.new ≡ record self.old { records = with_kept self.old.records runner.now })
+            (self.new ≡ self.old) }
+    {
+        if self.is_record {
+            self.records.keep(runner);
+        }
+    }
+
+    /// How the kept record and that of the last step, where the runner stands, lie, if it makes one that
+    /// agrees.
+    pub(crate) fn agreement<T: Tape>(
+        &self,
+        runner: &Runner,
+        run: &T,
+        saved: &mut T,
+    ) -> Option<Extent>
+        requires limit { (T.strip saved.old).limit ≡ (T.strip run.now).limit }
+        requires comparable { IsTrue self.now.is_record → IsKeptInStateOf self.now.records runner.now
+            → IsComparable self.now.records runner.now (T.strip saved.old) (T.strip run.now) }
+        ensures agree { MatchOption result
+            (IsTrue self.now.is_record
+            → AgreesWithKept self.now.records runner.now (T.strip saved.old) (T.strip run.now) → ⊥)
+            (λ extent. IsTrue self.now.is_record
+            × AgreesWithKept self.now.records runner.now (T.strip saved.old) (T.strip run.now)
+            × LiesAs self.now.records runner.now extent) }
+        ensures limit { (T.strip saved.new).limit ≡ (T.strip saved.old).limit }
+    {
+        if !self.is_record {
+            return None;
+        }
+        if !self.records.agrees(runner, run, saved) {
+            return None;
+        }
+        Some(self.records.extent(runner))
+    }
+}
+
+/// Begins the run of a claim, under a meter that counted nothing.
+pub(crate) fn begin<T: Tape>(
+    machine: &Machine,
+    tape: &mut T,
+    limits: &Limits,
+    meter: &mut Meter,
+) -> Runner
+    requires limit { (T.strip tape.old).limit ≡ limits.now.cells }
+    requires meter { meter.old ≡ zero_meter }
+    ensures at { IsAtStep machine.now limits.now 0 result (T.strip tape.new) meter.new }
+{
+    let _accepted = limits.cells();
+    meter.most_cells = meter.most_cells.max(1);
+    Runner::start(machine, tape)
+}
+
+/// Makes one step of a run that is to come to its limit of steps. Where it can't come there, what is
+/// answered.
+#[inline(always)]
+fn step_on<T: Tape>(
+    machine: &Machine,
+    runner: &mut Runner,
+    tape: &mut T,
+    limits: &Limits,
+    meter: &mut Meter,
+) -> Result<Option<Answer>, Memory>
+    requires under_way { IsUnderWay machine.now limits.now runner.old (T.strip tape.old) meter.old }
+    requires ahead { steps_of runner.old < limits.now.steps }
+    ensures steps { IfOk result (λ cut. MatchOption cut
+        (IsOneOn machine.now limits.now runner.old runner.new (T.strip tape.new) meter.new)
+        (IsCut machine.now limits.now)) }
+    ensures within { IsWithinRun limits.now zero_meter meter.new }
+    ensures limit { (T.strip tape.new).limit ≡ (T.strip tape.old).limit }
+    ensures memory { OnErr result (IsTrue T.GROWS) }
+{
+    let _accepted = limits.steps();
+    match runner.advance(machine, tape, limits, meter)? {
+        Moved::Stepped => Ok(None),
+        Moved::Halted => Ok(Some(Answer::Bad)),
+        Moved::NoSteps => Ok(Some(Answer::Bad)),
+        Moved::NoCells => Ok(Some(Answer::Over)),
+    }
+}
+
+/// Runs on up to a step, on the way to the limit of steps. Where the run can't come to that limit, what is
+/// answered.
+#[inline(never)]
+pub(crate) fn run_to<T: Tape>(
+    machine: &Machine,
+    runner: &mut Runner,
+    tape: &mut T,
+    limits: &Limits,
+    step: u64,
+    meter: &mut Meter,
+) -> Result<Option<Answer>, Memory>
+    requires under_way { IsUnderWay machine.now limits.now runner.old (T.strip tape.old) meter.old }
+    requires ahead { steps_of runner.old ≤ step }
+    requires within { step ≤ limits.now.steps }
+    ensures runs { IfOk result (λ cut. MatchOption cut
+        (IsAtStep machine.now limits.now step runner.new (T.strip tape.new) meter.new)
+        (IsCut machine.now limits.now)) }
+    ensures within { IsWithinRun limits.now zero_meter meter.new }
+    ensures limit { (T.strip tape.new).limit ≡ (T.strip tape.old).limit }
+    ensures memory { OnErr result (IsTrue T.GROWS) }
+{
+    while runner.steps() < step {
+        match step_on(machine, runner, tape, limits, meter)? {
+            Some(answer) => return Ok(Some(answer)),
+            None => {}
+        }
+    }
+    Ok(None)
+}
+
+/// Runs on up to a step, as `run_to`, and follows the records of a side.
+#[inline(never)]
+pub(crate) fn follow_to<T: Tape>(
+    machine: &Machine,
+    runner: &mut Runner,
+    tape: &mut T,
+    limits: &Limits,
+    step: u64,
+    course: &mut Course,
+    meter: &mut Meter,
+) -> Result<Option<Answer>, Memory>
+    requires under_way { IsUnderWay machine.now limits.now runner.old (T.strip tape.old) meter.old }
+    requires ahead { steps_of runner.old ≤ step }
+    requires within { step ≤ limits.now.steps }
+    ensures runs { IfOk result (λ cut. MatchOption cut
+        (IsAtStep machine.now limits.now step runner.new (T.strip tape.new) meter.new)
+        (IsCut machine.now limits.now)) }
+    ensures follows { IfOk result (λ cut. MatchOption cut
+        (GoesOn machine.now (steps_of runner.old) step course.old course.new)
+        (λ answer. Unit {0})) }
+    ensures within { IsWithinRun limits.now zero_meter meter.new }
+    ensures limit { (T.strip tape.new).limit ≡ (T.strip tape.old).limit }
+    ensures memory { OnErr result (IsTrue T.GROWS) }
+{
+    while runner.steps() < step {
+        let cells = runner.cells();
+        match step_on(machine, runner, tape, limits, meter)? {
+            Some(answer) => return Ok(Some(answer)),
+            None => {}
+        }
+        course.pass(runner, cells);
+    }
+    Ok(None)
+}

@@ -1,0 +1,100 @@
+//! Laws of verdict lines, of runs that repeat and of what could come before a halt, as contracts: a call of
+//! each does nothing.
+ghost use Rattle.bb_cert.specs.claims.FewCells.{HaltsInFewCellsAreEarly, LongRunsInFewCellsNeverHalt};
+ghost use Rattle.bb_cert.specs.claims.Laws.{
+  AgreeingRecordsGoOn,
+  AgreeingRecordsNeverHalt,
+  AgreeingRecordsNeverRepeat,
+  AnswerIsUnique,
+  ClaimsNeverHalt,
+  ClearTreesNeverHalt,
+  EmptyLevelsStay,
+  HasRecord,
+  LevelsComeBeforeHalts,
+  LinesDiffer,
+  LowerRecordsExist,
+  RecordHasOneNumber,
+  RecordHasOneSide,
+  RecordHasOneStep,
+  RecordPair,
+  RecordTakesSteps,
+  RecordsInOrder,
+  RepeatsGoOn,
+  RepeatsKeepDistance,
+  RepeatsMakeNoRecord,
+  RepeatsNeverHalt,
+  ShortOfRecord,
+  SmallerLinesAreLines,
+  TreeHasOneEnd,
+};
+
+/// A verdict line says one thing only: it is the line of one machine and one verdict, or of one column.
+pub fn lines_differ()
+    ensures { LinesDiffer }
+{}
+
+/// A verdict line of fewer states and symbols than are allowed is a verdict line, and says the same.
+pub fn smaller_lines_are_lines()
+    ensures { SmallerLinesAreLines }
+{}
+
+/// A configuration that comes again goes on coming again, so the machine never halts.
+pub fn repeats_go_on()
+    ensures go_on { RepeatsGoOn }
+    ensures never { RepeatsNeverHalt }
+    ensures distance { RepeatsKeepDistance }
+{}
+
+/// A machine that halts in few cells halts early; one that goes on longer in them never halts.
+pub fn few_cells_settle()
+    ensures early { HaltsInFewCellsAreEarly }
+    ensures never { LongRunsInFewCellsNeverHalt }
+{}
+
+/// From two records that agree on, the run goes alike, so the machine never halts.
+pub fn agreeing_records_go_on()
+    ensures alike { AgreeingRecordsGoOn }
+    ensures never { AgreeingRecordsNeverHalt }
+{}
+
+/// A record's number and its step determine one another, and records come in the order of their numbers.
+pub fn records_in_order()
+    ensures one_step { RecordHasOneStep }
+    ensures one_number { RecordHasOneNumber }
+    ensures one_side { RecordHasOneSide }
+    ensures in_order { RecordsInOrder }
+    ensures lower { LowerRecordsExist }
+    ensures short { ShortOfRecord }
+    ensures takes_steps { RecordTakesSteps }
+{}
+
+/// Where two records agree, there are all later ones, and those at the same distance agree.
+pub fn later_records_agree()
+    ensures every { HasRecord }
+    ensures pair { RecordPair }
+{}
+
+/// A run whose configurations come again makes no record from then on, so it has no two records that agree.
+pub fn repeats_make_no_record()
+    ensures no_record { RepeatsMakeNoRecord }
+    ensures never_both { AgreeingRecordsNeverRepeat }
+{}
+
+/// A claim that a machine never halts is right.
+pub fn claims_never_halt()
+    ensures { ClaimsNeverHalt }
+{}
+
+/// What could come before a halt: level `i` of the tree tells of every configuration whether it is `i` steps
+/// before a halting entry, so a machine whose tree ends and has no match for the start never halts.
+pub fn levels_come_before_halts()
+    ensures before { LevelsComeBeforeHalts }
+    ensures stay { EmptyLevelsStay }
+    ensures never { ClearTreesNeverHalt }
+    ensures one_end { TreeHasOneEnd }
+{}
+
+/// A verdict has one answer.
+pub fn answer_is_unique()
+    ensures { AnswerIsUnique }
+{}

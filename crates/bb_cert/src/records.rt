@@ -1,0 +1,165 @@
+//! The records of one side of a run, and the one with which a later one is compared.
+ghost use Rattle.std.specs.Prelude.{◌≡◌, ◌≢◌, ◌↔◌, ◌+ℤ◌, ◌-ℤ◌, ◌≤ℤ◌, pos, IsTrue};
+ghost use Rattle.bb_tape.specs.Strip.{IsInside};
+ghost use Rattle.bb_sim.specs.CellsBetween.{cells_between};
+ghost use Rattle.bb_sim.specs.Runner.{position_of, state_of};
+ghost use Rattle.bb_cert.specs.records.Follow.{AgreesWithKept, HasSameCells, IsComparable, IsKeptInStateOf};
+ghost use Rattle.bb_cert.specs.records.Follow.{IsNarrow, IsWidened, LiesAs, TellsWidening, far_of, lesser_of, number_of};
+ghost use Rattle.bb_cert.specs.records.Follow.{passed, top_of, with_kept};
+
+use crate::verdict::{Extent, Side};
+use bb_machine::Next;
+use bb_sim::Runner;
+use bb_tape::Tape;
+use bb_tape::reach::reach;
+
+/// The record of a side that is kept, and how far the head has come back since. A record's number is how far
+/// out the head is where it is made.
+#[derive(Clone, Copy, Debug)]
+pub struct Records {
+    /// The side whose records they are.
+    pub side: Side,
+    /// The runner where it made the kept record; at position 0 before there is one.
+    pub kept: Runner,
+    /// The position least far out of all that the head had since then.
+    pub nearest: i64,
+}
+
+impl Records {
+    /// The records of a side of a run that stands at its start: none.
+    pub fn new(side: Side, start: Runner) -> Records
+        ensures { result ≡ record { side = side; kept = start; nearest = pos 0 } }
+    {
+        Records {
+            side,
+            kept: start,
+            nearest: 0,
+        }
+    }
+
+    /// Takes in the next position of the head. This is done at each step, and compares it with nothing else.
+    #[inline(always)]
+    pub fn pass(&mut self, position: i64)
+        ensures { self.new ≡ passed self.old position }
+    {
+        self.nearest = match self.side {
+            Side::R => self.nearest.min(position),
+            Side::L => self.nearest.max(position),
+        };
+    }
+
+    /// Keeps the record that the runner has just made.
+    pub fn keep(&mut self, runner: &Runner)
+        ensures { self.new ≡ with_kept self.old runner.now }
+    {
+        self.kept = *runner;
+        self.nearest = runner.position();
+    }
+
+    /// Keeps what others of the same side keep. The side isn't written, so a loop for one side stays one.
+    #[inline(always)]
+    pub fn keep_as(&mut self, others: &Records)
+        ensures { self.new ≡ record self.old { kept = others.now.kept; nearest = others.now.nearest } }
+    {
+        self.kept = others.kept;
+        self.nearest = others.nearest;
+    }
+
+    /// Whether a record is kept that agrees with the one that the runner has just made. The kept one's tape
+    /// may be widened.
+    pub fn agrees<T: Tape>(&self, runner: &Runner, run: &T, saved: &mut T) -> bool
+        requires limit { (T.strip saved.old).limit ≡ (T.strip run.now).limit }
+        requires comparable { IsKeptInStateOf self.now runner.now
+            → IsComparable self.now runner.now (T.strip saved.old) (T.strip run.now) }
+        ensures agree { IsTrue result
+            ↔ AgreesWithKept self.now runner.now (T.strip saved.old) (T.strip run.now) }
+        ensures saved { IsWidened self.now (T.strip run.now) (T.strip saved.old) (T.strip saved.new) }
+    {
+        if self.kept.position() == 0 {
+            return false;
+        }
+        if !is_in_same_state(&self.kept, runner) {
+            return false;
+        }
+        let Ok(()) = reach(saved, self.nearest) else {
+            unreachable!();
+        };
+        self.has_same_cells(runner, run, saved)
+    }
+
+    /// How the kept record and the one that the runner has just made, which agree, lie.
+    pub fn extent(&self, runner: &Runner) -> Extent
+        requires nearest { IsNarrow self.now.nearest }
+        requires kept { IsNarrow (position_of self.now.kept) }
+        requires order { far_of self.now ≤ℤ number_of self.now }
+        requires later { number_of self.now ≤ℤ top_of self.now runner.now }
+        ensures { LiesAs self.now runner.now result }
+    {
+        Extent {
+            shift: runner.position().abs_diff(self.kept.position()),
+            length: length_of(self.nearest, self.kept.position()),
+        }
+    }
+
+    /// Whether the cells from the farthest point out to the kept record are those that lie as far before the
+    /// one that the runner has just made.
+    fn has_same_cells<T: Tape>(&self, runner: &Runner, run: &T, saved: &T) -> bool
+        requires comparable { IsComparable self.now runner.now (T.strip saved.now) (T.strip run.now) }
+        requires far { IsInside (T.strip saved.now) self.now.nearest }
+        ensures { IsTrue result
+            ↔ HasSameCells self.now runner.now (T.strip saved.now).content (T.strip run.now).content }
+    {
+        let kept = self.kept.position();
+        let from = self.nearest.min(kept);
+        let run_from = moved(from, kept, runner.position());
+        let length = length_of(self.nearest, kept);
+        saved.agrees(from, run, run_from, length)
+    }
+}
+
+/// On which side the last step widened the window, after which the runner stands here; none where it didn't.
+/// Before that step the window had so many cells.
+#[inline(always)]
+pub fn widened_side(runner: &Runner, cells: u64) -> Option<Side>
+    ensures { TellsWidening runner.now cells result }
+{
+    if runner.cells() == cells {
+        return None;
+    }
+    if runner.position() == runner.low() {
+        return Some(Side::L);
+    }
+    Some(Side::R)
+}
+
+/// A position as far from another as `to` is from `from`.
+fn moved(position: i64, from: i64, to: i64) -> i64
+    requires position { IsNarrow position }
+    requires from { IsNarrow from }
+    requires to { IsNarrow to }
+    ensures { result ≡ position +ℤ (to -ℤ from) }
+{
+    position + (to - from)
+}
+
+/// How many positions there are from one to another, both counted.
+fn length_of(from: i64, to: i64) -> u64
+    requires from { IsNarrow from }
+    requires to { IsNarrow to }
+    ensures { result ≡ cells_between from to }
+{
+    to.abs_diff(from) + 1
+}
+
+/// Whether two runners are in one state, and not in Z.
+fn is_in_same_state(one: &Runner, other: &Runner) -> bool
+    ensures { IsTrue result ↔ ((state_of one.now ≡ state_of other.now) × (state_of one.now ≢ Next.Halt)) }
+{
+    let Some(first) = one.state() else {
+        return false;
+    };
+    let Some(second) = other.state() else {
+        return false;
+    };
+    first == second
+}

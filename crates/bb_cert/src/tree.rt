@@ -1,0 +1,5 @@
+//! The tree of what could come before a halt, and the walk through it.
+
+pub mod path;
+mod rules;
+pub mod walk;

@@ -1,0 +1,306 @@
+//! The walk through the tree of what could come before a halt, in depth, on one tape.
+//!
+//! The tape shows what a node knows: a known symbol `r` as `r + 1`, and an unknown cell as 0.
+ghost use Rattle.std.specs.Prelude.{◌≡◌, ◌<◌, ◌≤◌, ◌+◌, ◌-◌, ◌*◌, ◌^◌, [], length, max, min, pos, neg_ℤ};
+ghost use Rattle.std.specs.Prelude.{◌+ℤ◌, ◌≤ℤ◌, slice_index, IfOk, IfSome, IsTrue, MatchOption, OnErr, OnOk};
+ghost use Rattle.std.specs.List.{AllByRecursion};
+ghost use Rattle.bb_machine.specs.Machine.{IsMachine};
+ghost use Rattle.bb_tape.specs.Content.{blank};
+ghost use Rattle.bb_tape.specs.Strip.{written, IsBeside, IsInside};
+ghost use Rattle.bb_sim.specs.Run.{Never};
+ghost use Rattle.bb_cert.specs.tree.Path.{depth_of};
+ghost use Rattle.bb_cert.specs.tree.Tree as tree;
+ghost use Rattle.bb_cert.specs.tree.WalkMeter.{IsWithinWalk, walked};
+ghost use Rattle.bb_cert.specs.tree.Tree.{EndsWithin, EndsNowhere};
+ghost use Rattle.bb_cert.specs.inside.Walk.{HasRoom, IsBranch, IsRule, Refused, branch_node, branches};
+ghost use Rattle.bb_cert.specs.inside.Steps.{Enters, Explores, HasTable, IsFirstBranch, IsWithin, WalksAll};
+ghost use Rattle.bb_cert.specs.inside.Steps.{entered_on};
+
+use crate::tree::path::{Frame, Path};
+use crate::tree::rules::Rules;
+use arrayvec::ArrayVec;
+use bb_machine::limits::MAX_LEVELS;
+use bb_machine::{Dir, Entry, Machine};
+use bb_sim::Meter;
+use bb_tape::{Memory, Tape};
+
+/// How many nodes are entered, and on how many levels.
+#[derive(Clone, Copy, Debug)]
+struct Count {
+    nodes: u64,
+    levels: u64,
+}
+
+/// What could come before a node: the state, the symbol under the head, and where the head stands.
+#[derive(Clone, Copy, Debug)]
+struct Branch {
+    position: i64,
+    state: u8,
+    symbol: u8,
+    /// What the tape has there.
+    held: u8,
+    /// How many cells the node that it comes before knows to be other than 0.
+    others: u16,
+}
+
+/// How many levels and nodes the tree of what could come before a halt has: where it ends within so many of
+/// each, and the start matches no node of it. Such a machine never halts.
+///
+/// The tape is lent, and blank at the end. After an error nothing is said of what it holds.
+#[inline(never)]
+pub fn walk<T: Tape>(
+    machine: &Machine,
+    levels: u64,
+    nodes: u64,
+    tape: &mut T,
+    path: &mut Path,
+    meter: &mut Meter,
+) -> Result<Option<(u64, u64)>, Memory>
+    requires path { levels ≤ depth_of path.old }
+    requires tape { 2 * levels ≤ (T.strip tape.old).limit + 1 }
+    requires meter { meter.old.nodes + nodes < 2 ^ 64 }
+    ensures answers { IfOk result (λ found. MatchOption found (EndsNowhere machine.now levels nodes)
+        (λ end. EndsWithin machine.now levels nodes end.0 end.1)) }
+    ensures never { IfOk result (λ found. IfSome found (λ end. Never machine.now)) }
+    ensures blank { OnOk result ((T.strip tape.new).content ≡ blank) }
+    ensures limit { (T.strip tape.new).limit ≡ (T.strip tape.old).limit }
+    ensures depth { depth_of path.new ≡ depth_of path.old }
+    ensures counted { IfOk result (λ found. IfSome found (λ end. meter.new ≡ walked meter.old end.0 end.1)) }
+    ensures within { IsWithinWalk levels nodes meter.old meter.new }
+    ensures memory { OnErr result (IsTrue T.GROWS) }
+{
+    let mut entered = Count {
+        nodes: 0,
+        levels: 0,
+    };
+    tape.reset();
+    let ends = explore_all(machine, Count { nodes, levels }, tape, path, &mut entered);
+    meter.nodes += entered.nodes;
+    meter.most_levels = meter.most_levels.max(entered.levels);
+    tape.reset();
+    if ends? {
+        Ok(Some((entered.levels, entered.nodes)))
+    } else {
+        Ok(None)
+    }
+}
+
+/// Walks through the trees of all halting entries. False where no tree ends within what may be entered.
+fn explore_all<T: Tape>(
+    machine: &Machine,
+    most: Count,
+    tape: &mut T,
+    path: &mut Path,
+    entered: &mut Count,
+) -> Result<bool, Memory>
+    requires blank { (T.strip tape.old).content ≡ blank }
+    requires room { HasRoom (T.strip tape.old) most.levels }
+    requires path { most.levels ≤ depth_of path.old }
+    requires nodes { entered.old.nodes ≡ 0 }
+    requires levels { entered.old.levels ≡ 0 }
+    ensures walked { IfOk result (WalksAll machine.now most entered.new) }
+    ensures machine { IsMachine machine.now }
+    ensures within { IsWithin most entered.new }
+    ensures limit { (T.strip tape.new).limit ≡ (T.strip tape.old).limit }
+    ensures depth { depth_of path.new ≡ depth_of path.old }
+    ensures memory { OnErr result (IsTrue T.GROWS) }
+{
+    let mut rules = Rules {
+        list: ArrayVec::new(),
+        starts: ArrayVec::new(),
+    };
+    rules.gather(machine);
+    let halting = machine.states() as usize;
+    for index in rules.starts[halting]..rules.starts[halting + 1] {
+        let rule = rules.list[index as usize];
+        let root = Branch {
+            position: 0,
+            state: rule.state,
+            symbol: rule.symbol,
+            held: 0,
+            others: 0,
+        };
+        if !explore(&rules, root, most, tape, path, entered)? {
+            return Ok(false);
+        }
+    }
+    Ok(true)
+}
+
+/// Walks through the tree of one halting entry. False where no tree ends within what may be entered.
+fn explore<T: Tape>(
+    rules: &Rules,
+    root: Branch,
+    most: Count,
+    tape: &mut T,
+    path: &mut Path,
+    entered: &mut Count,
+) -> Result<bool, Memory>
+    requires rules { HasTable rules.now.list.items rules.now.starts.items }
+    requires root { IsBranch (length rules.now.starts.items - 2) blank 0 root }
+    requires blank { (T.strip tape.old).content ≡ blank }
+    requires room { HasRoom (T.strip tape.old) most.levels }
+    requires path { most.levels ≤ depth_of path.old }
+    requires within { IsWithin most entered.old }
+    ensures explores { IfOk result (Explores rules.now.list.items rules.now.starts.items root most entered.old
+        entered.new (T.strip tape.new).content) }
+    ensures room { HasRoom (T.strip tape.new) most.levels }
+    ensures within { IsWithin most entered.new }
+    ensures limit { (T.strip tape.new).limit ≡ (T.strip tape.old).limit }
+    ensures depth { depth_of path.new ≡ depth_of path.old }
+    ensures memory { OnErr result (IsTrue T.GROWS) }
+{
+    path.clear();
+    let Some(mut top) = enter(rules, root, 0, most, tape, entered)? else {
+        return Ok(false);
+    };
+    loop {
+        match next_branch(rules, top, tape) {
+            Some((branch, next)) => {
+                let Some(child) = enter(rules, branch, path.len() + 1, most, tape, entered)? else {
+                    return Ok(false);
+                };
+                top.next = next;
+                path.push(top);
+                top = child;
+            }
+            None => {
+                leave(top, tape)?;
+                match path.pop() {
+                    Some(parent) => top = parent,
+                    None => return Ok(true),
+                }
+            }
+        }
+    }
+}
+
+/// Enters a node on a level. None past what may be entered, and where the start matches the node.
+#[inline]
+fn enter<T: Tape>(
+    rules: &Rules,
+    branch: Branch,
+    level: u64,
+    most: Count,
+    tape: &mut T,
+    entered: &mut Count,
+) -> Result<Option<Frame>, Memory>
+    requires branch { IsBranch (length rules.now.starts.items - 2) (T.strip tape.old).content level branch }
+    requires beside { IsBeside (T.strip tape.old) branch.position }
+    requires level { level ≤ MAX_LEVELS }
+    requires room { HasRoom (T.strip tape.old) most.levels }
+    requires within { IsWithin most entered.old }
+    ensures enters { IfOk result (λ frame. IfSome frame (Enters rules.now.starts.items branch level
+        (T.strip tape.old) (T.strip tape.new))) }
+    ensures counted { IfOk result (λ frame. IfSome frame (λ frame. (level < most.levels)
+        × (entered.old.nodes < most.nodes) × (entered.new ≡ entered_on level entered.old))) }
+    ensures refused { IfOk result (λ frame. MatchOption frame
+        (Refused (branch_node (T.strip tape.old).content branch) level entered.old.nodes most.nodes
+        most.levels)
+        (λ frame. Unit {0})) }
+    ensures room { HasRoom (T.strip tape.new) most.levels }
+    ensures within { IsWithin most entered.new }
+    ensures limit { (T.strip tape.new).limit ≡ (T.strip tape.old).limit }
+    ensures memory { OnErr result (IsTrue T.GROWS) }
+{
+    if most.levels <= level || most.nodes <= entered.nodes {
+        return Ok(None);
+    }
+    let Ok(()) = tape.visit(branch.position) else {
+        unreachable!();
+    };
+    let Ok(()) = tape.write(branch.position, branch.symbol + 1) else {
+        return Err(Memory);
+    };
+    entered.nodes += 1;
+    entered.levels = entered.levels.max(level + 1);
+    let others = count_others(branch);
+    if branch.state == 0 && others == 0 {
+        return Ok(None);
+    }
+    let state = branch.state as usize;
+    Ok(Some(Frame {
+        position: branch.position,
+        state: branch.state,
+        before: branch.held,
+        others,
+        next: rules.starts[state],
+        end: rules.starts[state + 1],
+    }))
+}
+
+/// How many cells a branch's node knows to be other than 0.
+#[inline]
+fn count_others(branch: Branch) -> u16
+    requires few { branch.others < 65535 }
+    requires counted { 1 < branch.held → 0 < branch.others }
+    ensures { result + min 1 (branch.held - 1) ≡ branch.others + min 1 branch.symbol }
+{
+    let more = if branch.symbol == 0 {
+        branch.others
+    } else {
+        branch.others + 1
+    };
+    if branch.held > 1 { more - 1 } else { more }
+}
+
+/// Leaves a node: the tape has what it had before.
+#[inline]
+fn leave<T: Tape>(frame: Frame, tape: &mut T) -> Result<(), Memory>
+    requires inside { IsInside (T.strip tape.old) frame.position }
+    requires symbol { frame.before ≤ 10 }
+    ensures left { OnOk result (T.strip tape.new ≡ written (T.strip tape.old) frame.position frame.before) }
+    ensures refused { OnErr result (T.strip tape.new ≡ T.strip tape.old) }
+    ensures memory { OnErr result (IsTrue T.GROWS) }
+{
+    match tape.write(frame.position, frame.before) {
+        Ok(()) => Ok(()),
+        Err(_) => Err(Memory),
+    }
+}
+
+/// The next node that could come before one, and the rule after the one by which it comes.
+#[inline]
+fn next_branch<T: Tape>(rules: &Rules, frame: Frame, tape: &T) -> Option<(Branch, u16)>
+    requires rules { AllByRecursion (IsRule (length rules.now.starts.items - 2)) rules.now.list.items }
+    requires order { frame.next ≤ frame.end }
+    requires within { frame.end ≤ length rules.now.list.items }
+    requires low { neg_ℤ (pos MAX_LEVELS) ≤ℤ frame.position }
+    requires high { frame.position ≤ℤ pos MAX_LEVELS }
+    ensures { MatchOption result (branches rules.now.list.items (T.strip tape.now).content frame ≡ [])
+        (λ found. IsFirstBranch rules.now.list.items (length rules.now.starts.items - 2)
+        (T.strip tape.now).content frame found.0 found.1) }
+{
+    for index in frame.next..frame.end {
+        let rule = rules.list[index as usize];
+        let Entry::Go { write, dir, .. } = rule.entry else {
+            continue;
+        };
+        let position = left_cell(frame.position, dir);
+        let held = tape.read(position);
+        if held == 0 || held == write + 1 {
+            let branch = Branch {
+                position,
+                state: rule.state,
+                symbol: rule.symbol,
+                held,
+                others: frame.others,
+            };
+            return Some((branch, index + 1));
+        }
+    }
+    None
+}
+
+/// The cell that the head left by a move to this position.
+#[inline]
+fn left_cell(position: i64, dir: Dir) -> i64
+    requires low { neg_ℤ (pos MAX_LEVELS) ≤ℤ position }
+    requires high { position ≤ℤ pos MAX_LEVELS }
+    ensures { result ≡ position +ℤ tree.left_cell dir }
+{
+    match dir {
+        Dir::L => position + 1,
+        Dir::R => position - 1,
+    }
+}

@@ -1,0 +1,182 @@
+//! The reader of verdict lines.
+ghost use Rattle.std.specs.Prelude.{◌≡◌, ◌≢◌, ℕ, ◌+◌, ◌≤◌, ◌<◌, ◌^◌, List, ◌∷◌, ◌++◌, decimal};
+ghost use Rattle.std.specs.Prelude.{All, IfNone, IfSome, MatchOption, Option, Some};
+ghost use Rattle.bb_cert.specs.declared.verdict.Extent.{Extent};
+ghost use Rattle.bb_cert.specs.declared.verdict.Verdict.{Verdict};
+ghost use Rattle.bb_cert.specs.declared.verdict.reader.Line.{Line};
+ghost use Rattle.bb_cert.specs.verdict.Verdict.{HasExtentNumbers, HasNumbers};
+ghost use Rattle.bb_cert.specs.verdict.Line.{pair_text, records_text, refusal_text, second_text, verdict_text};
+ghost use Rattle.bb_cert.specs.verdict.Line.{line_said, IsLineOf};
+
+use crate::verdict::{Extent, Side, Verdict, Why};
+use bb_machine::{LINE, Machine};
+
+/// What a verdict line says.
+#[derive(Drop)]
+pub enum Line {
+    /// A verdict on a machine.
+    Claim(Machine, Verdict),
+    /// The column at which a line is refused.
+    Refusal(u32),
+}
+
+/// What a verdict line says beside its machine.
+#[derive(Clone, Copy, Debug, PartialEq, Eq)]
+pub enum LineContent {
+    /// A verdict on the machine.
+    Claim(Verdict),
+    /// The column at which a line is refused.
+    Refusal(u32),
+}
+
+/// What a verdict line says; `None` where the bytes are no verdict line. A newline is no part of a line.
+///
+/// Fields are separated by one space. Numbers are decimal, with no sign and no leading zero.
+pub fn read_line(bytes: &[u8]) -> Option<Line>
+    ensures found { IfSome result (λ line. IsLineOf line bytes.now) }
+    ensures only { (line : Line) → IsLineOf line bytes.now → result ≡ Some line }
+    ensures none { IfNone result ((line : Line) → ¬ (IsLineOf line bytes.now)) }
+{
+    let mut machine = Machine::blank();
+    match read_line_in_place(bytes, &mut machine) {
+        Some(LineContent::Claim(verdict)) => Some(Line::Claim(machine, verdict)),
+        Some(LineContent::Refusal(column)) => Some(Line::Refusal(column)),
+        None => None,
+    }
+}
+
+/// The same, the machine being read in place of another one, so that no table is cleared or moved. Where a
+/// line has no machine, nothing is said of what stands there.
+pub fn read_line_in_place(bytes: &[u8], machine: &mut Machine) -> Option<LineContent>
+    ensures found { IfSome result (λ said. IsLineOf (line_said machine.new said) bytes.now) }
+    ensures none { IfNone result ((line : Line) → ¬ (IsLineOf line bytes.now)) }
+{
+    if let Some(column) = read_refusal(bytes) {
+        return Some(LineContent::Refusal(column));
+    }
+    let (text, words) = split_at_space(bytes)?;
+    match machine.read_in_place(text) {
+        Ok(()) => {}
+        Err(_) => return None,
+    }
+    let verdict = read_verdict(words)?;
+    Some(LineContent::Claim(verdict))
+}
+
+/// The column of a refused line.
+fn read_refusal(bytes: &[u8]) -> Option<u32>
+    ensures { MatchOption result
+        ((column : ℕ) → 0 < column → column ≤ LINE + 1 → refusal_text column ≢ bytes.now)
+        (λ column. (0 < column) × (column ≤ LINE + 1) × (refusal_text column ≡ bytes.now)) }
+{
+    let digits = bytes.strip_prefix(b"refused ".as_slice())?;
+    let column = read_number(digits)?;
+    if column == 0 || column > LINE as u64 + 1 {
+        return None;
+    }
+    Some(column as u32)
+}
+
+/// The verdict that stands after a machine and a space.
+fn read_verdict(words: &[u8]) -> Option<Verdict>
+    ensures { MatchOption result
+        ((verdict : Verdict) → HasNumbers verdict → verdict_text verdict ≢ 32 ∷ words.now)
+        (λ verdict. HasNumbers verdict × (verdict_text verdict ≡ 32 ∷ words.now)) }
+{
+    if let Some((steps, score)) = read_pair(b"halt ", words) {
+        return Some(Verdict::Halt { steps, score });
+    }
+    if let Some((first, second)) = read_pair(b"cycler ", words) {
+        return Some(Verdict::Cycler { first, second });
+    }
+    if let Some((first, second, extent)) = read_records(b"translated L ", words) {
+        return Some(Verdict::Translated {
+            side: Side::L,
+            first,
+            second,
+            extent,
+        });
+    }
+    if let Some((first, second, extent)) = read_records(b"translated R ", words) {
+        return Some(Verdict::Translated {
+            side: Side::R,
+            first,
+            second,
+            extent,
+        });
+    }
+    if let Some((levels, nodes)) = read_pair(b"backward ", words) {
+        return Some(Verdict::Backward { levels, nodes });
+    }
+    if words == b"undecided steps".as_slice() {
+        return Some(Verdict::Undecided(Why::Steps));
+    }
+    if words == b"undecided cells".as_slice() {
+        return Some(Verdict::Undecided(Why::Cells));
+    }
+    None
+}
+
+/// The two numbers that stand after these words.
+fn read_pair(words: &[u8], bytes: &[u8]) -> Option<(u64, u64)>
+    ensures { MatchOption result
+        ((a b : ℕ) → a < 2 ^ 64 → b < 2 ^ 64 → words.now ++ pair_text a b ≢ bytes.now)
+        (λ pair. (pair.0 < 2 ^ 64) × (pair.1 < 2 ^ 64) × (words.now ++ pair_text pair.0 pair.1 ≡ bytes.now)) }
+{
+    let numbers = bytes.strip_prefix(words)?;
+    let (first, second) = split_at_space(numbers)?;
+    Some((read_number(first)?, read_number(second)?))
+}
+
+/// The steps of two records that stand after these words, and their extent where there is one.
+fn read_records(words: &[u8], bytes: &[u8]) -> Option<(u64, u64, Option<Extent>)>
+    ensures { MatchOption result
+        ((a b : ℕ) (extent : Option Extent) → a < 2 ^ 64 → b < 2 ^ 64 → HasExtentNumbers extent
+        → words.now ++ records_text a b extent ≢ bytes.now)
+        (λ found. (found.0 < 2 ^ 64) × (found.1 < 2 ^ 64) × HasExtentNumbers found.2
+        × (words.now ++ records_text found.0 found.1 found.2 ≡ bytes.now)) }
+{
+    let numbers = bytes.strip_prefix(words)?;
+    let (first, others) = split_at_space(numbers)?;
+    let first = read_number(first)?;
+    let (second, extent) = read_second(others)?;
+    Some((first, second, extent))
+}
+
+/// The second step of a pair, and the extent where one stands after it.
+fn read_second(bytes: &[u8]) -> Option<(u64, Option<Extent>)>
+    ensures { MatchOption result
+        ((b : ℕ) (extent : Option Extent) → b < 2 ^ 64 → HasExtentNumbers extent
+        → second_text b extent ≢ bytes.now)
+        (λ found. (found.0 < 2 ^ 64) × HasExtentNumbers found.1 × (second_text found.0 found.1 ≡ bytes.now)) }
+{
+    let Some((second, extent)) = split_at_space(bytes) else {
+        return Some((read_number(bytes)?, None));
+    };
+    let second = read_number(second)?;
+    let (shift, length) = read_pair(b"", extent)?;
+    Some((second, Some(Extent { shift, length })))
+}
+
+/// The number whose decimal text the bytes are.
+fn read_number(digits: &[u8]) -> Option<u64>
+    ensures { MatchOption result
+        ((n : ℕ) → n < 2 ^ 64 → decimal n ≢ digits.now)
+        (λ n. (n < 2 ^ 64) × (decimal n ≡ digits.now)) }
+{
+    let first = *digits.first()?;
+    if first == b'+' || first == b'0' && digits.len() > 1 {
+        return None;
+    }
+    str::from_utf8(digits).ok()?.parse().ok()
+}
+
+/// What stands before the first space, and what stands after it.
+fn split_at_space(bytes: &[u8]) -> Option<(&[u8], &[u8])>
+    ensures { MatchOption result
+        ((prefix rest : List ℕ) → prefix ++ 32 ∷ rest ≢ bytes.now)
+        (λ parts. All (λ byte. byte ≢ 32) parts.0.now × (parts.0.now ++ 32 ∷ parts.1.now ≡ bytes.now)) }
+{
+    let space = bytes.iter().position(|byte| *byte == b' ')?;
+    Some((&bytes[..space], &bytes[space + 1..]))
+}

@@ -1,0 +1,3 @@
+-- What private functions tell one another. No public contract cites it.
+pub mod Follow
+pub mod Search

@@ -1,0 +1,97 @@
+-- What the deciders that are on find, as the functions of this crate tell one another; no public contract
+-- cites it.
+use Rattle.std.specs.Prelude.{◌≡◌, ℕ, ◌+◌, ◌*◌, ◌≤◌, ◌⊎◌, max, Bool, false, IsTrue, Option, Some, None}
+use Rattle.bb_machine.specs.Limits.{Bounds}
+use Rattle.bb_machine.specs.Machine.{Table}
+use Rattle.bb_sim.specs.declared.meter.Meter.{Meter}
+use Rattle.bb_sim.specs.Span.{span, IsLastInside}
+use Rattle.bb_cert.specs.declared.verdict.Verdict.{Verdict}
+use Rattle.bb_cert.specs.declared.verdict.Verdict.TheVariants.{Halt, Cycler, Translated, Backward, Undecided}
+use Rattle.bb_cert.specs.verdict.Extent.{TellsExtent}
+use Rattle.bb_cert.specs.tree.Tree.{Back}
+use Rattle.bb_decide.specs.declared.plan.Plan.{Plan}
+use Rattle.bb_decide.specs.Cycle.{IsFirstCycle}
+use Rattle.bb_decide.specs.Translation.{IsFirstTranslation}
+use Rattle.bb_decide.specs.Verdict.{PassesAll, PassesCycles, PassesTranslations}
+use Rattle.bb_decide.specs.Work.{CountsWalk, CycleSteps, StepsIfMade, TranslationSteps}
+
+-- what a decider finds where it is on: none where it is off, or there is nothing to find
+abbrev pub FindsIfOn : Bool → (Option Verdict → Type 0) → Option Verdict → Type 0
+FindsIfOn on finds None = IsTrue on → finds None
+FindsIfOn on finds (Some verdict) = IsTrue on × finds (Some verdict)
+
+-- and what it counts: its search, or nothing where it is off
+abbrev pub CountsIfOn : Bool → (Option Verdict → Type 0) → (Meter → Meter → Option Verdict → Type 0) → Meter
+    → Meter → Option Verdict → Type 0
+CountsIfOn on finds counts old new found =
+    (IsTrue on × counts old new found × finds found) ⊎ ((on ≡ false) × (new ≡ old))
+
+-- what the two searches find, that for cycles first
+abbrev pub SearchesFind : Table → Bounds → Plan → Option Verdict → Type 0
+SearchesFind table bounds plan None = PassesCycles table bounds plan × PassesTranslations table bounds plan
+SearchesFind table bounds plan (Some (Cycler first second)) =
+    IsTrue plan.cyclers × IsFirstCycle table bounds first second
+SearchesFind table bounds plan (Some (Translated side first second extent)) =
+    PassesCycles table bounds plan × IsTrue plan.translated
+    × IsFirstTranslation table bounds side first second × TellsExtent table side first second extent
+SearchesFind table bounds plan (Some (Halt steps score)) = ⊥
+SearchesFind table bounds plan (Some (Backward levels nodes)) = ⊥
+SearchesFind table bounds plan (Some (Undecided why)) = ⊥
+
+-- so many steps were counted, and no window beyond that of a run within bounds
+pub record Adds (table : Table) (bounds : Bounds) (count : ℕ) (old new : Meter) : Type 0 where
+  pub steps : new.steps ≡ old.steps + count
+  pub cells_kept : old.most_cells ≤ new.most_cells
+  pub cells : (last : ℕ) → IsLastInside table bounds last
+      → new.most_cells ≤ max old.most_cells (span table last)
+  pub nodes : new.nodes ≡ old.nodes
+  pub most_levels : new.most_levels ≡ old.most_levels
+
+-- what the two searches count
+pub record SearchesCount (table : Table) (bounds : Bounds) (plan : Plan) (old new : Meter) : Type 0 where
+  pub cycles : ℕ
+  pub is_cycles : StepsIfMade (IsTrue plan.cyclers) (CycleSteps table bounds) cycles
+  pub translations : ℕ
+  pub is_translations : StepsIfMade (PassesCycles table bounds plan × IsTrue plan.translated)
+      (TranslationSteps table bounds) translations
+  pub adds : Adds table bounds (cycles + translations) old new
+
+-- and no more than two runs within bounds
+pub record IsWithinSearches (bounds : Bounds) (old new : Meter) : Type 0 where
+  pub steps : new.steps ≤ old.steps + 2 * bounds.steps
+  pub most_cells : new.most_cells ≤ max old.most_cells bounds.cells
+  pub nodes : new.nodes ≡ old.nodes
+  pub most_levels : new.most_levels ≡ old.most_levels
+
+-- what the deciders that are on find, in their order
+abbrev pub DecidersFind : Table → Bounds → Plan → Option Verdict → Type 0
+DecidersFind table bounds plan None = PassesAll table bounds plan
+DecidersFind table bounds plan (Some (Cycler first second)) =
+    SearchesFind table bounds plan (Some (Cycler first second))
+DecidersFind table bounds plan (Some (Translated side first second extent)) =
+    SearchesFind table bounds plan (Some (Translated side first second extent))
+DecidersFind table bounds plan (Some (Backward levels nodes)) =
+    PassesCycles table bounds plan × PassesTranslations table bounds plan × IsTrue plan.backward
+    × Back table bounds levels nodes
+DecidersFind table bounds plan (Some (Halt steps score)) = ⊥
+DecidersFind table bounds plan (Some (Undecided why)) = ⊥
+
+-- backward reasoning is on, and the searches that are on found nothing
+abbrev pub ReachesWalk : Table → Bounds → Plan → Type 0
+ReachesWalk table bounds plan =
+    PassesCycles table bounds plan × PassesTranslations table bounds plan × IsTrue plan.backward
+
+-- what they count: the two searches first, then the walk
+pub record DecidersCount (table : Table) (bounds : Bounds) (plan : Plan) (old new : Meter) : Type 0 where
+  pub searched : Meter
+  pub searches : SearchesCount table bounds plan old searched
+  pub steps : new.steps ≡ searched.steps
+  pub most_cells : new.most_cells ≡ searched.most_cells
+  pub walk : CountsWalk (ReachesWalk table bounds plan) table bounds new
+
+-- and no more than two runs and a walk within bounds
+pub record IsWithinDeciders (bounds : Bounds) (old new : Meter) : Type 0 where
+  pub steps : new.steps ≤ old.steps + 2 * bounds.steps
+  pub most_cells : new.most_cells ≤ max old.most_cells bounds.cells
+  pub nodes : new.nodes ≤ max old.nodes bounds.nodes
+  pub most_levels : new.most_levels ≤ max old.most_levels bounds.depth

@@ -1,0 +1,338 @@
+//! Answers to lists of verdict lines, which were worked out by hand, and to the lists that deciding writes.
+ghost use Rattle.std.specs.Prelude.{◌≡◌, ◌≤◌};
+ghost use Rattle.bb_cert.specs.checker.Pair.{PairHasCells};
+ghost use Rattle.bb_cert.specs.tree.Path.{depth_of};
+
+use crate::decided_lists::{DEFAULTS, Row};
+use crate::support::streams::{Pieces, Sink};
+use bb_cert::{Pair, Path};
+use bb_lines::fault::Fault;
+use bb_lines::watched::Watched;
+use bb_machine::Limits;
+use bb_run::{Summary, run_check};
+use bb_tape::{MapTape, RingTape, Tape};
+use std::io::{ErrorKind, Read};
+use std::process::Abort;
+use std::test::Fail;
+
+static CLAIMS: [Row; 11] = [
+    (DEFAULTS, b"1RB1LB_1LA1RZ halt 6 4\n", b"ok\n", true),
+    (
+        DEFAULTS,
+        b"1RB1LB_1LA1RZ halt 6 5\n1RB1LB_1LA1RZ halt 5 4\n1RB1LB_1LA1RZ halt 7 4\n",
+        b"bad\nbad\nbad\n",
+        false,
+    ),
+    (
+        [5, 65_536, 300, 1_000_000],
+        b"1RB1LB_1LA1RZ halt 6 4\n",
+        b"over\n",
+        false,
+    ),
+    (
+        [1_000_000, 3, 2, 1_000_000],
+        b"1RB1LB_1LA1RZ halt 6 4\n",
+        b"over\n",
+        false,
+    ),
+    (DEFAULTS, b"1RZ--- backward 1 2\n", b"bad\n", false),
+    (
+        DEFAULTS,
+        b"0RB---_0LA--- backward 2 4\n0RB---_0LA--- backward 2 3\n0RB---_0LA--- backward 3 4\n",
+        b"ok\nbad\nbad\n",
+        false,
+    ),
+    (
+        [1_000_000, 65_536, 300, 3],
+        b"0RB---_0LA--- backward 2 4\n",
+        b"over\n",
+        false,
+    ),
+    (DEFAULTS, b"1RB---_1LA--- backward 3 6\n", b"bad\n", false),
+    (
+        [1_000_000, 65_536, 300, 4],
+        b"0RB---_0LA--- backward 2 4",
+        b"ok\n",
+        true,
+    ),
+    ([6, 4, 2, 0], b"1RB1LB_1LA1RZ halt 6 4\n", b"ok\n", true),
+    (DEFAULTS, b"", b"", true),
+];
+
+static PAIRS_AND_OTHERS: [Row; 8] = [
+    (
+        DEFAULTS,
+        b"0RB---_0LA--- cycler 0 2\n0RB---_0LA--- cycler 1 2\n0RB---_0LA--- cycler 2 2\n",
+        b"ok\nbad\nbad\n",
+        false,
+    ),
+    (DEFAULTS, b"------ cycler 0 1\n", b"bad\n", false),
+    (
+        DEFAULTS,
+        b"1RA1RA translated R 2 5\n1RA1RA translated R 0 2\n",
+        b"ok\nbad\n",
+        false,
+    ),
+    (
+        DEFAULTS,
+        b"1RB1RZ_1LB0RC_1LC1LA translated R 6 17\n",
+        b"bad\n",
+        false,
+    ),
+    (
+        DEFAULTS,
+        b"1RA1RA undecided cells\nrefused 14\n",
+        b"open\nopen\n",
+        true,
+    ),
+    (
+        DEFAULTS,
+        b"------ halt 00 0\n------ halt 0 0 \n------ halt 18446744073709551616 0\n",
+        b"unread\nunread\nunread\n",
+        false,
+    ),
+    (
+        DEFAULTS,
+        b"------ halt 18446744073709551615 0\n",
+        b"over\n",
+        false,
+    ),
+    (
+        DEFAULTS,
+        b"------ halt 0 0\n\n1RA1RA undecided steps\n------ halt 0 0",
+        b"ok\nunread\nopen\nok\n",
+        false,
+    ),
+];
+
+/// Lines with a shift and a length, and lines that are none.
+static EXTENTS_AND_OTHERS: [Row; 6] = [
+    (
+        DEFAULTS,
+        b"1RA1RA translated R 1 2 1 1\n1RA1RA translated R 1 2\n1RA1RA translated R 2 5 3 1\n",
+        b"ok\nok\nok\n",
+        true,
+    ),
+    (
+        DEFAULTS,
+        b"1RA1RA translated R 1 2 1 2\n1RA1RA translated R 1 2 2 1\n\
+          1RA1RA translated R 1 2 18446744073709551615 1\n1RA1RA translated R 2 2 0 1\n",
+        b"bad\nbad\nbad\nbad\n",
+        false,
+    ),
+    (
+        DEFAULTS,
+        b"1RA1RA translated R 1 2 1\n1RA1RA translated R 1 2 01 1\n\
+          1RA1RA translated R 1 2 18446744073709551616 1\n",
+        b"unread\nunread\nunread\n",
+        false,
+    ),
+    (
+        DEFAULTS,
+        b"1RB0RA_1LA--- translated R 1 5 2 2\n1RB0RA_1LA--- translated R 1 5 2 1\n",
+        b"ok\nbad\n",
+        false,
+    ),
+    (
+        DEFAULTS,
+        b"refused 775\nrefused 776\nrefused 0\nrefused 01\nrefused 50\nrefused\n1RA1RA halt 1\n",
+        b"open\nunread\nunread\nunread\nopen\nunread\nunread\n",
+        false,
+    ),
+    (
+        DEFAULTS,
+        b"0RA0RA_0RA0RA_0RA0RA_0RA0RA_0RA0RA_0RA0RA_0RA0RA translated R \
+          18446744073709551615 18446744073709551615\n1RA1RA cycler 18446744073709551615 0\n",
+        b"over\nover\n",
+        false,
+    ),
+];
+
+/// Checks a list, and answers what was written, too.
+pub(crate) fn checked<T: Tape>(
+    rt: &(impl Abort + AllocGlobal),
+    pair: &mut Pair<T>,
+    path: &mut Path,
+    limits: &Limits,
+    input: &[u8],
+) -> (Result<Summary, Fault>, Vec<u8>)
+    requires tapes { PairHasCells T.strip limits.now.cells pair.old }
+    requires path { limits.now.depth ≤ depth_of path.old }
+    ensures tapes { PairHasCells T.strip limits.now.cells pair.new }
+    ensures path { depth_of path.new ≡ depth_of path.old }
+{
+    let mut reader = Watched::new(input);
+    let mut writer = Watched::new(Vec::new(rt.alloc()));
+    let end = run_check(&mut reader, &mut writer, limits, pair, path);
+    (end, writer.into_inner())
+}
+
+/// Checks a list on maps.
+pub(crate) fn checked_on_maps(
+    rt: &(impl Abort + AllocGlobal),
+    limits: &Limits,
+    input: &[u8],
+) -> (Result<Summary, Fault>, Vec<u8>) {
+    let mut pair = Pair {
+        run: MapTape::new(rt.alloc(), limits.cells()),
+        saved: MapTape::new(rt.alloc(), limits.cells()),
+    };
+    let mut path = Path::new(rt.alloc(), limits.depth()).expect(rt, "a path");
+    checked(rt, &mut pair, &mut path, limits, input)
+}
+
+/// The same on rings.
+pub(crate) fn checked_on_rings(
+    rt: &(impl Abort + AllocGlobal),
+    limits: &Limits,
+    input: &[u8],
+) -> (Result<Summary, Fault>, Vec<u8>) {
+    let mut pair = Pair {
+        run: RingTape::new(rt.alloc(), limits.cells()).expect(rt, "memory"),
+        saved: RingTape::new(rt.alloc(), limits.cells()).expect(rt, "memory"),
+    };
+    let mut path = Path::new(rt.alloc(), limits.depth()).expect(rt, "a path");
+    checked(rt, &mut pair, &mut path, limits, input)
+}
+
+/// Checks what a reader gives, on rings, into a sink.
+fn checked_over<R: Read + Drop>(
+    rt: &(impl Abort + AllocGlobal),
+    limits: &Limits,
+    reader: R,
+    mut sink: Sink,
+) -> (Result<Summary, Fault>, Sink) {
+    let mut pair = Pair {
+        run: RingTape::new(rt.alloc(), limits.cells()).expect(rt, "memory"),
+        saved: RingTape::new(rt.alloc(), limits.cells()).expect(rt, "memory"),
+    };
+    let mut path = Path::new(rt.alloc(), limits.depth()).expect(rt, "a path");
+    let mut reader = Watched::new(reader);
+    let mut writer = Watched::new(&mut sink);
+    let end = run_check(&mut reader, &mut writer, limits, &mut pair, &mut path);
+    assert_eq!(rt; reader.failed(), end == Err(Fault::Read));
+    assert_eq!(rt; writer.failed(), end == Err(Fault::Write));
+    (end, sink)
+}
+
+pub(super) fn answers(rt: &(impl Abort + AllocGlobal), rows: &[Row]) {
+    for (four, input, output, clean) in rows {
+        let limits = Limits::new(four[0], four[1], four[2], four[3]).expect(rt, "limits");
+        let (end, written) = checked_on_maps(rt, &limits, input);
+        assert_eq!(rt; written.as_slice(), *output);
+        let (ring_end, ring_written) = checked_on_rings(rt, &limits, input);
+        assert_eq!(rt; ring_written.as_slice(), *output);
+        assert_eq!(rt; ring_end, end);
+        assert_eq!(rt; end.expect(rt, "no fault").clean, *clean);
+    }
+}
+
+#[test]
+fn answers_claims(rt: HostRuntime) {
+    answers(&rt, CLAIMS.as_slice());
+    answers(&rt, PAIRS_AND_OTHERS.as_slice());
+    answers(&rt, EXTENTS_AND_OTHERS.as_slice());
+}
+
+#[test]
+fn sums_up_claims(rt: HostRuntime) {
+    let limits = Limits::new(1_000, 64, 10, 100).expect(&rt, "limits");
+    let input =
+        b"1RB1LB_1LA1RZ halt 6 4\n0RB---_0LA--- backward 2 4\n1RA1RA undecided cells\n".as_slice();
+    let (end, written) = checked_on_rings(&rt, &limits, input);
+    assert_eq!(rt; written.as_slice(), b"ok\nok\nopen\n".as_slice());
+    let summary = end.expect(&rt, "no fault");
+    assert!(rt; summary.clean);
+    assert_eq!(rt; summary.peak.steps, 6);
+    assert_eq!(rt; summary.peak.most_cells, 4);
+    assert_eq!(rt; summary.peak.nodes, 4);
+    assert_eq!(rt; summary.peak.most_levels, 2);
+}
+
+/// How a line begins, the byte that follows, and the length of the line.
+static UNREAD: [(&[u8], u8, usize); 10] = [
+    (b"------ halt 0 0", b'0', 104),
+    (b"------ halt 0 0", b'0', 1_022),
+    (b"------ halt 0 0", b'0', 1_023),
+    (b"------ halt 0 0", b'0', 1_024),
+    (b"------ halt 0 0", b'0', 1_025),
+    (b"------ halt 0 0", b'0', 20_000),
+    (b"------ halt 0 0", b' ', 1_000_015),
+    (b"", b'x', 1_023),
+    (b"", b'x', 1_024),
+    (b"1RZ--- halt 1 1", 255, 16),
+];
+
+/// Such a line is unread, and the next line is answered.
+#[test]
+fn other_lines_are_unread(rt: HostRuntime) -> Result<(), Fail> {
+    let limits = Limits::new(9, 9, 5, 9).expect(&rt, "limits");
+    for (begin, filler, long) in &UNREAD {
+        let mut input: Vec<u8> = begin.to_vec(rt.alloc())?;
+        input.resize(*long, *filler)?;
+        input.extend_from_slice(b"\n------ halt 0 0")?;
+        let (end, written) = checked_on_rings(&rt, &limits, input.as_slice());
+        assert_eq!(rt; written.as_slice(), b"unread\nok\n".as_slice(), "{long}");
+        assert!(rt; !end.expect(&rt, "no fault").clean);
+    }
+    Ok(())
+}
+
+const LIST: &[u8; 40] = b"------ halt 0 0\nrefused 1\n\n1RZ--- halt 0";
+
+const WORDS: &[u8; 22] = b"ok\nopen\nunread\nunread\n";
+
+#[test]
+fn claims_come_in_any_pieces(rt: HostRuntime) {
+    let limits = Limits::new(9, 9, 5, 9).expect(&rt, "limits");
+    for most in [1, 40] {
+        for first in 1..41 {
+            let reader = Pieces::of(LIST, first, most);
+            let (end, sink) = checked_over(&rt, &limits, reader, Sink::of(128, 128));
+            assert!(rt; end.is_ok_and(|summary| !summary.clean));
+            assert_eq!(rt; sink.bytes.as_slice(), WORDS.as_slice(), "{first}");
+        }
+    }
+}
+
+#[test]
+fn a_read_fails(rt: HostRuntime) {
+    let limits = Limits::new(9, 9, 5, 9).expect(&rt, "limits");
+    for error in [ErrorKind::Interrupted, ErrorKind::BrokenPipe] {
+        for k in 1..42 {
+            let reader = Pieces {
+                before_failure: k - 1,
+                error,
+                ..Pieces::of(LIST, 1, 1)
+            };
+            let (end, sink) = checked_over(&rt, &limits, reader, Sink::of(128, 128));
+            let written = match k {
+                1..=16 => 0,
+                17..=26 => 3,
+                27 => 8,
+                _ => 15,
+            };
+            assert_eq!(rt; end, Err(Fault::Read), "read {k}");
+            assert_eq!(rt; sink.bytes.as_slice(), &WORDS[..written], "read {k}");
+        }
+    }
+}
+
+#[test]
+fn a_write_fails(rt: HostRuntime) {
+    let limits = Limits::new(9, 9, 5, 9).expect(&rt, "limits");
+    for room in 0..WORDS.len() {
+        let (end, sink) = checked_over(&rt, &limits, LIST.as_slice(), Sink::of(128, room));
+        assert_eq!(rt; end, Err(Fault::Write), "room {room}");
+        assert_eq!(rt; sink.bytes.as_slice(), &WORDS[..room], "room {room}");
+    }
+    let (end, sink) = checked_over(&rt, &limits, LIST.as_slice(), Sink::of(0, 128));
+    assert_eq!(rt; end, Err(Fault::Write), "no byte taken");
+    assert!(rt; sink.bytes.is_empty());
+    let (end, sink) = checked_over(&rt, &limits, LIST.as_slice(), Sink::without_flush());
+    assert_eq!(rt; end, Err(Fault::Write), "no flush");
+    assert_eq!(rt; sink.bytes.as_slice(), WORDS.as_slice());
+    let (end, sink) = checked_over(&rt, &limits, LIST.as_slice(), Sink::of(1, 128));
+    assert!(rt; end.is_ok_and(|summary| !summary.clean), "one byte a call");
+    assert_eq!(rt; sink.bytes.as_slice(), WORDS.as_slice());
+}

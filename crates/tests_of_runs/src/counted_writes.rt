@@ -1,0 +1,118 @@
+//! How many writes the engines make.
+ghost use Rattle.std.specs.Prelude.{◌≡◌};
+
+use crate::checked_lists::checked;
+use crate::decided_lists::{ALL, DEFAULTS, Four, decided};
+use crate::support::counting_tape::{NEVER, tallied_tape};
+use bb_cert::{Pair, Path};
+use bb_decide::Bench;
+use bb_machine::Limits;
+use bb_sim::Meter;
+use bb_tape::{MapTape, RingTape, Tape};
+use std::process::Abort;
+
+/// The limits, a machine, and the most writes that deciding it makes, on all tapes together: one for each
+/// step, two for each node.
+static DECIDED: [(Four, &[u8], u64); 4] = [
+    (DEFAULTS, b"0RB---_0LA---", 1_000_004),
+    ([3, 65_536, 300, 1_000_000], b"0RB---_0LA---", 17),
+    (DEFAULTS, b"1RA1RA", 131_072),
+    ([1, 65_536, 300, 1_000_000], b"1RA1RA", 3),
+];
+
+/// Decides a line on such tapes, and answers how often it wrote.
+fn writes_of_deciding<T: Tape>(
+    rt: &(impl Abort + AllocGlobal),
+    tapes: (T, T, T),
+    limits: &Limits,
+    line: &[u8],
+) -> u64
+    requires run { (T.strip tapes.0).limit ≡ limits.now.cells }
+    requires right { (T.strip tapes.1).limit ≡ limits.now.cells }
+    requires left { (T.strip tapes.2).limit ≡ limits.now.cells }
+{
+    let run = tallied_tape(tapes.0, NEVER);
+    let right = tallied_tape(tapes.1, NEVER);
+    let left = tallied_tape(tapes.2, NEVER);
+    let mut bench = Bench::new(rt.alloc(), run, right, left, limits).expect(rt, "a bench");
+    let (end, _) = decided(rt, &mut bench, limits, ALL, line);
+    assert!(rt; end.is_ok());
+    let saved = bench.right.writes.saturating_add(bench.left.writes);
+    bench.run.writes.saturating_add(saved)
+}
+
+#[test]
+fn deciding_writes_once_a_step_and_twice_a_node(rt: HostRuntime) {
+    for (four, line, most) in &DECIDED {
+        let limits = Limits::new(four[0], four[1], four[2], four[3]).expect(&rt, "limits");
+        let rings = (
+            RingTape::new(rt.alloc(), limits.cells()).expect(&rt, "memory"),
+            RingTape::new(rt.alloc(), limits.cells()).expect(&rt, "memory"),
+            RingTape::new(rt.alloc(), limits.cells()).expect(&rt, "memory"),
+        );
+        let on_rings = writes_of_deciding(&rt, rings, &limits, line);
+        let maps = (
+            MapTape::new(rt.alloc(), limits.cells()),
+            MapTape::new(rt.alloc(), limits.cells()),
+            MapTape::new(rt.alloc(), limits.cells()),
+        );
+        let on_maps = writes_of_deciding(&rt, maps, &limits, line);
+        assert!(rt; (1..=*most).contains(&on_rings), "{on_rings} on rings");
+        assert_eq!(rt; on_maps, on_rings);
+    }
+}
+
+/// A claim, its answer, the least and the most steps and the most nodes that checking it counts, and the most
+/// writes on both tapes.
+static CHECKED: [(&[u8], &[u8], [u64; 2], u64, u64); 4] = [
+    (b"1RB1LB_1LA1RZ halt 5 4", b"bad\n", [0, 5], 0, 5),
+    (
+        b"1RA1RA translated R 1 65535",
+        b"ok\n",
+        [65_535, 65_535],
+        0,
+        65_535,
+    ),
+    (b"1RA1RA cycler 1 1000001", b"over\n", [0, 0], 0, 0),
+    (b"0RB---_0LA--- backward 2 3", b"bad\n", [0, 0], 3, 6),
+];
+
+/// Checks a line on such tapes, and answers what was written, how much was counted, and how often it wrote.
+fn writes_of_checking<T: Tape>(
+    rt: &(impl Abort + AllocGlobal),
+    run: T,
+    saved: T,
+    limits: &Limits,
+    line: &[u8],
+) -> (Vec<u8>, Meter, u64)
+    requires run { (T.strip run).limit ≡ limits.now.cells }
+    requires saved { (T.strip saved).limit ≡ limits.now.cells }
+{
+    let mut pair = Pair {
+        run: tallied_tape(run, NEVER),
+        saved: tallied_tape(saved, NEVER),
+    };
+    let mut path = Path::new(rt.alloc(), limits.depth()).expect(rt, "a path");
+    let (end, written) = checked(rt, &mut pair, &mut path, limits, line);
+    let writes = pair.run.writes.saturating_add(pair.saved.writes);
+    (written, end.expect(rt, "no fault").peak, writes)
+}
+
+#[test]
+fn checking_goes_no_further_than_the_claim(rt: HostRuntime) {
+    let limits = Limits::new(1_000_000, 65_536, 300, 1_000_000).expect(&rt, "limits");
+    for (line, answer, steps, nodes, most) in &CHECKED {
+        let run = RingTape::new(rt.alloc(), limits.cells()).expect(&rt, "memory");
+        let saved = RingTape::new(rt.alloc(), limits.cells()).expect(&rt, "memory");
+        let on_rings = writes_of_checking(&rt, run, saved, &limits, line);
+        let run = MapTape::new(rt.alloc(), limits.cells());
+        let saved = MapTape::new(rt.alloc(), limits.cells());
+        let on_maps = writes_of_checking(&rt, run, saved, &limits, line);
+        for (written, peak, writes) in [on_rings, on_maps] {
+            assert_eq!(rt; written.as_slice(), *answer);
+            assert!(rt; steps[0] <= peak.steps && peak.steps <= steps[1]);
+            assert!(rt; peak.nodes <= *nodes);
+            assert!(rt; writes <= *most);
+        }
+    }
+}

@@ -1,0 +1,249 @@
+//! Engines over tapes that are refused memory: what is written by then, and that the same tapes give all
+//! lines once there is memory.
+ghost use Rattle.std.specs.Prelude.{◌≡◌, ◌≤◌};
+ghost use Rattle.bb_cert.specs.tree.Path.{depth_of};
+ghost use Rattle.bb_decide.specs.Bench.{BenchHasCells};
+
+use crate::checked_lists::checked;
+use crate::decided_lists::{PAIRS, TREES};
+use crate::support::counting_tape::{NEVER, tallied_tape};
+use crate::support::streams::Sink;
+use crate::traces::{traced, traced_on_a_ring};
+use bb_cert::{Pair, Path};
+use bb_decide::{Bench, Plan};
+use bb_lines::fault::Fault;
+use bb_lines::watched::Watched;
+use bb_machine::Limits;
+use bb_run::{Summary, run_decide};
+use bb_tape::{MapTape, Tape};
+use linked_list_allocator::LocalHeap;
+use std::process::Abort;
+use std::test::Fail;
+
+/// How many bytes the heap of the tapes has.
+const HEAP: usize = 1 << 13;
+
+/// Whether a run wanted memory: it then wrote the first lines, not all, and else all.
+fn wanted_memory(
+    rt: &(impl Abort + AllocGlobal),
+    end: &Result<Summary, Fault>,
+    written: &[u8],
+    output: &[u8],
+) -> bool {
+    if *end != Err(Fault::Memory) {
+        assert!(rt; end.is_ok() && written == output);
+        return false;
+    }
+    assert!(rt; output.starts_with(written) && written.len() < output.len());
+    assert!(rt; written.is_empty() || written.ends_with(b"\n"));
+    true
+}
+
+const MACHINES: &[u8] = b"1RB1LB_1LA1RZ
+1RB0RA_1LA---
+0RB---_0LA---
+";
+
+const BY_PAIRS: &[u8] = b"1RB1LB_1LA1RZ halt 6 4
+1RB0RA_1LA--- translated R 4 8 2 1
+0RB---_0LA--- cycler 2 4
+";
+
+const BY_TREES: &[u8] = b"1RB1LB_1LA1RZ halt 6 4
+1RB0RA_1LA--- undecided cells
+0RB---_0LA--- backward 2 4
+";
+
+/// Decides the list, with a reader and a writer over arrays.
+fn decided_over_arrays<T: Tape>(
+    bench: &mut Bench<T>,
+    limits: &Limits,
+    plan: Plan,
+) -> (Result<Summary, Fault>, Sink)
+    requires tapes { BenchHasCells T.strip limits.now.cells bench.old }
+    requires path { depth_of bench.old.path ≡ limits.now.depth }
+    ensures tapes { BenchHasCells T.strip limits.now.cells bench.new }
+    ensures path { depth_of bench.new.path ≡ limits.now.depth }
+{
+    let mut sink = Sink::of(128, 128);
+    let mut reader = Watched::new(MACHINES);
+    let mut writer = Watched::new(&mut sink);
+    let end = run_decide(&mut reader, &mut writer, limits, plan, bench);
+    (end, sink)
+}
+
+/// Decides a list with so many bytes left for the tapes, and, where it wanted more, again with all; whether
+/// it did.
+fn deciding_wants_more(
+    rt: &(impl Abort + AllocGlobal),
+    heap: &LocalHeap,
+    left: usize,
+    plan: Plan,
+    output: &[u8],
+) -> Result<bool, Fail>
+    requires { left ≤ HEAP }
+{
+    let limits = Limits::new(1000, 64, 10, 100).expect(rt, "limits");
+    let run = MapTape::new_in(heap, limits.cells());
+    let right = MapTape::new_in(heap, limits.cells());
+    let left_tape = MapTape::new_in(heap, limits.cells());
+    let mut bench = Bench::new(rt.alloc(), run, right, left_tape, &limits).expect(rt, "a bench");
+    let rest: Vec<u8, &LocalHeap> = Vec::with_capacity(heap, HEAP - left)?;
+    let (end, sink) = decided_over_arrays(&mut bench, &limits, plan);
+    drop(rest);
+    let wanted = wanted_memory(rt, &end, sink.bytes.as_slice(), output);
+    if wanted {
+        let (end, sink) = decided_over_arrays(&mut bench, &limits, plan);
+        assert!(rt; end.is_ok() && sink.bytes.as_slice() == output, "again");
+    }
+    Ok(wanted)
+}
+
+/// Decides a list with more and more bytes left for the tapes, until they are enough.
+fn deciding_on_a_heap(
+    rt: &(impl Abort + AllocGlobal),
+    plan: Plan,
+    output: &[u8],
+) -> Result<(), Fail> {
+    let heap = LocalHeap::new(rt.alloc(), HEAP)?;
+    for left in 0..HEAP {
+        if !deciding_wants_more(rt, &heap, left, plan, output)? {
+            assert!(rt; left > 0);
+            return Ok(());
+        }
+    }
+    panic!(rt; "never enough");
+}
+
+#[test]
+fn deciding_on_heaps_that_are_too_small(rt: HostRuntime) -> Result<(), Fail> {
+    deciding_on_a_heap(&rt, PAIRS, BY_PAIRS)?;
+    deciding_on_a_heap(&rt, TREES, BY_TREES)
+}
+
+/// More calls that may take memory than a run below makes.
+const MOST: u64 = 10_000;
+
+/// Decides a list with a call of a tape refused, and again; whether there was such a call.
+fn deciding_is_refused(
+    rt: &(impl Abort + AllocGlobal),
+    plan: Plan,
+    output: &[u8],
+    before: [u64; 3],
+) -> bool {
+    let limits = Limits::new(1000, 64, 10, 100).expect(rt, "limits");
+    let run = tallied_tape(MapTape::new(rt.alloc(), limits.cells()), before[0]);
+    let right = tallied_tape(MapTape::new(rt.alloc(), limits.cells()), before[1]);
+    let left = tallied_tape(MapTape::new(rt.alloc(), limits.cells()), before[2]);
+    let mut bench = Bench::new(rt.alloc(), run, right, left, &limits).expect(rt, "a bench");
+    let (end, sink) = decided_over_arrays(&mut bench, &limits, plan);
+    let refused = wanted_memory(rt, &end, sink.bytes.as_slice(), output);
+    let is_left = bench.run.will_refuse() || bench.right.will_refuse() || bench.left.will_refuse();
+    assert_eq!(rt; refused, !is_left);
+    if refused {
+        let (end, sink) = decided_over_arrays(&mut bench, &limits, plan);
+        assert!(rt;
+            !wanted_memory(rt, &end, sink.bytes.as_slice(), output),
+            "again"
+        );
+    }
+    refused
+}
+
+/// How many refusals end deciding, each in a run of its own, where all come from one of the tapes.
+fn refusals_of_deciding(
+    rt: &(impl Abort + AllocGlobal),
+    plan: Plan,
+    output: &[u8],
+    tape: usize,
+) -> usize {
+    let before = |k| match tape {
+        0 => [k, NEVER, NEVER],
+        1 => [NEVER, k, NEVER],
+        _ => [NEVER, NEVER, k],
+    };
+    (0..MOST)
+        .position(|k| !deciding_is_refused(rt, plan, output, before(k)))
+        .expect(rt, "a run that isn't refused")
+}
+
+/// The first machine changes 4 cells, the second 127 in a whole run and 8 up to its records. Its whole run is
+/// compared with configurations 1, 2, 4 .. 64, its records with the first and the second; the third's run
+/// with configurations 1 and 2. The third's tree has 4 nodes, each with a cell that isn't known before.
+#[test]
+fn deciding_ends_at_each_refusal(rt: HostRuntime) {
+    for (plan, output, changed, copied) in [
+        (PAIRS, BY_PAIRS, 4 + 127 + 127 + 8, 7 + 2 + 2),
+        (TREES, BY_TREES, 4 + 127 + 4, 0),
+    ] {
+        let while_running = refusals_of_deciding(&rt, plan, output, 0);
+        let at_right = refusals_of_deciding(&rt, plan, output, 1);
+        let at_left = refusals_of_deciding(&rt, plan, output, 2);
+        assert!(rt; changed <= while_running, "{while_running}");
+        assert!(rt;
+            copied <= at_right.saturating_add(at_left),
+            "{at_right} {at_left}"
+        );
+    }
+}
+
+const CLAIMS: &[u8] = b"1RB1LB_1LA1RZ halt 6 4
+1RB0RA_1LA--- translated R 4 8 2 1
+0RB---_0LA--- cycler 2 4
+0RB---_0LA--- backward 2 4
+";
+
+/// The same for checking a list.
+fn checking_is_refused(rt: &(impl Abort + AllocGlobal), before: [u64; 2]) -> bool {
+    let output = b"ok\nok\nok\nok\n".as_slice();
+    let limits = Limits::new(1000, 64, 10, 100).expect(rt, "limits");
+    let mut pair = Pair {
+        run: tallied_tape(MapTape::new(rt.alloc(), limits.cells()), before[0]),
+        saved: tallied_tape(MapTape::new(rt.alloc(), limits.cells()), before[1]),
+    };
+    let mut path = Path::new(rt.alloc(), limits.depth()).expect(rt, "a path");
+    let (end, written) = checked(rt, &mut pair, &mut path, &limits, CLAIMS);
+    let refused = wanted_memory(rt, &end, written.as_slice(), output);
+    assert_eq!(rt;
+        refused,
+        !(pair.run.will_refuse() || pair.saved.will_refuse())
+    );
+    if refused {
+        let (end, written) = checked(rt, &mut pair, &mut path, &limits, CLAIMS);
+        assert!(rt;
+            !wanted_memory(rt, &end, written.as_slice(), output),
+            "again"
+        );
+    }
+    refused
+}
+
+/// The first two claims change 4 and 8 cells, the tree has 4 nodes, and of each pair the first configuration
+/// is kept.
+#[test]
+fn checking_ends_at_each_refusal(rt: HostRuntime) {
+    let while_running = (0..MOST).position(|k| !checking_is_refused(&rt, [k, NEVER]));
+    let at_saving = (0..MOST).position(|k| !checking_is_refused(&rt, [NEVER, k]));
+    assert!(rt; while_running.is_some_and(|refused| 4 + 8 + 4 <= refused));
+    assert!(rt; at_saving.is_some_and(|refused| 2 <= refused));
+}
+
+#[test]
+fn tracing_ends_at_each_refusal(rt: HostRuntime) {
+    let line = b"1RA1RA".as_slice();
+    let limits = Limits::new(30, 64, 0, 0).expect(&rt, "limits");
+    let (_, output) = traced_on_a_ring(&rt, line, &limits);
+    for k in 0..30 {
+        let mut tape = tallied_tape(MapTape::new(rt.alloc(), limits.cells()), k);
+        let (end, written) = traced(&rt, &mut tape, &limits, line);
+        assert!(rt;
+            wanted_memory(&rt, &end, written.as_slice(), output.as_slice()),
+            "{k}"
+        );
+        let (end, written) = traced(&rt, &mut tape, &limits, line);
+        assert!(rt;
+            !wanted_memory(&rt, &end, written.as_slice(), output.as_slice()),
+            "again"
+        );
+    }
+}

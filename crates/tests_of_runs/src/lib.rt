@@ -1,0 +1,27 @@
+//! Tests of whole lists and traces, from bytes to bytes.
+#![tactic(auto)]
+
+#[cfg(test)]
+mod broken_streams;
+#[cfg(test)]
+mod checked_lists;
+#[cfg(test)]
+mod confirmed_verdicts;
+#[cfg(test)]
+mod counted_writes;
+#[cfg(test)]
+mod decided_lists;
+#[cfg(test)]
+mod each_plan;
+#[cfg(test)]
+mod failed_allocations;
+#[cfg(test)]
+mod forged_claims;
+#[cfg(test)]
+mod larger_limits;
+#[cfg(test)]
+mod many_symbols;
+#[cfg(test)]
+mod support;
+#[cfg(test)]
+mod traces;

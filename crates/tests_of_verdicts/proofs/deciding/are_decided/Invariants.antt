@@ -1,0 +1,11 @@
+use Rattle.std.proofs.Common.{◌≡◌}
+use Rattle.bb_cert.specs.tree.Path.{depth_of}
+use Rattle.tests_of_verdicts.specs.declared.deciding.TheConstants.{CELLS}
+use Rattle.bb_decide.specs.Bench.{BenchHasCells}
+use Rattle.tests_of_verdicts.proofs.deciding.are_decided.Given as goal
+
+abbrev pub invariant-loop-text : goal.invariant-loop-text
+invariant-loop-text g l = record {
+  tapes : BenchHasCells g.T.Tape.strip CELLS l.bench;
+  path : depth_of l.bench.path ≡ 0;
+}

@@ -1,0 +1,695 @@
+//! Claims that were worked out by hand, and what checking them counts, over both tapes.
+ghost use Rattle.std.specs.Prelude.{◌≡◌};
+ghost use Rattle.bb_cert.specs.checker.Pair.{PairHasCells};
+ghost use Rattle.bb_cert.specs.tree.Path.{depth_of};
+
+use bb_cert::{Answer, Extent, Line, Pair, Path, Side, Verdict, check, read_line};
+use bb_machine::{LimitFault, Limits, Machine};
+use bb_sim::Meter;
+use bb_tape::{MapTape, RingTape, Tape};
+use std::process::Abort;
+use std::test::Fail;
+
+const CELLS: u64 = 65_536;
+
+const DEPTH: u64 = 300;
+
+/// A line, the limits of steps, cells, levels and nodes, what is answered, and the steps, nodes and levels
+/// counted.
+type Row = (&'static [u8], [u64; 4], Answer, [u64; 3]);
+
+static ROWS: [Row; 78] = [
+    // Halts.
+    (
+        b"1RB1LB_1LA1RZ halt 6 4",
+        [1000, 64, 32, 1000],
+        Answer::Ok,
+        [6, 0, 0],
+    ),
+    (
+        b"1RB1LB_1LA1RZ halt 6 4",
+        [6, 4, 2, 0],
+        Answer::Ok,
+        [6, 0, 0],
+    ),
+    (
+        b"1RB1LB_1LA1RZ halt 6 4",
+        [5, 64, 32, 1000],
+        Answer::Over,
+        [0, 0, 0],
+    ),
+    (
+        b"1RB1LB_1LA1RZ halt 6 4",
+        [6, 3, 2, 1000],
+        Answer::Over,
+        [3, 0, 0],
+    ),
+    (
+        b"1RB1LB_1LA1RZ halt 6 5",
+        [1000, 64, 32, 1000],
+        Answer::Bad,
+        [6, 0, 0],
+    ),
+    (
+        b"1RB1LB_1LA1RZ halt 5 4",
+        [1000, 64, 32, 1000],
+        Answer::Bad,
+        [5, 0, 0],
+    ),
+    (
+        b"1RB1LB_1LA1RZ halt 7 4",
+        [1000, 64, 32, 1000],
+        Answer::Bad,
+        [6, 0, 0],
+    ),
+    (
+        b"1RB1LB_1LA1RZ halt 1000 4",
+        [1000, 64, 32, 1000],
+        Answer::Bad,
+        [6, 0, 0],
+    ),
+    (
+        b"1RB1LB_1LA1RZ halt 1001 4",
+        [1000, 64, 32, 1000],
+        Answer::Over,
+        [0, 0, 0],
+    ),
+    (
+        b"1RB1LB_1LA1RZ halt 6 18446744073709551615",
+        [1000, 64, 32, 1000],
+        Answer::Bad,
+        [6, 0, 0],
+    ),
+    (b"------ halt 0 0", [0, 1, 0, 0], Answer::Ok, [0, 0, 0]),
+    (
+        b"------ halt 18446744073709551615 0",
+        [1000, 64, 32, 1000],
+        Answer::Over,
+        [0, 0, 0],
+    ),
+    (b"1RZ--- halt 1 1", [1, 1, 1, 0], Answer::Ok, [1, 0, 0]),
+    (
+        b"1RZ--- halt 0 0",
+        [1000, 64, 32, 1000],
+        Answer::Bad,
+        [0, 0, 0],
+    ),
+    (
+        b"1RZ--- halt 1 0",
+        [1000, 64, 32, 1000],
+        Answer::Bad,
+        [1, 0, 0],
+    ),
+    (
+        b"1RA1RA halt 63 0",
+        [1000, 64, 32, 1000],
+        Answer::Bad,
+        [63, 0, 0],
+    ),
+    (
+        b"1RA1RA halt 64 0",
+        [1000, 64, 32, 1000],
+        Answer::Over,
+        [63, 0, 0],
+    ),
+    (
+        b"1RB1RZ_1LB0RC_1LC1LA halt 21 5",
+        [21, 5, 3, 0],
+        Answer::Ok,
+        [21, 0, 0],
+    ),
+    (
+        b"1RB1RZ_1LB0RC_1LC1LA halt 21 5",
+        [21, 4, 2, 0],
+        Answer::Over,
+        [16, 0, 0],
+    ),
+    (
+        b"1RB1RZ_1LB0RC_1LC1LA halt 21 5",
+        [20, 5, 3, 0],
+        Answer::Over,
+        [0, 0, 0],
+    ),
+    // Pairs whose configurations are compared.
+    (
+        b"0RB---_0LA--- cycler 0 2",
+        [1000, 64, 32, 1000],
+        Answer::Ok,
+        [2, 0, 0],
+    ),
+    (
+        b"0RB---_0LA--- cycler 0 2",
+        [2, 2, 1, 0],
+        Answer::Ok,
+        [2, 0, 0],
+    ),
+    (
+        b"0RB---_0LA--- cycler 0 2",
+        [1, 64, 32, 1000],
+        Answer::Over,
+        [0, 0, 0],
+    ),
+    (
+        b"0RB---_0LA--- cycler 0 2",
+        [2, 1, 1, 0],
+        Answer::Over,
+        [0, 0, 0],
+    ),
+    (
+        b"0RB---_0LA--- cycler 3 9",
+        [1000, 64, 32, 1000],
+        Answer::Ok,
+        [9, 0, 0],
+    ),
+    (
+        b"0RB---_0LA--- cycler 1 2",
+        [1000, 64, 32, 1000],
+        Answer::Bad,
+        [2, 0, 0],
+    ),
+    (
+        b"0RB---_0LA--- cycler 2 2",
+        [1000, 64, 32, 1000],
+        Answer::Bad,
+        [0, 0, 0],
+    ),
+    (
+        b"0RB---_0LA--- cycler 4 2",
+        [1000, 1, 1, 1000],
+        Answer::Bad,
+        [0, 0, 0],
+    ),
+    (
+        b"0RB---_0LA--- cycler 1001 2",
+        [1000, 64, 32, 1000],
+        Answer::Over,
+        [0, 0, 0],
+    ),
+    (
+        b"1RB0RB_1LA1LA cycler 2 6",
+        [6, 2, 1, 0],
+        Answer::Ok,
+        [6, 0, 0],
+    ),
+    (
+        b"1RB0RB_1LA1LA cycler 0 4",
+        [1000, 64, 32, 1000],
+        Answer::Bad,
+        [4, 0, 0],
+    ),
+    (
+        b"------ cycler 0 1",
+        [1000, 64, 32, 1000],
+        Answer::Bad,
+        [0, 0, 0],
+    ),
+    (
+        b"1RZ--- cycler 0 1",
+        [1000, 64, 32, 1000],
+        Answer::Bad,
+        [1, 0, 0],
+    ),
+    (
+        b"1RB1LB_1LA1RZ cycler 7 8",
+        [1000, 64, 32, 1000],
+        Answer::Bad,
+        [6, 0, 0],
+    ),
+    (
+        b"1RA1RA cycler 1 63",
+        [1000, 64, 32, 1000],
+        Answer::Bad,
+        [63, 0, 0],
+    ),
+    (
+        b"1RA1RA cycler 1 64",
+        [1000, 64, 32, 1000],
+        Answer::Over,
+        [63, 0, 0],
+    ),
+    (
+        b"0RA0RA cycler 1 2",
+        [1000, 64, 32, 1000],
+        Answer::Bad,
+        [2, 0, 0],
+    ),
+    // Records.
+    (
+        b"1RA1RA translated R 2 5",
+        [1000, 64, 32, 1000],
+        Answer::Ok,
+        [5, 0, 0],
+    ),
+    (
+        b"1RA1RA translated R 1 2",
+        [2, 3, 2, 0],
+        Answer::Ok,
+        [2, 0, 0],
+    ),
+    (
+        b"1RA1RA translated R 1 63",
+        [1000, 64, 32, 1000],
+        Answer::Ok,
+        [63, 0, 0],
+    ),
+    (
+        b"1RA1RA translated R 1 64",
+        [1000, 64, 32, 1000],
+        Answer::Over,
+        [63, 0, 0],
+    ),
+    (
+        b"1RA1RA translated R 0 64",
+        [1000, 64, 32, 1000],
+        Answer::Over,
+        [63, 0, 0],
+    ),
+    (
+        b"1RA1RA translated R 0 2",
+        [1000, 64, 32, 1000],
+        Answer::Bad,
+        [2, 0, 0],
+    ),
+    (
+        b"1RA1RA translated L 1 2",
+        [1000, 64, 32, 1000],
+        Answer::Bad,
+        [2, 0, 0],
+    ),
+    (
+        b"1RA1RA translated R 18446744073709551615 1",
+        [1000, 64, 32, 1000],
+        Answer::Over,
+        [0, 0, 0],
+    ),
+    (
+        b"1RA1RA translated R 2 2",
+        [1000, 1, 1, 1000],
+        Answer::Bad,
+        [0, 0, 0],
+    ),
+    (
+        b"0LA0LA translated L 3 7",
+        [1000, 64, 32, 1000],
+        Answer::Ok,
+        [7, 0, 0],
+    ),
+    (
+        b"1RB1RZ_1LB0RC_1LC1LA translated R 6 17",
+        [1000, 64, 32, 1000],
+        Answer::Bad,
+        [17, 0, 0],
+    ),
+    (
+        b"1RB1LB_1LA1RZ translated R 1 7",
+        [1000, 64, 32, 1000],
+        Answer::Bad,
+        [6, 0, 0],
+    ),
+    (
+        b"1RZ--- translated R 0 1",
+        [1000, 64, 32, 1000],
+        Answer::Bad,
+        [1, 0, 0],
+    ),
+    (
+        b"1RB0RA_1LA--- translated R 4 8",
+        [8, 5, 3, 0],
+        Answer::Ok,
+        [8, 0, 0],
+    ),
+    (
+        b"1RB0RA_1LA--- translated R 1 13",
+        [1000, 64, 32, 1000],
+        Answer::Ok,
+        [13, 0, 0],
+    ),
+    (
+        b"1RB0RA_1LA--- translated R 3 7",
+        [1000, 64, 32, 1000],
+        Answer::Bad,
+        [7, 0, 0],
+    ),
+    (
+        b"1LB0LA_1RA--- translated L 4 12",
+        [1000, 64, 32, 1000],
+        Answer::Ok,
+        [12, 0, 0],
+    ),
+    (
+        b"1RA1RA translated R 1 2 1 1",
+        [1000, 64, 32, 1000],
+        Answer::Ok,
+        [2, 0, 0],
+    ),
+    (
+        b"1RA1RA translated R 2 5 3 1",
+        [1000, 64, 32, 1000],
+        Answer::Ok,
+        [5, 0, 0],
+    ),
+    (
+        b"1RA1RA translated R 1 2 1 2",
+        [1000, 64, 32, 1000],
+        Answer::Bad,
+        [2, 0, 0],
+    ),
+    (
+        b"1RA1RA translated R 1 2 2 1",
+        [1000, 64, 32, 1000],
+        Answer::Bad,
+        [2, 0, 0],
+    ),
+    (
+        b"1RA1RA translated R 1 2 18446744073709551615 1",
+        [1000, 64, 32, 1000],
+        Answer::Bad,
+        [2, 0, 0],
+    ),
+    (
+        b"1RA1RA translated R 2 2 0 1",
+        [1000, 64, 32, 1000],
+        Answer::Bad,
+        [0, 0, 0],
+    ),
+    (
+        b"1RB0RA_1LA--- translated R 1 5 2 2",
+        [1000, 64, 32, 1000],
+        Answer::Ok,
+        [5, 0, 0],
+    ),
+    (
+        b"1RB0RA_1LA--- translated R 1 5 2 1",
+        [1000, 64, 32, 1000],
+        Answer::Bad,
+        [5, 0, 0],
+    ),
+    (
+        b"0LB---_0RC1RC_1RA--- translated R 3 6",
+        [1000, 64, 32, 1000],
+        Answer::Ok,
+        [6, 0, 0],
+    ),
+    (
+        b"1RB---_1RC---_1RA--- translated R 1 7",
+        [1000, 64, 32, 1000],
+        Answer::Ok,
+        [7, 0, 0],
+    ),
+    // Between these two records the run goes beyond what it had visited at the first.
+    (
+        b"1LB0LA_0RB1RA translated L 1 8",
+        [1000, 64, 32, 1000],
+        Answer::Ok,
+        [8, 0, 0],
+    ),
+    (
+        b"1RB0RA_0LB1LA translated R 1 8",
+        [1000, 64, 32, 1000],
+        Answer::Ok,
+        [8, 0, 0],
+    ),
+    // Trees.
+    (
+        b"0RB---_0LA--- backward 2 4",
+        [0, 3, 2, 4],
+        Answer::Ok,
+        [0, 4, 2],
+    ),
+    (
+        b"0RB---_0LA--- backward 2 4",
+        [1000, 64, 32, 3],
+        Answer::Over,
+        [0, 0, 0],
+    ),
+    (
+        b"0RB---_0LA--- backward 2 4",
+        [1000, 64, 1, 1000],
+        Answer::Over,
+        [0, 0, 0],
+    ),
+    (
+        b"0RB---_0LA--- backward 2 3",
+        [1000, 64, 32, 1000],
+        Answer::Bad,
+        [0, 3, 2],
+    ),
+    (
+        b"0RB---_0LA--- backward 2 1",
+        [1000, 64, 32, 1000],
+        Answer::Bad,
+        [0, 1, 1],
+    ),
+    (
+        b"0RB---_0LA--- backward 0 0",
+        [1000, 64, 32, 1000],
+        Answer::Bad,
+        [0, 0, 0],
+    ),
+    (
+        b"0RB---_0LA--- backward 3 4",
+        [1000, 64, 32, 1000],
+        Answer::Bad,
+        [0, 4, 2],
+    ),
+    (
+        b"0RB---_0LA--- backward 2 5",
+        [1000, 64, 32, 1000],
+        Answer::Bad,
+        [0, 4, 2],
+    ),
+    (b"1RA1RA backward 0 0", [0, 1, 0, 0], Answer::Ok, [0, 0, 0]),
+    (
+        b"1RZ--- backward 1 2",
+        [1000, 64, 32, 1000],
+        Answer::Bad,
+        [0, 1, 1],
+    ),
+    // Nothing is claimed.
+    (
+        b"1RA1RA undecided cells",
+        [0, 1, 0, 0],
+        Answer::Open,
+        [0, 0, 0],
+    ),
+    (
+        b"1RB1LB_1LA1RZ undecided steps",
+        [1000, 64, 32, 1000],
+        Answer::Open,
+        [0, 0, 0],
+    ),
+];
+
+fn limits_of(row: &Row) -> Result<Limits, LimitFault> {
+    let [steps, cells, depth, nodes] = row.1;
+    Limits::new(steps, cells, depth, nodes)
+}
+
+/// Checks what a line claims, and holds the answer and what was counted against what was worked out.
+fn is_answered<T: Tape>(
+    rt: &impl Abort,
+    row: &Row,
+    limits: &Limits,
+    pair: &mut Pair<T>,
+    path: &mut Path,
+) -> Result<(), Fail>
+    requires tapes { PairHasCells T.strip limits.now.cells pair.old }
+    requires path { depth_of path.old ≡ DEPTH }
+{
+    let (line, _, expected, [steps, nodes, levels]) = *row;
+    let Some(Line::Claim(machine, verdict)) = read_line(line) else {
+        panic!(rt; "{line:?} is a claim");
+    };
+    assert!(rt; limits.depth() <= DEPTH);
+    let mut meter = Meter::new();
+    let answer = check(&machine, &verdict, limits, pair, path, &mut meter)?;
+    assert_eq!(rt; answer, expected, "{line:?}");
+    assert_eq!(rt; meter.steps, steps, "{line:?}");
+    assert_eq!(rt; meter.nodes, nodes, "{line:?}");
+    assert_eq!(rt; meter.most_levels, levels, "{line:?}");
+    assert!(rt; meter.most_cells <= limits.cells(), "{line:?}");
+    Ok(())
+}
+
+#[test]
+fn claims_are_answered_on_maps(rt: HostRuntime) -> Result<(), Fail> {
+    for row in &ROWS {
+        let limits = limits_of(row)?;
+        let mut pair = Pair {
+            run: MapTape::new(rt.alloc(), limits.cells()),
+            saved: MapTape::new(rt.alloc(), limits.cells()),
+        };
+        let mut path = Path::new(rt.alloc(), DEPTH)?;
+        is_answered(&rt, row, &limits, &mut pair, &mut path)?;
+    }
+    Ok(())
+}
+
+#[test]
+fn claims_are_answered_on_rings(rt: HostRuntime) -> Result<(), Fail> {
+    for row in &ROWS {
+        let limits = limits_of(row)?;
+        let mut pair = Pair {
+            run: RingTape::new(rt.alloc(), limits.cells())?,
+            saved: RingTape::new(rt.alloc(), limits.cells())?,
+        };
+        let mut path = Path::new(rt.alloc(), DEPTH)?;
+        is_answered(&rt, row, &limits, &mut pair, &mut path)?;
+    }
+    Ok(())
+}
+
+/// Machines, the kind of claim, by its side where it is of records, and how many pairs of steps up to 16 it
+/// is true of.
+static FAMILIES: [(&'static [u8], Option<Side>, u64); 5] = [
+    (b"0RB---_0LA---", None, 64),
+    (b"1RB0RB_1LA1LA", None, 21),
+    (b"1RA1RA", Some(Side::R), 120),
+    (b"1RB0RA_1LA---", Some(Side::R), 12),
+    (b"1RB0RA_1LA---", Some(Side::L), 0),
+];
+
+/// Which pairs are claimed rightly, for each machine.
+fn is_right(index: usize, first: u64, second: u64) -> bool {
+    if second <= first {
+        return false;
+    }
+    match index {
+        0 => (second - first) % 2 == 0,
+        1 => 2 <= first && (second - first) % 4 == 0,
+        2 => 1 <= first,
+        3 => 1 <= first && first % 4 <= 1 && second % 4 == first % 4,
+        _ => false,
+    }
+}
+
+/// The answer to a pair of steps, of records of a side, or of one configuration.
+fn answer_to_pair<T: Tape>(
+    machine: &Machine,
+    side: Option<Side>,
+    first: u64,
+    second: u64,
+    extent: Option<Extent>,
+    pair: &mut Pair<T>,
+    path: &mut Path,
+) -> Result<Answer, Fail>
+    requires tapes { PairHasCells T.strip CELLS pair.old }
+    requires path { depth_of path.old ≡ DEPTH }
+    ensures tapes { PairHasCells T.strip CELLS pair.new }
+    ensures path { depth_of path.new ≡ depth_of path.old }
+{
+    let limits = Limits::new(1_000_000, CELLS, DEPTH, 1_000_000)?;
+    let verdict = match side {
+        None => Verdict::Cycler { first, second },
+        Some(side) => Verdict::Translated {
+            side,
+            first,
+            second,
+            extent,
+        },
+    };
+    let mut meter = Meter::new();
+    Ok(check(machine, &verdict, &limits, pair, path, &mut meter)?)
+}
+
+/// Checks each pair of steps up to 16, and holds the answers against which are right.
+fn pairs_are_answered<T: Tape>(
+    rt: &impl Abort,
+    pair: &mut Pair<T>,
+    path: &mut Path,
+) -> Result<(), Fail>
+    requires tapes { PairHasCells T.strip CELLS pair.old }
+{
+    for (index, (text, side, count)) in FAMILIES.iter().enumerate() {
+        let machine = Machine::read(text)?;
+        let mut right: u64 = 0;
+        for step in 0..289 {
+            let (first, second) = (step / 17, step % 17);
+            assert!(rt; pair.run.limit() == CELLS && pair.saved.limit() == CELLS);
+            assert!(rt; path.depth() == DEPTH);
+            let answer = answer_to_pair(&machine, *side, first, second, None, pair, path)?;
+            let holds = is_right(index, first, second);
+            assert_eq!(rt; answer == Answer::Ok, holds, "{first} {second} of {text:?}");
+            assert!(rt; holds || answer == Answer::Bad);
+            right = right.saturating_add(u64::from(holds));
+        }
+        assert_eq!(rt; right, *count, "{text:?}");
+    }
+    Ok(())
+}
+
+/// Checks each pair of steps up to 16 of a machine that makes a record with each step, with its extent, and
+/// with those that are wrong by one.
+fn extents_are_answered<T: Tape>(
+    rt: &impl Abort,
+    pair: &mut Pair<T>,
+    path: &mut Path,
+) -> Result<(), Fail>
+    requires tapes { PairHasCells T.strip CELLS pair.old }
+{
+    let machine = Machine::read(b"1RA1RA")?;
+    for step in 0..289 {
+        let (first, second): (u64, u64) = (step / 17, step % 17);
+        let right = second.saturating_sub(first);
+        for wrong in 0..9 {
+            let (shift, length) = ((right + wrong / 3).saturating_sub(1), wrong % 3);
+            assert!(rt; pair.run.limit() == CELLS && pair.saved.limit() == CELLS);
+            assert!(rt; path.depth() == DEPTH);
+            let extent = Some(Extent { shift, length });
+            let answer = answer_to_pair(
+                &machine,
+                Some(Side::R),
+                first,
+                second,
+                extent,
+                pair,
+                path,
+            )?;
+            let holds = 1 <= first && first < second && shift == right && length == 1;
+            assert_eq!(rt;
+                answer == Answer::Ok,
+                holds,
+                "{first} {second} {shift} {length}"
+            );
+        }
+    }
+    Ok(())
+}
+
+#[test]
+fn pairs_are_answered_on_maps(rt: HostRuntime) -> Result<(), Fail> {
+    let mut pair = Pair {
+        run: MapTape::new(rt.alloc(), CELLS),
+        saved: MapTape::new(rt.alloc(), CELLS),
+    };
+    let mut path = Path::new(rt.alloc(), DEPTH)?;
+    pairs_are_answered(&rt, &mut pair, &mut path)?;
+    assert!(rt; pair.run.limit() == CELLS && pair.saved.limit() == CELLS);
+    extents_are_answered(&rt, &mut pair, &mut path)
+}
+
+#[test]
+fn pairs_are_answered_on_rings(rt: HostRuntime) -> Result<(), Fail> {
+    let mut pair = Pair {
+        run: RingTape::new(rt.alloc(), CELLS)?,
+        saved: RingTape::new(rt.alloc(), CELLS)?,
+    };
+    let mut path = Path::new(rt.alloc(), DEPTH)?;
+    pairs_are_answered(&rt, &mut pair, &mut path)?;
+    assert!(rt; pair.run.limit() == CELLS && pair.saved.limit() == CELLS);
+    extents_are_answered(&rt, &mut pair, &mut path)
+}
+
+#[test]
+fn answers_have_numbers_and_words(rt: HostRuntime) {
+    let answers: [(Answer, u8, &[u8]); 4] = [
+        (Answer::Ok, 1, b"ok"),
+        (Answer::Bad, 2, b"bad"),
+        (Answer::Over, 3, b"over"),
+        (Answer::Open, 4, b"open"),
+    ];
+    for (answer, number, word) in answers {
+        assert_eq!(rt; answer as u8, number);
+        assert_eq!(rt; answer.word(), word);
+    }
+}
