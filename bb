@@ -1,12 +1,13 @@
 #!/bin/sh
-# Builds the program on first use and after a change, and runs it. What building does is told on standard error.
+# Builds the program on first use and after a change, and runs it. Standard error tells what building does.
 set -eu
 here=$(cd "$(dirname "$0")" && pwd)
 program=$here/crates/bb/out/bb
 
 # The library for other languages, bb_c, is no part of the program.
 stale() {
-    [ ! -x "$program" ] || [ -n "$(find "$here/crates.txt" "$here/crates" \( -path '*/out' -o -path '*/bb_c' \) -prune -o -type f -newer "$program" -print | head -n 1)" ]
+    [ ! -x "$program" ] || [ -n "$(find "$here/crates.txt" "$here/crates" \
+        \( -path '*/out' -o -path '*/bb_c' \) -prune -o -type f -newer "$program" -print | head -n 1)" ]
 }
 
 # Begins `rt` with these words in a crate; its process is then `$!`.

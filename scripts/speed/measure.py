@@ -93,7 +93,7 @@ def trees(draw):
 
 
 def random_machines(draw):
-    """The name, the options and the list of the measurement of everything at once: all deciders at the default
+    """The name, the options and the list of what measures everything at once: all deciders at the default
     limits."""
     drawn = "".join(any_machine(draw, 5) for _ in range(RANDOM))
     return [(f"{RANDOM} machines of five states, all deciders, default limits", [], drawn)]
@@ -203,16 +203,18 @@ def measure_search(program, name, options, switch, file, runs):
 
 
 def measure_checking(program, draw, file, runs):
-    """Prints what checking costs beside deciding, in processor time: of random machines at the default limits,
+    """Prints what checking costs beside deciding, in processor time: random machines at the default limits,
     and of the lines that deciding them wrote."""
     machines = "".join(machine(draw, 5) for _ in range(CHECKED))
-    verdicts = subprocess.run([program, "decide"], input=machines.encode(), stdout=subprocess.PIPE, check=False).stdout
+    ended = subprocess.run([program, "decide"], input=machines.encode(), stdout=subprocess.PIPE, check=False)
+    verdicts = ended.stdout
     best = []
     for command, text in (("decide", machines.encode()), ("check", verdicts)):
         with open(file, "wb") as written:
             written.write(text)
         best.append(min(spent([program, command], file) for _ in range(runs)))
-    print(f"checking the lines of {CHECKED} machines of five states: {best[1]:.3f} s, deciding them {best[0]:.3f} s")
+    what = f"checking the lines of {CHECKED} machines of five states"
+    print(f"{what}: {best[1]:.3f} s, deciding them {best[0]:.3f} s")
 
 
 def main():

@@ -79,7 +79,7 @@ pub enum Stop {
 }
 
 impl Stop {
-    /// The program's exit status: 0 after help or the version, 3 where memory ran out, 2 for what was refused.
+    /// The program's exit status: 0 after help or the version, 3 where memory ran out, 2 for a refusal.
     pub fn status(&self) -> u8
         ensures { result ≡ stop_status self.now }
     {

@@ -37,8 +37,8 @@ struct Counts {
     shown: Option<Instant>,
 }
 
-/// How far a list has come. It writes a line to standard error a few times a second, over the one before, when
-/// the engine reads or writes. An error of that changes nothing.
+/// How far a list has come. It writes a line to standard error a few times a second, over the one before,
+/// when the engine reads or writes. An error of that changes nothing.
 #[derive(Drop)]
 pub struct Progress<'a> {
     rt: &'a HostRuntime,

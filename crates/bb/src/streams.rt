@@ -4,8 +4,8 @@ ghost use Rattle.std.specs.Prelude.{◌≡◌, None};
 use crate::progress::Progress;
 use std::io::{Error, Read, Result, Write};
 
-/// A reader or a writer that hands each call on as it is. It keeps the error of the last call that failed, and
-/// tells the progress, where there is one, of each call that didn't.
+/// A reader or a writer that hands each call on as it is. It keeps the error of the last call that failed,
+/// and tells the progress, where there is one, of each call that didn't.
 #[derive(Drop)]
 pub struct Observed<'p, 'r, X> {
     inner: X,

@@ -4,7 +4,8 @@ ghost use Rattle.bb_tape.specs.Strip.{IsInside};
 ghost use Rattle.bb_sim.specs.CellsBetween.{cells_between};
 ghost use Rattle.bb_sim.specs.Runner.{position_of, state_of};
 ghost use Rattle.bb_cert.specs.records.Follow.{AgreesWithKept, HasSameCells, IsComparable, IsKeptInStateOf};
-ghost use Rattle.bb_cert.specs.records.Follow.{IsNarrow, IsWidened, LiesAs, TellsWidening, far_of, lesser_of, number_of};
+ghost use Rattle.bb_cert.specs.records.Follow.{IsNarrow, IsWidened, LiesAs, TellsWidening};
+ghost use Rattle.bb_cert.specs.records.Follow.{far_of, lesser_of, number_of};
 ghost use Rattle.bb_cert.specs.records.Follow.{passed, top_of, with_kept};
 
 use crate::verdict::{Extent, Side};

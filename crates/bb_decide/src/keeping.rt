@@ -8,9 +8,9 @@ use bb_cert::records::Records;
 use bb_sim::Runner;
 use bb_tape::{Memory, Tape};
 
-/// Compares the record that the runner has just made with the kept one. The verdict where they agree; else the
-/// record is kept, if it is its turn. The records and the runner are locals of a loop: they stay in registers,
-/// since what is out of line gets copies of them.
+/// Compares the record that the runner has just made with the kept one. The verdict where they agree; else
+/// the record is kept, if it is its turn. The records and the runner are locals of a loop: they stay in
+/// registers, since what is out of line gets copies of them.
 #[inline(always)]
 pub fn look<T: Tape>(
     records: &mut Records,

@@ -5,7 +5,8 @@ ghost use Rattle.bb_sim.specs.Meter.{IsWithinRun, zero_meter};
 ghost use Rattle.bb_sim.specs.Run.{Exists};
 ghost use Rattle.bb_sim.specs.Runner.{position_of, steps_of};
 ghost use Rattle.bb_cert.specs.inside.Checks.{GoesOn, IsAtStep, IsCut, IsOneOn, IsUnderWay, Passes};
-ghost use Rattle.bb_cert.specs.records.Follow.{AgreesWithKept, IsComparable, IsKeptInStateOf, LiesAs, with_kept};
+ghost use Rattle.bb_cert.specs.records.Follow.{AgreesWithKept, IsComparable, IsKeptInStateOf, LiesAs};
+ghost use Rattle.bb_cert.specs.records.Follow.{with_kept};
 
 use crate::checker::answer::Answer;
 use crate::records::{Records, widened_side};

@@ -5,7 +5,8 @@ ghost use Rattle.bb_cert.specs.declared.verdict.Extent.{Extent};
 ghost use Rattle.bb_cert.specs.declared.verdict.Verdict.{Verdict};
 ghost use Rattle.bb_cert.specs.declared.verdict.reader.Line.{Line};
 ghost use Rattle.bb_cert.specs.verdict.Verdict.{HasExtentNumbers, HasNumbers};
-ghost use Rattle.bb_cert.specs.verdict.Line.{pair_text, records_text, refusal_text, second_text, verdict_text};
+ghost use Rattle.bb_cert.specs.verdict.Line.{pair_text, records_text, refusal_text, second_text};
+ghost use Rattle.bb_cert.specs.verdict.Line.{verdict_text};
 ghost use Rattle.bb_cert.specs.verdict.Line.{line_said, IsLineOf};
 
 use crate::verdict::{Extent, Side, Verdict, Why};
