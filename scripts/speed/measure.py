@@ -3,8 +3,9 @@
 
     scripts/speed/measure.py [crates/bb/out/bb] [--runs N] [--seed N]
 
-It builds the peer by `rustc -O`, makes its lists from a seed, checks that both write the same bytes
-and end with the same status, runs both in turn, and prints the least time of each and their ratio.
+It builds the peer by `rustc -O`, makes its lists from a seed, checks that both write the same bytes and end
+with the same status, runs both in turn, and prints the least time of each and their ratio. It takes about
+five minutes, with `--runs 1` about two.
 A whole run counts, from the list to the verdicts. For the searches it prints the spread of the runs too.
 It also prints the instructions a step, as `valgrind --tool=callgrind` counts them, which other work on the
 machine doesn't change. Nothing here proves anything. The last line counts the lists on which both wrote
@@ -123,24 +124,34 @@ def count_instructions(name, program):
     print(f"instructions a step of {name}: {told}", flush=True)
 
 
-def timed(command, file):
-    """The seconds that a command takes with the file as its input."""
-    with open(file, "rb") as given:
+class Wrong(Exception):
+    """A run that was timed ended with another status, or wrote other bytes, than it must."""
+
+
+def timed(command, file, expected):
+    """The seconds that a command takes with the file as its input. It must end with this status, and write
+    these bytes."""
+    with open(file, "rb") as given, open(file + ".out", "w+b") as written:
         begin = time.perf_counter()
-        subprocess.run(command, stdin=given, stdout=subprocess.DEVNULL, check=False)
-        return time.perf_counter() - begin
+        ran = subprocess.run(command, stdin=given, stdout=written, check=False)
+        taken = time.perf_counter() - begin
+        written.seek(0)
+        if (ran.returncode, written.read()) != expected:
+            raise Wrong(" ".join(command))
+        return taken
 
 
-def spent(command, file):
-    """The seconds of a processor that a command takes with the file as its input. Other work on the machine
-    disturbs them less than it does the time on the clock."""
+def spent(command, file, expected):
+    """The seconds of a processor that a command takes with the file as its input, as `timed` does. Other work
+    on the machine disturbs them less than it does the time on the clock."""
     before = resource.getrusage(resource.RUSAGE_CHILDREN)
-    timed(command, file)
+    timed(command, file, expected)
     after = resource.getrusage(resource.RUSAGE_CHILDREN)
     return after.ru_utime + after.ru_stime - before.ru_utime - before.ru_stime
 
 
 def ending(command, file):
+    """The status with which a command ends, and what it writes."""
     with open(file, "rb") as given:
         ran = subprocess.run(command, stdin=given, stdout=subprocess.PIPE, check=False)
     return ran.returncode, ran.stdout
@@ -148,13 +159,14 @@ def ending(command, file):
 
 def measure(name, commands, file, runs):
     """Prints the least times of both, after it has compared what they write. Tells whether they agree."""
-    if ending(commands[0], file) != ending(commands[1], file):
+    expected = ending(commands[1], file)
+    if ending(commands[0], file) != expected:
         print(f"{name}: the two don't write the same")
         return False
     best = [float("inf"), float("inf")]
     for _ in range(runs):
         for which, command in enumerate(commands):
-            best[which] = min(best[which], timed(command, file))
+            best[which] = min(best[which], timed(command, file, expected))
     print(f"{name}: {best[0]:.3f} s, the peer {best[1]:.3f} s, ratio {best[0] / best[1]:.2f}", flush=True)
     return True
 
@@ -195,7 +207,11 @@ def measure_search(program, name, options, switch, file, runs):
     """Prints what the search costs beside the simulation of the same lines, in processor time: what it adds,
     as a ratio of the least times, and the spread of that ratio over the runs."""
     commands = [[program, "decide", *options, switch], [program, "decide", *options]]
-    times = [[spent(command, file) for command in commands] for _ in range(runs)]
+    expected = [ending(command, file) for command in commands]
+    if [status for status, _ in expected] != [0, 0]:
+        raise Wrong(name)
+    pairs = list(zip(commands, expected))
+    times = [[spent(command, file, ended) for command, ended in pairs] for _ in range(runs)]
     run, both = min(alone for alone, _ in times), min(together for _, together in times)
     ratios = [(together - alone) / alone for alone, together in times]
     told = f"simulation {run:.3f} s, the search adds {both - run:.3f} s, ratio {(both - run) / run:.2f}"
@@ -208,46 +224,67 @@ def measure_checking(program, draw, file, runs):
     machines = "".join(machine(draw, 5) for _ in range(CHECKED))
     ended = subprocess.run([program, "decide"], input=machines.encode(), stdout=subprocess.PIPE, check=False)
     verdicts = ended.stdout
+    answers = b"".join(b"open\n" if b" undecided " in line else b"ok\n" for line in verdicts.splitlines())
     best = []
-    for command, text in (("decide", machines.encode()), ("check", verdicts)):
+    for command, text, expected in (("decide", machines.encode(), verdicts), ("check", verdicts, answers)):
         with open(file, "wb") as written:
             written.write(text)
-        best.append(min(spent([program, command], file) for _ in range(runs)))
+        best.append(min(spent([program, command], file, (0, expected)) for _ in range(runs)))
     what = f"checking the lines of {CHECKED} machines of five states"
     print(f"{what}: {best[1]:.3f} s, deciding them {best[0]:.3f} s")
 
 
+def held(measured, *words):
+    """Whether a measurement came through: each run ended and wrote as it must."""
+    try:
+        return measured(*words) is not False
+    except Wrong as wrong:
+        print(f"failed: another status or other bytes: {wrong}", flush=True)
+        return False
+
+
+def words():
+    """The reader of the command line."""
+    shape = argparse.RawDescriptionHelpFormatter
+    parser = argparse.ArgumentParser(description=__doc__, formatter_class=shape)
+    parser.add_argument("program", nargs="?", default=PROGRAM, type=os.path.abspath)
+    parser.add_argument("--runs", type=int, default=5, help="of each program over each list (default: 5)")
+    parser.add_argument("--seed", type=int, default=1962, help="of the random machines (default: 1962)")
+    return parser
+
+
+def put(file, text):
+    """Writes a list into the file that the runs read."""
+    with open(file, "w", encoding="ascii") as written:
+        written.write(text)
+
+
 def main():
-    words = argparse.ArgumentParser(description="Measures the program beside a plain Rust program.")
-    words.add_argument("program", nargs="?", default=PROGRAM)
-    words.add_argument("--runs", type=int, default=5)
-    words.add_argument("--seed", type=int, default=1962)
-    asked = words.parse_args()
-    agreed = []
+    asked = words().parse_args()
+    program, runs, agreed = asked.program, asked.runs, []
     with tempfile.TemporaryDirectory() as room:
         peer, file = os.path.join(room, "peer"), os.path.join(room, "list")
         subprocess.run(["rustc", "-O", "-o", peer, os.path.join(HERE, "peer.rs")], check=True)
-        for name, options, text in cases(random.Random(asked.seed)):
-            with open(file, "w", encoding="ascii") as written:
-                written.write(text)
-            options = ["decide", *SWITCHES, *options]
-            agreed.append(measure(name, [[asked.program, *options], [peer, *options]], file, asked.runs))
-        count_instructions("the program", os.path.abspath(asked.program))
-        count_instructions("plain Rust", peer)
+        listed = cases(random.Random(asked.seed))
+        alone = [(name, [*SWITCHES, *options], text) for name, options, text in listed]
         whole = trees(random.Random(asked.seed)) + random_machines(random.Random(asked.seed))
-        for name, options, text in whole:
-            with open(file, "w", encoding="ascii") as written:
-                written.write(text)
-            options = ["decide", *options]
-            agreed.append(measure(name, [[asked.program, *options], [peer, *options]], file, asked.runs))
-        for name, options, switch, text in searches(asked.program, random.Random(asked.seed)):
-            with open(file, "w", encoding="ascii") as written:
-                written.write(text)
-            measure_search(asked.program, name, options, switch, file, asked.runs)
-        measure_checking(asked.program, random.Random(asked.seed), file, asked.runs)
+        for name, options, text in alone + whole:
+            put(file, text)
+            commands = [[each, "decide", *options] for each in (program, peer)]
+            agreed.append(held(measure, name, commands, file, runs))
+        count_instructions("the program", program)
+        count_instructions("plain Rust", peer)
+        for name, options, switch, text in searches(program, random.Random(asked.seed)):
+            put(file, text)
+            agreed.append(held(measure_search, program, name, options, switch, file, runs))
+        agreed.append(held(measure_checking, program, random.Random(asked.seed), file, runs))
     print(f"{agreed.count(True)} passed, {agreed.count(False)} failed")
     return 0 if all(agreed) else 1
 
 
 if __name__ == "__main__":
-    sys.exit(main())
+    try:
+        sys.exit(main())
+    except (BrokenPipeError, KeyboardInterrupt):
+        os.dup2(os.open(os.devnull, os.O_WRONLY), sys.stdout.fileno())
+        sys.exit(1)
