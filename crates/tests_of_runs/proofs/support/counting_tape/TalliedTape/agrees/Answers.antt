@@ -1,6 +1,6 @@
 use Rattle.std.proofs.Common.{w64, rules, FitsSigned}
 use Rattle.std.proofs.lemmas.Int.{to_z-of_z}
-use Rattle.tests_of_runs.proofs.support.counting_tape.CountingTape.agrees.Goals as goal
+use Rattle.tests_of_runs.proofs.support.counting_tape.TalliedTape.agrees.Goals as goal
 
 pub returns : goal.returns
 returns g c =
