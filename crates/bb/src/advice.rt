@@ -2,6 +2,7 @@
 
 use crate::command::Numbers;
 use bb_machine::LimitFault;
+use bb_machine::limits::{MAX_CELLS, MAX_LEVELS, MAX_NODES, MAX_STEPS};
 use std::fmt;
 use std::fmt::{Display, Formatter};
 
@@ -21,20 +22,28 @@ impl Display for Advice {
             LimitFault::Steps if numbers.is_of_trace => {
                 write!(
                     f,
-                    "--upto {} is not within 0 to 1000000000000",
+                    "--upto {} is not within 0 to {MAX_STEPS}",
                     numbers.steps
                 )
             }
             LimitFault::Steps => write!(
                 f,
-                "--steps {} is not within 0 to 1000000000000",
+                "--steps {} is not within 0 to {MAX_STEPS}",
                 numbers.steps
             ),
-            LimitFault::Cells => write!(f, "--cells {} is not within 1 to 67108864", numbers.cells),
-            LimitFault::Depth => write!(f, "--depth {} is not within 0 to 10000", numbers.depth),
+            LimitFault::Cells => write!(
+                f,
+                "--cells {} is not within 1 to {MAX_CELLS}",
+                numbers.cells
+            ),
+            LimitFault::Depth => write!(
+                f,
+                "--depth {} is not within 0 to {MAX_LEVELS}",
+                numbers.depth
+            ),
             LimitFault::Nodes => write!(
                 f,
-                "--nodes {} is not within 0 to 1000000000000",
+                "--nodes {} is not within 0 to {MAX_NODES}",
                 numbers.nodes
             ),
             LimitFault::DepthCells => write!(

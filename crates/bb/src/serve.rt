@@ -1,22 +1,16 @@
 //! Does what was asked for, and says how it ended.
-ghost use Rattle.std.specs.Prelude.{◌≡◌, ◌↔◌, false, true, IfOk};
-ghost use Rattle.bb_cert.specs.checker.Pair.{PairHasCells};
-ghost use Rattle.bb_cert.specs.tree.Path.{depth_of};
-ghost use Rattle.bb_decide.specs.Bench.{BenchHasCells};
+ghost use Rattle.std.specs.Prelude.{◌≡◌, ◌↔◌, false, true};
 ghost use Rattle.bb_decide.specs.declared.plan.Plan.{Plan};
 ghost use Rattle.bb_lines.specs.Watched.{is_marked, watched_inner};
 ghost use Rattle.bb_run.specs.BorneOut.{VerdictsAreBorneOut};
 ghost use Rattle.bb.specs.Ends.{IsNotBegun, ServeEnds, end_status};
 
 use crate::command::{Asked, Work};
-use bb_cert::{Pair, Path};
-use bb_decide::Bench;
 use bb_lines::fault::Fault;
 use bb_lines::watched::Watched;
-use bb_machine::Limits;
 use bb_run::laws::verdicts_are_borne_out;
-use bb_run::{Summary, run_check, run_decide, run_trace};
-use bb_tape::{Memory, RingTape, Tape};
+use bb_run::{Summary, ring_bench, ring_pair, run_check, run_decide, run_trace};
+use bb_tape::RingTape;
 use std::alloc::Global;
 use std::io::{Read, Write};
 
@@ -51,11 +45,11 @@ pub fn serve<R: Read, W: Write>(
     verdicts_are_borne_out();
     let limits = asked.limits;
     match &asked.work {
-        Work::Decide(plan) => match bench_of(alloc, &limits) {
+        Work::Decide(plan) => match ring_bench(alloc, &limits) {
             Ok(mut bench) => run_decide(reader, writer, &limits, *plan, &mut bench),
             Err(_) => Err(Fault::Memory),
         },
-        Work::Check => match pair_of(alloc, &limits) {
+        Work::Check => match ring_pair(alloc, &limits) {
             Ok((mut pair, mut path)) => run_check(reader, writer, &limits, &mut pair, &mut path),
             Err(_) => Err(Fault::Memory),
         },
@@ -64,30 +58,6 @@ pub fn serve<R: Read, W: Write>(
             Err(_) => Err(Fault::Memory),
         },
     }
-}
-
-/// A bench of three rings for machines under these limits.
-fn bench_of(alloc: Global, limits: &Limits) -> Result<Bench<RingTape>, Memory>
-    ensures tapes { IfOk result (BenchHasCells ⟦<RingTape as Tape>⟧.strip limits.now.cells) }
-    ensures path { IfOk result (λ bench. depth_of bench.path ≡ limits.now.depth) }
-{
-    let cells = limits.cells();
-    let run = RingTape::new(alloc, cells)?;
-    let right = RingTape::new(alloc, cells)?;
-    let left = RingTape::new(alloc, cells)?;
-    Bench::new(alloc, run, right, left, limits)
-}
-
-/// Two rings and a path for claims under these limits.
-fn pair_of(alloc: Global, limits: &Limits) -> Result<(Pair<RingTape>, Path), Memory>
-    ensures tapes { IfOk result (λ made. PairHasCells ⟦<RingTape as Tape>⟧.strip limits.now.cells made.0) }
-    ensures path { IfOk result (λ made. depth_of made.1 ≡ limits.now.depth) }
-{
-    let cells = limits.cells();
-    let run = RingTape::new(alloc, cells)?;
-    let saved = RingTape::new(alloc, cells)?;
-    let path = Path::new(alloc, limits.depth())?;
-    Ok((Pair { run, saved }, path))
 }
 
 /// The program's exit status: 0 where the summary is clean, 1 where it isn't, 3 for a fault.

@@ -11,11 +11,10 @@ ghost use Rattle.bb_c.specs.Buffer.{IsFilled, IsTooShort, IsUntouched};
 ghost use Rattle.bb_c.specs.Call.{bounds_of};
 
 use crate::buffer::{CLEAN, LIMITS, MEMORY, NOT_CLEAN, SHORT, give};
-use crate::tapes::pair_of;
 use bb_cert::{Answer, Line, Verdict, check, read_line};
 use bb_lines::watched::Watched;
 use bb_machine::{Limits, Machine};
-use bb_run::run_check;
+use bb_run::{ring_pair, run_check};
 use bb_sim::Meter;
 use bb_tape::Memory;
 use std::alloc::Global;
@@ -68,7 +67,7 @@ fn answers(alloc: Global, limits: &Limits, list: &[u8]) -> Result<(Vec<u8>, bool
     ensures clean { IfOk result
         (λ given. IsTrue given.1 ↔ AllByRecursion (IsFine limits.now) (lines list.now)) }
 {
-    let (mut pair, mut path) = pair_of(alloc, limits)?;
+    let (mut pair, mut path) = ring_pair(alloc, limits)?;
     let mut reader = Watched::new(list);
     let mut writer = Watched::new(Vec::new(alloc));
     match run_check(&mut reader, &mut writer, limits, &mut pair, &mut path) {
@@ -127,7 +126,7 @@ fn answer(
 ) -> Result<Answer, Memory>
     ensures { IfOk result (IsAnswer machine.now limits.now verdict.now) }
 {
-    let (mut pair, mut path) = pair_of(alloc, limits)?;
+    let (mut pair, mut path) = ring_pair(alloc, limits)?;
     let mut meter = Meter::new();
     check(machine, verdict, limits, &mut pair, &mut path, &mut meter)
 }

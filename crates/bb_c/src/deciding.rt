@@ -10,14 +10,13 @@ ghost use Rattle.bb_c.specs.Buffer.{IsFilled, IsTooShort, IsUntouched};
 ghost use Rattle.bb_c.specs.Call.{bounds_of, plan_of};
 
 use crate::buffer::{CLEAN, LIMITS, MEMORY, NOT_CLEAN, SHORT, give};
-use crate::tapes::bench_of;
 use arrayvec::ArrayVec;
 use bb_cert::{LINE_BUFFER, Verdict, line_into, lines_are_short, refusal_into};
 use bb_decide::{Plan, decide};
 use bb_lines::watched::Watched;
 use bb_machine::{Limits, Machine};
 use bb_run::laws::verdicts_are_borne_out;
-use bb_run::run_decide;
+use bb_run::{ring_bench, run_decide};
 use bb_sim::Meter;
 use bb_tape::Memory;
 use std::alloc::Global;
@@ -86,7 +85,7 @@ fn verdicts(
     ensures clean { IfOk result
         (λ given. IsTrue given.1 ↔ AllByRecursion IsMachineLine (lines list.now)) }
 {
-    let mut bench = bench_of(alloc, limits)?;
+    let mut bench = ring_bench(alloc, limits)?;
     let mut reader = Watched::new(list);
     let mut writer = Watched::new(Vec::new(alloc));
     match run_decide(&mut reader, &mut writer, limits, plan, &mut bench) {
@@ -167,7 +166,7 @@ fn verdict_line(
     requires empty { reply.old.items ≡ [] }
     ensures reply { OnOk result (IsReply limits.now plan (text machine.now) reply.new.items) }
 {
-    let mut bench = bench_of(alloc, limits)?;
+    let mut bench = ring_bench(alloc, limits)?;
     let mut meter = Meter::new();
     let verdict = decide(machine, limits, plan, &mut bench, &mut meter)?;
     lines_are_short();

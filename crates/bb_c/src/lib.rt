@@ -6,4 +6,3 @@
 mod buffer;
 mod checking;
 mod deciding;
-mod tapes;

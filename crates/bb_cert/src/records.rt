@@ -1,6 +1,6 @@
 //! The records of one side of a run, and the one with which a later one is compared.
 ghost use Rattle.std.specs.Prelude.{◌≡◌, ◌≢◌, ◌↔◌, ◌+ℤ◌, ◌-ℤ◌, ◌≤ℤ◌, pos, IsTrue};
-ghost use Rattle.bb_tape.specs.Strip.{IsInside};
+ghost use Rattle.bb_tape.specs.TapeView.{IsInside};
 ghost use Rattle.bb_sim.specs.CellsBetween.{cells_between};
 ghost use Rattle.bb_sim.specs.Runner.{position_of, state_of};
 ghost use Rattle.bb_cert.specs.records.Follow.{AgreesWithKept, HasSameCells, IsComparable, IsKeptInStateOf};
@@ -12,7 +12,7 @@ use crate::verdict::{Extent, Side};
 use bb_machine::Next;
 use bb_sim::Runner;
 use bb_tape::Tape;
-use bb_tape::reach::reach;
+use bb_tape::widening::widen_to;
 
 /// The record of a side that is kept, and how far the head has come back since. A record's number is how far
 /// out the head is where it is made.
@@ -50,31 +50,31 @@ impl Records {
     }
 
     /// Keeps the record that the runner has just made.
-    pub fn keep(&mut self, runner: &Runner)
+    pub fn keep_record(&mut self, runner: &Runner)
         ensures { self.new ≡ with_kept self.old runner.now }
     {
         self.kept = *runner;
         self.nearest = runner.position();
     }
 
-    /// Keeps what others of the same side keep. The side isn't written, so a loop for one side stays one.
+    /// Keeps what other records of the same side keep. The side isn't written, so a loop for one side stays one.
     #[inline(always)]
-    pub fn keep_as(&mut self, others: &Records)
-        ensures { self.new ≡ record self.old { kept = others.now.kept; nearest = others.now.nearest } }
+    pub fn copy_kept(&mut self, other: &Records)
+        ensures { self.new ≡ record self.old { kept = other.now.kept; nearest = other.now.nearest } }
     {
-        self.kept = others.kept;
-        self.nearest = others.nearest;
+        self.kept = other.kept;
+        self.nearest = other.nearest;
     }
 
     /// Whether a record is kept that agrees with the one that the runner has just made. The kept one's tape
     /// may be widened.
     pub fn agrees<T: Tape>(&self, runner: &Runner, run: &T, saved: &mut T) -> bool
-        requires limit { (T.strip saved.old).limit ≡ (T.strip run.now).limit }
+        requires limit { (T.view saved.old).limit ≡ (T.view run.now).limit }
         requires comparable { IsKeptInStateOf self.now runner.now
-            → IsComparable self.now runner.now (T.strip saved.old) (T.strip run.now) }
+            → IsComparable self.now runner.now (T.view saved.old) (T.view run.now) }
         ensures agree { IsTrue result
-            ↔ AgreesWithKept self.now runner.now (T.strip saved.old) (T.strip run.now) }
-        ensures saved { IsWidened self.now (T.strip run.now) (T.strip saved.old) (T.strip saved.new) }
+            ↔ AgreesWithKept self.now runner.now (T.view saved.old) (T.view run.now) }
+        ensures saved { IsWidened self.now (T.view run.now) (T.view saved.old) (T.view saved.new) }
     {
         if self.kept.position() == 0 {
             return false;
@@ -82,7 +82,7 @@ impl Records {
         if !is_in_same_state(&self.kept, runner) {
             return false;
         }
-        let Ok(()) = reach(saved, self.nearest) else {
+        let Ok(()) = widen_to(saved, self.nearest) else {
             unreachable!();
         };
         self.has_same_cells(runner, run, saved)
@@ -105,10 +105,10 @@ impl Records {
     /// Whether the cells from the farthest point out to the kept record are those that lie as far before the
     /// one that the runner has just made.
     fn has_same_cells<T: Tape>(&self, runner: &Runner, run: &T, saved: &T) -> bool
-        requires comparable { IsComparable self.now runner.now (T.strip saved.now) (T.strip run.now) }
-        requires far { IsInside (T.strip saved.now) self.now.nearest }
+        requires comparable { IsComparable self.now runner.now (T.view saved.now) (T.view run.now) }
+        requires far { IsInside (T.view saved.now) self.now.nearest }
         ensures { IsTrue result
-            ↔ HasSameCells self.now runner.now (T.strip saved.now).content (T.strip run.now).content }
+            ↔ HasSameCells self.now runner.now (T.view saved.now).content (T.view run.now).content }
     {
         let kept = self.kept.position();
         let from = self.nearest.min(kept);

@@ -4,7 +4,7 @@ use Rattle.std.specs.Prelude.{MatchOption}
 use Rattle.bb_machine.specs.declared.entry.Next.{Next}
 use Rattle.bb_machine.specs.declared.entry.Next.TheVariants.{Halt, State}
 use Rattle.bb_machine.specs.Machine.{Table}
-use Rattle.bb_tape.specs.Strip.{Strip}
+use Rattle.bb_tape.specs.TapeView.{TapeView}
 use Rattle.bb_sim.specs.Configuration.{Configuration}
 use Rattle.bb_sim.specs.declared.runner.Runner.{Runner}
 use Rattle.bb_sim.specs.Run.{conf}
@@ -26,7 +26,7 @@ pub not_in_Z : {state : Next} {n : ℕ} → state ≡ State n → state ≢ Halt
 not_in_Z is halts = cc
 
 -- in Z a runner is in a state in which it wasn't before
-module _ (table : Table) (runner : Runner) (run : Strip) (stands : Stands table runner run)
+module _ (table : Table) (runner : Runner) (run : TapeView) (stands : Stands table runner run)
     (halts : state_of runner ≡ Halt) where
   pub no_pair_in_Z : (a : ℕ) (c d : Configuration) → a < steps_of runner → conf table a ≡ Some c
       → conf table (steps_of runner) ≡ Some d → c.state ≡ d.state → ⊥

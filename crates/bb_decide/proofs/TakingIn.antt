@@ -23,7 +23,7 @@ use Rattle.std.specs.Prelude.{◌<ℤ◌}
 use Rattle.std.proofs.Math.Nat.{one-le-pow}
 use Rattle.std.proofs.lemmas.Int.{ints}
 use Rattle.bb_machine.specs.Machine.{Table}
-use Rattle.bb_tape.specs.Strip.{Strip, IsSound}
+use Rattle.bb_tape.specs.TapeView.{TapeView, IsSound}
 use Rattle.bb_sim.specs.declared.runner.Runner.{Runner}
 use Rattle.bb_sim.specs.Run.{Exists}
 use Rattle.bb_sim.specs.Runner.{Stands, position_of, steps_of}
@@ -82,15 +82,15 @@ some_kept n k p (inl first) partner =
 some_kept n k p (inr kept) partner = kept
 
 -- at the start there is no record
-pub searched_at_first : (table : Table) (records : Records) (saved : Strip) → position_of records.kept ≡ pos 0
-    → IsSearched table 0 records saved
+pub searched_at_first : (table : Table) (records : Records) (saved : TapeView)
+    → position_of records.kept ≡ pos 0 → IsSearched table 0 records saved
 searched_at_first table records saved start = record {
   followed = followed_at_first table records saved start;
   partner = kept_at_first;
 }
 
 -- a side after a step: what is known of it, and that the step makes no record that agrees with its partner
-pub record GoesOn (table : Table) (n : ℕ) (side : Side) (new : Records) (saved : Strip) : Type 0 where
+pub record GoesOn (table : Table) (n : ℕ) (side : Side) (new : Records) (saved : TapeView) : Type 0 where
   pub searched : IsSearched table n new saved
   pub side_is : new.side ≡ side
   pub none : (a : ℕ) → AgreesWithPartner table side a n → ⊥
@@ -103,7 +103,7 @@ pub record EndsWith (table : Table) (side : Side) (n : ℕ) (verdict : Verdict) 
   pub pair : AgreesWithPartner table side first n
   pub lies : IsExtent table side first n extent
 
-module _ (table : Table) (n : ℕ) (runner : Runner) (run saved : Strip) (old : Records)
+module _ (table : Table) (n : ℕ) (runner : Runner) (run saved : TapeView) (old : Records)
     (stands : Stands table runner run) (next : steps_of runner ≡ n + 1)
     (searched : IsSearched table n old saved) where
   there : Exists table (n + 1)
@@ -201,7 +201,7 @@ module _ (table : Table) (n : ℕ) (runner : Runner) (run saved : Strip) (old : 
         (subst (λ m. Agree table old.side m (steps_of runner)) step pair.agree)
 
     -- compared, and found to agree, or not
-    module _ (new : Records) (new_saved : Strip) where
+    module _ (new : Records) (new_saved : TapeView) where
       pub ends_with : (verdict : Verdict)
           → Compares (passed old (position_of runner)) runner run saved new new_saved (Some verdict)
           → EndsWith table old.side (steps_of runner) verdict
@@ -240,7 +240,7 @@ module _ (table : Table) (n : ℕ) (runner : Runner) (run saved : Strip) (old : 
             })
 
 -- a side by its name, and its records after the step under a name of their own
-module _ {table : Table} {n : ℕ} {side : Side} {runner : Runner} {run saved : Strip} {old new : Records}
+module _ {table : Table} {n : ℕ} {side : Side} {runner : Runner} {run saved : TapeView} {old new : Records}
     (searched : IsSearched table n old saved) (side_is : old.side ≡ side) (stands : Stands table runner run)
     (next : steps_of runner ≡ n + 1) (new_is : new ≡ passed old (position_of runner)) where
   pub side_passes_by : (MakesRecord table side (n + 1) → ⊥) → GoesOn table (steps_of runner) side new saved
@@ -257,7 +257,7 @@ module _ {table : Table} {n : ℕ} {side : Side} {runner : Runner} {run saved : 
     side_ready sound = subst (λ r. IsReady r runner saved run) (sym new_is)
         (ready table n runner run saved old stands next searched made_there sound)
 
-    pub side_ends : (looked : Records) (looked_saved : Strip) (verdict : Verdict)
+    pub side_ends : (looked : Records) (looked_saved : TapeView) (verdict : Verdict)
         → Compares new runner run saved looked looked_saved (Some verdict)
         → EndsWith table side (steps_of runner) verdict
     side_ends looked looked_saved verdict is =
@@ -265,7 +265,7 @@ module _ {table : Table} {n : ℕ} {side : Side} {runner : Runner} {run saved : 
         (ends_with table n runner run saved old stands next searched made_there looked looked_saved verdict
         (subst (λ r. Compares r runner run saved looked looked_saved (Some verdict)) new_is is))
 
-    pub side_goes_on : (looked : Records) (looked_saved : Strip)
+    pub side_goes_on : (looked : Records) (looked_saved : TapeView)
         → Compares new runner run saved looked looked_saved None → looked.side ≡ new.side
         → GoesOn table (steps_of runner) side looked looked_saved
     side_goes_on looked looked_saved is same =
@@ -276,11 +276,11 @@ module _ {table : Table} {n : ℕ} {side : Side} {runner : Runner} {run saved : 
 
 -- both sides after a step
 pub record BothGoOn (table : Table) (n : ℕ) (right left : Records)
-    (saved_right saved_left : Strip) : Type 0 where
+    (saved_right saved_left : TapeView) : Type 0 where
   pub right_goes_on : GoesOn table n R right saved_right
   pub left_goes_on : GoesOn table n L left saved_left
 
-module _ {table : Table} {n : ℕ} {runner : Runner} {run saved_right saved_left : Strip}
+module _ {table : Table} {n : ℕ} {runner : Runner} {run saved_right saved_left : TapeView}
     {right left new_right new_left : Records}
     (right_searched : IsSearched table n right saved_right)
     (left_searched : IsSearched table n left saved_left)
@@ -301,7 +301,7 @@ module _ {table : Table} {n : ℕ} {runner : Runner} {run saved_right saved_left
   one_ready R just sound = side_ready right_searched right_is stands next new_right_is just.0 sound
   one_ready L just sound = side_ready left_searched left_is stands next new_left_is just.0 sound
 
-  module _ (looked_right looked_left : Records) (looked_saved_right looked_saved_left : Strip) where
+  module _ (looked_right looked_left : Records) (looked_saved_right looked_saved_left : TapeView) where
     pub one_ends : (side : Side) → MakesJust table (n + 1) (Some side) → (verdict : Verdict)
         → Looks side runner run new_right new_left saved_right saved_left looked_right looked_left
         looked_saved_right looked_saved_left (Some verdict) → EndsWith table side (steps_of runner) verdict

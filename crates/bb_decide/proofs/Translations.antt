@@ -4,7 +4,7 @@ use Rattle.std.proofs.lemmas.Bool.{cases_lt}
 use Rattle.bb_machine.specs.declared.entry.Next.TheVariants.{Halt}
 use Rattle.bb_machine.specs.Limits.{Bounds}
 use Rattle.bb_machine.specs.Machine.{Table}
-use Rattle.bb_tape.specs.Strip.{Strip}
+use Rattle.bb_tape.specs.TapeView.{TapeView}
 use Rattle.bb_sim.specs.declared.meter.Meter.{Meter}
 use Rattle.bb_sim.specs.declared.runner.Runner.{Runner}
 use Rattle.bb_sim.specs.Meter.{CountsTo}
@@ -46,7 +46,7 @@ pair_agrees table side a b pair = record {
 }
 
 -- in Z no record agrees with an earlier one
-pub no_pair_at_end : (table : Table) (runner : Runner) (run : Strip) → Stands table runner run
+pub no_pair_at_end : (table : Table) (runner : Runner) (run : TapeView) → Stands table runner run
     → state_of runner ≡ Halt
     → (side : Side) (a : ℕ) → AgreesWithPartner table side a (steps_of runner) → ⊥
 no_pair_at_end table runner run stands halts side a pair =

@@ -31,11 +31,11 @@ impl<T: Tape> Bench<T> {
         left: T,
         limits: &Limits,
     ) -> Result<Bench<T>, Memory>
-        requires run { (T.strip run).limit ≡ limits.now.cells }
-        requires right { (T.strip right).limit ≡ limits.now.cells }
-        requires left { (T.strip left).limit ≡ limits.now.cells }
+        requires run { (T.view run).limit ≡ limits.now.cells }
+        requires right { (T.view right).limit ≡ limits.now.cells }
+        requires left { (T.view left).limit ≡ limits.now.cells }
         ensures given { IfOk result (HasTapes run right left) }
-        ensures room { IfOk result (BenchHasCells T.strip limits.now.cells) }
+        ensures room { IfOk result (BenchHasCells T.view limits.now.cells) }
         ensures path { IfOk result (λ bench. depth_of bench.path ≡ limits.now.depth) }
     {
         let path = Path::new(alloc, limits.depth())?;

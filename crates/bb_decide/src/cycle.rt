@@ -1,4 +1,6 @@
-//! The search for a configuration that comes again.
+//! The search for a configuration that comes again, by Brent's cycle detection (R. P. Brent, "An improved Monte
+//! Carlo factorization algorithm", 1980): one configuration is kept, anew at each power of two, and each later
+//! one is compared with it.
 ghost use Rattle.std.specs.Prelude.{◌≡◌, ◌*◌, ◌≤◌, IfOk, IfSome, IsTrue, OnErr, OnOk};
 ghost use Rattle.bb_sim.specs.Meter.{IsWithinRun};
 ghost use Rattle.bb_sim.specs.Run.{Never};
@@ -26,7 +28,7 @@ pub fn cyclers<T: Tape>(
     bench: &mut Bench<T>,
     meter: &mut Meter,
 ) -> Result<Option<Verdict>, Memory>
-    requires tapes { BenchHasCells T.strip limits.now.cells bench.old }
+    requires tapes { BenchHasCells T.view limits.now.cells bench.old }
     requires room { meter.old.steps ≤ 2 * limits.now.steps }
     ensures found { IfOk result (FindsCycle machine.now limits.now) }
     ensures sure { IfOk result (FindsRepeats machine.now limits.now) }
@@ -36,11 +38,11 @@ pub fn cyclers<T: Tape>(
     ensures never { IfOk result (λ found. IfSome found (λ verdict. Never machine.now)) }
     ensures claim { IfOk result (λ found. IfSome found (Claim machine.now)) }
     ensures numbers { IfOk result (λ found. IfSome found HasNumbers) }
-    ensures tapes { BenchHasCells T.strip limits.now.cells bench.new }
+    ensures tapes { BenchHasCells T.view limits.now.cells bench.new }
     ensures path { bench.new.path ≡ bench.old.path }
     ensures memory { OnErr result (IsTrue T.GROWS) }
 {
-    let _states = machine.states();
+    machine.show_machine();
     let limits = *limits;
     let mut spent = *meter;
     let found = run(machine, &limits, bench, &mut spent);
@@ -56,7 +58,7 @@ fn run<T: Tape>(
     bench: &mut Bench<T>,
     meter: &mut Meter,
 ) -> Result<Option<Verdict>, Memory>
-    requires tapes { BenchHasCells T.strip limits.now.cells bench.old }
+    requires tapes { BenchHasCells T.view limits.now.cells bench.old }
     requires room { meter.old.steps ≤ 2 * limits.now.steps }
     ensures found { IfOk result (FindsCycle machine.now limits.now) }
     ensures counted { IfOk result (CountsSearch machine.now limits.now meter.old meter.new) }
@@ -64,15 +66,15 @@ fn run<T: Tape>(
     ensures never { IfOk result (λ found. IfSome found (λ verdict. Never machine.now)) }
     ensures claim { IfOk result (λ found. IfSome found (Claim machine.now)) }
     ensures numbers { IfOk result (λ found. IfSome found HasNumbers) }
-    ensures tapes { BenchHasCells T.strip limits.now.cells bench.new }
+    ensures tapes { BenchHasCells T.view limits.now.cells bench.new }
     ensures path { bench.new.path ≡ bench.old.path }
     ensures memory { OnErr result (IsTrue T.GROWS) }
 {
-    let _accepted = limits.steps();
+    limits.show_accepted();
     let mut runner = Runner::start(machine, &mut bench.run);
     let mut kept = Runner::start(machine, &mut bench.right);
     let mut next_kept = 0;
-    meter.most_cells = meter.most_cells.max(1);
+    meter.begin_run();
     loop {
         match runner.advance(machine, &mut bench.run, limits, meter)? {
             Moved::Stepped => {}
@@ -103,9 +105,9 @@ fn run<T: Tape>(
 #[cold]
 #[inline(never)]
 fn save<T: Tape>(saved: &mut T, run: &T) -> Result<(), TapeFault>
-    requires { (T.strip saved.old).limit ≡ (T.strip run.now).limit }
-    ensures ok { OnOk result (T.strip saved.new ≡ T.strip run.now) }
-    ensures limit { (T.strip saved.new).limit ≡ (T.strip saved.old).limit }
+    requires { (T.view saved.old).limit ≡ (T.view run.now).limit }
+    ensures ok { OnOk result (T.view saved.new ≡ T.view run.now) }
+    ensures limit { (T.view saved.new).limit ≡ (T.view saved.old).limit }
     ensures memory { OnErr result (IsTrue T.GROWS) }
 {
     saved.copy_from(run)

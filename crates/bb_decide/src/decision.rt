@@ -42,7 +42,7 @@ pub fn decide<T: Tape>(
     bench: &mut Bench<T>,
     meter: &mut Meter,
 ) -> Result<Verdict, Memory>
-    requires tapes { BenchHasCells T.strip limits.now.cells bench.old }
+    requires tapes { BenchHasCells T.view limits.now.cells bench.old }
     requires path { depth_of bench.old.path ≡ limits.now.depth }
     ensures verdict { IfOk result (IsVerdict machine.now limits.now plan) }
     ensures earlier { IfOk result (KeepsEarlier machine.now limits.now plan) }
@@ -56,13 +56,13 @@ pub fn decide<T: Tape>(
         IsLineOf (Line.Claim machine.now verdict) (line_text machine.now verdict)) }
     ensures counted { OnOk result (CountsWork machine.now limits.now plan meter.new) }
     ensures within { IsWithinWork limits.now meter.new }
-    ensures tapes { BenchHasCells T.strip limits.now.cells bench.new }
+    ensures tapes { BenchHasCells T.view limits.now.cells bench.new }
     ensures path { depth_of bench.new.path ≡ depth_of bench.old.path }
     ensures memory { OnErr result (IsTrue T.GROWS) }
 {
     *meter = Meter::new();
-    let _accepted = limits.steps();
-    let _read = machine.states();
+    limits.show_accepted();
+    machine.show_machine();
     let why = match simulate(machine, &mut bench.run, limits, meter)? {
         Outcome::Halt { steps, score } => return Ok(Verdict::Halt { steps, score }),
         Outcome::NoSteps => Why::Steps,
@@ -82,7 +82,7 @@ fn find<T: Tape>(
     bench: &mut Bench<T>,
     meter: &mut Meter,
 ) -> Result<Option<Verdict>, Memory>
-    requires tapes { BenchHasCells T.strip limits.now.cells bench.old }
+    requires tapes { BenchHasCells T.view limits.now.cells bench.old }
     requires path { depth_of bench.old.path ≡ limits.now.depth }
     requires room { meter.old.steps ≤ limits.now.steps }
     requires nodes { meter.old.nodes ≡ 0 }
@@ -92,7 +92,7 @@ fn find<T: Tape>(
     ensures within { IsWithinDeciders limits.now meter.old meter.new }
     ensures claim { IfOk result (λ found. IfSome found (Claim machine.now)) }
     ensures numbers { IfOk result (λ found. IfSome found HasNumbers) }
-    ensures tapes { BenchHasCells T.strip limits.now.cells bench.new }
+    ensures tapes { BenchHasCells T.view limits.now.cells bench.new }
     ensures path { depth_of bench.new.path ≡ depth_of bench.old.path }
     ensures memory { OnErr result (IsTrue T.GROWS) }
 {
@@ -111,14 +111,14 @@ fn search<T: Tape>(
     bench: &mut Bench<T>,
     meter: &mut Meter,
 ) -> Result<Option<Verdict>, Memory>
-    requires tapes { BenchHasCells T.strip limits.now.cells bench.old }
+    requires tapes { BenchHasCells T.view limits.now.cells bench.old }
     requires room { meter.old.steps ≤ limits.now.steps }
     ensures found { IfOk result (SearchesFind machine.now limits.now plan) }
     ensures counted { OnOk result (SearchesCount machine.now limits.now plan meter.old meter.new) }
     ensures within { IsWithinSearches limits.now meter.old meter.new }
     ensures claim { IfOk result (λ found. IfSome found (Claim machine.now)) }
     ensures numbers { IfOk result (λ found. IfSome found HasNumbers) }
-    ensures tapes { BenchHasCells T.strip limits.now.cells bench.new }
+    ensures tapes { BenchHasCells T.view limits.now.cells bench.new }
     ensures path { bench.new.path ≡ bench.old.path }
     ensures memory { OnErr result (IsTrue T.GROWS) }
 {
@@ -137,7 +137,7 @@ fn cyclers_if_on<T: Tape>(
     bench: &mut Bench<T>,
     meter: &mut Meter,
 ) -> Result<Option<Verdict>, Memory>
-    requires tapes { BenchHasCells T.strip limits.now.cells bench.old }
+    requires tapes { BenchHasCells T.view limits.now.cells bench.old }
     requires room { meter.old.steps ≤ 2 * limits.now.steps }
     ensures found { IfOk result (FindsIfOn plan.cyclers (FindsCycle machine.now limits.now)) }
     ensures counted { IfOk result (CountsIfOn plan.cyclers (FindsCycle machine.now limits.now)
@@ -145,7 +145,7 @@ fn cyclers_if_on<T: Tape>(
     ensures within { IsWithinRun limits.now meter.old meter.new }
     ensures claim { IfOk result (λ found. IfSome found (Claim machine.now)) }
     ensures numbers { IfOk result (λ found. IfSome found HasNumbers) }
-    ensures tapes { BenchHasCells T.strip limits.now.cells bench.new }
+    ensures tapes { BenchHasCells T.view limits.now.cells bench.new }
     ensures path { bench.new.path ≡ bench.old.path }
     ensures memory { OnErr result (IsTrue T.GROWS) }
 {
@@ -163,7 +163,7 @@ fn translated_if_on<T: Tape>(
     bench: &mut Bench<T>,
     meter: &mut Meter,
 ) -> Result<Option<Verdict>, Memory>
-    requires tapes { BenchHasCells T.strip limits.now.cells bench.old }
+    requires tapes { BenchHasCells T.view limits.now.cells bench.old }
     requires room { meter.old.steps ≤ 2 * limits.now.steps }
     ensures found { IfOk result (FindsIfOn plan.translated (FindsTranslation machine.now limits.now)) }
     ensures counted { IfOk result (CountsIfOn plan.translated (FindsTranslation machine.now limits.now)
@@ -171,7 +171,7 @@ fn translated_if_on<T: Tape>(
     ensures within { IsWithinRun limits.now meter.old meter.new }
     ensures claim { IfOk result (λ found. IfSome found (Claim machine.now)) }
     ensures numbers { IfOk result (λ found. IfSome found HasNumbers) }
-    ensures tapes { BenchHasCells T.strip limits.now.cells bench.new }
+    ensures tapes { BenchHasCells T.view limits.now.cells bench.new }
     ensures path { bench.new.path ≡ bench.old.path }
     ensures memory { OnErr result (IsTrue T.GROWS) }
 {
@@ -189,7 +189,7 @@ fn backward_if_on<T: Tape>(
     bench: &mut Bench<T>,
     meter: &mut Meter,
 ) -> Result<Option<Verdict>, Memory>
-    requires tapes { BenchHasCells T.strip limits.now.cells bench.old }
+    requires tapes { BenchHasCells T.view limits.now.cells bench.old }
     requires path { depth_of bench.old.path ≡ limits.now.depth }
     requires nodes { meter.old.nodes ≡ 0 }
     requires most_levels { meter.old.most_levels ≡ 0 }
@@ -199,7 +199,7 @@ fn backward_if_on<T: Tape>(
     ensures within { IsWithinWalk limits.now.depth limits.now.nodes meter.old meter.new }
     ensures claim { IfOk result (λ found. IfSome found (Claim machine.now)) }
     ensures numbers { IfOk result (λ found. IfSome found HasNumbers) }
-    ensures tapes { BenchHasCells T.strip limits.now.cells bench.new }
+    ensures tapes { BenchHasCells T.view limits.now.cells bench.new }
     ensures path { depth_of bench.new.path ≡ depth_of bench.old.path }
     ensures memory { OnErr result (IsTrue T.GROWS) }
 {

@@ -4,10 +4,10 @@
 pub mod bench;
 pub mod cycle;
 pub mod decision;
-mod keeping;
 pub mod laws;
 pub mod plan;
 pub mod reasoning;
+mod record_search;
 pub mod translation;
 
 pub use bench::Bench;

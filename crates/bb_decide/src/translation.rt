@@ -11,7 +11,7 @@ ghost use Rattle.bb_decide.specs.Sure.{FindsAgreeingRecords};
 ghost use Rattle.bb_decide.specs.Translation.{FindsTranslation};
 
 use crate::bench::Bench;
-use crate::keeping::look;
+use crate::record_search::look_at_record;
 use bb_cert::records::{Records, widened_side};
 use bb_cert::{Side, Verdict};
 use bb_machine::{Limits, Machine};
@@ -29,7 +29,7 @@ pub fn translated<T: Tape>(
     bench: &mut Bench<T>,
     meter: &mut Meter,
 ) -> Result<Option<Verdict>, Memory>
-    requires tapes { BenchHasCells T.strip limits.now.cells bench.old }
+    requires tapes { BenchHasCells T.view limits.now.cells bench.old }
     requires room { meter.old.steps ≤ 2 * limits.now.steps }
     ensures found { IfOk result (FindsTranslation machine.now limits.now) }
     ensures sure { IfOk result (FindsAgreeingRecords machine.now limits.now) }
@@ -38,7 +38,7 @@ pub fn translated<T: Tape>(
     ensures never { IfOk result (λ found. IfSome found (λ verdict. Never machine.now)) }
     ensures claim { IfOk result (λ found. IfSome found (Claim machine.now)) }
     ensures numbers { IfOk result (λ found. IfSome found HasNumbers) }
-    ensures tapes { BenchHasCells T.strip limits.now.cells bench.new }
+    ensures tapes { BenchHasCells T.view limits.now.cells bench.new }
     ensures path { bench.new.path ≡ bench.old.path }
     ensures memory { OnErr result (IsTrue T.GROWS) }
 {
@@ -57,7 +57,7 @@ fn run<T: Tape>(
     bench: &mut Bench<T>,
     meter: &mut Meter,
 ) -> Result<Option<Verdict>, Memory>
-    requires tapes { BenchHasCells T.strip limits.now.cells bench.old }
+    requires tapes { BenchHasCells T.view limits.now.cells bench.old }
     requires room { meter.old.steps ≤ 2 * limits.now.steps }
     ensures found { IfOk result (FindsTranslation machine.now limits.now) }
     ensures counted { IfOk result (CountsSearch machine.now limits.now meter.old meter.new) }
@@ -65,15 +65,15 @@ fn run<T: Tape>(
     ensures never { IfOk result (λ found. IfSome found (λ verdict. Never machine.now)) }
     ensures claim { IfOk result (λ found. IfSome found (Claim machine.now)) }
     ensures numbers { IfOk result (λ found. IfSome found HasNumbers) }
-    ensures tapes { BenchHasCells T.strip limits.now.cells bench.new }
+    ensures tapes { BenchHasCells T.view limits.now.cells bench.new }
     ensures path { bench.new.path ≡ bench.old.path }
     ensures memory { OnErr result (IsTrue T.GROWS) }
 {
-    let _accepted = limits.steps();
+    limits.show_accepted();
     let mut runner = Runner::start(machine, &mut bench.run);
     let mut right = Records::new(Side::R, runner);
     let mut left = Records::new(Side::L, runner);
-    meter.most_cells = meter.most_cells.max(1);
+    meter.begin_run();
     loop {
         let cells = runner.cells();
         match runner.advance(machine, &mut bench.run, limits, meter)? {
@@ -116,20 +116,20 @@ fn look_on<T: Tape>(
     saved_right: &mut T,
     saved_left: &mut T,
 ) -> Result<Option<Verdict>, Memory>
-    requires right_limit { (T.strip saved_right.old).limit ≡ (T.strip run.now).limit }
-    requires left_limit { (T.strip saved_left.old).limit ≡ (T.strip run.now).limit }
+    requires right_limit { (T.view saved_right.old).limit ≡ (T.view run.now).limit }
+    requires left_limit { (T.view saved_left.old).limit ≡ (T.view run.now).limit }
     requires ready { IsReady (on_side side right.old left.old) runner.now
-        (on_side side (T.strip saved_right.old) (T.strip saved_left.old)) (T.strip run.now) }
-    ensures looks { IfOk result (Looks side runner.now (T.strip run.now) right.old left.old
-        (T.strip saved_right.old) (T.strip saved_left.old) right.new left.new
-        (T.strip saved_right.new) (T.strip saved_left.new)) }
+        (on_side side (T.view saved_right.old) (T.view saved_left.old)) (T.view run.now) }
+    ensures looks { IfOk result (Looks side runner.now (T.view run.now) right.old left.old
+        (T.view saved_right.old) (T.view saved_left.old) right.new left.new
+        (T.view saved_right.new) (T.view saved_left.new)) }
     ensures numbers { IfOk result (λ found. IfSome found HasNumbers) }
-    ensures right_limit { (T.strip saved_right.new).limit ≡ (T.strip saved_right.old).limit }
-    ensures left_limit { (T.strip saved_left.new).limit ≡ (T.strip saved_left.old).limit }
+    ensures right_limit { (T.view saved_right.new).limit ≡ (T.view saved_right.old).limit }
+    ensures left_limit { (T.view saved_left.new).limit ≡ (T.view saved_left.old).limit }
     ensures memory { OnErr result (IsTrue T.GROWS) }
 {
     match side {
-        Side::R => look(right, runner, run, saved_right),
-        Side::L => look(left, runner, run, saved_left),
+        Side::R => look_at_record(right, runner, run, saved_right),
+        Side::L => look_at_record(left, runner, run, saved_left),
     }
 }

@@ -105,6 +105,13 @@ impl Limits {
         }
     }
 
+    /// Says what all limits keep to, where a proof uses it. It does nothing.
+    #[inline(always)]
+    pub fn show_accepted(&self)
+        ensures accepted { IsAccepted self.now }
+    {
+    }
+
     /// The greatest number of steps of one simulation.
     #[inline]
     pub fn steps(&self) -> u64

@@ -233,6 +233,13 @@ impl Machine {
         self.slots[state as usize * STRIDE + symbol as usize].step()
     }
 
+    /// Says that the table is a machine's, where a proof uses it. It does nothing.
+    #[inline(always)]
+    pub fn show_machine(&self)
+        ensures machine { IsMachine self.now }
+    {
+    }
+
     /// How many states the machine has, the halting state not counted.
     #[inline]
     pub fn states(&self) -> u8

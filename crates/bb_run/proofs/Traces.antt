@@ -5,7 +5,7 @@ use Rattle.std.proofs.lemmas.List.{take-append-drop}
 use Rattle.std.proofs.lemmas.List.FromFn.{map-range_with_len_more, take-map-range_with_len}
 use Rattle.bb_machine.specs.Machine.{Table}
 use Rattle.bb_tape.specs.Content.{Content, cell}
-use Rattle.bb_tape.specs.Strip.{Strip}
+use Rattle.bb_tape.specs.TapeView.{TapeView}
 use Rattle.bb_sim.specs.declared.runner.Runner.{Runner}
 use Rattle.bb_sim.specs.CellsBetween.{cells_between}
 use Rattle.bb_sim.specs.Runner.{Stands, high_of, low_of, position_of, state_of, steps_of}
@@ -56,16 +56,16 @@ same_cells tape low high least greatest l h =
     ∙ ap (λ x. cells_text tape low (cells_between low x)) (sym h)
 
 -- the line of the step at which a runner stands, by the runner and its tape
-pub step_text-is : (table : Table) (runner : Runner) (strip : Strip) (head : List ℕ)
-    → Stands table runner strip
+pub step_text-is : (table : Table) (runner : Runner) (view : TapeView) (head : List ℕ)
+    → Stands table runner view
     → head ≡ head_text (steps_of runner) (state_of runner) (position_of runner)
     → IsJoined (step_text table (steps_of runner)) head
-    (cells_text strip.content (low_of runner) (cells_between (low_of runner) (high_of runner)))
-step_text-is table runner strip head stands is_head = record {
+    (cells_text view.content (low_of runner) (cells_between (low_of runner) (high_of runner)))
+step_text-is table runner view head stands is_head = record {
   is = ap (text_at table (steps_of runner)) stands.at
       ∙ ap (λ c. head_text (steps_of runner) (state_of runner) (position_of runner) ++ c)
-      (same_cells strip.content _ _ _ _ stands.low stands.high)
-      ∙ ap (λ h. h ++ cells_text strip.content (low_of runner)
+      (same_cells view.content _ _ _ _ stands.low stands.high)
+      ∙ ap (λ h. h ++ cells_text view.content (low_of runner)
       (cells_between (low_of runner) (high_of runner))) (sym is_head);
 }
 

@@ -52,7 +52,7 @@ impl<T: Tape> Responder for Checker<'_, T> {
     ghost keeps = { λ a b. (b.limits ≡ a.limits) × (b.pair.ghost_name ≡ a.pair.ghost_name)
         × (b.path.ghost_name ≡ a.path.ghost_name) × (depth_of b.path.now ≡ depth_of a.path.now) };
 
-    ghost is_ready = { λ c. PairHasCells T.strip c.limits.cells c.pair.now
+    ghost is_ready = { λ c. PairHasCells T.view c.limits.cells c.pair.now
         × (c.limits.depth ≤ depth_of c.path.now) };
 
     ghost GROWS = { T.GROWS };
@@ -94,7 +94,7 @@ impl<T: Tape> Responder for Checker<'_, T> {
                 return Ok(0);
             }
         };
-        let _accepted = self.limits.steps();
+        self.limits.show_accepted();
         let mut meter = Meter::new();
         let Ok(answer) = check(
             &self.machine,
@@ -147,7 +147,7 @@ pub fn run_check<R: Read, W: Write, T: Tape>(
 ) -> Result<Summary, Fault>
     requires reader { is_marked reader.old ≡ false }
     requires writer { is_marked writer.old ≡ false }
-    requires tapes { PairHasCells T.strip limits.now.cells pair.old }
+    requires tapes { PairHasCells T.view limits.now.cells pair.old }
     requires path { limits.now.depth ≤ depth_of path.old }
 
     // How the run ends, and what is written then.
@@ -160,7 +160,7 @@ pub fn run_check<R: Read, W: Write, T: Tape>(
     ensures read { (result ≡ Err Fault.Read) ↔ (is_marked reader.new ≡ true) }
     ensures write { (result ≡ Err Fault.Write) ↔ (is_marked writer.new ≡ true) }
 
-    ensures tapes { PairHasCells T.strip limits.now.cells pair.new }
+    ensures tapes { PairHasCells T.view limits.now.cells pair.new }
     ensures path { depth_of path.new ≡ depth_of path.old }
 {
     let mut checker = Checker {

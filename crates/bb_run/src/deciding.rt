@@ -56,7 +56,7 @@ impl<T: Tape> Responder for Decider<'_, T> {
     ghost keeps = { λ a b. (b.limits ≡ a.limits) × (b.plan ≡ a.plan)
         × (b.bench.ghost_name ≡ a.bench.ghost_name) };
 
-    ghost is_ready = { λ d. BenchHasCells T.strip d.limits.cells d.bench.now
+    ghost is_ready = { λ d. BenchHasCells T.view d.limits.cells d.bench.now
         × (depth_of d.bench.now.path ≡ d.limits.depth) };
 
     ghost GROWS = { T.GROWS };
@@ -93,7 +93,7 @@ impl<T: Tape> Responder for Decider<'_, T> {
                 return Ok(0);
             }
         }
-        let _accepted = self.limits.steps();
+        self.limits.show_accepted();
         let mut meter = Meter::new();
         let Ok(verdict) = decide(
             &self.machine,
@@ -127,7 +127,7 @@ pub fn run_decide<R: Read, W: Write, T: Tape>(
 ) -> Result<Summary, Fault>
     requires reader { is_marked reader.old ≡ false }
     requires writer { is_marked writer.old ≡ false }
-    requires tapes { BenchHasCells T.strip limits.now.cells bench.old }
+    requires tapes { BenchHasCells T.view limits.now.cells bench.old }
     requires path { depth_of bench.old.path ≡ limits.now.depth }
 
     // How the run ends, and what is written then.
@@ -144,7 +144,7 @@ pub fn run_decide<R: Read, W: Write, T: Tape>(
     ensures read { (result ≡ Err Fault.Read) ↔ (is_marked reader.new ≡ true) }
     ensures write { (result ≡ Err Fault.Write) ↔ (is_marked writer.new ≡ true) }
 
-    ensures tapes { BenchHasCells T.strip limits.now.cells bench.new }
+    ensures tapes { BenchHasCells T.view limits.now.cells bench.new }
     ensures path { depth_of bench.new.path ≡ depth_of bench.old.path }
 {
     let mut decider = Decider {

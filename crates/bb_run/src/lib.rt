@@ -5,10 +5,12 @@
 mod checking;
 mod deciding;
 pub mod laws;
+mod rings;
 mod summary;
 mod tracing;
 
 pub use checking::run_check;
 pub use deciding::run_decide;
+pub use rings::{ring_bench, ring_pair};
 pub use summary::Summary;
 pub use tracing::run_trace;

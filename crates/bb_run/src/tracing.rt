@@ -41,7 +41,7 @@ pub fn run_trace<W: Write, T: Tape>(
     tape: &mut T,
     writer: &mut Watched<W>,
 ) -> Result<Summary, Fault>
-    requires tape { (T.strip tape.old).limit ≡ limits.now.cells }
+    requires tape { (T.view tape.old).limit ≡ limits.now.cells }
     requires writer { is_marked writer.old ≡ false }
 
     // How the trace ends, and what is written then.
@@ -53,7 +53,7 @@ pub fn run_trace<W: Write, T: Tape>(
     ensures read { result ≢ Err Fault.Read }
     ensures write { (result ≡ Err Fault.Write) ↔ (is_marked writer.new ≡ true) }
 
-    ensures tape { (T.strip tape.new).limit ≡ limits.now.cells }
+    ensures tape { (T.view tape.new).limit ≡ limits.now.cells }
 {
     let mut waiting = Waiting::new();
     let clean = add_trace(line, limits, tape, writer, &mut waiting)?;
@@ -72,7 +72,7 @@ fn add_trace<W: Write, T: Tape>(
     writer: &mut Watched<W>,
     waiting: &mut Waiting,
 ) -> Result<bool, Fault>
-    requires tape { (T.strip tape.old).limit ≡ limits.now.cells }
+    requires tape { (T.view tape.old).limit ≡ limits.now.cells }
     requires writer { is_marked writer.old ≡ false }
     requires waiting { waiting.old.items ≡ [] }
     ensures ends { let held = W.contents (watched_inner writer.old) in
@@ -86,11 +86,11 @@ fn add_trace<W: Write, T: Tape>(
     ensures memory { result ≡ Err Fault.Memory → IsTrue T.GROWS }
     ensures read { result ≢ Err Fault.Read }
     ensures write { (result ≡ Err Fault.Write) ↔ (is_marked writer.new ≡ true) }
-    ensures tape { (T.strip tape.new).limit ≡ limits.now.cells }
+    ensures tape { (T.view tape.new).limit ≡ limits.now.cells }
 {
     last_step_exists();
     texts_differ();
-    let _accepted = limits.cells();
+    limits.show_accepted();
     match Machine::read(line) {
         Ok(machine) => add_run(&machine, limits, tape, writer, waiting),
         Err(refused) => {
@@ -128,7 +128,7 @@ fn add_run<W: Write, T: Tape>(
     writer: &mut Watched<W>,
     waiting: &mut Waiting,
 ) -> Result<bool, Fault>
-    requires tape { (T.strip tape.old).limit ≡ limits.now.cells }
+    requires tape { (T.view tape.old).limit ≡ limits.now.cells }
     requires writer { is_marked writer.old ≡ false }
     requires waiting { waiting.old.items ≡ [] }
     ensures ends { let held = W.contents (watched_inner writer.old) in
@@ -142,9 +142,9 @@ fn add_run<W: Write, T: Tape>(
     ensures memory { result ≡ Err Fault.Memory → IsTrue T.GROWS }
     ensures read { result ≢ Err Fault.Read }
     ensures write { (result ≡ Err Fault.Write) ↔ (is_marked writer.new ≡ true) }
-    ensures tape { (T.strip tape.new).limit ≡ limits.now.cells }
+    ensures tape { (T.view tape.new).limit ≡ limits.now.cells }
 {
-    let _accepted = limits.steps();
+    limits.show_accepted();
     let mut meter = Meter::new();
     let mut runner = Runner::start(machine, tape);
     loop {
@@ -170,7 +170,7 @@ fn add_step<W: Write, T: Tape>(
     writer: &mut Watched<W>,
     waiting: &mut Waiting,
 ) -> Result<(), Fault>
-    requires stands { Stands machine.now runner.now (T.strip tape.now) }
+    requires stands { Stands machine.now runner.now (T.view tape.now) }
     requires writer { is_marked writer.old ≡ false }
     ensures sent { OnOk result (Sends (W.contents (watched_inner writer.old))
         (W.contents (watched_inner writer.new)) waiting.old.items waiting.new.items
@@ -181,7 +181,7 @@ fn add_step<W: Write, T: Tape>(
     ensures only_write { IsOkUnless result Fault.Write }
     ensures mark { is_marked writer.new ≡ is_err result }
 {
-    let _states = machine.states();
+    machine.show_machine();
     add(writer, waiting, head_of(runner).as_slice())?;
     add_cells(runner, tape, writer, waiting)?;
     add(writer, waiting, b"\n")
@@ -227,11 +227,11 @@ fn add_cells<W: Write, T: Tape>(
     requires writer { is_marked writer.old ≡ false }
     ensures sent { OnOk result (Sends (W.contents (watched_inner writer.old))
         (W.contents (watched_inner writer.new)) waiting.old.items waiting.new.items
-        (cells_text (T.strip tape.now).content (low_of runner.now)
+        (cells_text (T.view tape.now).content (low_of runner.now)
         (cells_between (low_of runner.now) (high_of runner.now)))) }
     ensures err { OnErr result (AppendsPrefix (W.contents (watched_inner writer.old))
         (W.contents (watched_inner writer.new))
-        (waiting.old.items ++ cells_text (T.strip tape.now).content (low_of runner.now)
+        (waiting.old.items ++ cells_text (T.view tape.now).content (low_of runner.now)
         (cells_between (low_of runner.now) (high_of runner.now)))) }
     ensures only_write { IsOkUnless result Fault.Write }
     ensures mark { is_marked writer.new ≡ is_err result }
@@ -246,7 +246,7 @@ fn add_cells<W: Write, T: Tape>(
 fn digit<T: Tape>(runner: &Runner, tape: &T, i: u64) -> u8
     requires zero { (low_of runner.now) ≤ℤ pos 0 }
     requires few { i < MAX_CELLS }
-    ensures { result ≡ 48 + cell (T.strip tape.now).content ((low_of runner.now) +ℤ pos i) }
+    ensures { result ≡ 48 + cell (T.view tape.now).content ((low_of runner.now) +ℤ pos i) }
 {
     b'0' + tape.read(runner.low() + i as i64)
 }

@@ -2,7 +2,7 @@
 use Rattle.std.proofs.Common.{◌≡◌, ℕ, ◌+◌, max, refl, ap, sym, subst, ◌∙◌, arith}
 use Rattle.bb_machine.specs.Limits.{Bounds}
 use Rattle.bb_machine.specs.Machine.{Table}
-use Rattle.bb_tape.specs.Strip.{Strip}
+use Rattle.bb_tape.specs.TapeView.{TapeView}
 use Rattle.bb_sim.specs.declared.meter.Meter.{Meter}
 use Rattle.bb_sim.specs.declared.runner.Runner.{Runner}
 use Rattle.bb_sim.specs.declared.runner.Moved.{Moved}
@@ -25,23 +25,23 @@ counts_next table n old now next counts is =
     ∙ counted-next old n (span table n) (span table (n + 1)) (span_grows table n (n + 1) (omega arith))
 
 -- a call that did not step changed nothing, and the runner stands at the last step inside
-pub record Stopped (table : Table) (bounds : Bounds) (old new : Runner) (strip_old strip_new : Strip)
+pub record Stopped (table : Table) (bounds : Bounds) (old new : Runner) (view_old view_new : TapeView)
     (meter_old meter_new : Meter) : Type 0 where
   pub last : IsLastInside table bounds (steps_of new)
-  pub stays : Stays old new strip_old strip_new meter_old meter_new
+  pub stays : Stays old new view_old view_new meter_old meter_new
 
-module _ (table : Table) (bounds : Bounds) (old new : Runner) (strip_old strip_new : Strip)
+module _ (table : Table) (bounds : Bounds) (old new : Runner) (view_old view_new : TapeView)
     (meter_old meter_new : Meter) where
-  pub stopped : (moved : Moved) → (moved ≡ Stepped → ⊥) → Reaches table bounds new strip_new moved
-      → Moves table old new strip_old strip_new meter_old meter_new moved
-      → Stopped table bounds old new strip_old strip_new meter_old meter_new
+  pub stopped : (moved : Moved) → (moved ≡ Stepped → ⊥) → Reaches table bounds new view_new moved
+      → Moves table old new view_old view_new meter_old meter_new moved
+      → Stopped table bounds old new view_old view_new meter_old meter_new
   stopped Halted apart last stays = record { last = last; stays = stays }
   stopped NoSteps apart last stays = record { last = last; stays = stays }
   stopped NoCells apart last stays = record { last = last; stays = stays }
   stopped Stepped apart reaches moves = let same : Stepped ≡ Stepped = refl in absurd (apart same)
 
   -- so what was counted stays counted
-  pub counts_stopped : (first : Meter) → Stopped table bounds old new strip_old strip_new meter_old meter_new
+  pub counts_stopped : (first : Meter) → Stopped table bounds old new view_old view_new meter_old meter_new
       → CountsTo table (steps_of old) first meter_old → CountsTo table (steps_of new) first meter_new
   counts_stopped first stop counts =
       stop.stays.meter

@@ -4,7 +4,7 @@ use Rattle.bb_machine.specs.declared.entry.Next.TheVariants.{Halt}
 use Rattle.bb_machine.specs.Limits.{Bounds}
 use Rattle.bb_machine.specs.Machine.{Table}
 use Rattle.bb_tape.specs.Content.{cell}
-use Rattle.bb_tape.specs.Strip.{Strip}
+use Rattle.bb_tape.specs.TapeView.{TapeView}
 use Rattle.bb_sim.specs.declared.meter.Meter.{Meter}
 use Rattle.bb_sim.specs.declared.runner.Runner.{Runner}
 use Rattle.bb_sim.specs.Configuration.{Configuration, entry_at, followed, next}
@@ -31,18 +31,18 @@ ends_at table bounds n first meter last counts = record {
 }
 
 -- where a call doesn't step
-pub ends_stopped : {table : Table} {bounds : Bounds} {old new : Runner} {strip_old strip_new : Strip}
+pub ends_stopped : {table : Table} {bounds : Bounds} {old new : Runner} {view_old view_new : TapeView}
     {first meter_old meter_new : Meter}
-    → Stopped table bounds old new strip_old strip_new meter_old meter_new
+    → Stopped table bounds old new view_old view_new meter_old meter_new
     → CountsTo table (steps_of old) first meter_old → IsEnd table bounds (steps_of old) first meter_new
-ends_stopped {table} {bounds} {old} {new} {strip_old} {strip_new} {first} {meter_old} {meter_new} stop
+ends_stopped {table} {bounds} {old} {new} {view_old} {view_new} {first} {meter_old} {meter_new} stop
     counts =
     subst (λ r. IsEnd table bounds (steps_of r) first meter_new) stop.stays.runner
     (ends_at table bounds (steps_of new) first meter_new stop.last
-    (counts_stopped table bounds old new strip_old strip_new meter_old meter_new first stop counts))
+    (counts_stopped table bounds old new view_old view_new meter_old meter_new first stop counts))
 
 -- a runner in Z stands where the machine halts
-pub halts_in_Z : (table : Table) (runner : Runner) (run : Strip) → Stands table runner run
+pub halts_in_Z : (table : Table) (runner : Runner) (run : TapeView) → Stands table runner run
     → state_of runner ≡ Halt → HaltsAt table (steps_of runner)
 unfolding next
 halts_in_Z table runner run stands halts = record {
@@ -59,7 +59,7 @@ halts_in_Z table runner run stands halts = record {
 }
 
 -- where a step goes into Z
-pub ends_in_Z : {table : Table} {bounds : Bounds} {runner : Runner} {run : Strip} {first meter : Meter}
+pub ends_in_Z : {table : Table} {bounds : Bounds} {runner : Runner} {run : TapeView} {first meter : Meter}
     → Stands table runner run → state_of runner ≡ Halt → Inside table bounds (steps_of runner)
     → CountsTo table (steps_of runner) first meter → IsEnd table bounds (steps_of runner) first meter
 ends_in_Z {table} {bounds} {runner} {run} {first} {meter} stands halts inside counts =

@@ -4,7 +4,7 @@ use Rattle.std.proofs.Common.{option_and_then, ℤ, ◌≤ℤ◌, pos, refl, ap,
 use Rattle.std.specs.Int.{int_min, int_max}
 use Rattle.std.proofs.lemmas.Int.{ints, clamps}
 use Rattle.bb_tape.specs.Content.{score}
-use Rattle.bb_tape.specs.Strip.{Strip, IsSound}
+use Rattle.bb_tape.specs.TapeView.{TapeView, IsSound}
 use Rattle.bb_sim.specs.declared.runner.Runner.{Runner}
 use Rattle.bb_sim.specs.declared.meter.Meter.{Meter}
 use Rattle.bb_machine.specs.Limits.{Bounds}
@@ -112,25 +112,25 @@ span_halted table n m halts h =
     subst (λ k. span table k ≡ span table n) e (rw (ends.0, ends.1) refl)
 
 -- a runner's tape has room for the span
-pub span_fits : (table : Table) (runner : Runner) (strip : Strip) → Stands table runner strip → IsSound strip
-    → span table runner.steps ≤ strip.limit
-span_fits table runner strip stands sound =
+pub span_fits : (table : Table) (runner : Runner) (view : TapeView) → Stands table runner view → IsSound view
+    → span table runner.steps ≤ view.limit
+span_fits table runner view stands sound =
     let a = sound.from_zero in
     let b = sound.to_zero in
     let d = sound.within in
-    let n = cells_between-is strip.low strip.high (omega (arith, ints)) in
-    let e : span table runner.steps ≡ cells_between strip.low strip.high =
+    let n = cells_between-is view.low view.high (omega (arith, ints)) in
+    let e : span table runner.steps ≡ cells_between view.low view.high =
     rw (stands.window_low ∙ stands.low, stands.window_high ∙ stands.high) refl in
     omega (arith, ints, e)
 
-pub inside_here : (table : Table) (runner : Runner) (strip : Strip) (bounds : Bounds)
-    → Stands table runner strip → IsSound strip → strip.limit ≡ bounds.cells → runner.steps ≤ bounds.steps
+pub inside_here : (table : Table) (runner : Runner) (view : TapeView) (bounds : Bounds)
+    → Stands table runner view → IsSound view → view.limit ≡ bounds.cells → runner.steps ≤ bounds.steps
     → Inside table bounds runner.steps
-inside_here table runner strip bounds stands sound limit few = record {
+inside_here table runner view bounds stands sound limit few = record {
   here = _;
   exists = stands.at;
   within_steps = few;
-  within_cells = let fits = span_fits table runner strip stands sound in omega (arith, fits, limit);
+  within_cells = let fits = span_fits table runner view stands sound in omega (arith, fits, limit);
 }
 
 -- where the run doesn't halt, there is a next configuration
@@ -205,10 +205,10 @@ counted-next meter n a b h = both _ _ _ _ (omega arith) (omega arith) where
       → record meter { steps = i; most_cells = k } ≡ record meter { steps = j; most_cells = l }
   both i j k l e d = cc
 
-module _ (table : Table) (runner : Runner) (strip : Strip) (bounds : Bounds)
-    (stands : Stands table runner strip) (inside : Inside table bounds runner.steps) where
+module _ (table : Table) (runner : Runner) (view : TapeView) (bounds : Bounds)
+    (stands : Stands table runner view) (inside : Inside table bounds runner.steps) where
   -- a runner that stands at a halt
-  pub halted_end : HaltsAt table runner.steps → (n ones : ℕ) → n ≡ runner.steps → ones ≡ score strip.content
+  pub halted_end : HaltsAt table runner.steps → (n ones : ℕ) → n ≡ runner.steps → ones ≡ score view.content
       → HaltsInside table bounds n × IsScore table n ones
   halted_end halts n ones e counted_is =
       let P : ℕ → Type 0 = λ k. HaltsInside table bounds k × IsScore table k ones in

@@ -10,7 +10,7 @@ use Rattle.bb_machine.specs.declared.entry.Next.TheVariants.{State, Halt}
 use Rattle.bb_machine.specs.Machine.{Table, IsMachine}
 use Rattle.bb_tape.specs.declared.tape.TheConstants.{MAX_CELLS}
 use Rattle.bb_tape.specs.Content.{cell}
-use Rattle.bb_tape.specs.Strip.{Strip, fresh, visited, width, IsInside, IsBeside, IsSound}
+use Rattle.bb_tape.specs.TapeView.{TapeView, fresh, visited, width, IsInside, IsBeside, IsSound}
 use Rattle.bb_tape.proofs.Facts.{cell-blank}
 use Rattle.bb_sim.specs.declared.runner.Runner.{Runner}
 use Rattle.bb_sim.specs.Configuration.{beside}
@@ -21,21 +21,21 @@ use Rattle.bb_sim.proofs.Positions.{least_last, greatest_last, cells_between-is,
 use Rattle.bb_sim.proofs.Steps.{conf-start, counted_head-start, counted_head-at}
 
 -- a fresh tape has a runner at its start
-pub at_start : (table : Table) (strip : Strip) (limit : ℕ) (runner : Runner) → IsMachine table
-    → strip ≡ fresh limit
+pub at_start : (table : Table) (view : TapeView) (limit : ℕ) (runner : Runner) → IsMachine table
+    → view ≡ fresh limit
     → state_of runner ≡ State 0 → position_of runner ≡ pos 0 → steps_of runner ≡ 0 → low_of runner ≡ pos 0
     → high_of runner ≡ pos 0
-    → Stands table runner strip
-at_start table strip limit runner machine is state head steps low high =
-    let content = ap (λ (s : Strip). s.content) is in
+    → Stands table runner view
+at_start table view limit runner machine is state head steps low high =
+    let content = ap (λ (s : TapeView). s.content) is in
     record {
       at = rw (steps, state, head, content) (conf-start table);
       low = rw (steps, low) (sym (counted_head-start table));
       high = rw steps (high ∙ sym (counted_head-start table));
-      window_low = ap (λ (s : Strip). s.low) is ∙ sym low;
-      window_high = ap (λ (s : Strip). s.high) is ∙ sym high;
+      window_low = ap (λ (s : TapeView). s.low) is ∙ sym low;
+      window_high = ap (λ (s : TapeView). s.high) is ∙ sym high;
       state_named = rw state machine.some_state;
-      symbols_named = λ p. let none : cell strip.content p ≡ 0 = ap (λ (s : Strip). cell s.content p) is
+      symbols_named = λ p. let none : cell view.content p ≡ 0 = ap (λ (s : TapeView). cell s.content p) is
           ∙ cell-blank p in omega (arith, machine.two_symbols, none);
     }
 
@@ -44,9 +44,9 @@ counted_running (State q) head running = refl
 counted_running Halt head running = absurd (running refl)
 
 -- where a running machine's head stands is in the window
-pub head_inside : (table : Table) (runner : Runner) (strip : Strip) → Stands table runner strip
-    → runner.state ≢ Halt → IsInside strip runner.position
-head_inside table runner strip stands running =
+pub head_inside : (table : Table) (runner : Runner) (view : TapeView) → Stands table runner view
+    → runner.state ≢ Halt → IsInside view runner.position
+head_inside table runner view stands running =
     let here : counted_head table runner.steps ≡ runner.position =
     counted_head-at table runner.steps _ stands.at ∙ counted_running runner.state runner.position running in
     let below = least_last (counted_head table) runner.steps in
@@ -58,16 +58,16 @@ head_inside table runner strip stands running =
     (omega (arith, ints), omega (arith, ints))
 
 -- the position beside one of the window is in it or next to it
-pub beside_inside : (strip : Strip) (p : ℤ) (dir : Dir) → IsInside strip p → IsBeside strip (beside dir p)
-beside_inside strip p L inside =
+pub beside_inside : (view : TapeView) (p : ℤ) (dir : Dir) → IsInside view p → IsBeside view (beside dir p)
+beside_inside view p L inside =
     (omega (arith, ints, inside.0, inside.1), omega (arith, ints, inside.0, inside.1))
-beside_inside strip p R inside =
+beside_inside view p R inside =
     (omega (arith, ints, inside.0, inside.1), omega (arith, ints, inside.0, inside.1))
 
 -- a window's position is a small number
-pub small_position : (strip : Strip) (p : ℤ) → IsSound strip → IsInside strip p
+pub small_position : (view : TapeView) (p : ℤ) → IsSound view → IsInside view p
     → (neg_ℤ (pos MAX_CELLS) ≤ℤ p) × (p ≤ℤ pos MAX_CELLS)
-small_position strip p sound inside =
+small_position view p sound inside =
     let a = sound.from_zero in
     let b = sound.to_zero in
     let d = sound.within in
@@ -77,64 +77,64 @@ small_position strip p sound inside =
     (omega (arith, ints), omega (arith, ints))
 
 -- a position of the window changes no end
-pub inside_stays : (strip : Strip) (p : ℤ) → IsInside strip p → visited strip p ≡ strip
-inside_stays strip p inside = same _ _ (min-same strip.low p inside.0) (max-same strip.high p inside.1) where
-  same : (low high : ℤ) → low ≡ strip.low → high ≡ strip.high
-      → record strip { low = low; high = high } ≡ strip
-  same low high l h = ap (λ (ends : ℤ × ℤ). record strip { low = ends.0; high = ends.1 }) (cc (l, h))
+pub inside_stays : (view : TapeView) (p : ℤ) → IsInside view p → visited view p ≡ view
+inside_stays view p inside = same _ _ (min-same view.low p inside.0) (max-same view.high p inside.1) where
+  same : (low high : ℤ) → low ≡ view.low → high ≡ view.high
+      → record view { low = low; high = high } ≡ view
+  same low high l h = ap (λ (ends : ℤ × ℤ). record view { low = ends.0; high = ends.1 }) (cc (l, h))
 
 -- what a running machine's head and the position beside it are for a tape
-pub record Near (strip : Strip) (p : ℤ) (dir : Dir) : Type 0 where
-  pub here : IsInside strip p
-  pub near : IsBeside strip (beside dir p)
+pub record Near (view : TapeView) (p : ℤ) (dir : Dir) : Type 0 where
+  pub here : IsInside view p
+  pub near : IsBeside view (beside dir p)
   pub small : (neg_ℤ (pos MAX_CELLS) ≤ℤ p) × (p ≤ℤ pos MAX_CELLS)
 
-pub near_head : (table : Table) (runner : Runner) (strip : Strip) (dir : Dir) → Stands table runner strip
-    → runner.state ≢ Halt → IsSound strip → Near strip runner.position dir
-near_head table runner strip dir stands running sound =
-    let here = head_inside table runner strip stands running in
+pub near_head : (table : Table) (runner : Runner) (view : TapeView) (dir : Dir) → Stands table runner view
+    → runner.state ≢ Halt → IsSound view → Near view runner.position dir
+near_head table runner view dir stands running sound =
+    let here = head_inside table runner view stands running in
     record {
       here = here;
-      near = beside_inside strip runner.position dir here;
-      small = small_position strip runner.position sound here;
+      near = beside_inside view runner.position dir here;
+      small = small_position view runner.position sound here;
     }
 
 -- a position of the window needs no more cells
-pub inside_fits : (strip : Strip) (p : ℤ) → IsSound strip → IsInside strip p
-    → cells_between (int_min strip.low p) (int_max strip.high p) ≤ strip.limit
-inside_fits strip p sound inside =
-    let l = min-same strip.low p inside.0 in
-    let h = max-same strip.high p inside.1 in
+pub inside_fits : (view : TapeView) (p : ℤ) → IsSound view → IsInside view p
+    → cells_between (int_min view.low p) (int_max view.high p) ≤ view.limit
+inside_fits view p sound inside =
+    let l = min-same view.low p inside.0 in
+    let h = max-same view.high p inside.1 in
     let a = sound.from_zero in
     let b = sound.to_zero in
     let d = sound.within in
-    let n = cells_between-is strip.low strip.high (omega (arith, ints)) in
+    let n = cells_between-is view.low view.high (omega (arith, ints)) in
     rw (l, h) (omega (arith, ints))
 
 -- a window told by its low end and its number of cells, and a position in it or next to it
-module _ (runner : Runner) (strip : Strip) (p : ℤ) (sound : IsSound strip) (low : strip.low ≡ low_of runner)
-    (high : strip.high ≡ high_of runner) where
+module _ (runner : Runner) (view : TapeView) (p : ℤ) (sound : IsSound view) (low : view.low ≡ low_of runner)
+    (high : view.high ≡ high_of runner) where
   -- with fewer cells than the limit there is room for one more
-  pub room_left : runner.cells ≢ strip.limit → width strip <ℤ pos strip.limit
+  pub room_left : runner.cells ≢ view.limit → width view <ℤ pos view.limit
   room_left apart = let d = sound.within in omega (arith, ints, apart)
 
   -- and so for a position next to it
-  pub fits_next : runner.cells ≢ strip.limit → IsBeside strip p → cells_between (int_min strip.low p)
-      (int_max strip.high p) ≤ strip.limit
+  pub fits_next : runner.cells ≢ view.limit → IsBeside view p → cells_between (int_min view.low p)
+      (int_max view.high p) ≤ view.limit
   fits_next apart near =
       let a = sound.from_zero in
       let b = sound.to_zero in
       let d = room_left apart in
       let near_low = near.0 in
       let near_high = near.1 in
-      let e = cells_between-is (int_min strip.low p) (int_max strip.high p) (omega (arith, ints, clamps)) in
+      let e = cells_between-is (int_min view.low p) (int_max view.high p) (omega (arith, ints, clamps)) in
       omega (arith, ints, clamps, e)
 
   -- a position next to it that isn't below it is above it
-  pub next_above : ((low_of runner ≤ℤ p) × (p ≤ℤ high_of runner) → ⊥) → IsBeside strip p → low_of runner ≤ℤ p
-      → p ≡ strip.high +ℤ pos 1
+  pub next_above : ((low_of runner ≤ℤ p) × (p ≤ℤ high_of runner) → ⊥) → IsBeside view p → low_of runner ≤ℤ p
+      → p ≡ view.high +ℤ pos 1
   next_above outside near at = let near_high = near.1 in not_inside (λ h. outside (at, h)) near_high where
-    not_inside : (p ≤ℤ high_of runner → ⊥) → p ≤ℤ (strip.high +ℤ pos 1) → p ≡ strip.high +ℤ pos 1
+    not_inside : (p ≤ℤ high_of runner → ⊥) → p ≤ℤ (view.high +ℤ pos 1) → p ≡ view.high +ℤ pos 1
     not_inside never most = grind (arith, ints, never)
 
 -- the ends of a window that has grown by one cell

@@ -14,7 +14,7 @@ use Rattle.bb_machine.specs.Limits.{Bounds}
 use Rattle.bb_machine.specs.Entry.{IsEntryOf, offset_of, step_of}
 use Rattle.bb_machine.specs.Machine.{Table, symbols_of, entry_of}
 use Rattle.bb_tape.specs.Content.{Content, cell, with_cell}
-use Rattle.bb_tape.specs.Strip.{Strip, visited, written, IsInside, IsBeside, IsSound}
+use Rattle.bb_tape.specs.TapeView.{TapeView, visited, written, IsInside, IsBeside, IsSound}
 use Rattle.bb_tape.proofs.Facts.{cell-with_cell-same, cell-with_cell-other, by_position}
 use Rattle.bb_sim.specs.declared.runner.Runner.{Runner}
 use Rattle.bb_sim.specs.Configuration.{beside, entry_at}
@@ -47,49 +47,49 @@ symbols_stay content head write symbols small all p =
     (λ ne. let same = cell-with_cell-other content head write p ne in omega (arith, same, all p))
 
 -- a wider window has the positions of the old one
-pub inside_visited : (strip wider : Strip) (position p : ℤ) → wider ≡ visited strip position
-    → IsInside strip p → IsInside wider p
-inside_visited strip wider position p is inside =
-    let low : wider.low ≡ int_min strip.low position = ap (λ (s : Strip). s.low) is in
-    let high : wider.high ≡ int_max strip.high position = ap (λ (s : Strip). s.high) is in
+pub inside_visited : (view wider : TapeView) (position p : ℤ) → wider ≡ visited view position
+    → IsInside view p → IsInside wider p
+inside_visited view wider position p is inside =
+    let low : wider.low ≡ int_min view.low position = ap (λ (s : TapeView). s.low) is in
+    let high : wider.high ≡ int_max view.high position = ap (λ (s : TapeView). s.high) is in
     (omega (arith, ints, clamps, low, inside.0), omega (arith, ints, clamps, high, inside.1))
 
 -- a position beside the old window is beside the new one, whatever was written
-pub beside_visited : (strip wider new : Strip) (position at p : ℤ) (symbol : ℕ)
-    → wider ≡ visited strip position → new ≡ written wider at symbol → IsBeside strip p → IsBeside new p
-beside_visited strip wider new position at p symbol is written_is near =
-    let low : new.low ≡ int_min strip.low position = ap (λ (s : Strip). s.low) written_is
-    ∙ ap (λ (s : Strip). s.low) is in
-    let high : new.high ≡ int_max strip.high position = ap (λ (s : Strip). s.high) written_is
-    ∙ ap (λ (s : Strip). s.high) is in
+pub beside_visited : (view wider new : TapeView) (position at p : ℤ) (symbol : ℕ)
+    → wider ≡ visited view position → new ≡ written wider at symbol → IsBeside view p → IsBeside new p
+beside_visited view wider new position at p symbol is written_is near =
+    let low : new.low ≡ int_min view.low position = ap (λ (s : TapeView). s.low) written_is
+    ∙ ap (λ (s : TapeView). s.low) is in
+    let high : new.high ≡ int_max view.high position = ap (λ (s : TapeView). s.high) written_is
+    ∙ ap (λ (s : TapeView). s.high) is in
     (omega (arith, ints, clamps, low, near.0), omega (arith, ints, clamps, high, near.1))
 
 -- a runner's window is in order
-pub order : (table : Table) (runner : Runner) (strip : Strip) → Stands table runner strip → IsSound strip
+pub order : (table : Table) (runner : Runner) (view : TapeView) → Stands table runner view → IsSound view
     → low_of runner ≤ℤ high_of runner
-order table runner strip stands sound =
+order table runner view stands sound =
     let a = sound.from_zero in
     let b = sound.to_zero in
     let l = stands.window_low in
     let h = stands.window_high in
     omega (arith, ints)
 
-module _ (table : Table) (old : Runner) (strip : Strip) (stands : Stands table old strip) where
-  pub halts_undefined : Undefined ≡ entry_at table old.state (cell strip.content old.position)
+module _ (table : Table) (old : Runner) (view : TapeView) (stands : Stands table old view) where
+  pub halts_undefined : Undefined ≡ entry_at table old.state (cell view.content old.position)
       → HaltsAt table old.steps
   halts_undefined here = halts_here table old.steps _ stands.at (sym here)
 
 -- what is to be shown of a call that made a step
-pub record Made (table : Table) (bounds : Bounds) (old new : Runner) (strip strip_new : Strip)
+pub record Made (table : Table) (bounds : Bounds) (old new : Runner) (view view_new : TapeView)
     (meter_old meter_new : Meter) : Type 0 where
   pub answers : Answers table bounds old.steps moved.Stepped
-  pub moves : Moves table old new strip strip_new meter_old meter_new moved.Stepped
-  pub reaches : Reaches table bounds new strip_new moved.Stepped
-  pub end : Stands table new strip_new
+  pub moves : Moves table old new view view_new meter_old meter_new moved.Stepped
+  pub reaches : Reaches table bounds new view_new moved.Stepped
+  pub end : Stands table new view_new
 
-module _ (table : Table) (old : Runner) (strip : Strip) (write : ℕ) (dir : Dir) (next : Next)
-    (stands : Stands table old strip)
-    (here : Go write dir next ≡ entry_at table old.state (cell strip.content old.position)) where
+module _ (table : Table) (old : Runner) (view : TapeView) (write : ℕ) (dir : Dir) (next : Next)
+    (stands : Stands table old view)
+    (here : Go write dir next ≡ entry_at table old.state (cell view.content old.position)) where
   pub running : old.state ≢ Halt
   running = no_entry_in_Z table old.state _ write dir next here
 
@@ -102,8 +102,8 @@ module _ (table : Table) (old : Runner) (strip : Strip) (write : ℕ) (dir : Dir
       (old.steps + 1) _ (conf-next table old.steps _ stands.at write dir next (sym here))
 
   pub next-span : span table (old.steps + 1)
-      ≡ cells_between (int_min strip.low (counted_position next (beside dir old.position)))
-      (int_max strip.high (counted_position next (beside dir old.position)))
+      ≡ cells_between (int_min view.low (counted_position next (beside dir old.position)))
+      (int_max view.high (counted_position next (beside dir old.position)))
   next-span = span-next table old.steps
       ∙ rw (next-counted_head, stands.window_low ∙ stands.low, stands.window_high ∙ stands.high) refl
 
@@ -112,19 +112,19 @@ module _ (table : Table) (old : Runner) (strip : Strip) (write : ℕ) (dir : Dir
   counts_for = counted_position next (beside dir old.position)
 
   -- a runner and its tape after the step
-  pub record Stepped (new : Runner) (strip_new : Strip) : Type 0 where
+  pub record Stepped (new : Runner) (view_new : TapeView) : Type 0 where
     pub state : state_of new ≡ next
     pub head : position_of new ≡ beside dir old.position
     pub steps : steps_of new ≡ old.steps + 1
     pub low : low_of new ≡ int_min (low_of old) counts_for
     pub high : high_of new ≡ int_max (high_of old) counts_for
-    pub tape : strip_new ≡ written (visited strip counts_for) old.position write
+    pub tape : view_new ≡ written (visited view counts_for) old.position write
 
-  pub stands_next : (new : Runner) (strip_new : Strip) → IsEntryOf (length table) (symbols_of table)
-      (Go write dir next) → Stepped new strip_new → Stands table new strip_new
-  stands_next new strip_new named is =
-      let content : strip_new.content ≡ with_cell strip.content old.position write =
-      ap (λ (s : Strip). s.content) is.tape in
+  pub stands_next : (new : Runner) (view_new : TapeView) → IsEntryOf (length table) (symbols_of table)
+      (Go write dir next) → Stepped new view_new → Stands table new view_new
+  stands_next new view_new named is =
+      let content : view_new.content ≡ with_cell view.content old.position write =
+      ap (λ (s : TapeView). s.content) is.tape in
       let at = conf-next table old.steps _ stands.at write dir next (sym here) in
       record {
         at = rw (is.steps, is.state, is.head, content) at;
@@ -132,19 +132,19 @@ module _ (table : Table) (old : Runner) (strip : Strip) (write : ℕ) (dir : Dir
             ∙ ap (λ l. int_min l counts_for) stands.low);
         high = rw (is.steps, greatest-next, next-counted_head) (is.high
             ∙ ap (λ h. int_max h counts_for) stands.high);
-        window_low = ap (λ (s : Strip). s.low) is.tape ∙ ap (λ l. int_min l counts_for) stands.window_low
+        window_low = ap (λ (s : TapeView). s.low) is.tape ∙ ap (λ l. int_min l counts_for) stands.window_low
             ∙ sym is.low;
-        window_high = ap (λ (s : Strip). s.high) is.tape ∙ ap (λ h. int_max h counts_for) stands.window_high
-            ∙ sym is.high;
+        window_high = ap (λ (s : TapeView). s.high) is.tape
+            ∙ ap (λ h. int_max h counts_for) stands.window_high ∙ sym is.high;
         state_named = rw is.state named.1;
         symbols_named =
             λ p.
             rw content
-            (symbols_stay strip.content old.position write (symbols_of table) named.0 stands.symbols_named p);
+            (symbols_stay view.content old.position write (symbols_of table) named.0 stands.symbols_named p);
       }
 
-  pub wanted : (bounds : Bounds) → old.steps ≢ bounds.steps → strip.limit ≡ bounds.cells
-      → cells_between (int_min strip.low counts_for) (int_max strip.high counts_for) ≤ strip.limit
+  pub wanted : (bounds : Bounds) → old.steps ≢ bounds.steps → view.limit ≡ bounds.cells
+      → cells_between (int_min view.low counts_for) (int_max view.high counts_for) ≤ view.limit
       → Answers table bounds old.steps moved.Stepped
   wanted bounds apart limit fits = (
     moves_on,
@@ -153,25 +153,25 @@ module _ (table : Table) (old : Runner) (strip : Strip) (write : ℕ) (dir : Dir
         omega (arith, spans, fits, limit),
   )
 
-  pub made : (bounds : Bounds) (new : Runner) (strip_new : Strip) (meter_old meter_new : Meter)
-      → IsSound strip → IsEntryOf (length table) (symbols_of table) (Go write dir next)
-      → strip.limit ≡ bounds.cells → old.steps ≤ bounds.steps → old.steps ≢ bounds.steps
-      → cells_between (int_min strip.low counts_for) (int_max strip.high counts_for) ≤ strip.limit
-      → Stepped new strip_new → meter_new ≡ stepped meter_old (cells_between (low_of new) (high_of new))
-      → Made table bounds old new strip strip_new meter_old meter_new
-  made bounds new strip_new meter_old meter_new sound named limit few apart fits is counts =
-      let low : low_of new ≡ int_min strip.low counts_for = is.low
+  pub made : (bounds : Bounds) (new : Runner) (view_new : TapeView) (meter_old meter_new : Meter)
+      → IsSound view → IsEntryOf (length table) (symbols_of table) (Go write dir next)
+      → view.limit ≡ bounds.cells → old.steps ≤ bounds.steps → old.steps ≢ bounds.steps
+      → cells_between (int_min view.low counts_for) (int_max view.high counts_for) ≤ view.limit
+      → Stepped new view_new → meter_new ≡ stepped meter_old (cells_between (low_of new) (high_of new))
+      → Made table bounds old new view view_new meter_old meter_new
+  made bounds new view_new meter_old meter_new sound named limit few apart fits is counts =
+      let low : low_of new ≡ int_min view.low counts_for = is.low
       ∙ ap (λ l. int_min l counts_for) (sym stands.window_low) in
-      let high : high_of new ≡ int_max strip.high counts_for = is.high
+      let high : high_of new ≡ int_max view.high counts_for = is.high
       ∙ ap (λ h. int_max h counts_for) (sym stands.window_high) in
       let cells : cells_between (low_of new) (high_of new) ≡ span table (old.steps + 1) =
-      ap (λ l. cells_between l (high_of new)) low ∙ ap (cells_between (int_min strip.low counts_for)) high
+      ap (λ l. cells_between l (high_of new)) low ∙ ap (cells_between (int_min view.low counts_for)) high
       ∙ sym next-span in
       let answers = wanted bounds apart limit fits in
-      let inside = inside_here table old strip bounds stands sound limit few in
-      let near = near_head table old strip dir stands running sound in
-      let beside_is : IsBeside strip_new (beside dir old.position) =
-      beside_visited strip (visited strip counts_for) strip_new counts_for old.position _ write refl is.tape
+      let inside = inside_here table old view bounds stands sound limit few in
+      let near = near_head table old view dir stands running sound in
+      let beside_is : IsBeside view_new (beside dir old.position) =
+      beside_visited view (visited view counts_for) view_new counts_for old.position _ write refl is.tape
       near.near in
       record {
         answers = answers;
@@ -180,19 +180,19 @@ module _ (table : Table) (old : Runner) (strip : Strip) (write : ℕ) (dir : Dir
           rw is.steps (next_inside table bounds old.steps inside answers.0 answers.1 answers.2),
           rw is.head beside_is,
         );
-        end = stands_next new strip_new named is;
+        end = stands_next new view_new named is;
       }
 
 -- a step into Z, which leaves the window as it is
-pub into_Z : (table : Table) (old : Runner) (strip : Strip) (write : ℕ) (dir : Dir) (next : Next)
-    (stands : Stands table old strip)
-    (here : Go write dir next ≡ entry_at table old.state (cell strip.content old.position))
-    → IsSound strip → GoesNowhere table (Go write dir next) → (new : Runner) (strip_new : Strip)
-    → StepsTo old new next (beside dir old.position) → strip_new ≡ written strip old.position write
-    → Stepped table old strip write dir next stands here new strip_new
-into_Z table old strip write dir (State q) stands here sound nowhere new strip_new steps is = absurd nowhere
-into_Z table old strip write dir Halt stands here sound nowhere new strip_new steps is =
-    let zero : IsInside strip (pos 0) = (sound.from_zero, sound.to_zero) in
+pub into_Z : (table : Table) (old : Runner) (view : TapeView) (write : ℕ) (dir : Dir) (next : Next)
+    (stands : Stands table old view)
+    (here : Go write dir next ≡ entry_at table old.state (cell view.content old.position))
+    → IsSound view → GoesNowhere table (Go write dir next) → (new : Runner) (view_new : TapeView)
+    → StepsTo old new next (beside dir old.position) → view_new ≡ written view old.position write
+    → Stepped table old view write dir next stands here new view_new
+into_Z table old view write dir (State q) stands here sound nowhere new view_new steps is = absurd nowhere
+into_Z table old view write dir Halt stands here sound nowhere new view_new steps is =
+    let zero : IsInside view (pos 0) = (sound.from_zero, sound.to_zero) in
     let low : low_of old ≤ℤ pos 0 = rw (← stands.window_low) sound.from_zero in
     let high : pos 0 ≤ℤ high_of old = rw (← stands.window_high) sound.to_zero in
     record {
@@ -201,27 +201,27 @@ into_Z table old strip write dir Halt stands here sound nowhere new strip_new st
       steps = steps.steps;
       low = steps.low ∙ sym (min-same (low_of old) (pos 0) low);
       high = steps.high ∙ sym (max-same (high_of old) (pos 0) high);
-      tape = is ∙ ap (λ s. written s old.position write) (sym (inside_stays strip (pos 0) zero));
+      tape = is ∙ ap (λ s. written s old.position write) (sym (inside_stays view (pos 0) zero));
     }
 
-pub fits_Z : (strip : Strip) (write : ℕ) (dir : Dir) (next : Next) (table : Table) (p : ℤ) → IsSound strip
+pub fits_Z : (view : TapeView) (write : ℕ) (dir : Dir) (next : Next) (table : Table) (p : ℤ) → IsSound view
     → GoesNowhere table (Go write dir next)
-    → (cells_between (int_min strip.low (counted_position next p))
-    (int_max strip.high (counted_position next p)) ≤ strip.limit)
+    → (cells_between (int_min view.low (counted_position next p))
+    (int_max view.high (counted_position next p)) ≤ view.limit)
     × IsEntryOf (length table) (symbols_of table) (Go write dir next)
-fits_Z strip write dir (State q) table p sound nowhere = absurd nowhere
-fits_Z strip write dir Halt table p sound nowhere =
-    (inside_fits strip (pos 0) sound (sound.from_zero, sound.to_zero), (nowhere, tt))
+fits_Z view write dir (State q) table p sound nowhere = absurd nowhere
+fits_Z view write dir Halt table p sound nowhere =
+    (inside_fits view (pos 0) sound (sound.from_zero, sound.to_zero), (nowhere, tt))
 
 -- a step to a state, after the window has taken in where it goes
-pub into_state : (table : Table) (old : Runner) (strip : Strip) (write : ℕ) (dir : Dir) (q : ℕ)
-    (stands : Stands table old strip)
-    (here : Go write dir (State q) ≡ entry_at table old.state (cell strip.content old.position))
-    → (mid new : Runner) (strip_mid strip_new : Strip) (p : ℤ) → p ≡ beside dir old.position
-    → IsWidened old mid p → strip_mid ≡ visited strip p
-    → StepsTo mid new (State q) p → strip_new ≡ written strip_mid mid.position write
-    → Stepped table old strip write dir (State q) stands here new strip_new
-into_state table old strip write dir q stands here mid new strip_mid strip_new p there wider
+pub into_state : (table : Table) (old : Runner) (view : TapeView) (write : ℕ) (dir : Dir) (q : ℕ)
+    (stands : Stands table old view)
+    (here : Go write dir (State q) ≡ entry_at table old.state (cell view.content old.position))
+    → (mid new : Runner) (view_mid view_new : TapeView) (p : ℤ) → p ≡ beside dir old.position
+    → IsWidened old mid p → view_mid ≡ visited view p
+    → StepsTo mid new (State q) p → view_new ≡ written view_mid mid.position write
+    → Stepped table old view write dir (State q) stands here new view_new
+into_state table old view write dir q stands here mid new view_mid view_new p there wider
     visited_is steps is =
     record {
       state = steps.state;
@@ -229,8 +229,8 @@ into_state table old strip write dir q stands here mid new strip_mid strip_new p
       steps = steps.steps ∙ ap (λ n. n + 1) wider.steps;
       low = steps.low ∙ wider.low ∙ ap (int_min (low_of old)) there;
       high = steps.high ∙ wider.high ∙ ap (int_max (high_of old)) there;
-      tape = is ∙ ap (λ q. written strip_mid q write) wider.head
-          ∙ ap (λ (s : Strip). written s old.position write) (visited_is ∙ ap (visited strip) there);
+      tape = is ∙ ap (λ q. written view_mid q write) wider.head
+          ∙ ap (λ (s : TapeView). written s old.position write) (visited_is ∙ ap (visited view) there);
     }
 
 -- the cells of a window that a step leaves as it is
@@ -240,10 +240,10 @@ cells_stay mid new next p steps = ap (λ l. cells_between l (high_of mid)) (sym 
     ∙ ap (cells_between (low_of new)) (sym steps.high)
 
 -- what a step says of the entry that it is made from
-pub record Goes (table : Table) (old : Runner) (strip : Strip) (write : ℕ) (offset : ℤ)
+pub record Goes (table : Table) (old : Runner) (view : TapeView) (write : ℕ) (offset : ℤ)
     (state : ℕ) : Type 0 where
   pub dir : Dir
-  pub here : Go write dir (State state) ≡ entry_at table old.state (cell strip.content old.position)
+  pub here : Go write dir (State state) ≡ entry_at table old.state (cell view.content old.position)
   pub named : IsEntryOf (length table) (symbols_of table) (Go write dir (State state))
   pub position : (p : ℤ) → p +ℤ offset ≡ beside dir p
 
@@ -263,12 +263,12 @@ goes_by (Go write dir (State state)) step is =
     rw same (record { dir = dir; is = refl; position = offset_is dir })
 goes_by (Go write dir Halt) step is = absurd cc
 
-pub goes : (table : Table) (old : Runner) (strip : Strip) (q symbol : ℕ) (step : Step) → old.state ≡ State q
-    → symbol ≡ cell strip.content old.position
+pub goes : (table : Table) (old : Runner) (view : TapeView) (q symbol : ℕ) (step : Step) → old.state ≡ State q
+    → symbol ≡ cell view.content old.position
     → Some step ≡ step_of (entry_of table q symbol)
     → IsEntryOf (length table) (symbols_of table) (entry_of table q symbol)
-    → Goes table old strip step.write step.offset step.state
-goes table old strip q symbol step state read is named =
+    → Goes table old view step.write step.offset step.state
+goes table old view q symbol step state read is named =
     let by = goes_by (entry_of table q symbol) step is in
     record {
       dir = by.dir;
@@ -278,19 +278,19 @@ goes table old strip q symbol step state read is named =
     }
 
 -- and where it leads, once the position is known
-pub record Leads (table : Table) (old : Runner) (strip : Strip) (step : Step) (position : ℤ) : Type 0 where
+pub record Leads (table : Table) (old : Runner) (view : TapeView) (step : Step) (position : ℤ) : Type 0 where
   pub dir : Dir
-  pub here : Go step.write dir (State step.state) ≡ entry_at table old.state (cell strip.content old.position)
+  pub here : Go step.write dir (State step.state) ≡ entry_at table old.state (cell view.content old.position)
   pub named : IsEntryOf (length table) (symbols_of table) (Go step.write dir (State step.state))
   pub there : position ≡ beside dir old.position
 
-pub leads : {table : Table} (old : Runner) (strip : Strip) {q symbol : ℕ} {step : Step} {position : ℤ}
-    → old.state ≡ State q → symbol ≡ cell strip.content old.position
+pub leads : {table : Table} (old : Runner) (view : TapeView) {q symbol : ℕ} {step : Step} {position : ℤ}
+    → old.state ≡ State q → symbol ≡ cell view.content old.position
     → Some step ≡ step_of (entry_of table q symbol)
     → IsEntryOf (length table) (symbols_of table) (entry_of table q symbol)
-    → position ≡ old.position +ℤ step.offset → Leads table old strip step position
-leads {table} old strip {q} {symbol} {step} {position} state read is named moved =
-    let by = goes table old strip q symbol step state read is named in
+    → position ≡ old.position +ℤ step.offset → Leads table old view step position
+leads {table} old view {q} {symbol} {step} {position} state read is named moved =
+    let by = goes table old view q symbol step state read is named in
     record {
       dir = by.dir;
       here = by.here;

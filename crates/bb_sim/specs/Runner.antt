@@ -5,7 +5,7 @@ use Rattle.bb_machine.specs.Entry.{IsNextOf}
 use Rattle.bb_machine.specs.Limits.{Bounds}
 use Rattle.bb_machine.specs.Machine.{Table, symbols_of}
 use Rattle.bb_tape.specs.Content.{cell}
-use Rattle.bb_tape.specs.Strip.{Strip, IsBeside}
+use Rattle.bb_tape.specs.TapeView.{TapeView, IsBeside}
 use Rattle.bb_sim.specs.declared.meter.Meter.{Meter}
 use Rattle.bb_sim.specs.declared.runner.Runner.{Runner}
 use Rattle.bb_sim.specs.declared.runner.Moved.{Moved}
@@ -35,20 +35,21 @@ abbrev pub high_of : Runner → ℤ
 high_of runner = (runner.low +ℤ pos runner.cells) -ℤ pos 1
 
 -- a runner that has made n steps is at configuration n, and the tape's window is that of the span up to n
-pub record Stands (table : Table) (runner : Runner) (strip : Strip) : Type 0 where
+pub record Stands (table : Table) (runner : Runner) (view : TapeView) : Type 0 where
   pub at : conf table (steps_of runner)
-      ≡ Some (record { state = state_of runner; head = position_of runner; tape = strip.content })
+      ≡ Some (record { state = state_of runner; head = position_of runner; tape = view.content })
   pub low : low_of runner ≡ least (counted_head table) (steps_of runner)
   pub high : high_of runner ≡ greatest (counted_head table) (steps_of runner)
-  pub window_low : strip.low ≡ low_of runner
-  pub window_high : strip.high ≡ high_of runner
+  pub window_low : view.low ≡ low_of runner
+  pub window_high : view.high ≡ high_of runner
   pub state_named : IsNextOf (length table) (state_of runner)
-  pub symbols_named : (p : ℤ) → cell strip.content p < symbols_of table
+  pub symbols_named : (p : ℤ) → cell view.content p < symbols_of table
 
 -- nothing has changed
-pub record Stays (old new : Runner) (strip_old strip_new : Strip) (meter_old meter_new : Meter) : Type 0 where
+pub record Stays (old new : Runner) (view_old view_new : TapeView) (meter_old meter_new : Meter)
+    : Type 0 where
   pub runner : new ≡ old
-  pub strip : strip_new ≡ strip_old
+  pub view : view_new ≡ view_old
   pub meter : meter_new ≡ meter_old
 
 -- what a runner at step n answers, by the first of these that applies: the machine halts here; the limit of
@@ -62,21 +63,21 @@ Answers table bounds n Stepped =
     (HaltsAt table n → ⊥) × (n ≢ bounds.steps) × (span table (n + 1) ≤ bounds.cells)
 
 -- only a step changes anything: it is one step more, and the widest window is kept
-abbrev pub Moves : Table → Runner → Runner → Strip → Strip → Meter → Meter → Moved → Type 0
-Moves table old new strip_old strip_new meter_old meter_new Stepped =
+abbrev pub Moves : Table → Runner → Runner → TapeView → TapeView → Meter → Meter → Moved → Type 0
+Moves table old new view_old view_new meter_old meter_new Stepped =
     (steps_of new ≡ steps_of old + 1) × (meter_new ≡ stepped meter_old (span table (steps_of old + 1)))
-Moves table old new strip_old strip_new meter_old meter_new Halted =
-    Stays old new strip_old strip_new meter_old meter_new
-Moves table old new strip_old strip_new meter_old meter_new NoSteps =
-    Stays old new strip_old strip_new meter_old meter_new
-Moves table old new strip_old strip_new meter_old meter_new NoCells =
-    Stays old new strip_old strip_new meter_old meter_new
+Moves table old new view_old view_new meter_old meter_new Halted =
+    Stays old new view_old view_new meter_old meter_new
+Moves table old new view_old view_new meter_old meter_new NoSteps =
+    Stays old new view_old view_new meter_old meter_new
+Moves table old new view_old view_new meter_old meter_new NoCells =
+    Stays old new view_old view_new meter_old meter_new
 
 -- where a runner stands after a call: after a step at a step inside, its head in the window or next to it;
 -- where it did not step, at the last step inside
-abbrev pub Reaches : Table → Bounds → Runner → Strip → Moved → Type 0
-Reaches table bounds runner strip Stepped =
-    Inside table bounds (steps_of runner) × IsBeside strip (position_of runner)
-Reaches table bounds runner strip Halted = IsLastInside table bounds (steps_of runner)
-Reaches table bounds runner strip NoSteps = IsLastInside table bounds (steps_of runner)
-Reaches table bounds runner strip NoCells = IsLastInside table bounds (steps_of runner)
+abbrev pub Reaches : Table → Bounds → Runner → TapeView → Moved → Type 0
+Reaches table bounds runner view Stepped =
+    Inside table bounds (steps_of runner) × IsBeside view (position_of runner)
+Reaches table bounds runner view Halted = IsLastInside table bounds (steps_of runner)
+Reaches table bounds runner view NoSteps = IsLastInside table bounds (steps_of runner)
+Reaches table bounds runner view NoCells = IsLastInside table bounds (steps_of runner)

@@ -41,7 +41,7 @@ impl Runner {
     ghost use Rattle.bb_machine.specs.declared.entry.Entry.{Entry};
     ghost use Rattle.bb_machine.specs.Machine.{IsMachine};
     ghost use Rattle.bb_tape.specs.Content.{cell};
-    ghost use Rattle.bb_tape.specs.Strip.{IsBeside, IsInside, written};
+    ghost use Rattle.bb_tape.specs.TapeView.{IsBeside, IsInside, written};
     ghost use Rattle.bb_sim.specs.Configuration.{entry_at};
     ghost use Rattle.bb_sim.specs.CellsBetween.{cells_between};
     ghost use Rattle.bb_sim.specs.Meter.{stepped};
@@ -53,11 +53,11 @@ impl Runner {
 
     /// Resets the tape and stands at configuration 0: state A, at position 0.
     pub fn start<T: Tape>(machine: &Machine, tape: &mut T) -> Runner
-        ensures stands { Stands machine.now result (T.strip tape.new) }
+        ensures stands { Stands machine.now result (T.view tape.new) }
         ensures steps { steps_of result ≡ 0 }
-        ensures limit { (T.strip tape.new).limit ≡ (T.strip tape.old).limit }
+        ensures limit { (T.view tape.new).limit ≡ (T.view tape.old).limit }
     {
-        let _states = machine.states();
+        machine.show_machine();
         tape.reset();
         Runner {
             state: Next::State(0),
@@ -79,17 +79,17 @@ impl Runner {
         limits: &Limits,
         meter: &mut Meter,
     ) -> Result<Moved, Memory>
-        requires stands { Stands machine.now self.old (T.strip tape.old) }
-        requires limit { (T.strip tape.old).limit ≡ limits.now.cells }
+        requires stands { Stands machine.now self.old (T.view tape.old) }
+        requires limit { (T.view tape.old).limit ≡ limits.now.cells }
         requires steps { steps_of self.old ≤ limits.now.steps }
         requires room { meter.old.steps + 1 < 2 ^ 64 }
         ensures before { Inside machine.now limits.now (steps_of self.old) }
         ensures answers { IfOk result (Answers machine.now limits.now (steps_of self.old)) }
-        ensures moves { IfOk result (Moves machine.now self.old self.new (T.strip tape.old) (T.strip tape.new)
+        ensures moves { IfOk result (Moves machine.now self.old self.new (T.view tape.old) (T.view tape.new)
             meter.old meter.new) }
-        ensures reaches { IfOk result (Reaches machine.now limits.now self.new (T.strip tape.new)) }
-        ensures stands { OnOk result (Stands machine.now self.new (T.strip tape.new)) }
-        ensures limit { (T.strip tape.new).limit ≡ (T.strip tape.old).limit }
+        ensures reaches { IfOk result (Reaches machine.now limits.now self.new (T.view tape.new)) }
+        ensures stands { OnOk result (Stands machine.now self.new (T.view tape.new)) }
+        ensures limit { (T.view tape.new).limit ≡ (T.view tape.old).limit }
         ensures memory { OnErr result (IsTrue T.GROWS) }
         ensures wanted { OnErr result (Answers machine.now limits.now (steps_of self.old) Moved.Stepped) }
         ensures uncounted { OnErr result (meter.new ≡ meter.old) }
@@ -127,20 +127,20 @@ impl Runner {
         meter: &mut Meter,
         entry: Entry,
     ) -> Result<Moved, Memory>
-        requires stands { Stands machine.now self.old (T.strip tape.old) }
-        requires limit { (T.strip tape.old).limit ≡ limits.now.cells }
+        requires stands { Stands machine.now self.old (T.view tape.old) }
+        requires limit { (T.view tape.old).limit ≡ limits.now.cells }
         requires steps { steps_of self.old ≤ limits.now.steps }
         requires room { meter.old.steps + 1 < 2 ^ 64 }
         requires entry { entry ≡ entry_at machine.now (state_of self.old)
-            (cell (T.strip tape.old).content (position_of self.old)) }
+            (cell (T.view tape.old).content (position_of self.old)) }
         requires nowhere { GoesNowhere machine.now entry }
         requires machine { IsMachine machine.now }
         ensures answers { IfOk result (Answers machine.now limits.now (steps_of self.old)) }
-        ensures moves { IfOk result (Moves machine.now self.old self.new (T.strip tape.old) (T.strip tape.new)
+        ensures moves { IfOk result (Moves machine.now self.old self.new (T.view tape.old) (T.view tape.new)
             meter.old meter.new) }
-        ensures reaches { IfOk result (Reaches machine.now limits.now self.new (T.strip tape.new)) }
-        ensures stands { OnOk result (Stands machine.now self.new (T.strip tape.new)) }
-        ensures limit { (T.strip tape.new).limit ≡ (T.strip tape.old).limit }
+        ensures reaches { IfOk result (Reaches machine.now limits.now self.new (T.view tape.new)) }
+        ensures stands { OnOk result (Stands machine.now self.new (T.view tape.new)) }
+        ensures limit { (T.view tape.new).limit ≡ (T.view tape.old).limit }
         ensures memory { OnErr result (IsTrue T.GROWS) }
         ensures wanted { OnErr result (Answers machine.now limits.now (steps_of self.old) Moved.Stepped) }
         ensures uncounted { OnErr result (meter.new ≡ meter.old) }
@@ -161,11 +161,11 @@ impl Runner {
     /// Widens the window to a position in it or next to it, if the limit of cells allows it.
     #[inline(always)]
     fn enter<T: Tape>(&mut self, tape: &mut T, limits: &Limits, position: i64) -> bool
-        requires near { IsBeside (T.strip tape.old) position }
-        requires low { (T.strip tape.old).low ≡ low_of self.old }
-        requires high { (T.strip tape.old).high ≡ high_of self.old }
-        requires limit { (T.strip tape.old).limit ≡ limits.now.cells }
-        ensures { Widens self.old self.new (T.strip tape.old) (T.strip tape.new) position result }
+        requires near { IsBeside (T.view tape.old) position }
+        requires low { (T.view tape.old).low ≡ low_of self.old }
+        requires high { (T.view tape.old).high ≡ high_of self.old }
+        requires limit { (T.view tape.old).limit ≡ limits.now.cells }
+        ensures { Widens self.old self.new (T.view tape.old) (T.view tape.new) position result }
     {
         if self.is_inside(position) {
             return true;
@@ -194,16 +194,16 @@ impl Runner {
         next: Next,
         position: i64,
     ) -> Result<(), Memory>
-        requires inside { IsInside (T.strip tape.old) (position_of self.old) }
+        requires inside { IsInside (T.view tape.old) (position_of self.old) }
         requires symbol { write ≤ MAX_SYMBOL }
         requires steps { steps_of self.old + 1 < 2 ^ 64 }
         requires room { meter.old.steps + 1 < 2 ^ 64 }
         ensures steps { OnOk result (StepsTo self.old self.new next position) }
-        ensures written { OnOk result (T.strip tape.new
-            ≡ written (T.strip tape.old) (position_of self.old) write) }
+        ensures written { OnOk result (T.view tape.new
+            ≡ written (T.view tape.old) (position_of self.old) write) }
         ensures counted { OnOk result (meter.new
             ≡ stepped meter.old (cells_between (low_of self.old) (high_of self.old))) }
-        ensures limit { (T.strip tape.new).limit ≡ (T.strip tape.old).limit }
+        ensures limit { (T.view tape.new).limit ≡ (T.view tape.old).limit }
         ensures memory { OnErr result (IsTrue T.GROWS) }
         ensures uncounted { OnErr result (meter.new ≡ meter.old) }
     {

@@ -29,12 +29,12 @@ pub fn simulate<T: Tape>(
     limits: &Limits,
     meter: &mut Meter,
 ) -> Result<Outcome, Memory>
-    requires limit { (T.strip tape.old).limit ≡ limits.now.cells }
+    requires limit { (T.view tape.old).limit ≡ limits.now.cells }
     requires room { meter.old.steps + limits.now.steps + 1 < 2 ^ 64 }
     ensures outcome { IfOk result (IsOutcome machine.now limits.now) }
     ensures counted { OnOk result (CountsRun machine.now limits.now meter.old meter.new) }
     ensures within { IsWithinRun limits.now meter.old meter.new }
-    ensures limit { (T.strip tape.new).limit ≡ (T.strip tape.old).limit }
+    ensures limit { (T.view tape.new).limit ≡ (T.view tape.old).limit }
     ensures memory { OnErr result (IsTrue T.GROWS) }
 {
     let limits = *limits;
@@ -52,17 +52,17 @@ fn run<T: Tape>(
     limits: &Limits,
     meter: &mut Meter,
 ) -> Result<Outcome, Memory>
-    requires limit { (T.strip tape.old).limit ≡ limits.now.cells }
+    requires limit { (T.view tape.old).limit ≡ limits.now.cells }
     requires room { meter.old.steps + limits.now.steps + 1 < 2 ^ 64 }
     ensures outcome { IfOk result (IsOutcome machine.now limits.now) }
     ensures counted { OnOk result (CountsRun machine.now limits.now meter.old meter.new) }
     ensures within { IsWithinRun limits.now meter.old meter.new }
-    ensures limit { (T.strip tape.new).limit ≡ (T.strip tape.old).limit }
+    ensures limit { (T.view tape.new).limit ≡ (T.view tape.old).limit }
     ensures memory { OnErr result (IsTrue T.GROWS) }
 {
     let mut runner = Runner::start(machine, tape);
-    let _accepted = limits.steps();
-    meter.most_cells = meter.most_cells.max(1);
+    limits.show_accepted();
+    meter.begin_run();
     loop {
         match runner.advance(machine, tape, limits, meter)? {
             Moved::Stepped => {}

@@ -1,7 +1,7 @@
 -- Facts is for users of any tape; the others serve this crate's own proofs.
 pub mod Facts
 mod Content
-mod Strips
+mod TapeViews
 mod Widening
 mod Sound
 mod Kept

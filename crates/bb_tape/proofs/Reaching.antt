@@ -3,10 +3,10 @@ use Rattle.std.proofs.Common.{◌≡◌, ℤ, pos, ◌-ℤ◌, ◌≤ℤ◌, ◌
 use Rattle.std.proofs.lemmas.Int.{ints, clamps}
 use Rattle.std.specs.Prelude.{unsigned_abs}
 use Rattle.std.specs.Int.{int_min, int_max}
-use Rattle.bb_tape.specs.Strip.{Strip, IsSound, visited, width}
+use Rattle.bb_tape.specs.TapeView.{TapeView, IsSound, visited, width}
 use Rattle.bb_tape.proofs.Rings.{abs_is}
 
-module _ (s : Strip) (sound : IsSound s) (p lo hi : ℤ) (el : lo ≡ int_min s.low p)
+module _ (s : TapeView) (sound : IsSound s) (p lo hi : ℤ) (el : lo ≡ int_min s.low p)
     (eh : hi ≡ int_max s.high p) where
   order : s.low ≤ℤ s.high
   order = omega (arith, ints, sound.from_zero, sound.to_zero)

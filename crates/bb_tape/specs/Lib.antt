@@ -1,5 +1,5 @@
 pub mod Content
-pub mod Strip
+pub mod TapeView
 pub mod Window
 pub mod Windowed
 pub mod Entries

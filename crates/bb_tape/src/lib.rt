@@ -3,9 +3,9 @@
 
 mod kernels;
 pub mod map;
-pub mod reach;
 pub mod ring;
 pub mod tape;
+pub mod widening;
 mod window;
 
 pub use map::MapTape;

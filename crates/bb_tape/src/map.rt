@@ -2,8 +2,8 @@
 
 ghost use Rattle.std.specs.Prelude.{◌≡◌, ◌↔◌, ◌≤◌, ◌<◌, Bool, true, IsTrue, OnErr, OnOk, pos, ◌+ℤ◌, ◌≤ℤ◌};
 ghost use Rattle.bb_tape.specs.Content.{cell, score};
-ghost use Rattle.bb_tape.specs.Strip.{fresh, IsSound};
-ghost use Rattle.bb_tape.specs.Windowed.{strip_of};
+ghost use Rattle.bb_tape.specs.TapeView.{fresh, IsSound};
+ghost use Rattle.bb_tape.specs.Windowed.{view_of};
 ghost use Rattle.bb_tape.specs.Entries.{content_of};
 
 use crate::tape::{MAX_CELLS, Tape, TapeFault};
@@ -17,7 +17,7 @@ pub struct MapTape<A: Allocator = Global> {
     /// The number k at a position stands for the symbol k + 1.
     cells: BTreeMap<i64, u8, A>,
     window: Window,
-    ghost sound: { IsSound (strip_of (content_of cells.entries) window) },
+    ghost sound: { IsSound (view_of (content_of cells.entries) window) },
 }
 
 impl MapTape {
@@ -25,7 +25,7 @@ impl MapTape {
     pub fn new(alloc: Global, s: u64) -> MapTape
         requires some { 0 < s }
         requires most { s ≤ MAX_CELLS }
-        ensures { ⟦<MapTape as Tape>⟧.strip result ≡ fresh s }
+        ensures { ⟦<MapTape as Tape>⟧.view result ≡ fresh s }
     {
         MapTape::new_in(alloc, s)
     }
@@ -36,7 +36,7 @@ impl<A: Allocator + Clone + Drop> MapTape<A> {
     pub fn new_in(alloc: A, s: u64) -> MapTape<A>
         requires some { 0 < s }
         requires most { s ≤ MAX_CELLS }
-        ensures { ⟦<MapTape<A> as Tape>⟧.strip result ≡ fresh s }
+        ensures { ⟦<MapTape<A> as Tape>⟧.view result ≡ fresh s }
     {
         MapTape {
             cells: BTreeMap::new(alloc),
@@ -66,7 +66,7 @@ fn copy_entries<A: Allocator + Clone>(
 }
 
 impl<A: Allocator + Clone + Drop> Tape for MapTape<A> {
-    ghost strip = { λ t. strip_of (content_of t.cells.entries) t.window };
+    ghost view = { λ t. view_of (content_of t.cells.entries) t.window };
 
     ghost GROWS = { true };
 

@@ -3,8 +3,8 @@
 ghost use Rattle.std.specs.Prelude.{◌≡◌, ◌↔◌, ◌≤◌, ◌<◌, ◌++◌, ℕ, Bool, false, IsTrue, IfOk, OnErr};
 ghost use Rattle.std.specs.Prelude.{OnOk, length, slice_index, pos, ◌+ℤ◌, ◌-ℤ◌, ◌≤ℤ◌, ◌<ℤ◌, ℤ, ◌⊎◌};
 ghost use Rattle.bb_tape.specs.Content.{cell, score};
-ghost use Rattle.bb_tape.specs.Strip.{fresh, IsSound, IsStretch};
-ghost use Rattle.bb_tape.specs.Windowed.{strip_of};
+ghost use Rattle.bb_tape.specs.TapeView.{fresh, IsSound, IsStretch};
+ghost use Rattle.bb_tape.specs.Windowed.{view_of};
 ghost use Rattle.bb_tape.specs.Ring.{IsClear, ring_content, symbols};
 
 use crate::kernels::{count_nonzero, equal};
@@ -21,7 +21,7 @@ pub struct RingTape {
     window: Window,
     ghost whole: { length cells.items ≡ window.limit },
     ghost clear: { IsClear cells.items window },
-    ghost sound: { IsSound (strip_of (ring_content cells.items window) window) },
+    ghost sound: { IsSound (view_of (ring_content cells.items window) window) },
 }
 
 impl RingTape {
@@ -29,7 +29,7 @@ impl RingTape {
     pub fn new(alloc: Global, s: u64) -> Result<RingTape, Memory>
         requires some { 0 < s }
         requires most { s ≤ MAX_CELLS }
-        ensures { IfOk result (λ tape. ⟦<RingTape as Tape>⟧.strip tape ≡ fresh s) }
+        ensures { IfOk result (λ tape. ⟦<RingTape as Tape>⟧.view tape ≡ fresh s) }
     {
         match vec![in alloc; 0u8; s as usize] {
             Ok(cells) => Ok(RingTape {
@@ -43,7 +43,7 @@ impl RingTape {
     /// The cells from `from` on, those below 0 and then the others. `from` and the cells are in the window.
     fn pieces(&self, from: i64, len: u64) -> (&[u8], &[u8])
         requires { IsStretch
-            (strip_of (ring_content self.now.cells.items self.now.window) self.now.window) from len }
+            (view_of (ring_content self.now.cells.items self.now.window) self.now.window) from len }
         ensures { result.0.now ++ result.1.now
             ≡ symbols (ring_content self.now.cells.items self.now.window) from len }
     {
@@ -60,7 +60,7 @@ impl RingTape {
     /// Whether the cells from `from` on are all 0.
     fn is_blank(&self, from: i64, len: u64) -> bool
         requires { IsStretch
-            (strip_of (ring_content self.now.cells.items self.now.window) self.now.window) from len }
+            (view_of (ring_content self.now.cells.items self.now.window) self.now.window) from len }
         ensures { IsTrue result ↔ ((k : ℕ) → k < len
             → cell (ring_content self.now.cells.items self.now.window) (from +ℤ pos k) ≡ 0) }
     {
@@ -139,7 +139,7 @@ fn copy_ends(to: &mut [u8], from: &[u8], front: usize, back: usize)
 }
 
 impl Tape for RingTape {
-    ghost strip = { λ t. strip_of (ring_content t.cells.items t.window) t.window };
+    ghost view = { λ t. view_of (ring_content t.cells.items t.window) t.window };
 
     ghost GROWS = { false };
 

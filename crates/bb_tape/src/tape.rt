@@ -2,13 +2,14 @@
 
 ghost use Rattle.std.specs.Prelude.{◌≡◌, ◌↔◌, ◌≤◌, Bool, IfErr, IsTrue, OnErr, OnOk, pos, ◌+ℤ◌, ◌-ℤ◌, ◌<ℤ◌};
 ghost use Rattle.bb_tape.specs.Content.{cell, score};
-ghost use Rattle.bb_tape.specs.Strip.{Strip, fresh, visited, written, width, IsInside};
-ghost use Rattle.bb_tape.specs.Strip.{IsBeside, IsStretch, AgreesFrom, IsSound};
+ghost use Rattle.bb_tape.specs.TapeView.{TapeView, fresh, visited, written, width, IsInside};
+ghost use Rattle.bb_tape.specs.TapeView.{IsBeside, IsStretch, AgreesFrom, IsSound};
 
 /// The greatest limit that a tape may have.
 pub const MAX_CELLS: u64 = 67_108_864;
 
-/// The greatest symbol that a cell may have.
+/// The greatest symbol that a cell may have. A machine's are 0 to 9. The walk of the backward tree writes a
+/// known symbol r as r + 1, up to 10, since its 0 is a cell of which nothing is known.
 pub const MAX_SYMBOL: u8 = 10;
 
 /// A growth was refused.
@@ -34,7 +35,7 @@ pub enum TapeFault {
 /// was lent. The calls that have a body here are for tapes that do them faster.
 pub trait Tape: Drop {
     /// The cells, the window and the limit.
-    ghost strip: { Self → Strip };
+    ghost view: { Self → TapeView };
 
     ghost GROWS: { Bool };
 
@@ -43,90 +44,90 @@ pub trait Tape: Drop {
 
     /// Makes every cell 0 and the window the cell 0 alone.
     fn reset(&mut self)
-        ensures { strip self.new ≡ fresh (strip self.old).limit };
+        ensures { view self.new ≡ fresh (view self.old).limit };
 
     /// Widens the window to a cell in it or next to it.
     /// `Cells` where it would then have more cells than the limit; it never takes memory.
     fn visit(&mut self, p: i64) -> Result<(), TapeFault>
-        requires { IsBeside (strip self.old) p }
-        ensures ok { OnOk result (strip self.new ≡ visited (strip self.old) p) }
-        ensures err { OnErr result (strip self.new ≡ strip self.old) }
+        requires { IsBeside (view self.old) p }
+        ensures ok { OnOk result (view self.new ≡ visited (view self.old) p) }
+        ensures err { OnErr result (view self.new ≡ view self.old) }
         ensures cells { (result ≡ Err TapeFault.Cells)
-            ↔ (pos (strip self.old).limit <ℤ width (visited (strip self.old) p)) }
+            ↔ (pos (view self.old).limit <ℤ width (visited (view self.old) p)) }
         ensures memory { IfErr result (λ fault. fault ≡ TapeFault.Cells) };
 
     /// Widens the window by the cell below it, where there is room for one more.
     fn widen_low(&mut self, p: i64)
-        requires next { p ≡ (strip self.old).low -ℤ pos 1 }
-        requires room { width (strip self.old) <ℤ pos (strip self.old).limit }
-        ensures { strip self.new ≡ visited (strip self.old) p }
+        requires next { p ≡ (view self.old).low -ℤ pos 1 }
+        requires room { width (view self.old) <ℤ pos (view self.old).limit }
+        ensures { view self.new ≡ visited (view self.old) p }
     {
         let _below = self.visit(p);
     }
 
     /// Widens the window by the cell above it, where there is room for one more.
     fn widen_high(&mut self, p: i64)
-        requires next { p ≡ (strip self.old).high +ℤ pos 1 }
-        requires room { width (strip self.old) <ℤ pos (strip self.old).limit }
-        ensures { strip self.new ≡ visited (strip self.old) p }
+        requires next { p ≡ (view self.old).high +ℤ pos 1 }
+        requires room { width (view self.old) <ℤ pos (view self.old).limit }
+        ensures { view self.new ≡ visited (view self.old) p }
     {
         let _above = self.visit(p);
     }
 
     /// The symbol of any cell, 0 outside the window.
     fn read(&self, p: i64) -> u8
-        ensures { result ≡ cell (strip self.now).content p };
+        ensures { result ≡ cell (view self.now).content p };
 
     /// The symbol of a cell of the window.
     fn read_inside(&self, p: i64) -> u8
-        requires { IsInside (strip self.now) p }
-        ensures { result ≡ cell (strip self.now).content p }
+        requires { IsInside (view self.now) p }
+        ensures { result ≡ cell (view self.now).content p }
     {
         self.read(p)
     }
 
     /// Puts a symbol into a cell of the window. It is never refused for want of cells.
     fn write(&mut self, p: i64, v: u8) -> Result<(), TapeFault>
-        requires inside { IsInside (strip self.old) p }
+        requires inside { IsInside (view self.old) p }
         requires symbol { v ≤ MAX_SYMBOL }
-        ensures ok { OnOk result (strip self.new ≡ written (strip self.old) p v) }
-        ensures err { OnErr result (strip self.new ≡ strip self.old) }
+        ensures ok { OnOk result (view self.new ≡ written (view self.old) p v) }
+        ensures err { OnErr result (view self.new ≡ view self.old) }
         ensures only_memory { OnErr result ((result ≡ Err TapeFault.Memory) × IsTrue GROWS) };
 
     /// Takes over the cells and the window of another tape with the same limit.
     /// After `Memory` the tape has to be reset before it is used.
     fn copy_from(&mut self, other: &Self) -> Result<(), TapeFault>
-        requires { (strip self.old).limit ≡ (strip other.now).limit }
-        ensures ok { OnOk result (strip self.new ≡ strip other.now) }
-        ensures limit { (strip self.new).limit ≡ (strip self.old).limit }
+        requires { (view self.old).limit ≡ (view other.now).limit }
+        ensures ok { OnOk result (view self.new ≡ view other.now) }
+        ensures limit { (view self.new).limit ≡ (view self.old).limit }
         ensures only_memory { OnErr result ((result ≡ Err TapeFault.Memory) × IsTrue GROWS) };
 
     /// Whether `len` cells from `from` on have the symbols of those of the other tape from `other_from` on.
     fn agrees(&self, from: i64, other: &Self, other_from: i64, len: u64) -> bool
-        requires here { IsStretch (strip self.now) from len }
-        requires there { IsStretch (strip other.now) other_from len }
+        requires here { IsStretch (view self.now) from len }
+        requires there { IsStretch (view other.now) other_from len }
         ensures { IsTrue result
-            ↔ AgreesFrom (strip self.now).content from (strip other.now).content other_from len };
+            ↔ AgreesFrom (view self.now).content from (view other.now).content other_from len };
 
     /// Whether all cells are the same, whatever the windows.
     fn same(&self, other: &Self) -> bool
-        ensures { IsTrue result ↔ ((strip self.now).content ≡ (strip other.now).content) };
+        ensures { IsTrue result ↔ ((view self.now).content ≡ (view other.now).content) };
 
     /// How many cells aren't 0.
     fn score(&self) -> u64
-        ensures { result ≡ score (strip self.now).content };
+        ensures { result ≡ score (view self.now).content };
 
     /// The lowest position of the window.
     fn low(&self) -> i64
-        ensures { result ≡ (strip self.now).low };
+        ensures { result ≡ (view self.now).low };
 
     /// The highest position of the window.
     fn high(&self) -> i64
-        ensures { result ≡ (strip self.now).high };
+        ensures { result ≡ (view self.now).high };
 
     /// The most cells that the window may have.
     fn limit(&self) -> u64
-        ensures { result ≡ (strip self.now).limit };
+        ensures { result ≡ (view self.now).limit };
 
-    ghost sound: { (t : Self) → IsSound (strip t) };
+    ghost sound: { (t : Self) → IsSound (view t) };
 }

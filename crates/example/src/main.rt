@@ -2,17 +2,11 @@
 //! calls behind it, and prints the verdicts.
 #![tactic(auto)]
 
-ghost use Rattle.std.specs.Prelude.{◌≡◌, IfOk};
-ghost use Rattle.bb_cert.specs.tree.Path.{depth_of};
-ghost use Rattle.bb_decide.specs.Bench.{BenchHasCells};
-
-use bb_decide::{Bench, Plan};
+use bb_decide::Plan;
 use bb_lines::fault::Fault;
 use bb_lines::watched::Watched;
 use bb_machine::Limits;
-use bb_run::{Summary, run_decide};
-use bb_tape::{Memory, RingTape, Tape};
-use std::alloc::Global;
+use bb_run::{Summary, ring_bench, run_decide};
 use std::process::ExitCode;
 
 /// Machines of two and three states that make the most steps, one that comes back to a configuration, one
@@ -44,22 +38,10 @@ fn main(rt: HostRuntime) -> ExitCode {
 
 /// Decides the list, and writes the verdicts to standard output.
 fn decided(rt: &HostRuntime, limits: &Limits) -> Result<Summary, Fault> {
-    let Ok(mut bench) = bench(rt.alloc(), limits) else {
+    let Ok(mut bench) = ring_bench(rt.alloc(), limits) else {
         return Err(Fault::Memory);
     };
     let mut reader = Watched::new(LIST);
     let mut writer = Watched::new(rt.stdout());
     run_decide(&mut reader, &mut writer, limits, ALL, &mut bench)
-}
-
-/// Three tapes and a path, which take memory here and never again.
-fn bench(alloc: Global, limits: &Limits) -> Result<Bench<RingTape>, Memory>
-    ensures tapes { IfOk result (BenchHasCells ⟦<RingTape as Tape>⟧.strip limits.now.cells) }
-    ensures path { IfOk result (λ bench. depth_of bench.path ≡ limits.now.depth) }
-{
-    let cells = limits.cells();
-    let run = RingTape::new(alloc, cells)?;
-    let right = RingTape::new(alloc, cells)?;
-    let left = RingTape::new(alloc, cells)?;
-    Bench::new(alloc, run, right, left, limits)
 }

@@ -83,7 +83,7 @@ fn letter(state: Option<u8>) -> char {
 
 /// Holds the run of a machine against what was worked out.
 fn follows<T: Tape>(rt: &impl Abort, mut tape: T, text: &[u8], run: &[Seen])
-    requires { (T.strip tape).limit ≡ CELLS }
+    requires { (T.view tape).limit ≡ CELLS }
 {
     let machine = Machine::read(text).expect(rt, "a machine");
     let limits = Limits::new(1000, CELLS, 0, 0).expect(rt, "limits");
@@ -181,7 +181,7 @@ static ENDS: [End; 12] = [
 
 /// Holds a simulation against how it was worked out to end.
 fn ends<T: Tape>(rt: &impl Abort, mut tape: T, end: &End)
-    requires { (T.strip tape).limit ≡ end.now.2 }
+    requires { (T.view tape).limit ≡ end.now.2 }
 {
     let (text, most_steps, cells, outcome, steps, most_cells) = *end;
     let machine = Machine::read(text).expect(rt, "a machine");

@@ -1,11 +1,11 @@
 //! Worked rows, on the trait through its bound, and memory refused in turn.
 
 ghost use Rattle.std.specs.Prelude.{◌≡◌, ◌≤◌, IfOk, OnOk, pos};
-ghost use Rattle.bb_tape.specs.Strip.{fresh, IsBeside, IsInside};
+ghost use Rattle.bb_tape.specs.TapeView.{fresh, IsBeside, IsInside};
 
 mod ring;
 
-use bb_tape::reach::reach;
+use bb_tape::widening::widen_to;
 use bb_tape::{MAX_SYMBOL, MapTape, RingTape, Tape, TapeFault};
 use linked_list_allocator::LocalHeap;
 use std::process::Abort;
@@ -13,10 +13,10 @@ use std::test::Fail;
 
 /// The symbol that a cell has after a write, which is undone.
 fn written_and_undone<T: Tape>(tape: &mut T, p: i64, v: u8) -> Result<u8, TapeFault>
-    requires inside { IsInside (T.strip tape.old) p }
+    requires inside { IsInside (T.view tape.old) p }
     requires symbol { v ≤ MAX_SYMBOL }
     ensures value { IfOk result (λ x. x ≡ v) }
-    ensures undone { OnOk result (T.strip tape.new ≡ T.strip tape.old) }
+    ensures undone { OnOk result (T.view tape.new ≡ T.view tape.old) }
 {
     let before = tape.read(p);
     tape.write(p, v)?;
@@ -27,8 +27,8 @@ fn written_and_undone<T: Tape>(tape: &mut T, p: i64, v: u8) -> Result<u8, TapeFa
 
 /// Rows on two blank tapes with limit 3.
 fn rows_with_three_cells<T: Tape>(rt: &impl Abort, tape: &mut T, other: &mut T) -> Result<(), Fail>
-    requires tape { T.strip tape.old ≡ fresh 3 }
-    requires other { T.strip other.old ≡ fresh 3 }
+    requires tape { T.view tape.old ≡ fresh 3 }
+    requires other { T.view other.old ≡ fresh 3 }
 {
     assert!(rt; tape.agrees(-7, other, 7, 0), "an empty stretch");
     tape.visit(1)?;
@@ -42,7 +42,7 @@ fn rows_with_three_cells<T: Tape>(rt: &impl Abort, tape: &mut T, other: &mut T) 
 
 /// Writes, reads and counts on a blank tape with limit 3.
 fn writes_in_three_cells<T: Tape>(rt: &impl Abort, tape: &mut T) -> Result<(), Fail>
-    requires { T.strip tape.old ≡ fresh 3 }
+    requires { T.view tape.old ≡ fresh 3 }
 {
     tape.visit(1)?;
     tape.write(1, 10)?;
@@ -58,8 +58,8 @@ fn writes_in_three_cells<T: Tape>(rt: &impl Abort, tape: &mut T) -> Result<(), F
 
 /// A copy, against its source.
 fn copies_in_three_cells<T: Tape>(rt: &impl Abort, tape: &mut T, other: &mut T) -> Result<(), Fail>
-    requires tape { T.strip tape.old ≡ fresh 3 }
-    requires other { T.strip other.old ≡ fresh 3 }
+    requires tape { T.view tape.old ≡ fresh 3 }
+    requires other { T.view other.old ≡ fresh 3 }
 {
     tape.visit(-1)?;
     tape.write(-1, 4)?;
@@ -73,15 +73,15 @@ fn copies_in_three_cells<T: Tape>(rt: &impl Abort, tape: &mut T, other: &mut T) 
 
 /// Widens a blank tape with limit 3 to positions that aren't next to its window.
 fn reaches_in_three_cells<T: Tape>(rt: &impl Abort, tape: &mut T) -> Result<(), Fail>
-    requires { T.strip tape.old ≡ fresh 3 }
+    requires { T.view tape.old ≡ fresh 3 }
 {
-    assert!(rt; reach(tape, 3).is_err() && reach(tape, i64::MIN).is_err());
+    assert!(rt; widen_to(tape, 3).is_err() && widen_to(tape, i64::MIN).is_err());
     assert_eq!(rt; (tape.low(), tape.high()), (0, 0));
-    reach(tape, -2)?;
+    widen_to(tape, -2)?;
     tape.write(-2, 5)?;
-    reach(tape, -1)?;
+    widen_to(tape, -1)?;
     assert_eq!(rt; (tape.low(), tape.high(), tape.read_inside(-2)), (-2, 0, 5));
-    assert!(rt; matches!(reach(tape, 1), Err(TapeFault::Cells)));
+    assert!(rt; matches!(widen_to(tape, 1), Err(TapeFault::Cells)));
     Ok(())
 }
 
@@ -137,8 +137,8 @@ fn a_ring_is_made_where_there_is_memory(rt: HostRuntime) {
 /// Puts symbols into the cells from `from` on, below `cells`, and gives the first that was refused, or
 /// `cells`.
 fn write_upwards<T: Tape>(tape: &mut T, from: u8, cells: u8) -> u8
-    requires { IsBeside (T.strip tape.old) (pos from) }
-    ensures { (T.strip tape.new).limit ≡ (T.strip tape.old).limit }
+    requires { IsBeside (T.view tape.old) (pos from) }
+    ensures { (T.view tape.new).limit ≡ (T.view tape.old).limit }
 {
     for k in from..cells {
         let p = i64::from(k);

@@ -156,9 +156,9 @@ pub(crate) fn checked<T: Tape>(
     limits: &Limits,
     input: &[u8],
 ) -> (Result<Summary, Fault>, Vec<u8>)
-    requires tapes { PairHasCells T.strip limits.now.cells pair.old }
+    requires tapes { PairHasCells T.view limits.now.cells pair.old }
     requires path { limits.now.depth ≤ depth_of path.old }
-    ensures tapes { PairHasCells T.strip limits.now.cells pair.new }
+    ensures tapes { PairHasCells T.view limits.now.cells pair.new }
     ensures path { depth_of path.new ≡ depth_of path.old }
 {
     let mut reader = Watched::new(input);

@@ -27,9 +27,9 @@ fn writes_of_deciding<T: Tape>(
     limits: &Limits,
     line: &[u8],
 ) -> u64
-    requires run { (T.strip tapes.0).limit ≡ limits.now.cells }
-    requires right { (T.strip tapes.1).limit ≡ limits.now.cells }
-    requires left { (T.strip tapes.2).limit ≡ limits.now.cells }
+    requires run { (T.view tapes.0).limit ≡ limits.now.cells }
+    requires right { (T.view tapes.1).limit ≡ limits.now.cells }
+    requires left { (T.view tapes.2).limit ≡ limits.now.cells }
 {
     let run = tallied_tape(tapes.0, NEVER);
     let right = tallied_tape(tapes.1, NEVER);
@@ -85,8 +85,8 @@ fn writes_of_checking<T: Tape>(
     limits: &Limits,
     line: &[u8],
 ) -> (Vec<u8>, Meter, u64)
-    requires run { (T.strip run).limit ≡ limits.now.cells }
-    requires saved { (T.strip saved).limit ≡ limits.now.cells }
+    requires run { (T.view run).limit ≡ limits.now.cells }
+    requires saved { (T.view saved).limit ≡ limits.now.cells }
 {
     let mut pair = Pair {
         run: tallied_tape(run, NEVER),

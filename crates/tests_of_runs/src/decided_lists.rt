@@ -543,9 +543,9 @@ pub(crate) fn decided<T: Tape>(
     plan: Plan,
     input: &[u8],
 ) -> (Result<Summary, Fault>, Vec<u8>)
-    requires tapes { BenchHasCells T.strip limits.now.cells bench.old }
+    requires tapes { BenchHasCells T.view limits.now.cells bench.old }
     requires path { depth_of bench.old.path ≡ limits.now.depth }
-    ensures tapes { BenchHasCells T.strip limits.now.cells bench.new }
+    ensures tapes { BenchHasCells T.view limits.now.cells bench.new }
     ensures path { depth_of bench.new.path ≡ limits.now.depth }
 {
     let mut reader = Watched::new(input);

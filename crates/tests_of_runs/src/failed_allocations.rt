@@ -60,9 +60,9 @@ fn decided_over_arrays<T: Tape>(
     limits: &Limits,
     plan: Plan,
 ) -> (Result<Summary, Fault>, Sink)
-    requires tapes { BenchHasCells T.strip limits.now.cells bench.old }
+    requires tapes { BenchHasCells T.view limits.now.cells bench.old }
     requires path { depth_of bench.old.path ≡ limits.now.depth }
-    ensures tapes { BenchHasCells T.strip limits.now.cells bench.new }
+    ensures tapes { BenchHasCells T.view limits.now.cells bench.new }
     ensures path { depth_of bench.new.path ≡ limits.now.depth }
 {
     let mut sink = Sink::of(128, 128);

@@ -61,8 +61,8 @@ pub(crate) fn traced<T: Tape>(
     limits: &Limits,
     line: &[u8],
 ) -> (Result<Summary, Fault>, Vec<u8>)
-    requires { (T.strip tape.old).limit ≡ limits.now.cells }
-    ensures { (T.strip tape.new).limit ≡ limits.now.cells }
+    requires { (T.view tape.old).limit ≡ limits.now.cells }
+    ensures { (T.view tape.new).limit ≡ limits.now.cells }
 {
     let mut writer = Watched::new(Vec::new(rt.alloc()));
     let end = run_trace(line, limits, tape, &mut writer);

@@ -493,7 +493,7 @@ fn is_answered<T: Tape>(
     pair: &mut Pair<T>,
     path: &mut Path,
 ) -> Result<(), Fail>
-    requires tapes { PairHasCells T.strip limits.now.cells pair.old }
+    requires tapes { PairHasCells T.view limits.now.cells pair.old }
     requires path { depth_of path.old ≡ DEPTH }
 {
     let (line, _, expected, [steps, nodes, levels]) = *row;
@@ -573,9 +573,9 @@ fn answer_to_pair<T: Tape>(
     pair: &mut Pair<T>,
     path: &mut Path,
 ) -> Result<Answer, Fail>
-    requires tapes { PairHasCells T.strip CELLS pair.old }
+    requires tapes { PairHasCells T.view CELLS pair.old }
     requires path { depth_of path.old ≡ DEPTH }
-    ensures tapes { PairHasCells T.strip CELLS pair.new }
+    ensures tapes { PairHasCells T.view CELLS pair.new }
     ensures path { depth_of path.new ≡ depth_of path.old }
 {
     let limits = Limits::new(1_000_000, CELLS, DEPTH, 1_000_000)?;
@@ -598,7 +598,7 @@ fn pairs_are_answered<T: Tape>(
     pair: &mut Pair<T>,
     path: &mut Path,
 ) -> Result<(), Fail>
-    requires tapes { PairHasCells T.strip CELLS pair.old }
+    requires tapes { PairHasCells T.view CELLS pair.old }
 {
     for (index, (text, side, count)) in FAMILIES.iter().enumerate() {
         let machine = Machine::read(text)?;
@@ -625,7 +625,7 @@ fn extents_are_answered<T: Tape>(
     pair: &mut Pair<T>,
     path: &mut Path,
 ) -> Result<(), Fail>
-    requires tapes { PairHasCells T.strip CELLS pair.old }
+    requires tapes { PairHasCells T.view CELLS pair.old }
 {
     let machine = Machine::read(b"1RA1RA")?;
     for step in 0..289 {

@@ -17,7 +17,7 @@ impl Tape for Counting {
     ghost use Rattle.std.specs.Prelude.{false};
     ghost use Rattle.std.proofs.Common.{rules};
 
-    ghost strip = { λ t. ⟦<RingTape as Tape>⟧.strip t.ring };
+    ghost view = { λ t. ⟦<RingTape as Tape>⟧.view t.ring };
 
     ghost GROWS = { false };
 

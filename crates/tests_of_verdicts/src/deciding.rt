@@ -302,9 +302,9 @@ fn are_decided<T: Tape>(
     translated: bool,
     rows: &[Row],
 ) -> Result<(), Fail>
-    requires tapes { BenchHasCells T.strip CELLS bench.old }
+    requires tapes { BenchHasCells T.view CELLS bench.old }
     requires path { depth_of bench.old.path ≡ 0 }
-    ensures tapes { BenchHasCells T.strip CELLS bench.new }
+    ensures tapes { BenchHasCells T.view CELLS bench.new }
     ensures path { depth_of bench.new.path ≡ 0 }
 {
     let plan = Plan {
@@ -378,9 +378,9 @@ static SEARCHES: [Searched; 3] = [
 
 /// Searches each machine for a cycle, and then for records that agree, by the searches' own calls.
 fn are_searched<T: Tape>(rt: &impl Abort, bench: &mut Bench<T>) -> Result<(), Fail>
-    requires tapes { BenchHasCells T.strip CELLS bench.old }
+    requires tapes { BenchHasCells T.view CELLS bench.old }
     requires path { depth_of bench.old.path ≡ 0 }
-    ensures tapes { BenchHasCells T.strip CELLS bench.new }
+    ensures tapes { BenchHasCells T.view CELLS bench.new }
     ensures path { depth_of bench.new.path ≡ 0 }
 {
     for (text, found, steps, most_cells) in &SEARCHES {

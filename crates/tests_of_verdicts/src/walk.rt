@@ -63,10 +63,10 @@ fn walked<T: Tape>(
     path: &mut Path,
 ) -> (Option<(u64, u64)>, u64, u64)
     requires levels { levels ≤ depth_of path.old }
-    requires cells { 2 * levels ≤ (T.strip tape.old).limit + 1 }
+    requires cells { 2 * levels ≤ (T.view tape.old).limit + 1 }
     requires nodes { nodes < 2 ^ 63 }
     ensures depth { depth_of path.new ≡ depth_of path.old }
-    ensures limit { (T.strip tape.new).limit ≡ (T.strip tape.old).limit }
+    ensures limit { (T.view tape.new).limit ≡ (T.view tape.old).limit }
 {
     let machine = Machine::read(text).expect(rt, "a machine");
     let mut meter = Meter::new();
@@ -85,7 +85,7 @@ fn walked<T: Tape>(
 
 /// Holds the rows against walks on one tape and one path.
 fn rows_hold<T: Tape>(rt: &impl Abort, mut tape: T, mut path: Path)
-    requires limit { (T.strip tape).limit ≡ CELLS }
+    requires limit { (T.view tape).limit ≡ CELLS }
     requires depth { depth_of path ≡ 400 }
 {
     for (text, levels, nodes, expected) in &ROWS {

@@ -3,7 +3,7 @@ use Rattle.std.proofs.Common.{◌≡◌, ℕ, ◌+◌, ◌<◌, ◌≤◌, Optio
 use Rattle.std.specs.Prelude.{◌≢◌}
 use Rattle.bb_machine.specs.Limits.{Bounds}
 use Rattle.bb_machine.specs.Machine.{Table}
-use Rattle.bb_tape.specs.Strip.{Strip}
+use Rattle.bb_tape.specs.TapeView.{TapeView}
 use Rattle.bb_sim.specs.declared.meter.Meter.{Meter}
 use Rattle.bb_sim.specs.declared.runner.Runner.{Runner}
 use Rattle.bb_sim.specs.declared.simulation.Outcome.TheVariants.{Halt as Halts, NoSteps}
@@ -77,9 +77,9 @@ translated_cut table bounds side first second extent answer.Ok cut = absurd cut
 translated_cut table bounds side first second extent answer.Open cut = absurd cut
 
 -- a run that came to the step fits
-pub fits_there : (table : Table) (bounds : Bounds) (n : ℕ) (runner : Runner) (strip : Strip) (meter : Meter)
-    → IsAtStep table (up_to bounds n) n runner strip meter → bounds.cells < span table n → ⊥
-fits_there table bounds n runner strip meter is =
+pub fits_there : (table : Table) (bounds : Bounds) (n : ℕ) (runner : Runner) (view : TapeView) (meter : Meter)
+    → IsAtStep table (up_to bounds n) n runner view meter → bounds.cells < span table n → ⊥
+fits_there table bounds n runner view meter is =
     not_wide _ _ (subst (λ k. span table k ≤ bounds.cells) is.at is.under_way.inside.within_cells)
 
 -- ---- counts of a run

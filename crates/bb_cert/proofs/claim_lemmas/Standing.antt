@@ -7,7 +7,7 @@ use Rattle.bb_machine.specs.declared.entry.Dir.TheVariants.{L, R}
 use Rattle.bb_machine.specs.declared.entry.Next.{Next}
 use Rattle.bb_machine.specs.Machine.{Table}
 use Rattle.bb_tape.specs.Content.{Content}
-use Rattle.bb_tape.specs.Strip.{Strip}
+use Rattle.bb_tape.specs.TapeView.{TapeView}
 use Rattle.bb_sim.specs.declared.runner.Runner.{Runner}
 use Rattle.bb_sim.specs.Configuration.{Configuration, beside, next}
 use Rattle.bb_sim.specs.Runner.{Stands, position_of, state_of, steps_of}
@@ -16,9 +16,9 @@ use Rattle.bb_cert.proofs.record_lemmas.Positions.{led_by}
 use Rattle.bb_cert.proofs.claim_lemmas.Runs.{conf-suc}
 
 -- what is the same of two runners at the same configuration
-abbrev pub AreAlike : Runner → Strip → Runner → Strip → Type 0
-AreAlike a strip_a b strip_b =
-    (state_of a ≡ state_of b) × (position_of a ≡ position_of b) × (strip_a.content ≡ strip_b.content)
+abbrev pub AreAlike : Runner → TapeView → Runner → TapeView → Type 0
+AreAlike a view_a b view_b =
+    (state_of a ≡ state_of b) × (position_of a ≡ position_of b) × (view_a.content ≡ view_b.content)
 
 abbrev made : Next → ℤ → Content → Configuration
 made state head tape = record { state = state; head = head; tape = tape }
@@ -26,9 +26,9 @@ made state head tape = record { state = state; head = head; tape = tape }
 one_configuration : (s t : Next) (p q : ℤ) (c d : Content) → s ≡ t → p ≡ q → c ≡ d → made s p c ≡ made t q d
 one_configuration s t p q c d states heads tapes = cc
 
-module _ (table : Table) (a b : Runner) (strip_a strip_b : Strip) (stands_a : Stands table a strip_a)
-    (stands_b : Stands table b strip_b) where
-  pub same_of_alike : AreAlike a strip_a b strip_b → Same table (steps_of b) (steps_of a)
+module _ (table : Table) (a b : Runner) (view_a view_b : TapeView) (stands_a : Stands table a view_a)
+    (stands_b : Stands table b view_b) where
+  pub same_of_alike : AreAlike a view_a b view_b → Same table (steps_of b) (steps_of a)
   same_of_alike alike = record {
     here = _;
     at_first = stands_b.at;
@@ -36,14 +36,14 @@ module _ (table : Table) (a b : Runner) (strip_a strip_b : Strip) (stands_a : St
         (one_configuration _ _ _ _ _ _ alike.0 alike.1 alike.2);
   }
 
-  pub alike_of_same : Same table (steps_of b) (steps_of a) → AreAlike a strip_a b strip_b
+  pub alike_of_same : Same table (steps_of b) (steps_of a) → AreAlike a view_a b view_b
   alike_of_same same =
       let first = same.at_first in
       let second = same.at_second in
       let at_a = stands_a.at in
       let at_b = stands_b.at in
-      let one : made (state_of a) (position_of a) strip_a.content ≡ made (state_of b) (position_of b)
-      strip_b.content = cc in (
+      let one : made (state_of a) (position_of a) view_a.content ≡ made (state_of b) (position_of b)
+      view_b.content = cc in (
         ap (λ (c : Configuration). c.state) one,
         ap (λ (c : Configuration). c.head) one,
         ap (λ (c : Configuration). c.tape) one,

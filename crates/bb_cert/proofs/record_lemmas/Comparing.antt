@@ -7,7 +7,7 @@ use Rattle.std.proofs.lemmas.Int.{ints}
 use Rattle.bb_machine.specs.declared.entry.Next.TheVariants.{Halt}
 use Rattle.bb_machine.specs.Machine.{Table}
 use Rattle.bb_tape.specs.Content.{Content, cell}
-use Rattle.bb_tape.specs.Strip.{Strip, IsInside, IsSound, visited}
+use Rattle.bb_tape.specs.TapeView.{TapeView, IsInside, IsSound, visited}
 use Rattle.bb_sim.specs.declared.runner.Runner.{Runner}
 use Rattle.bb_sim.specs.Configuration.{Configuration}
 use Rattle.bb_sim.specs.Laws.{IsRunningAt}
@@ -57,7 +57,7 @@ same_order : (p : ℤ) → p ≤ℤ p
 same_order p = omega (arith, ints)
 
 -- a kept record has a number
-pub numbered_at : (table : Table) (records : Records) (saved : Strip) (n : ℕ)
+pub numbered_at : (table : Table) (records : Records) (saved : TapeView) (n : ℕ)
     (followed : IsFollowed table n records saved) → position_of records.kept ≢ pos 0 → 0 < followed.number
 numbered_at table records saved n followed apart =
     some_number followed.number (number_of records) followed.number_is (λ none. apart
@@ -84,7 +84,7 @@ top_here table side n j top is made = elim (cases_lt is.step n) [
   below_top : (p q t : ℤ) (j : ℕ) → p ≡ t → p <ℤ pos j → q ≡ pos j → q ≤ℤ t → ⊥
   below_top p q t j a b c d = omega (arith, ints, a, b, c, d)
 
-module _ (table : Table) (runner : Runner) (run saved : Strip) (records : Records)
+module _ (table : Table) (runner : Runner) (run saved : TapeView) (records : Records)
     (stands : Stands table runner run)
     (followed : IsFollowed table (steps_of runner) records saved)
     (made : MakesRecord table records.side (steps_of runner)) where
@@ -165,7 +165,7 @@ module _ (table : Table) (runner : Runner) (run saved : Strip) (records : Record
     seen = λ runs. seen_wider saved _ _ (old.seen runs);
   }
 
-  pub kept_wider : (new : Strip) → IsWidened records run saved new → 0 < followed.number
+  pub kept_wider : (new : TapeView) → IsWidened records run saved new → 0 < followed.number
       → IsKeptRecord table records.side followed.number (steps_of runner) records.kept (far_of records) new
   kept_wider new (inl same) some = subst (IsKeptRecord table records.side followed.number (steps_of runner)
       records.kept (far_of records)) (sym same) (followed.kept some)
@@ -173,7 +173,7 @@ module _ (table : Table) (runner : Runner) (run saved : Strip) (records : Record
       records.kept (far_of records)) (sym wider.0) (wider_kept some wider.1)
 
   -- else the kept one stays, in what was saved of it, which may have been widened
-  abbrev pub stays : (new : Strip) → IsWidened records run saved new
+  abbrev pub stays : (new : TapeView) → IsWidened records run saved new
       → IsFollowed table (steps_of runner) records new
   stays new widened = record {
     count = followed.count;

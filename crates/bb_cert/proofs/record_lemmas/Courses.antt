@@ -24,7 +24,7 @@ use Rattle.std.proofs.lemmas.Int.{ints, clamps, by_lt_z}
 use Rattle.bb_machine.specs.declared.entry.Next.TheVariants.{Halt, State}
 use Rattle.bb_machine.specs.declared.entry.Next.{Next}
 use Rattle.bb_machine.specs.Machine.{Table}
-use Rattle.bb_tape.specs.Strip.{Strip}
+use Rattle.bb_tape.specs.TapeView.{TapeView}
 use Rattle.bb_sim.specs.declared.runner.Runner.{Runner}
 use Rattle.bb_sim.specs.CellsBetween.{cells_between}
 use Rattle.bb_sim.specs.Laws.{IsRunningAt}
@@ -55,7 +55,7 @@ use Rattle.bb_cert.proofs.record_lemmas.Tops.{MakesJust, makes_just, none_wider,
 use Rattle.bb_cert.proofs.record_lemmas.Tops.{top_stays}
 
 -- at the start there is no record
-abbrev pub followed_at_first : (table : Table) (records : Records) (saved : Strip)
+abbrev pub followed_at_first : (table : Table) (records : Records) (saved : TapeView)
     → position_of records.kept ≡ pos 0
     → IsFollowed table 0 records saved
 followed_at_first table records saved start = record {
@@ -73,7 +73,7 @@ none_at_first table side made =
     let some = record_is.positive in
     omega (arith, takes, some)
 
-pub course_at_first : (table : Table) (course : Course) (saved : Strip) → position_of course.records.kept
+pub course_at_first : (table : Table) (course : Course) (saved : TapeView) → position_of course.records.kept
     ≡ pos 0
     → course.is_record ≡ false → IsCourse table 0 course saved
 course_at_first table course saved start none = record {
@@ -85,7 +85,7 @@ falls_on : (p q r : ℤ) → p ≤ℤ q → q ≤ℤ r → p ≤ℤ r
 falls_on p q r a b = omega (arith, ints, a, b)
 
 -- a kept record is kept for one step more
-pub kept-next : (table : Table) (side : Side) (number n : ℕ) (kept : Runner) (far_out : ℤ) (saved : Strip)
+pub kept-next : (table : Table) (side : Side) (number n : ℕ) (kept : Runner) (far_out : ℤ) (saved : TapeView)
     → IsKeptRecord table side number n kept far_out saved
     → IsKeptRecord table side number (n + 1) kept (int_min far_out (out side (head_at table (n + 1)))) saved
 kept-next table side number n kept far_out saved is = record {
@@ -103,7 +103,7 @@ nearer_out : (side : Side) (p q : ℤ) → out side (nearer side p q) ≡ int_mi
 nearer_out R p q = refl
 nearer_out L p q = omega (arith, ints, clamps)
 
-module _ (table : Table) (n : ℕ) (records : Records) (saved : Strip) (there : Exists table (n + 1))
+module _ (table : Table) (n : ℕ) (records : Records) (saved : TapeView) (there : Exists table (n + 1))
     (position : ℤ)
     (at : position ≡ head_at table (n + 1)) (followed : IsFollowed table n records saved) where
   pub kept_is : 0 < followed.number
@@ -153,7 +153,7 @@ module _ (table : Table) (n : ℕ) (records : Records) (saved : Strip) (there : 
       followed_farther followed_nearer
 
 -- whether a step makes a record of a side, outside Z, told by the side on which it widens the window
-module _ (table : Table) (side : Side) (before after : Runner) (run_before run_after : Strip)
+module _ (table : Table) (side : Side) (before after : Runner) (run_before run_after : TapeView)
     (stood : Stands table before run_before) (stands : Stands table after run_after)
     (next : steps_of after ≡ steps_of before + 1) where
   abbrev n : ℕ
@@ -228,7 +228,7 @@ module _ (table : Table) (side : Side) (before after : Runner) (run_before run_a
         )
 
 -- a course goes on by a step, told of the side on which it widens the window
-pub course-next : (table : Table) (n : ℕ) (old new : Course) (saved : Strip) (position : ℤ)
+pub course-next : (table : Table) (n : ℕ) (old new : Course) (saved : TapeView) (position : ℤ)
     → Exists table (n + 1) → position ≡ head_at table (n + 1) → new.records ≡ passed old.records position
     → IsTrue new.is_record ↔ MakesRecordOutsideZ table old.records.side (n + 1)
     → IsCourse table n old saved → IsCourse table (n + 1) new saved
@@ -255,7 +255,7 @@ goes_nowhere table n course = record {
 }
 
 pub goes-next : (table : Table) (from : ℕ) (first old new : Course) (before after : Runner)
-    (run_before run_after : Strip) (cells : ℕ)
+    (run_before run_after : TapeView) (cells : ℕ)
     → GoesOn table from (steps_of before) first old → Stands table before run_before
     → Stands table after run_after → steps_of after ≡ steps_of before + 1
     → cells ≡ cells_between (low_of before) (high_of before) → Passes after cells old new

@@ -2,7 +2,7 @@
 use Rattle.std.proofs.Common.{◌≡◌, ℕ, ◌<◌, pos, IsTrue, Bool, true, false, refl, sym, subst, ap, ◌∙◌}
 use Rattle.std.specs.Prelude.{MatchBool}
 use Rattle.bb_machine.specs.Machine.{Table}
-use Rattle.bb_tape.specs.Strip.{Strip}
+use Rattle.bb_tape.specs.TapeView.{TapeView}
 use Rattle.bb_sim.specs.declared.runner.Runner.{Runner}
 use Rattle.bb_sim.specs.Configuration.{Configuration}
 use Rattle.bb_sim.specs.Laws.{IsRunningAt}
@@ -29,7 +29,7 @@ abbrev pub Keeps : Runner → Course → Course → Type 0
 Keeps runner old new = MatchBool old.is_record
     (new ≡ record old { records = with_kept old.records runner }) (new ≡ old)
 
-module _ (table : Table) (runner : Runner) (run : Strip) (old new : Course)
+module _ (table : Table) (runner : Runner) (run : TapeView) (old new : Course)
     (stands : Stands table runner run) (course : IsCourse table (steps_of runner) old run) where
   course_kept : Keeps runner old new → IsCourse table (steps_of runner) new run
   course_kept kept = by_told old.is_record refl kept where
@@ -85,7 +85,7 @@ runs_at_pair table side a b pair = (
   before : IsRunningAt table a (head_at table a)
   before = runs_before table a b pair.in_order (record { here = _; exists = pair.agree.at_second })
 
-module _ (table : Table) (runner : Runner) (run saved : Strip) (course : Course)
+module _ (table : Table) (runner : Runner) (run saved : TapeView) (course : Course)
     (stands : Stands table runner run) (known : IsCourse table (steps_of runner) course saved) where
   course_comparable : IsTrue course.is_record → IsKeptInStateOf course.records runner
       → IsComparable course.records runner saved run
@@ -129,14 +129,15 @@ module _ (table : Table) (runner : Runner) (run saved : Strip) (course : Course)
       )
 
 -- a course is known up to this step, whose record is kept, if it makes one
-pub record IsKeptAt (table : Table) (side : Side) (step : ℕ) (course : Course) (saved : Strip) : Type 0 where
+pub record IsKeptAt (table : Table) (side : Side) (step : ℕ) (course : Course) (saved : TapeView)
+    : Type 0 where
   pub known : IsCourse table step course saved
   pub keeps : KeepsStep table step course.records
   pub side_is : course.records.side ≡ side
 
 -- begun at the start, followed up to the step where the runner stands, and kept there
 pub kept_at : (table : Table) (side : Side) (step : ℕ) (start : Runner) (none : Records) (old new : Course)
-    (runner : Runner) (run : Strip)
+    (runner : Runner) (run : TapeView)
     → position_of start ≡ pos 0 → none ≡ record { side = side; kept = start; nearest = pos 0 }
     → GoesOn table 0 step (record { records = none; is_record = false }) old → Stands table runner run
     → steps_of runner ≡ step → Keeps runner old new → IsKeptAt table side step new run
@@ -160,7 +161,7 @@ kept_at table side step start none old new runner run begun is goes stands here 
 
 -- followed on from there
 module _ (table : Table) (side : Side) (first second : ℕ) (old new : Course) (runner : Runner)
-    (run saved : Strip) (kept : IsKeptAt table side first old saved)
+    (run saved : TapeView) (kept : IsKeptAt table side first old saved)
     (goes : GoesOn table first second old new)
     (stands : Stands table runner run) (here : steps_of runner ≡ second) where
   known_on : IsCourse table (steps_of runner) new saved

@@ -11,7 +11,7 @@ use Rattle.bb_machine.specs.declared.entry.Entry.{Entry}
 use Rattle.bb_machine.specs.declared.entry.Entry.TheVariants.{Undefined, Go}
 use Rattle.bb_machine.specs.Machine.{Table}
 use Rattle.bb_tape.specs.Content.{cell}
-use Rattle.bb_tape.specs.Strip.{Strip}
+use Rattle.bb_tape.specs.TapeView.{TapeView}
 use Rattle.bb_sim.specs.Configuration.{Configuration, start, beside, followed, entry_at, next}
 use Rattle.bb_sim.specs.declared.runner.Runner.{Runner}
 use Rattle.bb_sim.specs.Run.{conf, Exists}
@@ -64,10 +64,10 @@ pub head_at-start : (table : Table) → head_at table 0 ≡ pos 0
 head_at-start table = head_at-is table 0 start (conf-start table)
 
 -- a runner that has made no step stands at position 0
-pub starts : (table : Table) (runner : Runner) (strip : Strip) → Stands table runner strip
+pub starts : (table : Table) (runner : Runner) (view : TapeView) → Stands table runner view
     → steps_of runner ≡ 0
     → position_of runner ≡ pos 0
-starts table runner strip stands none =
+starts table runner view stands none =
     sym (head_at-is table (steps_of runner) _ stands.at) ∙ ap (head_at table) none ∙ head_at-start table
 
 -- a step goes at most one cell farther out

@@ -25,7 +25,7 @@ use Rattle.std.specs.Int.RustNames.{unsigned_abs}
 use Rattle.std.proofs.lemmas.Int.{ints, clamps}
 use Rattle.std.specs.Prelude.{◌<ℤ◌}
 use Rattle.bb_tape.specs.Content.{Content, cell}
-use Rattle.bb_tape.specs.Strip.{Strip, IsInside, IsSound, IsStretch, AgreesFrom, visited, width}
+use Rattle.bb_tape.specs.TapeView.{TapeView, IsInside, IsSound, IsStretch, AgreesFrom, visited, width}
 use Rattle.bb_sim.specs.CellsBetween.{cells_between}
 use Rattle.bb_sim.specs.declared.runner.Runner.{Runner}
 use Rattle.bb_sim.specs.Runner.{position_of}
@@ -45,7 +45,7 @@ use Rattle.bb_cert.specs.records.Follow.{
 use Rattle.bb_cert.specs.records.Follow.{top_of}
 use Rattle.bb_cert.proofs.record_lemmas.Heads.{out-out}
 
-pub narrow_inside : {s : Strip} {p : ℤ} → IsSound s → IsInside s p → IsNarrow p
+pub narrow_inside : {s : TapeView} {p : ℤ} → IsSound s → IsInside s p → IsNarrow p
 narrow_inside sound inside =
     let low = inside.0 in
     let high = inside.1 in
@@ -55,7 +55,7 @@ narrow_inside sound inside =
     }
 
 -- a stretch whose ends are inside is inside
-pub stretch_inside : (side : Side) (s : Strip) (near far_out from : ℤ) (len : ℕ)
+pub stretch_inside : (side : Side) (s : TapeView) (near far_out from : ℤ) (len : ℕ)
     → from ≡ lesser_of side near far_out
     → pos len ≡ (far_out -ℤ near) +ℤ pos 1 → IsInside s (out side near) → IsInside s (out side far_out)
     → IsStretch s from len
@@ -67,7 +67,7 @@ stretch_inside R s near far_out from len is long first last k less =
     (omega (arith, ints, is, long, a, b, less), omega (arith, ints, is, long, a, b, less))
 
 -- what lies between two positions that are inside is inside
-pub between_inside : (side : Side) (s : Strip) (near x far_out : ℤ) → near ≤ℤ x → x ≤ℤ far_out
+pub between_inside : (side : Side) (s : TapeView) (near x far_out : ℤ) → near ≤ℤ x → x ≤ℤ far_out
     → IsInside s (out side near) → IsInside s (out side far_out) → IsInside s (out side x)
 between_inside L s near x far_out a b first last =
     let c = first.1 in let d = last.0 in (omega (arith, ints, a, b, c, d), omega (arith, ints, a, b, c, d))
@@ -134,7 +134,7 @@ pub record AreNarrow (records : Records) (runner : Runner) : Type 0 where
   pub kept : IsNarrow (position_of records.kept)
   pub head : IsNarrow (position_of runner)
 
-pub are_narrow : {records : Records} {runner : Runner} {saved run : Strip} → IsSound saved → IsSound run
+pub are_narrow : {records : Records} {runner : Runner} {saved run : TapeView} → IsSound saved → IsSound run
     → IsComparable records runner saved run → AreNarrow records runner
 are_narrow sound_saved sound_run comparable = record {
   nearest = narrow_inside sound_run comparable.far_seen;
@@ -195,14 +195,14 @@ moved_from R near number top from other is at = omega (arith, ints, is, at)
 moved_from L near number top from other is at = omega (arith, ints, is, at)
 
 -- the two stretches that are compared are in the windows, and have the same cells just where the records do
-pub record IsCompared (records : Records) (runner : Runner) (saved run : Strip) (from other : ℤ) (len : ℕ)
+pub record IsCompared (records : Records) (runner : Runner) (saved run : TapeView) (from other : ℤ) (len : ℕ)
     : Type 0 where
   pub here : IsStretch saved from len
   pub there : IsStretch run other len
   pub same : AgreesFrom saved.content from run.content other len
       ↔ HasSameCells records runner saved.content run.content
 
-pub compared : (records : Records) (runner : Runner) (saved run : Strip) (from other : ℤ) (len : ℕ)
+pub compared : (records : Records) (runner : Runner) (saved run : TapeView) (from other : ℤ) (len : ℕ)
     → IsComparable records runner saved run → IsInside saved records.nearest
     → from ≡ int_min records.nearest (position_of records.kept)
     → other ≡ from +ℤ (position_of runner -ℤ position_of records.kept)
@@ -239,34 +239,34 @@ compared records runner saved run from other len comparable seen from_is other_i
   order = moved_order (far_of records) (number_of records)
       (top_of records runner) comparable.order comparable.later
 
-  turned_back : (s : Strip) (p : ℤ) → IsInside s p → IsInside s (out side (out side p))
+  turned_back : (s : TapeView) (p : ℤ) → IsInside s p → IsInside s (out side (out side p))
   turned_back s p = subst (IsInside s) (sym (out-out side p))
 
 -- ---- what was saved, widened to a position in the window of the run
 
-pub room_for : (saved run : Strip) (p : ℤ) → IsSound run → saved.limit ≡ run.limit → run.low ≤ℤ saved.low
+pub room_for : (saved run : TapeView) (p : ℤ) → IsSound run → saved.limit ≡ run.limit → run.low ≤ℤ saved.low
     → saved.high ≤ℤ run.high → IsInside run p → width (visited saved p) ≤ℤ pos saved.limit
 room_for saved run p sound limit low high inside =
     let a = inside.0 in
     let b = inside.1 in
     omega (arith, ints, clamps, sound.within, limit, low, high, a, b)
 
-pub seen_wider : (saved : Strip) (p q : ℤ) → IsInside saved q → IsInside (visited saved p) q
+pub seen_wider : (saved : TapeView) (p q : ℤ) → IsInside saved q → IsInside (visited saved p) q
 seen_wider saved p q inside =
     let a = inside.0 in let b = inside.1 in
     (omega (arith, ints, clamps, a, b), omega (arith, ints, clamps, a, b))
 
-pub seen_at : (saved : Strip) (p : ℤ) → IsInside (visited saved p) p
+pub seen_at : (saved : TapeView) (p : ℤ) → IsInside (visited saved p) p
 seen_at saved p = (omega (arith, ints, clamps), omega (arith, ints, clamps))
 
-pub low_wider : (low p : ℤ) (saved : Strip) → low ≤ℤ saved.low → low ≤ℤ p → low ≤ℤ (visited saved p).low
+pub low_wider : (low p : ℤ) (saved : TapeView) → low ≤ℤ saved.low → low ≤ℤ p → low ≤ℤ (visited saved p).low
 low_wider low p saved a b = omega (arith, ints, clamps, a, b)
 
-pub high_wider : (high p : ℤ) (saved : Strip) → saved.high ≤ℤ high → p ≤ℤ high
+pub high_wider : (high p : ℤ) (saved : TapeView) → saved.high ≤ℤ high → p ≤ℤ high
     → (visited saved p).high ≤ℤ high
 high_wider high p saved a b = omega (arith, ints, clamps, a, b)
 
-pub comparable_wider : {records : Records} {runner : Runner} {saved run : Strip}
+pub comparable_wider : {records : Records} {runner : Runner} {saved run : TapeView}
     → IsComparable records runner saved run → IsComparable records runner (visited saved records.nearest) run
 comparable_wider {records} {runner} {saved} {run} is = record {
   low = low_wider _ _ saved is.low is.far_seen.0;
@@ -279,7 +279,7 @@ comparable_wider {records} {runner} {saved} {run} is = record {
 }
 
 -- what was saved has the same limit where it is widened
-pub limit_kept : (records : Records) (run saved new : Strip) → IsWidened records run saved new
+pub limit_kept : (records : Records) (run saved new : TapeView) → IsWidened records run saved new
     → new.limit ≡ saved.limit
-limit_kept records run saved new (inl same) = ap (λ (s : Strip). s.limit) same
-limit_kept records run saved new (inr wider) = ap (λ (s : Strip). s.limit) wider.0
+limit_kept records run saved new (inl same) = ap (λ (s : TapeView). s.limit) same
+limit_kept records run saved new (inr wider) = ap (λ (s : TapeView). s.limit) wider.0

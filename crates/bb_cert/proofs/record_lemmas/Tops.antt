@@ -9,7 +9,7 @@ use Rattle.std.proofs.lemmas.Int.{ints, clamps, by_lt_z}
 use Rattle.bb_machine.specs.declared.entry.Next.TheVariants.{Halt, State}
 use Rattle.bb_machine.specs.declared.entry.Next.{Next}
 use Rattle.bb_machine.specs.Machine.{Table}
-use Rattle.bb_tape.specs.Strip.{Strip}
+use Rattle.bb_tape.specs.TapeView.{TapeView}
 use Rattle.bb_sim.specs.declared.runner.Runner.{Runner}
 use Rattle.bb_sim.specs.CellsBetween.{cells_between}
 use Rattle.bb_sim.specs.Laws.{IsRunningAt}
@@ -252,7 +252,7 @@ MakesJust table n (Some R) = MakesRecord table R n × (MakesRecord table L n →
 MakesJust table n (Some L) = MakesRecord table L n × (MakesRecord table R n → ⊥)
 
 -- a runner that has made a step, and how its window was before
-module _ (table : Table) (before after : Runner) (run_before run_after : Strip)
+module _ (table : Table) (before after : Runner) (run_before run_after : TapeView)
     (stood : Stands table before run_before) (stands : Stands table after run_after)
     (next : steps_of after ≡ steps_of before + 1) where
   abbrev n : ℕ

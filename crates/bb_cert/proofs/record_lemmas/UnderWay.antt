@@ -2,7 +2,7 @@
 use Rattle.std.proofs.Common.{◌≡◌, ℕ, ◌<◌, ◌≤◌, max, sym, subst, arith}
 use Rattle.bb_machine.specs.Limits.{Bounds}
 use Rattle.bb_machine.specs.Machine.{Table}
-use Rattle.bb_tape.specs.Strip.{Strip}
+use Rattle.bb_tape.specs.TapeView.{TapeView}
 use Rattle.bb_sim.specs.declared.meter.Meter.{Meter}
 use Rattle.bb_sim.specs.declared.runner.Runner.{Runner}
 use Rattle.bb_sim.specs.Meter.{CountsTo, IsWithinRun, zero_meter}
@@ -13,11 +13,11 @@ use Rattle.bb_sim.proofs.Facts.{count_is_within, counts_start, fits_at_halt, hal
 use Rattle.bb_cert.specs.declared.checker.answer.Answer.TheVariants as answer
 use Rattle.bb_cert.specs.inside.Checks.{IsAtStep, IsCut, IsUnderWay}
 
-pub begins : (table : Table) (bounds : Bounds) (runner : Runner) (strip : Strip) (old new : Meter)
-    → Stands table runner strip → steps_of runner ≡ 0 → strip.limit ≡ bounds.cells → 1 ≤ bounds.cells
+pub begins : (table : Table) (bounds : Bounds) (runner : Runner) (view : TapeView) (old new : Meter)
+    → Stands table runner view → steps_of runner ≡ 0 → view.limit ≡ bounds.cells → 1 ≤ bounds.cells
     → old ≡ zero_meter → new ≡ record old { most_cells = max old.most_cells 1 }
-    → IsAtStep table bounds 0 runner strip new
-begins table bounds runner strip old new stands zeroth limit some first is = record {
+    → IsAtStep table bounds 0 runner view new
+begins table bounds runner view old new stands zeroth limit some first is = record {
   under_way = record {
     stands = stands;
     inside = record {
@@ -40,9 +40,9 @@ begins table bounds runner strip old new stands zeroth limit some first is = rec
   fits = subst (λ n. span table n ≤ bounds.cells) (sym zeroth) (omega (arith, one, some))
 
 -- no more was counted than the run
-pub under_way_within : (table : Table) (bounds : Bounds) (runner : Runner) (strip : Strip) (meter : Meter)
-    → IsUnderWay table bounds runner strip meter → IsWithinRun bounds zero_meter meter
-under_way_within table bounds runner strip meter is =
+pub under_way_within : (table : Table) (bounds : Bounds) (runner : Runner) (view : TapeView) (meter : Meter)
+    → IsUnderWay table bounds runner view meter → IsWithinRun bounds zero_meter meter
+under_way_within table bounds runner view meter is =
     count_is_within table bounds (steps_of runner) zero_meter meter is.inside is.counts
 
 -- a run that halts before the limit of steps can't come there

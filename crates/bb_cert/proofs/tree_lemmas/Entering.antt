@@ -4,11 +4,12 @@ use Rattle.std.proofs.Common.{sym, subst, ◌∙◌, arith}
 use Rattle.std.specs.Int.{int_min, int_max}
 use Rattle.std.proofs.lemmas.Int.{ints, clamps}
 use Rattle.bb_tape.specs.Content.{cell}
-use Rattle.bb_tape.specs.Strip.{Strip, visited, written}
+use Rattle.bb_tape.specs.TapeView.{TapeView, visited, written}
 use Rattle.bb_cert.specs.declared.tree.walk.Branch.{Branch}
-use Rattle.bb_cert.specs.inside.Walk.{HasOthers, HasRoom, IsBranch, Refused, matched, branch_node, content_in}
+use Rattle.bb_cert.specs.inside.Walk.{HasNonzero, HasRoom, IsBranch, Refused}
+use Rattle.bb_cert.specs.inside.Walk.{matched, branch_node, content_in}
 use Rattle.bb_cert.specs.inside.Steps.{Enters}
-use Rattle.bb_cert.proofs.tree_lemmas.Shown.{written_others, some_others, start_matches, matched_in_a}
+use Rattle.bb_cert.proofs.tree_lemmas.Shown.{written_nonzero, some_nonzero, start_matches, matched_in_a}
 use Rattle.bb_cert.proofs.tree_lemmas.Shown.{matched_none}
 
 low_kept : (low p : ℤ) (level levels : ℕ) → level < levels → neg_ℤ (pos (levels - 1)) ≤ℤ low
@@ -25,7 +26,7 @@ high_kept high p level levels deep a b =
     omega (arith, ints, clamps, a, d)
 
 -- widening the window to a position of a level keeps the room
-pub room_visited : (s : Strip) (p : ℤ) (level levels : ℕ) → HasRoom s levels → level < levels
+pub room_visited : (s : TapeView) (p : ℤ) (level levels : ℕ) → HasRoom s levels → level < levels
     → neg_ℤ (pos level) ≤ℤ p → p ≤ℤ pos level → HasRoom (visited s p) levels
 room_visited s p level levels room deep low high = record {
   not_below = low_kept s.low p level levels deep room.not_below low;
@@ -33,18 +34,19 @@ room_visited s p level levels room deep low high = record {
   limit = room.limit;
 }
 
-pub room_written : (s : Strip) (p : ℤ) (v levels : ℕ) → HasRoom s levels → HasRoom (written s p v) levels
+pub room_written : (s : TapeView) (p : ℤ) (v levels : ℕ) → HasRoom s levels → HasRoom (written s p v) levels
 room_written s p v levels room =
     record { not_below = room.not_below; not_above = room.not_above; limit = room.limit }
 
-module _ (states level levels : ℕ) (old : Strip) (branch : Branch)
+module _ (states level levels : ℕ) (old : TapeView) (branch : Branch)
     (is : IsBranch states old.content level branch) where
-  pub has_some : 1 < branch.held → 0 < branch.others
-  has_some more = let held = is.held in some_others old.content branch.position branch.others is.others
+  pub has_some : 1 < branch.held → 0 < branch.nonzero_known
+  has_some more = let held = is.held in
+      some_nonzero old.content branch.position branch.nonzero_known is.nonzero_known
       (omega (arith, more, held))
 
   -- after the window was widened and the symbol written
-  module _ (widened new : Strip) (p : ℤ) (same : p ≡ branch.position) (first : widened ≡ visited old p)
+  module _ (widened new : TapeView) (p : ℤ) (same : p ≡ branch.position) (first : widened ≡ visited old p)
       (second : new ≡ written widened p (branch.symbol + 1)) where
     pub whole : new ≡ written (visited old branch.position) branch.position (branch.symbol + 1)
     whole = second ∙ ap (λ s. written s p (branch.symbol + 1)) first
@@ -58,29 +60,31 @@ module _ (states level levels : ℕ) (old : Strip) (branch : Branch)
     room_entered room deep = subst (λ s. HasRoom s levels) (sym second)
         (room_written widened p (branch.symbol + 1) levels (room_widened room deep))
 
-    module _ (others : ℕ) (sum : others + min 1 (branch.held - 1) ≡ branch.others + min 1 branch.symbol) where
-      more_others : HasOthers (content_in old.content branch) others
-      more_others =
+    module _ (nonzero : ℕ)
+        (sum : nonzero + min 1 (branch.held - 1) ≡ branch.nonzero_known + min 1 branch.symbol) where
+      more_nonzero : HasNonzero (content_in old.content branch) nonzero
+      more_nonzero =
           let held = is.held in
           let same_held : min 1 (branch.held - 1) ≡ min 1 (cell old.content branch.position - 1) =
           ap (λ h. min 1 (h - 1)) held in
-          written_others old.content branch.position branch.symbol branch.others others is.others
+          written_nonzero old.content branch.position branch.symbol branch.nonzero_known nonzero
+          is.nonzero_known
           (omega (arith, sum, same_held))
 
-      pub matched_start : (nodes most_nodes : ℕ) → branch.state ≡ 0 → others ≡ 0
+      pub matched_start : (nodes most_nodes : ℕ) → branch.state ≡ 0 → nonzero ≡ 0
           → Refused (branch_node old.content branch) level nodes most_nodes levels
       matched_start nodes most_nodes in_a none =
-          matched (start_matches (content_in old.content branch) branch.position branch.state others
-          more_others in_a none)
+          matched (start_matches (content_in old.content branch) branch.position branch.state nonzero
+          more_nonzero in_a none)
 
       pub entered_frame : (starts : List ℕ) (next to : ℕ) → next ≡ slice_index starts branch.state
-          → to ≡ slice_index starts (branch.state + 1) → (branch.state ≡ 0 → others ≡ 0 → ⊥)
+          → to ≡ slice_index starts (branch.state + 1) → (branch.state ≡ 0 → nonzero ≡ 0 → ⊥)
           → Enters starts branch level old new
           (record {
             position = p;
             state = branch.state;
             before = branch.held;
-            others = others;
+            nonzero_known = nonzero;
             next =
                 next;
             end = to;
@@ -94,10 +98,10 @@ module _ (states level levels : ℕ) (old : Strip) (branch : Branch)
         before = refl;
         next = is_next;
         to = is_to;
-        others = subst (λ c. HasOthers c others) (sym (ap (λ s. s.content) whole)) more_others;
-        few_others = let few = is.few_others in omega (arith, sum, few);
+        nonzero_known = subst (λ c. HasNonzero c nonzero) (sym (ap (λ s. s.content) whole)) more_nonzero;
+        few_nonzero = let few = is.few_nonzero in omega (arith, sum, few);
         apart = λ matches. apart
             (matched_in_a (content_in old.content branch) branch.position branch.state matches)
-            (matched_none (content_in old.content branch) branch.position branch.state others more_others
+            (matched_none (content_in old.content branch) branch.position branch.state nonzero more_nonzero
             matches);
       }

@@ -10,14 +10,14 @@ use Rattle.bb_machine.specs.declared.entry.Next.TheVariants.{State}
 use Rattle.bb_machine.specs.declared.limits.TheConstants.{MAX_LEVELS}
 use Rattle.bb_machine.specs.Machine.{Table}
 use Rattle.bb_tape.specs.Content.{Content, HasSymbols, blank, with_cell}
-use Rattle.bb_tape.specs.Strip.{Strip, IsInside, IsBeside, written}
+use Rattle.bb_tape.specs.TapeView.{TapeView, IsInside, IsBeside, written}
 use Rattle.bb_tape.proofs.Facts.{put_back}
 use Rattle.bb_cert.specs.declared.tree.path.Frame.{Frame}
 use Rattle.bb_cert.specs.declared.tree.rules.Rule.{Rule}
 use Rattle.bb_cert.specs.declared.tree.walk.Branch.{Branch}
 use Rattle.bb_cert.specs.declared.tree.walk.Count.{Count}
 use Rattle.bb_cert.specs.tree.Tree.{Node, before, before_by}
-use Rattle.bb_cert.specs.inside.Walk.{AreRules, AreFrames, IsFrame, IsBranch, IsRange, IsWalked, HasOthers}
+use Rattle.bb_cert.specs.inside.Walk.{AreRules, AreFrames, IsFrame, IsBranch, IsRange, IsWalked, HasNonzero}
 use Rattle.bb_cert.specs.inside.Walk.{Refused}
 use Rattle.bb_cert.specs.inside.Walk.{shown_node, branches, comb_of, content_in, branch_node}
 use Rattle.bb_cert.specs.inside.Steps.{HasTable, Enters, Explores, IsFirstBranch, entered_on}
@@ -34,8 +34,8 @@ frame_wider list low high low' high' content level f below above is = record {
   symbol = is.symbol;
   in_order = is.in_order;
   in_rules = is.in_rules;
-  others = is.others;
-  few_others = is.few_others;
+  nonzero_known = is.nonzero_known;
+  few_nonzero = is.few_nonzero;
 }
 
 frames_wider : (list : List Rule) (low high low' high' : ℤ) → low' ≤ℤ low → high ≤ℤ high'
@@ -69,7 +69,7 @@ max_second a b = omega (arith, ints, clamps)
 -- a branch was entered
 
 module _ (list : List Rule) (starts : List ℕ) (known : HasTable list starts) (branch : Branch) (level : ℕ)
-    (old new : Strip) (frame : Frame) (enters : Enters starts branch level old new frame)
+    (old new : TapeView) (frame : Frame) (enters : Enters starts branch level old new frame)
     (is : IsBranch (length starts - 2) old.content level branch) (symbols : HasSymbols old.content) where
   undone : with_cell new.content frame.position frame.before ≡ old.content
   undone =
@@ -99,8 +99,8 @@ module _ (list : List Rule) (starts : List ℕ) (known : HasTable list starts) (
     symbol = let most = symbols branch.position in let e = enters.before ∙ is.held in omega (arith, most, e);
     in_order = range.in_order;
     in_rules = range.within;
-    others = enters.others;
-    few_others = enters.few_others;
+    nonzero_known = enters.nonzero_known;
+    few_nonzero = enters.few_nonzero;
   }
 
   pub frames_entered : (fs : List Frame) → length fs ≡ level → AreFrames list old.low old.high old.content fs
@@ -159,13 +159,13 @@ WalkedTo list starts root old content fs entered = (table : Table) (rest : List 
     → IsWalked table (comb_of list rest content fs) entered.nodes entered.levels
 
 pub record IsExploring (list : List Rule) (starts : List ℕ) (root : Branch) (old most : Count)
-    (strip : Strip) (top : Frame) (frames : List Frame) (entered : Count) : Type 0 where
-  pub are : AreFrames list strip.low strip.high strip.content (top ∷ reverse frames)
+    (view : TapeView) (top : Frame) (frames : List Frame) (entered : Count) : Type 0 where
+  pub are : AreFrames list view.low view.high view.content (top ∷ reverse frames)
   pub few : length frames < most.levels
-  pub walked : WalkedTo list starts root old strip.content (top ∷ reverse frames) entered
+  pub walked : WalkedTo list starts root old view.content (top ∷ reverse frames) entered
 
 pub exploring_begins : (list : List Rule) (starts : List ℕ) (root : Branch) (old most : Count)
-    (before after : Strip) (frame : Frame) (entered : Count) → HasTable list starts
+    (before after : TapeView) (frame : Frame) (entered : Count) → HasTable list starts
     → IsBranch (length starts - 2) blank 0 root → before.content ≡ blank → HasSymbols before.content
     → Enters starts root 0 before after frame → 0 < most.levels → entered ≡ entered_on 0 old
     → IsExploring list starts root old most after frame [] entered
@@ -199,8 +199,8 @@ tried_frame list low high content level f next within is = record {
   symbol = is.symbol;
   in_order = within;
   in_rules = is.in_rules;
-  others = is.others;
-  few_others = is.few_others;
+  nonzero_known = is.nonzero_known;
+  few_nonzero = is.few_nonzero;
 }
 
 below_more : (p q : ℤ) (n : ℕ) → neg_ℤ (pos n) ≤ℤ p → p ≤ℤ (q +ℤ pos 1) → neg_ℤ (pos (n + 1)) ≤ℤ q
@@ -221,14 +221,14 @@ far_low p n most h a = omega (arith, ints, h, a)
 far_high : (p : ℤ) (n most : ℕ) → n ≤ most → p ≤ℤ pos n → p ≤ℤ pos most
 far_high p n most h a = omega (arith, ints, h, a)
 
-module _ (list : List Rule) (starts : List ℕ) (root : Branch) (old most : Count) (strip : Strip)
+module _ (list : List Rule) (starts : List ℕ) (root : Branch) (old most : Count) (view : TapeView)
     (top : Frame) (frames : List Frame) (entered : Count)
-    (now : IsExploring list starts root old most strip top frames entered) where
+    (now : IsExploring list starts root old most view top frames entered) where
   long : length (reverse frames) ≡ length frames
   long = length-reverse frames
 
-  pub top_is : IsFrame list strip.low strip.high strip.content (length frames) top
-  top_is = subst (λ n. IsFrame list strip.low strip.high strip.content n top) long now.are.0
+  pub top_is : IsFrame list view.low view.high view.content (length frames) top
+  top_is = subst (λ n. IsFrame list view.low view.high view.content n top) long now.are.0
 
   pub top_low : most.levels ≤ MAX_LEVELS → neg_ℤ (pos MAX_LEVELS) ≤ℤ top.position
   top_low h = let few = now.few in far_low top.position (length frames) MAX_LEVELS (omega (arith, h, few))
@@ -238,74 +238,74 @@ module _ (list : List Rule) (starts : List ℕ) (root : Branch) (old most : Coun
   top_high h = let few = now.few in far_high top.position (length frames) MAX_LEVELS (omega (arith, h, few))
       top_is.not_above
 
-  pub top_inside : IsInside strip top.position
+  pub top_inside : IsInside view top.position
   top_inside = (top_is.from_low, top_is.to_high)
 
   -- a branch was found
 
   module _ (branch : Branch) (next : ℕ)
-      (first : IsFirstBranch list (length starts - 2) strip.content top branch next) where
-    pub branch_is : IsBranch (length starts - 2) strip.content (length frames + 1) branch
+      (first : IsFirstBranch list (length starts - 2) view.content top branch next) where
+    pub branch_is : IsBranch (length starts - 2) view.content (length frames + 1) branch
     branch_is = record {
       not_below = below_more top.position branch.position (length frames) top_is.not_below first.not_below;
       not_above = above_more top.position branch.position (length frames) top_is.not_above first.not_above;
       state = first.state;
       symbol = first.symbol;
       held = first.held;
-      others = subst (HasOthers strip.content) (sym first.others) top_is.others;
-      few_others = let few = top_is.few_others in let e = first.others in omega (arith, few, e);
+      nonzero_known = subst (HasNonzero view.content) (sym first.nonzero_known) top_is.nonzero_known;
+      few_nonzero = let few = top_is.few_nonzero in let e = first.nonzero_known in omega (arith, few, e);
     }
 
-    pub branch_beside : IsBeside strip branch.position
+    pub branch_beside : IsBeside view branch.position
     branch_beside = (
-      beside_low strip.low top.position branch.position top_is.from_low first.not_below,
-      beside_high strip.high top.position branch.position top_is.to_high first.not_above,
+      beside_low view.low top.position branch.position top_is.from_low first.not_below,
+      beside_high view.high top.position branch.position top_is.to_high first.not_above,
     )
 
     abbrev tried_top : Frame
     tried_top = record top { next = next }
 
     abbrev tail_of : List Node → List (List Node)
-    tail_of rest = comb_of list rest (with_cell strip.content top.position top.before) (reverse frames)
+    tail_of rest = comb_of list rest (with_cell view.content top.position top.before) (reverse frames)
 
     comb_first : (rest : List Node)
-        → comb_of list rest strip.content (top ∷ reverse frames) ≡
-        (branch_node strip.content branch ∷ branches list strip.content tried_top) ∷ tail_of rest
+        → comb_of list rest view.content (top ∷ reverse frames) ≡
+        (branch_node view.content branch ∷ branches list view.content tried_top) ∷ tail_of rest
     comb_first rest = ap (λ ns. ns ∷ tail_of rest) first.first
 
     tail_long : (rest : List Node) → length (tail_of rest) ≡ length frames + 1
     tail_long rest = let e = comb_long list rest (reverse frames)
-        (with_cell strip.content top.position top.before) in let l = long in omega (arith, e, l)
+        (with_cell view.content top.position top.before) in let l = long in omega (arith, e, l)
 
     walked_first : (table : Table) (rest : List Node) → AreRules table list starts
         → IsWalked table ((branch_node blank root ∷ rest) ∷ []) old.nodes old.levels
-        → IsWalked table ((branch_node strip.content branch ∷ branches list strip.content tried_top) ∷
+        → IsWalked table ((branch_node view.content branch ∷ branches list view.content tried_top) ∷
         tail_of rest) entered.nodes entered.levels
     walked_first table rest rules walked = subst (λ comb. IsWalked table comb entered.nodes entered.levels)
         (comb_first rest) (now.walked table rest rules walked)
 
-    pub branch_refused : Refused (branch_node strip.content branch) (length frames + 1) entered.nodes
+    pub branch_refused : Refused (branch_node view.content branch) (length frames + 1) entered.nodes
         most.nodes most.levels → (content : Content) (new : Count)
         → Explores list starts root most old new content false
     branch_refused refused content new table rest rules walked =
-        walk_refused table (branch_node strip.content branch) (branches list strip.content tried_top)
+        walk_refused table (branch_node view.content branch) (branches list view.content tried_top)
         (tail_of rest) entered.nodes entered.levels most.nodes most.levels
         (walked_first table rest rules walked)
-        (subst (λ n. Refused (branch_node strip.content branch) n entered.nodes most.nodes most.levels)
+        (subst (λ n. Refused (branch_node view.content branch) n entered.nodes most.nodes most.levels)
         (sym (tail_long rest)) refused)
 
     reversed : reverse (frames ++ (tried_top ∷ [])) ≡ tried_top ∷ reverse frames
     reversed = reverse-append frames (tried_top ∷ [])
 
-    pub exploring_descends : (after : Strip) (child : Frame) (then_entered : Count)
-        (then_frames : List Frame) → HasTable list starts → HasSymbols strip.content
-        → Enters starts branch (length frames + 1) strip after child → length frames + 1 < most.levels
+    pub exploring_descends : (after : TapeView) (child : Frame) (then_entered : Count)
+        (then_frames : List Frame) → HasTable list starts → HasSymbols view.content
+        → Enters starts branch (length frames + 1) view after child → length frames + 1 < most.levels
         → then_entered ≡ entered_on (length frames + 1) entered → then_frames ≡ frames ++ (tried_top ∷ [])
         → IsExploring list starts root old most after child then_frames then_entered
     exploring_descends after child then_entered then_frames known symbols enters deep counted pushed =
         let order : reverse then_frames ≡ tried_top ∷ reverse frames = ap reverse pushed ∙ reversed in
-        let are_tried : AreFrames list strip.low strip.high strip.content (tried_top ∷ reverse frames) = (
-          tried_frame list strip.low strip.high strip.content (length (reverse frames)) top next
+        let are_tried : AreFrames list view.low view.high view.content (tried_top ∷ reverse frames) = (
+          tried_frame list view.low view.high view.content (length (reverse frames)) top next
               first.within now.are.0,
           now.are.1,
         ) in
@@ -313,13 +313,13 @@ module _ (list : List Rule) (starts : List ℕ) (root : Branch) (old most : Coun
         omega (arith, l) in
         record {
           are = subst (λ fs. AreFrames list after.low after.high after.content (child ∷ fs)) (sym order)
-              (frames_entered list starts known branch (length frames + 1) strip after child enters branch_is
+              (frames_entered list starts known branch (length frames + 1) view after child enters branch_is
               symbols (tried_top ∷ reverse frames) deep_frames are_tried);
           few = let n : length then_frames ≡ length frames + 1 = ap length pushed
               ∙ length-append frames (tried_top ∷ []) in omega (arith, n, deep);
           walked = λ table rest rules walked.
-              let here = walked_entered list starts known branch (length frames + 1) strip after child enters
-              branch_is symbols table rest (branches list strip.content tried_top)
+              let here = walked_entered list starts known branch (length frames + 1) view after child enters
+              branch_is symbols table rest (branches list view.content tried_top)
               (tried_top ∷ reverse frames) (tail_of rest) entered.nodes entered.levels rules
               (tail_long rest) refl (walked_first table rest rules walked) in
               subst (λ fs. IsWalked table (comb_of list rest after.content (child ∷ fs)) then_entered.nodes
@@ -331,15 +331,15 @@ module _ (list : List Rule) (starts : List ℕ) (root : Branch) (old most : Coun
 
   -- nothing is left before the top node
 
-  module _ (none : branches list strip.content top ≡ []) (after : Strip)
-      (left : after ≡ written strip top.position top.before) where
-    walked_left : WalkedTo list starts root old (with_cell strip.content top.position top.before)
+  module _ (none : branches list view.content top ≡ []) (after : TapeView)
+      (left : after ≡ written view top.position top.before) where
+    walked_left : WalkedTo list starts root old (with_cell view.content top.position top.before)
         (reverse frames) entered
     walked_left table rest rules walked =
-        walk_leaves table (comb_of list rest (with_cell strip.content top.position top.before)
+        walk_leaves table (comb_of list rest (with_cell view.content top.position top.before)
         (reverse frames)) entered.nodes entered.levels
         (subst (λ ns. IsWalked table
-        (ns ∷ comb_of list rest (with_cell strip.content top.position top.before) (reverse frames))
+        (ns ∷ comb_of list rest (with_cell view.content top.position top.before) (reverse frames))
         entered.nodes entered.levels) none (now.walked table rest rules walked))
 
     pub explored : frames ≡ [] → (content : Content) → content ≡ after.content
@@ -347,10 +347,10 @@ module _ (list : List Rule) (starts : List ℕ) (root : Branch) (old most : Coun
     explored empty content same =
         let gone : reverse frames ≡ [] = ap reverse empty in (
           same ∙ ap (λ s. s.content) left
-              ∙ subst (λ fs. AreFrames list strip.low strip.high
-              (with_cell strip.content top.position top.before) fs) gone now.are.1,
+              ∙ subst (λ fs. AreFrames list view.low view.high
+              (with_cell view.content top.position top.before) fs) gone now.are.1,
           λ table rest rules walked. subst
-              (λ fs. IsWalked table (comb_of list rest (with_cell strip.content top.position top.before) fs)
+              (λ fs. IsWalked table (comb_of list rest (with_cell view.content top.position top.before) fs)
               entered.nodes entered.levels) gone (walked_left table rest rules walked),
         )
 
@@ -362,15 +362,15 @@ module _ (list : List Rule) (starts : List ℕ) (root : Branch) (old most : Coun
         ∙ reverse-append then_frames (parent ∷ []) in
         record {
           are = subst (λ s. AreFrames list s.low s.high s.content (parent ∷ reverse then_frames)) (sym left)
-              (subst (λ fs. AreFrames list strip.low strip.high
-              (with_cell strip.content top.position top.before) fs) order now.are.1);
+              (subst (λ fs. AreFrames list view.low view.high
+              (with_cell view.content top.position top.before) fs) order now.are.1);
           few = let n : length frames ≡ length then_frames + 1 = ap length popped
               ∙ length-append then_frames (parent ∷ []) in let few = now.few in omega (arith, n, few);
           walked = λ table rest rules walked.
               subst (λ s. IsWalked table (comb_of list rest s.content (parent ∷ reverse then_frames))
               entered.nodes entered.levels) (sym left)
               (subst (λ fs. IsWalked table
-              (comb_of list rest (with_cell strip.content top.position top.before) fs) entered.nodes
+              (comb_of list rest (with_cell view.content top.position top.before) fs) entered.nodes
               entered.levels) order (walked_left table rest rules walked));
         }
 

@@ -13,12 +13,13 @@ use Rattle.bb_cert.specs.tree.Tree.{halting_node, EndsNowhere}
 use Rattle.bb_cert.specs.inside.Walk.{AreRules, IsBranch, IsRange, IsRule, IsWalked, branch_node}
 use Rattle.bb_cert.specs.inside.Steps.{Explores, IsWithin, WalksAll}
 use Rattle.bb_cert.proofs.tree_lemmas.Comb.{walk_begins, walk_ends}
-use Rattle.bb_cert.proofs.tree_lemmas.Shown.{blank_others, halting_shown, named_at, no_rule, slice_none}
+use Rattle.bb_cert.proofs.tree_lemmas.Shown.{blank_nonzero, halting_shown, named_at, no_rule, slice_none}
 use Rattle.bb_cert.proofs.tree_lemmas.Shown.{slice_step}
 
 -- the branch of a halting rule
 abbrev pub root_of : Rule → Branch
-root_of rule = record { position = pos 0; state = rule.state; symbol = rule.symbol; held = 0; others = 0 }
+root_of rule =
+    record { position = pos 0; state = rule.state; symbol = rule.symbol; held = 0; nonzero_known = 0 }
 
 module _ (table : Table) (list seen : List Rule) (starts : List ℕ) (rules : AreRules table list starts)
     (same : seen ≡ list) (index to : ℕ) (less : index < to) (within : to ≤ length list) where
@@ -36,8 +37,8 @@ module _ (table : Table) (list seen : List Rule) (starts : List ℕ) (rules : Ar
         state = let s = is.state in let n = rules.count in omega (arith, s, n);
         symbol = is.symbol;
         held = sym (cell-blank (pos 0));
-        others = blank_others;
-        few_others = omega arith;
+        nonzero_known = blank_nonzero;
+        few_nonzero = omega arith;
       }
 
   pub roots_first : map halting_node (slice_range list index to) ≡ branch_node blank (root_of

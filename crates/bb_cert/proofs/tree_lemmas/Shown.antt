@@ -21,7 +21,7 @@ use Rattle.bb_cert.specs.declared.tree.path.Frame.{Frame}
 use Rattle.bb_cert.specs.declared.tree.rules.Rule.{Rule}
 use Rattle.bb_cert.specs.tree.Tree.{Node, Matches, with_known, halting_node, left_cell, may_be, seen_from}
 use Rattle.bb_cert.specs.tree.Tree.{before_by_entry, before_by}
-use Rattle.bb_cert.specs.inside.Walk.{shown_symbol, shown, shown_node, HasOthers, branches, IsRule}
+use Rattle.bb_cert.specs.inside.Walk.{shown_symbol, shown, shown_node, HasNonzero, branches, IsRule}
 use Rattle.bb_cert.specs.inside.Steps.{IsFirstBranch}
 use Rattle.bb_cert.proofs.tree_lemmas.Levels.{known-here, known-other}
 
@@ -224,7 +224,7 @@ module _ (list seen : List Rule) (same : seen ≡ list) (content : Content) (f :
           symbol = tried.symbol;
           held =
               held;
-          others = f.others;
+          nonzero_known = f.nonzero_known;
         }) (index + 1)
     first_by states named one =
         let is : IsRule states tried = subst (IsRule states) there (named_at states list named index d
@@ -235,7 +235,7 @@ module _ (list seen : List Rule) (same : seen ≡ list) (content : Content) (f :
           state = is.state;
           symbol = is.symbol;
           held = shows;
-          others = refl;
+          nonzero_known = refl;
           further = omega (arith, from);
           within = omega (arith, less);
           first = branch_here one;
@@ -248,7 +248,7 @@ module _ (list seen : List Rule) (same : seen ≡ list) (content : Content) (f :
           symbol =
               tried.symbol;
           held = held;
-          others = f.others;
+          nonzero_known = f.nonzero_known;
         }) (index + 1)
     first_unknown states named e = first_by states named
         (unknown_before content f.position f.state tried write dir next entry held shows_left e)
@@ -260,7 +260,7 @@ module _ (list seen : List Rule) (same : seen ≡ list) (content : Content) (f :
           symbol =
               tried.symbol;
           held = held;
-          others = f.others;
+          nonzero_known = f.nonzero_known;
         }) (index + 1)
     first_written states named e = first_by states named
         (written_before content f.position f.state tried write dir next entry held shows_left e)
@@ -272,17 +272,17 @@ branches_none list content f h = ap (flat_map (before_by (shown_node content f.p
 
 -- cells known to be other than 0
 
-pub blank_others : HasOthers blank 0
-blank_others = record {
+pub blank_nonzero : HasNonzero blank 0
+blank_nonzero = record {
   one_less = blank;
   each = λ p. let e = cell-blank p in omega (arith, e);
   counted = sym score-blank;
 }
 
-pub written_others : (content : Content) (p : ℤ) (symbol others more : ℕ) → HasOthers content others
-    → more + min 1 (cell content p - 1) ≡ others + min 1 symbol → HasOthers (with_cell content p
+pub written_nonzero : (content : Content) (p : ℤ) (symbol nonzero more : ℕ) → HasNonzero content nonzero
+    → more + min 1 (cell content p - 1) ≡ nonzero + min 1 symbol → HasNonzero (with_cell content p
     (symbol + 1)) more
-written_others content p symbol others more has sum = record {
+written_nonzero content p symbol nonzero more has sum = record {
   one_less = with_cell has.one_less p symbol;
   each = λ q. by_position q p _
       (λ here.
@@ -303,9 +303,9 @@ written_others content p symbol others more has sum = record {
 }
 
 -- a cell that is known to be other than 0 is counted
-pub some_others : (content : Content) (p : ℤ) (others : ℕ) → HasOthers content others
-    → 1 < cell content p → 0 < others
-some_others content p others has more = elim (cases_eq others 0) [
+pub some_nonzero : (content : Content) (p : ℤ) (nonzero : ℕ) → HasNonzero content nonzero
+    → 1 < cell content p → 0 < nonzero
+some_nonzero content p nonzero has more = elim (cases_eq nonzero 0) [
   | inl none ↦
       let law = score-with_cell has.one_less p 0 in
       let here = has.each p in
@@ -315,11 +315,11 @@ some_others content p others has more = elim (cases_eq others 0) [
   | inr some ↦ omega (arith, some)
 ]
 
-no_others : (content : Content) (p : ℤ) → HasOthers content 0 → cell content p ≤ 1
-no_others content p has = elim (cases_eq (min 1 (cell content p - 1)) 0) [
+no_nonzero : (content : Content) (p : ℤ) → HasNonzero content 0 → cell content p ≤ 1
+no_nonzero content p has = elim (cases_eq (min 1 (cell content p - 1)) 0) [
   | inl e ↦ omega (arith, e)
   | inr some ↦
-      let wrong = some_others content p 0 has (omega (arith, some)) in
+      let wrong = some_nonzero content p 0 has (omega (arith, some)) in
       absurd (omega (arith, wrong))
 ]
 
@@ -329,12 +329,12 @@ shown_blank : (c symbol : ℕ) → c ≤ 1 → shown_symbol c ≡ Some symbol �
 shown_blank zero symbol few e = absurd cc
 shown_blank (suc c) symbol few e = let same : c ≡ symbol = cc in omega (arith, few, same)
 
-pub start_matches : (content : Content) (position : ℤ) (state others : ℕ) → HasOthers content others
-    → state ≡ 0 → others ≡ 0 → Matches (shown_node content position state) start
-start_matches content position state others has in_a none = record {
+pub start_matches : (content : Content) (position : ℤ) (state nonzero : ℕ) → HasNonzero content nonzero
+    → state ≡ 0 → nonzero ≡ 0 → Matches (shown_node content position state) start
+start_matches content position state nonzero has in_a none = record {
   same_state = ap State (sym in_a);
   same_cells = λ d symbol e.
-      let few = no_others content (position +ℤ d) (subst (HasOthers content) none has) in
+      let few = no_nonzero content (position +ℤ d) (subst (HasNonzero content) none has) in
       cell-blank (pos 0 +ℤ d) ∙ shown_blank (cell content (position +ℤ d)) symbol few e;
 }
 
@@ -352,9 +352,9 @@ all_zero content one_less position state each matches p =
     (cell-blank (pos 0 +ℤ d)) ∙ matches.same_cells d s (ap shown_symbol e)) in
     each p ∙ ap (λ q. cell content q - 1) (sym there) ∙ few ∙ sym (cell-blank p)
 
-pub matched_none : (content : Content) (position : ℤ) (state others : ℕ) → HasOthers content others
-    → Matches (shown_node content position state) start → others ≡ 0
-matched_none content position state others has matches =
+pub matched_none : (content : Content) (position : ℤ) (state nonzero : ℕ) → HasNonzero content nonzero
+    → Matches (shown_node content position state) start → nonzero ≡ 0
+matched_none content position state nonzero has matches =
     has.counted ∙ ap score (same_content has.one_less blank
     (all_zero content has.one_less position state has.each matches)) ∙ score-blank
 

@@ -2,7 +2,7 @@
 use Rattle.std.specs.Prelude.{◌≡◌, ◌≢◌, ℕ, ◌+◌, ◌<◌, ◌≤◌, ◌↔◌, Option, Some, None, IsTrue, pos}
 use Rattle.bb_machine.specs.Limits.{Bounds}
 use Rattle.bb_machine.specs.Machine.{Table}
-use Rattle.bb_tape.specs.Strip.{Strip, IsBeside}
+use Rattle.bb_tape.specs.TapeView.{TapeView, IsBeside}
 use Rattle.bb_sim.specs.declared.meter.Meter.{Meter}
 use Rattle.bb_sim.specs.declared.runner.Runner.{Runner}
 use Rattle.bb_sim.specs.Meter.{CountsTo, zero_meter}
@@ -46,24 +46,24 @@ IsCut table bounds answer.Ok = ⊥
 IsCut table bounds answer.Open = ⊥
 
 -- a run has come inside the bounds to where its runner stands, and just that was counted
-pub record IsUnderWay (table : Table) (bounds : Bounds) (runner : Runner) (strip : Strip) (meter : Meter)
+pub record IsUnderWay (table : Table) (bounds : Bounds) (runner : Runner) (view : TapeView) (meter : Meter)
     : Type 0 where
-  pub stands : Stands table runner strip
+  pub stands : Stands table runner view
   pub inside : Inside table bounds (steps_of runner)
-  pub limit : strip.limit ≡ bounds.cells
+  pub limit : view.limit ≡ bounds.cells
   pub counts : CountsTo table (steps_of runner) zero_meter meter
 
 -- it has made a step, its head is in the window or next to it
-pub record IsOneOn (table : Table) (bounds : Bounds) (old new : Runner) (strip : Strip) (meter : Meter)
+pub record IsOneOn (table : Table) (bounds : Bounds) (old new : Runner) (view : TapeView) (meter : Meter)
     : Type 0 where
-  pub under_way : IsUnderWay table bounds new strip meter
+  pub under_way : IsUnderWay table bounds new view meter
   pub one_more : steps_of new ≡ steps_of old + 1
-  pub near : IsBeside strip (position_of new)
+  pub near : IsBeside view (position_of new)
 
 -- it has come to this step
-pub record IsAtStep (table : Table) (bounds : Bounds) (step : ℕ) (runner : Runner) (strip : Strip)
+pub record IsAtStep (table : Table) (bounds : Bounds) (step : ℕ) (runner : Runner) (view : TapeView)
     (meter : Meter) : Type 0 where
-  pub under_way : IsUnderWay table bounds runner strip meter
+  pub under_way : IsUnderWay table bounds runner view meter
   pub at : steps_of runner ≡ step
 
 -- step n makes a record of the side
@@ -75,7 +75,7 @@ abbrev pub MakesRecordOutsideZ : Table → Side → ℕ → Type 0
 MakesRecordOutsideZ table side n = MakesRecord table side n × IsRunningAt table n (head_at table n)
 
 -- the records of a side are known up to step n, and whether it makes one outside Z
-pub record IsCourse (table : Table) (n : ℕ) (course : Course) (saved : Strip) : Type 0 where
+pub record IsCourse (table : Table) (n : ℕ) (course : Course) (saved : TapeView) : Type 0 where
   pub followed : IsFollowed table n course.records saved
   pub told : IsTrue course.is_record ↔ MakesRecordOutsideZ table course.records.side n
 
@@ -93,7 +93,7 @@ pub record KeepsSame (old new : Records) : Type 0 where
 
 -- what was known of a course is known of it now, up to a later step, with the same record kept
 pub record GoesOn (table : Table) (from to : ℕ) (old new : Course) : Type 0 where
-  pub course : (saved : Strip) → IsCourse table from old saved → IsCourse table to new saved
+  pub course : (saved : TapeView) → IsCourse table from old saved → IsCourse table to new saved
   pub same : KeepsSame old.records new.records
 
 -- the record of this step is kept, just where it makes one outside Z

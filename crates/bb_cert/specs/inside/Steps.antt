@@ -5,14 +5,14 @@ use Rattle.std.specs.Int.{int_min, int_max}
 use Rattle.bb_machine.specs.declared.machine.TheConstants.{MAX_SYMBOLS}
 use Rattle.bb_machine.specs.Machine.{Table}
 use Rattle.bb_tape.specs.Content.{Content, blank, cell}
-use Rattle.bb_tape.specs.Strip.{Strip}
+use Rattle.bb_tape.specs.TapeView.{TapeView}
 use Rattle.bb_sim.specs.Configuration.{start}
 use Rattle.bb_cert.specs.declared.tree.path.Frame.{Frame}
 use Rattle.bb_cert.specs.declared.tree.rules.Rule.{Rule}
 use Rattle.bb_cert.specs.declared.tree.walk.Branch.{Branch}
 use Rattle.bb_cert.specs.declared.tree.walk.Count.{Count}
 use Rattle.bb_cert.specs.tree.Tree.{Node, Matches, Ends, Clear, EndsNowhere}
-use Rattle.bb_cert.specs.inside.Walk.{AreRules, HasOthers, IsWalked, branch_node, branches, content_in}
+use Rattle.bb_cert.specs.inside.Walk.{AreRules, HasNonzero, IsWalked, branch_node, branches, content_in}
 
 -- the list and the starts are those of some table
 abbrev pub HasTable : List Rule → List ℕ → Type 0
@@ -29,7 +29,7 @@ entered_on level entered = record { nodes = entered.nodes + 1; levels = max ente
 
 -- a branch was entered: the tape shows its node, which the start doesn't match, and the frame tells what was
 -- there
-pub record Enters (starts : List ℕ) (branch : Branch) (level : ℕ) (old new : Strip) (frame : Frame)
+pub record Enters (starts : List ℕ) (branch : Branch) (level : ℕ) (old new : TapeView) (frame : Frame)
     : Type 0 where
   pub content : new.content ≡ content_in old.content branch
   pub low : new.low ≡ int_min old.low branch.position
@@ -39,8 +39,8 @@ pub record Enters (starts : List ℕ) (branch : Branch) (level : ℕ) (old new :
   pub before : frame.before ≡ branch.held
   pub next : frame.next ≡ slice_index starts branch.state
   pub to : frame.end ≡ slice_index starts (branch.state + 1)
-  pub others : HasOthers new.content frame.others
-  pub few_others : frame.others ≤ level + 1
+  pub nonzero_known : HasNonzero new.content frame.nonzero_known
+  pub few_nonzero : frame.nonzero_known ≤ level + 1
   pub apart : Matches (branch_node old.content branch) start → ⊥
 
 -- the first of a frame's branches, and the rule after the one by which it comes
@@ -51,7 +51,7 @@ pub record IsFirstBranch (list : List Rule) (states : ℕ) (content : Content) (
   pub state : branch.state < states
   pub symbol : branch.symbol < MAX_SYMBOLS
   pub held : branch.held ≡ cell content branch.position
-  pub others : branch.others ≡ frame.others
+  pub nonzero_known : branch.nonzero_known ≡ frame.nonzero_known
   pub further : frame.next < next
   pub within : next ≤ frame.end
   pub first : branches list content frame

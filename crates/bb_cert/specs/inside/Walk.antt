@@ -8,7 +8,7 @@ use Rattle.bb_machine.specs.declared.machine.TheConstants.{MAX_SYMBOLS}
 use Rattle.bb_machine.specs.Entry.{IsEntryOf}
 use Rattle.bb_machine.specs.Machine.{Table}
 use Rattle.bb_tape.specs.Content.{Content, blank, cell, with_cell, score}
-use Rattle.bb_tape.specs.Strip.{Strip}
+use Rattle.bb_tape.specs.TapeView.{TapeView}
 use Rattle.bb_sim.specs.Configuration.{start}
 use Rattle.bb_cert.specs.declared.tree.path.Frame.{Frame}
 use Rattle.bb_cert.specs.declared.tree.rules.Rule.{Rule}
@@ -31,10 +31,10 @@ abbrev pub shown_node : Content → ℤ → ℕ → Node
 shown_node content position state = record { state = state; known = shown content position }
 
 -- of the cells that a tape shows, so many are known to be other than 0
-pub record HasOthers (content : Content) (others : ℕ) : Type 0 where
+pub record HasNonzero (content : Content) (nonzero_known : ℕ) : Type 0 where
   pub one_less : Content
   pub each : (p : ℤ) → cell one_less p ≡ cell content p - 1
-  pub counted : others ≡ score one_less
+  pub counted : nonzero_known ≡ score one_less
 
 -- what could come before a frame's node by the rules that are still to be tried
 abbrev pub branches : List Rule → Content → Frame → List Node
@@ -89,8 +89,8 @@ pub record IsFrame (rules : List Rule) (low high : ℤ) (content : Content) (lev
   pub symbol : f.before ≤ 10
   pub in_order : f.next ≤ f.end
   pub in_rules : f.end ≤ length rules
-  pub others : HasOthers content f.others
-  pub few_others : f.others ≤ level + 1
+  pub nonzero_known : HasNonzero content f.nonzero_known
+  pub few_nonzero : f.nonzero_known ≤ level + 1
 
 -- the frames of the nodes on the way to one, the deepest first; when all are left the tape is blank
 abbrev pub AreFrames : List Rule → ℤ → ℤ → Content → List Frame → Type 0
@@ -126,8 +126,8 @@ pub record IsBranch (states : ℕ) (content : Content) (level : ℕ) (branch : B
   pub state : branch.state < states
   pub symbol : branch.symbol < MAX_SYMBOLS
   pub held : branch.held ≡ cell content branch.position
-  pub others : HasOthers content branch.others
-  pub few_others : branch.others ≤ level
+  pub nonzero_known : HasNonzero content branch.nonzero_known
+  pub few_nonzero : branch.nonzero_known ≤ level
 
 -- what a tape has when a branch is entered, and its node
 abbrev pub content_in : Content → Branch → Content
@@ -137,10 +137,10 @@ abbrev pub branch_node : Content → Branch → Node
 branch_node content branch = shown_node (content_in content branch) branch.position branch.state
 
 -- the window keeps within so many levels of 0, and there is room for all of them
-pub record HasRoom (strip : Strip) (levels : ℕ) : Type 0 where
-  pub not_below : neg_ℤ (pos (levels - 1)) ≤ℤ strip.low
-  pub not_above : strip.high ≤ℤ pos (levels - 1)
-  pub limit : 2 * levels ≤ strip.limit + 1
+pub record HasRoom (view : TapeView) (levels : ℕ) : Type 0 where
+  pub not_below : neg_ℤ (pos (levels - 1)) ≤ℤ view.low
+  pub not_above : view.high ≤ℤ pos (levels - 1)
+  pub limit : 2 * levels ≤ view.limit + 1
 
 -- why a walk doesn't go on with a node
 pub data Refused (node : Node) (level nodes most_nodes most_levels : ℕ) : Type 0 where

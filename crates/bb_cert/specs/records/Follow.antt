@@ -7,7 +7,7 @@ use Rattle.bb_machine.specs.declared.entry.Next.TheVariants.{Halt}
 use Rattle.bb_machine.specs.Machine.{Table}
 use Rattle.bb_tape.specs.Content.{Content, cell}
 use Rattle.bb_tape.specs.declared.tape.TheConstants.{MAX_CELLS}
-use Rattle.bb_tape.specs.Strip.{Strip, IsInside, visited}
+use Rattle.bb_tape.specs.TapeView.{TapeView, IsInside, visited}
 use Rattle.bb_sim.specs.declared.runner.Runner.{Runner}
 use Rattle.bb_sim.specs.Run.{conf}
 use Rattle.bb_sim.specs.CellsBetween.{cells_between}
@@ -67,7 +67,7 @@ pub record IsTop (table : Table) (side : Side) (n : ℕ) (top : ℤ) : Type 0 wh
 -- the record that is kept, its configuration, and how far out the head is at least from there to step n; what
 -- was saved of it lies in the window of the run, and its own head in what was saved
 pub record IsKeptRecord (table : Table) (side : Side) (number n : ℕ) (kept : Runner) (far_out : ℤ)
-    (saved : Strip)
+    (saved : TapeView)
     : Type 0 where
   pub made : IsRecord table side number (steps_of kept)
   pub before : steps_of kept ≤ n
@@ -79,7 +79,7 @@ pub record IsKeptRecord (table : Table) (side : Side) (number n : ℕ) (kept : R
   pub seen : state_of kept ≢ Halt → IsInside saved (position_of kept)
 
 -- the records of a side up to step n: how many there were, and the one that is kept
-pub record IsFollowed (table : Table) (n : ℕ) (records : Records) (saved : Strip) : Type 0 where
+pub record IsFollowed (table : Table) (n : ℕ) (records : Records) (saved : TapeView) : Type 0 where
   pub count : ℕ
   pub number : ℕ
   pub number_is : number_of records ≡ pos number
@@ -92,7 +92,7 @@ lesser_of R near far_out = near
 lesser_of L near far_out = neg_ℤ far_out
 
 -- the stretch of the kept record that is compared: from the least far out up to the head
-pub record IsComparable (records : Records) (runner : Runner) (saved run : Strip) : Type 0 where
+pub record IsComparable (records : Records) (runner : Runner) (saved run : TapeView) : Type 0 where
   pub low : run.low ≤ℤ saved.low
   pub high : saved.high ≤ℤ run.high
   pub order : far_of records ≤ℤ number_of records
@@ -114,7 +114,7 @@ IsKeptInStateOf records runner =
     × (state_of records.kept ≢ Halt)
 
 -- the kept record agrees with that which the runner has just made
-abbrev pub AgreesWithKept : Records → Runner → Strip → Strip → Type 0
+abbrev pub AgreesWithKept : Records → Runner → TapeView → TapeView → Type 0
 AgreesWithKept records runner saved run =
     IsKeptInStateOf records runner × HasSameCells records runner saved.content run.content
 
@@ -124,6 +124,6 @@ pub record LiesAs (records : Records) (runner : Runner) (extent : Extent) : Type
   pub length : pos extent.length ≡ (number_of records -ℤ far_of records) +ℤ pos 1
 
 -- what was saved is at most widened, to the nearest position, which is in the window of the run
-abbrev pub IsWidened : Records → Strip → Strip → Strip → Type 0
+abbrev pub IsWidened : Records → TapeView → TapeView → TapeView → Type 0
 IsWidened records run old new =
     (new ≡ old) ⊎ ((new ≡ visited old records.nearest) × IsInside run records.nearest)

@@ -43,7 +43,7 @@ pub fn check<T: Tape>(
     path: &mut Path,
     meter: &mut Meter,
 ) -> Result<Answer, Memory>
-    requires tapes { PairHasCells T.strip limits.now.cells pair.old }
+    requires tapes { PairHasCells T.view limits.now.cells pair.old }
     requires path { limits.now.depth ≤ depth_of path.old }
     ensures answer { IfOk result (IsAnswer machine.now limits.now verdict.now) }
     ensures claim { IfOk result (λ answer. answer ≡ Answer.Ok → Claim machine.now verdict.now) }
@@ -51,12 +51,12 @@ pub fn check<T: Tape>(
     ensures counted { IfOk result (λ answer. answer ≡ Answer.Ok → CountsClaim verdict.now meter.new) }
     ensures within { IsWithinClaim limits.now verdict.now meter.new }
     ensures settled { IsSettled limits.now verdict.now → meter.new ≡ zero_meter }
-    ensures tapes { PairHasCells T.strip limits.now.cells pair.new }
+    ensures tapes { PairHasCells T.view limits.now.cells pair.new }
     ensures depth { depth_of path.new ≡ depth_of path.old }
     ensures memory { OnErr result (IsTrue T.GROWS) }
 {
     *meter = Meter::new();
-    let _states = machine.states();
+    machine.show_machine();
     match settle(verdict, limits) {
         Some(answer) => Ok(answer),
         None => check_claim(machine, *verdict, limits, pair, path, meter),
@@ -115,13 +115,13 @@ fn check_claim<T: Tape>(
     meter: &mut Meter,
 ) -> Result<Answer, Memory>
     requires open { IsSettled limits.now verdict → ⊥ }
-    requires tapes { PairHasCells T.strip limits.now.cells pair.old }
+    requires tapes { PairHasCells T.view limits.now.cells pair.old }
     requires path { limits.now.depth ≤ depth_of path.old }
     requires meter { meter.old ≡ zero_meter }
     ensures checks { IfOk result (Checks machine.now limits.now verdict) }
     ensures counted { IfOk result (λ answer. answer ≡ Answer.Ok → CountsClaim verdict meter.new) }
     ensures within { IsWithinClaim limits.now verdict meter.new }
-    ensures tapes { PairHasCells T.strip limits.now.cells pair.new }
+    ensures tapes { PairHasCells T.view limits.now.cells pair.new }
     ensures depth { depth_of path.new ≡ depth_of path.old }
     ensures memory { OnErr result (IsTrue T.GROWS) }
 {
@@ -166,13 +166,13 @@ fn check_halt<T: Tape>(
     meter: &mut Meter,
 ) -> Result<Answer, Memory>
     requires steps { steps ≤ limits.now.steps }
-    requires limit { (T.strip tape.old).limit ≡ limits.now.cells }
+    requires limit { (T.view tape.old).limit ≡ limits.now.cells }
     requires meter { meter.old ≡ zero_meter }
     ensures checks { IfOk result (Checks machine.now limits.now (Verdict.Halt steps score)) }
     ensures counted { IfOk result (λ answer. answer ≡ Answer.Ok
         → CountsClaim (Verdict.Halt steps score) meter.new) }
     ensures within { IsWithinClaim limits.now (Verdict.Halt steps score) meter.new }
-    ensures limit { (T.strip tape.new).limit ≡ (T.strip tape.old).limit }
+    ensures limit { (T.view tape.new).limit ≡ (T.view tape.old).limit }
     ensures memory { OnErr result (IsTrue T.GROWS) }
 {
     let limits = with_steps(limits, steps);
@@ -205,13 +205,13 @@ fn check_cycler<T: Tape>(
 ) -> Result<Answer, Memory>
     requires order { first < second }
     requires steps { second ≤ limits.now.steps }
-    requires tapes { PairHasCells T.strip limits.now.cells pair.old }
+    requires tapes { PairHasCells T.view limits.now.cells pair.old }
     requires meter { meter.old ≡ zero_meter }
     ensures checks { IfOk result (Checks machine.now limits.now (Verdict.Cycler first second)) }
     ensures counted { IfOk result (λ answer. answer ≡ Answer.Ok
         → CountsClaim (Verdict.Cycler first second) meter.new) }
     ensures within { IsWithinClaim limits.now (Verdict.Cycler first second) meter.new }
-    ensures tapes { PairHasCells T.strip limits.now.cells pair.new }
+    ensures tapes { PairHasCells T.view limits.now.cells pair.new }
     ensures memory { OnErr result (IsTrue T.GROWS) }
 {
     let limits = with_steps(limits, second);
@@ -247,14 +247,14 @@ fn check_translated<T: Tape>(
 ) -> Result<Answer, Memory>
     requires order { first < second }
     requires steps { second ≤ limits.now.steps }
-    requires tapes { PairHasCells T.strip limits.now.cells pair.old }
+    requires tapes { PairHasCells T.view limits.now.cells pair.old }
     requires meter { meter.old ≡ zero_meter }
     ensures checks { IfOk result
         (Checks machine.now limits.now (Verdict.Translated side first second extent)) }
     ensures counted { IfOk result (λ answer. answer ≡ Answer.Ok
         → CountsClaim (Verdict.Translated side first second extent) meter.new) }
     ensures within { IsWithinClaim limits.now (Verdict.Translated side first second extent) meter.new }
-    ensures tapes { PairHasCells T.strip limits.now.cells pair.new }
+    ensures tapes { PairHasCells T.view limits.now.cells pair.new }
     ensures memory { OnErr result (IsTrue T.GROWS) }
 {
     let limits = with_steps(limits, second);
@@ -278,7 +278,7 @@ fn check_translated<T: Tape>(
     let Ok(()) = pair.saved.copy_from(&pair.run) else {
         return Err(Memory);
     };
-    course.keep(&runner);
+    course.keep_if_record(&runner);
     match follow_to(
         machine,
         &mut runner,
@@ -323,18 +323,18 @@ fn check_backward<T: Tape>(
 ) -> Result<Answer, Memory>
     requires levels { levels ≤ limits.now.depth }
     requires nodes { nodes ≤ limits.now.nodes }
-    requires limit { (T.strip tape.old).limit ≡ limits.now.cells }
+    requires limit { (T.view tape.old).limit ≡ limits.now.cells }
     requires path { limits.now.depth ≤ depth_of path.old }
     requires meter { meter.old ≡ zero_meter }
     ensures checks { IfOk result (Checks machine.now limits.now (Verdict.Backward levels nodes)) }
     ensures counted { IfOk result (λ answer. answer ≡ Answer.Ok
         → CountsClaim (Verdict.Backward levels nodes) meter.new) }
     ensures within { IsWithinClaim limits.now (Verdict.Backward levels nodes) meter.new }
-    ensures limit { (T.strip tape.new).limit ≡ (T.strip tape.old).limit }
+    ensures limit { (T.view tape.new).limit ≡ (T.view tape.old).limit }
     ensures depth { depth_of path.new ≡ depth_of path.old }
     ensures memory { OnErr result (IsTrue T.GROWS) }
 {
-    let _accepted = limits.depth();
+    limits.show_accepted();
     let Some((found_levels, found_nodes)) = walk(machine, levels, nodes, tape, path, meter)? else {
         return Ok(Answer::Bad);
     };

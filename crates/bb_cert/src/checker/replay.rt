@@ -1,6 +1,6 @@
 //! The run of a claim, up to the steps that the claim names.
 ghost use Rattle.std.specs.Prelude.{◌≡◌, ◌<◌, ◌≤◌, ◌↔◌, IfOk, IfSome, IsTrue, MatchBool, MatchOption, OnErr};
-ghost use Rattle.bb_tape.specs.Strip.{IsBeside};
+ghost use Rattle.bb_tape.specs.TapeView.{IsBeside};
 ghost use Rattle.bb_sim.specs.Meter.{IsWithinRun, zero_meter};
 ghost use Rattle.bb_sim.specs.Run.{Exists};
 ghost use Rattle.bb_sim.specs.Runner.{position_of, steps_of};
@@ -35,13 +35,13 @@ impl Course {
     }
 
     /// Keeps the record that the last step makes, if it makes one. The runner stands there.
-    pub(crate) fn keep(&mut self, runner: &Runner)
+    pub(crate) fn keep_if_record(&mut self, runner: &Runner)
         ensures { MatchBool self.old.is_record
             (self.new ≡ record self.old { records = with_kept self.old.records runner.now })
             (self.new ≡ self.old) }
     {
         if self.is_record {
-            self.records.keep(runner);
+            self.records.keep_record(runner);
         }
     }
 
@@ -53,16 +53,16 @@ impl Course {
         run: &T,
         saved: &mut T,
     ) -> Option<Extent>
-        requires limit { (T.strip saved.old).limit ≡ (T.strip run.now).limit }
+        requires limit { (T.view saved.old).limit ≡ (T.view run.now).limit }
         requires comparable { IsTrue self.now.is_record → IsKeptInStateOf self.now.records runner.now
-            → IsComparable self.now.records runner.now (T.strip saved.old) (T.strip run.now) }
+            → IsComparable self.now.records runner.now (T.view saved.old) (T.view run.now) }
         ensures agree { MatchOption result
             (IsTrue self.now.is_record
-            → AgreesWithKept self.now.records runner.now (T.strip saved.old) (T.strip run.now) → ⊥)
+            → AgreesWithKept self.now.records runner.now (T.view saved.old) (T.view run.now) → ⊥)
             (λ extent. IsTrue self.now.is_record
-            × AgreesWithKept self.now.records runner.now (T.strip saved.old) (T.strip run.now)
+            × AgreesWithKept self.now.records runner.now (T.view saved.old) (T.view run.now)
             × LiesAs self.now.records runner.now extent) }
-        ensures limit { (T.strip saved.new).limit ≡ (T.strip saved.old).limit }
+        ensures limit { (T.view saved.new).limit ≡ (T.view saved.old).limit }
     {
         if !self.is_record {
             return None;
@@ -81,12 +81,12 @@ pub(crate) fn begin<T: Tape>(
     limits: &Limits,
     meter: &mut Meter,
 ) -> Runner
-    requires limit { (T.strip tape.old).limit ≡ limits.now.cells }
+    requires limit { (T.view tape.old).limit ≡ limits.now.cells }
     requires meter { meter.old ≡ zero_meter }
-    ensures at { IsAtStep machine.now limits.now 0 result (T.strip tape.new) meter.new }
+    ensures at { IsAtStep machine.now limits.now 0 result (T.view tape.new) meter.new }
 {
-    let _accepted = limits.cells();
-    meter.most_cells = meter.most_cells.max(1);
+    limits.show_accepted();
+    meter.begin_run();
     Runner::start(machine, tape)
 }
 
@@ -100,16 +100,16 @@ fn step_on<T: Tape>(
     limits: &Limits,
     meter: &mut Meter,
 ) -> Result<Option<Answer>, Memory>
-    requires under_way { IsUnderWay machine.now limits.now runner.old (T.strip tape.old) meter.old }
+    requires under_way { IsUnderWay machine.now limits.now runner.old (T.view tape.old) meter.old }
     requires ahead { steps_of runner.old < limits.now.steps }
     ensures steps { IfOk result (λ cut. MatchOption cut
-        (IsOneOn machine.now limits.now runner.old runner.new (T.strip tape.new) meter.new)
+        (IsOneOn machine.now limits.now runner.old runner.new (T.view tape.new) meter.new)
         (IsCut machine.now limits.now)) }
     ensures within { IsWithinRun limits.now zero_meter meter.new }
-    ensures limit { (T.strip tape.new).limit ≡ (T.strip tape.old).limit }
+    ensures limit { (T.view tape.new).limit ≡ (T.view tape.old).limit }
     ensures memory { OnErr result (IsTrue T.GROWS) }
 {
-    let _accepted = limits.steps();
+    limits.show_accepted();
     match runner.advance(machine, tape, limits, meter)? {
         Moved::Stepped => Ok(None),
         Moved::Halted => Ok(Some(Answer::Bad)),
@@ -129,14 +129,14 @@ pub(crate) fn run_to<T: Tape>(
     step: u64,
     meter: &mut Meter,
 ) -> Result<Option<Answer>, Memory>
-    requires under_way { IsUnderWay machine.now limits.now runner.old (T.strip tape.old) meter.old }
+    requires under_way { IsUnderWay machine.now limits.now runner.old (T.view tape.old) meter.old }
     requires ahead { steps_of runner.old ≤ step }
     requires within { step ≤ limits.now.steps }
     ensures runs { IfOk result (λ cut. MatchOption cut
-        (IsAtStep machine.now limits.now step runner.new (T.strip tape.new) meter.new)
+        (IsAtStep machine.now limits.now step runner.new (T.view tape.new) meter.new)
         (IsCut machine.now limits.now)) }
     ensures within { IsWithinRun limits.now zero_meter meter.new }
-    ensures limit { (T.strip tape.new).limit ≡ (T.strip tape.old).limit }
+    ensures limit { (T.view tape.new).limit ≡ (T.view tape.old).limit }
     ensures memory { OnErr result (IsTrue T.GROWS) }
 {
     while runner.steps() < step {
@@ -159,17 +159,17 @@ pub(crate) fn follow_to<T: Tape>(
     course: &mut Course,
     meter: &mut Meter,
 ) -> Result<Option<Answer>, Memory>
-    requires under_way { IsUnderWay machine.now limits.now runner.old (T.strip tape.old) meter.old }
+    requires under_way { IsUnderWay machine.now limits.now runner.old (T.view tape.old) meter.old }
     requires ahead { steps_of runner.old ≤ step }
     requires within { step ≤ limits.now.steps }
     ensures runs { IfOk result (λ cut. MatchOption cut
-        (IsAtStep machine.now limits.now step runner.new (T.strip tape.new) meter.new)
+        (IsAtStep machine.now limits.now step runner.new (T.view tape.new) meter.new)
         (IsCut machine.now limits.now)) }
     ensures follows { IfOk result (λ cut. MatchOption cut
         (GoesOn machine.now (steps_of runner.old) step course.old course.new)
         (λ answer. Unit {0})) }
     ensures within { IsWithinRun limits.now zero_meter meter.new }
-    ensures limit { (T.strip tape.new).limit ≡ (T.strip tape.old).limit }
+    ensures limit { (T.view tape.new).limit ≡ (T.view tape.old).limit }
     ensures memory { OnErr result (IsTrue T.GROWS) }
 {
     while runner.steps() < step {

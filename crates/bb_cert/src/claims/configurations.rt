@@ -11,7 +11,7 @@ use bb_tape::Tape;
 pub fn is_same<T: Tape>(runner: &Runner, tape: &T, other: &Runner, other_tape: &T) -> bool
     ensures { IsTrue result ↔ ((state_of runner.now ≡ state_of other.now)
         × (position_of runner.now ≡ position_of other.now)
-        × ((T.strip tape.now).content ≡ (T.strip other_tape.now).content)) }
+        × ((T.view tape.now).content ≡ (T.view other_tape.now).content)) }
 {
     runner.is_like(other) && has_same_cells(tape, other_tape)
 }
@@ -20,7 +20,7 @@ pub fn is_same<T: Tape>(runner: &Runner, tape: &T, other: &Runner, other_tape: &
 #[cold]
 #[inline(never)]
 fn has_same_cells<T: Tape>(tape: &T, other: &T) -> bool
-    ensures { IsTrue result ↔ ((T.strip tape.now).content ≡ (T.strip other.now).content) }
+    ensures { IsTrue result ↔ ((T.view tape.now).content ≡ (T.view other.now).content) }
 {
     tape.same(other)
 }

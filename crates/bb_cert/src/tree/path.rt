@@ -15,7 +15,7 @@ pub(crate) struct Frame {
     /// What the tape had there before.
     pub(crate) before: u8,
     /// How many cells are known to be other than 0.
-    pub(crate) others: u16,
+    pub(crate) nonzero_known: u16,
     /// The next rule to be tried.
     pub(crate) next: u16,
     /// Where its rules end.

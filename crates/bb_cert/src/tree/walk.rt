@@ -6,7 +6,7 @@ ghost use Rattle.std.specs.Prelude.{◌+ℤ◌, ◌≤ℤ◌, slice_index, IfOk,
 ghost use Rattle.std.specs.List.{AllByRecursion};
 ghost use Rattle.bb_machine.specs.Machine.{IsMachine};
 ghost use Rattle.bb_tape.specs.Content.{blank};
-ghost use Rattle.bb_tape.specs.Strip.{written, IsBeside, IsInside};
+ghost use Rattle.bb_tape.specs.TapeView.{written, IsBeside, IsInside};
 ghost use Rattle.bb_sim.specs.Run.{Never};
 ghost use Rattle.bb_cert.specs.tree.Path.{depth_of};
 ghost use Rattle.bb_cert.specs.tree.Tree as tree;
@@ -40,7 +40,7 @@ struct Branch {
     /// What the tape has there.
     held: u8,
     /// How many cells the node that it comes before knows to be other than 0.
-    others: u16,
+    nonzero_known: u16,
 }
 
 /// How many levels and nodes the tree of what could come before a halt has: where it ends within so many of
@@ -57,13 +57,13 @@ pub fn walk<T: Tape>(
     meter: &mut Meter,
 ) -> Result<Option<(u64, u64)>, Memory>
     requires path { levels ≤ depth_of path.old }
-    requires tape { 2 * levels ≤ (T.strip tape.old).limit + 1 }
+    requires tape { 2 * levels ≤ (T.view tape.old).limit + 1 }
     requires meter { meter.old.nodes + nodes < 2 ^ 64 }
     ensures answers { IfOk result (λ found. MatchOption found (EndsNowhere machine.now levels nodes)
         (λ end. EndsWithin machine.now levels nodes end.0 end.1)) }
     ensures never { IfOk result (λ found. IfSome found (λ end. Never machine.now)) }
-    ensures blank { OnOk result ((T.strip tape.new).content ≡ blank) }
-    ensures limit { (T.strip tape.new).limit ≡ (T.strip tape.old).limit }
+    ensures blank { OnOk result ((T.view tape.new).content ≡ blank) }
+    ensures limit { (T.view tape.new).limit ≡ (T.view tape.old).limit }
     ensures depth { depth_of path.new ≡ depth_of path.old }
     ensures counted { IfOk result (λ found. IfSome found (λ end. meter.new ≡ walked meter.old end.0 end.1)) }
     ensures within { IsWithinWalk levels nodes meter.old meter.new }
@@ -93,15 +93,15 @@ fn explore_all<T: Tape>(
     path: &mut Path,
     entered: &mut Count,
 ) -> Result<bool, Memory>
-    requires blank { (T.strip tape.old).content ≡ blank }
-    requires room { HasRoom (T.strip tape.old) most.levels }
+    requires blank { (T.view tape.old).content ≡ blank }
+    requires room { HasRoom (T.view tape.old) most.levels }
     requires path { most.levels ≤ depth_of path.old }
     requires nodes { entered.old.nodes ≡ 0 }
     requires levels { entered.old.levels ≡ 0 }
     ensures walked { IfOk result (WalksAll machine.now most entered.new) }
     ensures machine { IsMachine machine.now }
     ensures within { IsWithin most entered.new }
-    ensures limit { (T.strip tape.new).limit ≡ (T.strip tape.old).limit }
+    ensures limit { (T.view tape.new).limit ≡ (T.view tape.old).limit }
     ensures depth { depth_of path.new ≡ depth_of path.old }
     ensures memory { OnErr result (IsTrue T.GROWS) }
 {
@@ -118,7 +118,7 @@ fn explore_all<T: Tape>(
             state: rule.state,
             symbol: rule.symbol,
             held: 0,
-            others: 0,
+            nonzero_known: 0,
         };
         if !explore(&rules, root, most, tape, path, entered)? {
             return Ok(false);
@@ -138,15 +138,15 @@ fn explore<T: Tape>(
 ) -> Result<bool, Memory>
     requires rules { HasTable rules.now.list.items rules.now.starts.items }
     requires root { IsBranch (length rules.now.starts.items - 2) blank 0 root }
-    requires blank { (T.strip tape.old).content ≡ blank }
-    requires room { HasRoom (T.strip tape.old) most.levels }
+    requires blank { (T.view tape.old).content ≡ blank }
+    requires room { HasRoom (T.view tape.old) most.levels }
     requires path { most.levels ≤ depth_of path.old }
     requires within { IsWithin most entered.old }
     ensures explores { IfOk result (Explores rules.now.list.items rules.now.starts.items root most entered.old
-        entered.new (T.strip tape.new).content) }
-    ensures room { HasRoom (T.strip tape.new) most.levels }
+        entered.new (T.view tape.new).content) }
+    ensures room { HasRoom (T.view tape.new) most.levels }
     ensures within { IsWithin most entered.new }
-    ensures limit { (T.strip tape.new).limit ≡ (T.strip tape.old).limit }
+    ensures limit { (T.view tape.new).limit ≡ (T.view tape.old).limit }
     ensures depth { depth_of path.new ≡ depth_of path.old }
     ensures memory { OnErr result (IsTrue T.GROWS) }
 {
@@ -185,22 +185,22 @@ fn enter<T: Tape>(
     tape: &mut T,
     entered: &mut Count,
 ) -> Result<Option<Frame>, Memory>
-    requires branch { IsBranch (length rules.now.starts.items - 2) (T.strip tape.old).content level branch }
-    requires beside { IsBeside (T.strip tape.old) branch.position }
+    requires branch { IsBranch (length rules.now.starts.items - 2) (T.view tape.old).content level branch }
+    requires beside { IsBeside (T.view tape.old) branch.position }
     requires level { level ≤ MAX_LEVELS }
-    requires room { HasRoom (T.strip tape.old) most.levels }
+    requires room { HasRoom (T.view tape.old) most.levels }
     requires within { IsWithin most entered.old }
     ensures enters { IfOk result (λ frame. IfSome frame (Enters rules.now.starts.items branch level
-        (T.strip tape.old) (T.strip tape.new))) }
+        (T.view tape.old) (T.view tape.new))) }
     ensures counted { IfOk result (λ frame. IfSome frame (λ frame. (level < most.levels)
         × (entered.old.nodes < most.nodes) × (entered.new ≡ entered_on level entered.old))) }
     ensures refused { IfOk result (λ frame. MatchOption frame
-        (Refused (branch_node (T.strip tape.old).content branch) level entered.old.nodes most.nodes
+        (Refused (branch_node (T.view tape.old).content branch) level entered.old.nodes most.nodes
         most.levels)
         (λ frame. Unit {0})) }
-    ensures room { HasRoom (T.strip tape.new) most.levels }
+    ensures room { HasRoom (T.view tape.new) most.levels }
     ensures within { IsWithin most entered.new }
-    ensures limit { (T.strip tape.new).limit ≡ (T.strip tape.old).limit }
+    ensures limit { (T.view tape.new).limit ≡ (T.view tape.old).limit }
     ensures memory { OnErr result (IsTrue T.GROWS) }
 {
     if most.levels <= level || most.nodes <= entered.nodes {
@@ -214,8 +214,8 @@ fn enter<T: Tape>(
     };
     entered.nodes += 1;
     entered.levels = entered.levels.max(level + 1);
-    let others = count_others(branch);
-    if branch.state == 0 && others == 0 {
+    let nonzero_known = count_known(branch);
+    if branch.state == 0 && nonzero_known == 0 {
         return Ok(None);
     }
     let state = branch.state as usize;
@@ -223,7 +223,7 @@ fn enter<T: Tape>(
         position: branch.position,
         state: branch.state,
         before: branch.held,
-        others,
+        nonzero_known,
         next: rules.starts[state],
         end: rules.starts[state + 1],
     }))
@@ -231,15 +231,15 @@ fn enter<T: Tape>(
 
 /// How many cells a branch's node knows to be other than 0.
 #[inline]
-fn count_others(branch: Branch) -> u16
-    requires few { branch.others < 65535 }
-    requires counted { 1 < branch.held → 0 < branch.others }
-    ensures { result + min 1 (branch.held - 1) ≡ branch.others + min 1 branch.symbol }
+fn count_known(branch: Branch) -> u16
+    requires few { branch.nonzero_known < 65535 }
+    requires counted { 1 < branch.held → 0 < branch.nonzero_known }
+    ensures { result + min 1 (branch.held - 1) ≡ branch.nonzero_known + min 1 branch.symbol }
 {
     let more = if branch.symbol == 0 {
-        branch.others
+        branch.nonzero_known
     } else {
-        branch.others + 1
+        branch.nonzero_known + 1
     };
     if branch.held > 1 { more - 1 } else { more }
 }
@@ -247,10 +247,10 @@ fn count_others(branch: Branch) -> u16
 /// Leaves a node: the tape has what it had before.
 #[inline]
 fn leave<T: Tape>(frame: Frame, tape: &mut T) -> Result<(), Memory>
-    requires inside { IsInside (T.strip tape.old) frame.position }
+    requires inside { IsInside (T.view tape.old) frame.position }
     requires symbol { frame.before ≤ 10 }
-    ensures left { OnOk result (T.strip tape.new ≡ written (T.strip tape.old) frame.position frame.before) }
-    ensures refused { OnErr result (T.strip tape.new ≡ T.strip tape.old) }
+    ensures left { OnOk result (T.view tape.new ≡ written (T.view tape.old) frame.position frame.before) }
+    ensures refused { OnErr result (T.view tape.new ≡ T.view tape.old) }
     ensures memory { OnErr result (IsTrue T.GROWS) }
 {
     match tape.write(frame.position, frame.before) {
@@ -267,9 +267,9 @@ fn next_branch<T: Tape>(rules: &Rules, frame: Frame, tape: &T) -> Option<(Branch
     requires within { frame.end ≤ length rules.now.list.items }
     requires low { neg_ℤ (pos MAX_LEVELS) ≤ℤ frame.position }
     requires high { frame.position ≤ℤ pos MAX_LEVELS }
-    ensures { MatchOption result (branches rules.now.list.items (T.strip tape.now).content frame ≡ [])
+    ensures { MatchOption result (branches rules.now.list.items (T.view tape.now).content frame ≡ [])
         (λ found. IsFirstBranch rules.now.list.items (length rules.now.starts.items - 2)
-        (T.strip tape.now).content frame found.0 found.1) }
+        (T.view tape.now).content frame found.0 found.1) }
 {
     for index in frame.next..frame.end {
         let rule = rules.list[index as usize];
@@ -284,7 +284,7 @@ fn next_branch<T: Tape>(rules: &Rules, frame: Frame, tape: &T) -> Option<(Branch
                 state: rule.state,
                 symbol: rule.symbol,
                 held,
-                others: frame.others,
+                nonzero_known: frame.nonzero_known,
             };
             return Some((branch, index + 1));
         }

@@ -2,7 +2,7 @@
 -- it.
 use Rattle.std.specs.Prelude.{◌≡◌, ℕ, ◌⊎◌, Option, Some, None, pos, ◌*ℤ◌, ◌<ℤ◌, ◌≤ℤ◌}
 use Rattle.bb_machine.specs.Machine.{Table}
-use Rattle.bb_tape.specs.Strip.{Strip}
+use Rattle.bb_tape.specs.TapeView.{TapeView}
 use Rattle.bb_sim.specs.declared.runner.Runner.{Runner}
 use Rattle.bb_sim.specs.Runner.{position_of, steps_of}
 use Rattle.bb_cert.specs.declared.records.Records.{Records}
@@ -16,12 +16,12 @@ use Rattle.bb_cert.specs.records.Follow.{IsWidened, LiesAs, number_of, top_of, w
 use Rattle.bb_decide.specs.Partner.{IsKept}
 
 -- the records of a side up to step n are known, and the partner of the next one is kept
-pub record IsSearched (table : Table) (n : ℕ) (records : Records) (saved : Strip) : Type 0 where
+pub record IsSearched (table : Table) (n : ℕ) (records : Records) (saved : TapeView) : Type 0 where
   pub followed : IsFollowed table n records saved
   pub partner : IsKept followed.number followed.count
 
 -- the record that the runner has just made can be compared with the kept one
-pub record IsReady (records : Records) (runner : Runner) (saved run : Strip) : Type 0 where
+pub record IsReady (records : Records) (runner : Runner) (saved run : TapeView) : Type 0 where
   pub kept_out : pos 0 ≤ℤ number_of records
   pub head_out : pos 0 ≤ℤ top_of records runner
   pub narrow : IsNarrow (position_of records.kept)
@@ -29,7 +29,7 @@ pub record IsReady (records : Records) (runner : Runner) (saved run : Strip) : T
 
 -- it is kept, in what the run has, where its number is at least twice that of the kept one, which stays
 -- elsewhere
-abbrev pub KeepsByTurn : Records → Runner → Strip → Strip → Records → Strip → Type 0
+abbrev pub KeepsByTurn : Records → Runner → TapeView → TapeView → Records → TapeView → Type 0
 KeepsByTurn old runner run saved new new_saved =
     (((pos 2 *ℤ number_of old) ≤ℤ top_of old runner) × (new ≡ with_kept old runner) × (new_saved ≡ run))
     ⊎ ((top_of old runner <ℤ (pos 2 *ℤ number_of old)) × (new ≡ old) × IsWidened old run saved new_saved)
@@ -41,7 +41,7 @@ pub record TellsPair (records : Records) (runner : Runner) (verdict : Verdict) :
   pub lies : LiesAs records runner extent
 
 -- the two, where they agree; none just where they do not
-abbrev pub Compares : Records → Runner → Strip → Strip → Records → Strip → Option Verdict → Type 0
+abbrev pub Compares : Records → Runner → TapeView → TapeView → Records → TapeView → Option Verdict → Type 0
 Compares old runner run saved new new_saved None =
     (AgreesWithKept old runner saved run → ⊥) × KeepsByTurn old runner run saved new new_saved
 Compares old runner run saved new new_saved (Some verdict) =
@@ -53,9 +53,8 @@ on_side R right left = right
 on_side L right left = left
 
 -- the records of one side were compared, with a verdict or not; those of the other stay
-abbrev pub Looks : Side → Runner → Strip → Records → Records → Strip → Strip → Records → Records → Strip
-    → Strip
-    → Option Verdict → Type 0
+abbrev pub Looks : Side → Runner → TapeView → Records → Records → TapeView → TapeView
+    → Records → Records → TapeView → TapeView → Option Verdict → Type 0
 Looks R runner run right left saved_right saved_left new_right new_left new_saved_right new_saved_left found =
     Compares right runner run saved_right new_right new_saved_right found
     × (new_right.side ≡ right.side) × (new_left ≡ left) × (new_saved_left ≡ saved_left)

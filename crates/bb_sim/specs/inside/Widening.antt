@@ -7,7 +7,7 @@ use Rattle.bb_machine.specs.declared.entry.Next.TheVariants.{State, Halt}
 use Rattle.bb_machine.specs.declared.entry.Entry.{Entry}
 use Rattle.bb_machine.specs.declared.entry.Entry.TheVariants.{Undefined, Go}
 use Rattle.bb_machine.specs.Machine.{Table, symbols_of}
-use Rattle.bb_tape.specs.Strip.{Strip, visited}
+use Rattle.bb_tape.specs.TapeView.{TapeView, visited}
 use Rattle.bb_sim.specs.declared.runner.Runner.{Runner}
 use Rattle.bb_sim.specs.CellsBetween.{cells_between}
 use Rattle.bb_sim.specs.Runner.{state_of, position_of, steps_of, low_of, high_of}
@@ -27,14 +27,14 @@ pub record IsWidened (old new : Runner) (position : ℤ) : Type 0 where
   pub high : high_of new ≡ int_max (high_of old) position
 
 -- the window takes in a position just where the limit allows it; else nothing has changed
-abbrev pub Widens : Runner → Runner → Strip → Strip → ℤ → Bool → Type 0
-Widens old new strip_old strip_new position true =
-    (cells_between (int_min strip_old.low position) (int_max strip_old.high position) ≤ strip_old.limit)
-    × (strip_new ≡ visited strip_old position)
+abbrev pub Widens : Runner → Runner → TapeView → TapeView → ℤ → Bool → Type 0
+Widens old new view_old view_new position true =
+    (cells_between (int_min view_old.low position) (int_max view_old.high position) ≤ view_old.limit)
+    × (view_new ≡ visited view_old position)
     × IsWidened old new position
-Widens old new strip_old strip_new position false =
-    (strip_old.limit < cells_between (int_min strip_old.low position) (int_max strip_old.high position))
-    × (strip_new ≡ strip_old) × (new ≡ old)
+Widens old new view_old view_new position false =
+    (view_old.limit < cells_between (int_min view_old.low position) (int_max view_old.high position))
+    × (view_new ≡ view_old) × (new ≡ old)
 
 -- one step more, in a state, at a position, with the same window
 pub record StepsTo (old new : Runner) (next : Next) (position : ℤ) : Type 0 where

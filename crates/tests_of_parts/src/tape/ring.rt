@@ -1,7 +1,7 @@
 //! Stretches that the ring's end cuts, and the two tapes side by side.
 
 ghost use Rattle.std.specs.Prelude.{◌<◌, IsTrue, pos, ◌-ℤ◌, ◌≤ℤ◌};
-ghost use Rattle.bb_tape.specs.Strip.{IsStretch};
+ghost use Rattle.bb_tape.specs.TapeView.{IsStretch};
 
 use bb_tape::{MAX_SYMBOL, MapTape, RingTape, Tape};
 use std::process::Abort;
@@ -39,7 +39,7 @@ fn write<T: Tape>(tape: &mut T, p: i32, v: u8) -> Option<u64> {
 fn is_stretch<T: Tape>(tape: &T, from: i64, len: u8) -> bool
     requires low { (pos 0 -ℤ pos 2147483648) ≤ℤ from }
     requires high { from ≤ℤ pos 2147483648 }
-    ensures { IsTrue result → IsStretch (T.strip tape.now) from len }
+    ensures { IsTrue result → IsStretch (T.view tape.now) from len }
 {
     tape.low() <= from && from + i64::from(len) - 1 <= tape.high()
 }

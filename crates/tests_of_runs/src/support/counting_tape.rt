@@ -51,7 +51,7 @@ impl<T> Tallied<T> {
 impl<T: Tape> Tape for Tallied<T> {
     ghost use Rattle.std.specs.Prelude.{true};
 
-    ghost strip = { λ t. T.strip t.inner };
+    ghost view = { λ t. T.view t.inner };
 
     ghost GROWS = { true };
 

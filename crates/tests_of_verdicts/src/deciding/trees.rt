@@ -110,9 +110,9 @@ fn found<T: Tape>(
     machine: &Machine,
     meter: &mut Meter,
 ) -> Result<Option<Verdict>, Fail>
-    requires tapes { BenchHasCells T.strip limits.now.cells bench.old }
+    requires tapes { BenchHasCells T.view limits.now.cells bench.old }
     requires path { depth_of bench.old.path ≡ limits.now.depth }
-    ensures tapes { BenchHasCells T.strip limits.now.cells bench.new }
+    ensures tapes { BenchHasCells T.view limits.now.cells bench.new }
     ensures path { depth_of bench.new.path ≡ limits.now.depth }
 {
     *meter = Meter {
@@ -134,7 +134,7 @@ fn is_reasoned<T: Tape>(
     limits: &Limits,
     row: &Row,
 ) -> Result<(), Fail>
-    requires tapes { BenchHasCells T.strip limits.now.cells bench.old }
+    requires tapes { BenchHasCells T.view limits.now.cells bench.old }
     requires path { depth_of bench.old.path ≡ limits.now.depth }
 {
     let (text, _, verdict, steps, most_nodes) = row;

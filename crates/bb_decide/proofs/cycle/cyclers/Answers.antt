@@ -11,5 +11,5 @@ returns-clause-sure g c =
 pub returns-clause-few_cells : goal.returns-clause-few_cells
 returns-clause-few_cells g c =
     if_ok_map c.run-found.result _ _
-    (finds_in_few_cells c.args.machine.now c.args.limits.now c.states-states.ensures.machine)
+    (finds_in_few_cells c.args.machine.now c.args.limits.now c.show_machine.ensures.machine)
     c.run-found.ensures.found

@@ -10,9 +10,9 @@ use Rattle.bb_decide.proofs.cycle.run.Given as goal
 -- step that is twice its own; no step up to here is a cycle
 abbrev pub invariant-loop-runner : goal.invariant-loop-runner
 invariant-loop-runner g l = record {
-  stands : Stands l.machine l.runner (g.T.Tape.strip l.bench.run);
-  kept : Stands l.machine l.kept (g.T.Tape.strip l.bench.right);
-  tapes : BenchHasCells g.T.Tape.strip l.limits.cells l.bench;
+  stands : Stands l.machine l.runner (g.T.Tape.view l.bench.run);
+  kept : Stands l.machine l.kept (g.T.Tape.view l.bench.right);
+  tapes : BenchHasCells g.T.Tape.view l.limits.cells l.bench;
   path : l.bench.path ≡ l.fn.bench.path;
   steps : steps_of l.runner ≤ l.limits.steps;
   meter : CountsTo l.machine (steps_of l.runner) l.fn.meter l.meter;

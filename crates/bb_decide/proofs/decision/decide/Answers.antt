@@ -16,7 +16,7 @@ returns-in-Halt-clause-counted g c =
 pub returns-in-Some-clause-never : goal.returns-in-Some-clause-never
 returns-in-Some-clause-never g c = λ says.
     let claim = rw c.in-Some.is at c.in_ok-verdict.ensures.claim in
-    claims_never_halt _ _ c.states-read.ensures.machine says claim
+    claims_never_halt _ _ c.show_machine.ensures.machine says claim
 
 pub returns-in-Some-clause-counted : goal.returns-in-Some-clause-counted
 returns-in-Some-clause-counted g c = elim c.match-branch-2.branch [
@@ -80,43 +80,43 @@ pub returns-in-None-clause-confirmed : goal.returns-in-None-clause-confirmed
 returns-in-None-clause-confirmed g c = λ claims. absurd (claims tt)
 
 pub returns-in-Halt-clause-line : goal.returns-in-Halt-clause-line
-returns-in-Halt-clause-line g c = (c.states-read.ensures.machine, search rules, refl)
+returns-in-Halt-clause-line g c = (c.show_machine.ensures.machine, search rules, refl)
 
 pub returns-in-Some-clause-line : goal.returns-in-Some-clause-line
 returns-in-Some-clause-line g c =
-    (c.states-read.ensures.machine, rw c.in-Some.is at c.in_ok-verdict.ensures.numbers, refl)
+    (c.show_machine.ensures.machine, rw c.in-Some.is at c.in_ok-verdict.ensures.numbers, refl)
 
 pub returns-in-None-clause-line : goal.returns-in-None-clause-line
-returns-in-None-clause-line g c = (c.states-read.ensures.machine, tt, refl)
+returns-in-None-clause-line g c = (c.show_machine.ensures.machine, tt, refl)
 
 pub returns-in-Halt-clause-earlier : goal.returns-in-Halt-clause-earlier
 returns-in-Halt-clause-earlier g c = λ lower earlier within is.
     let outcome = rw c.in-Halt.is at c.in_ok-steps.ensures.outcome in
     larger_limits_keep c.args.machine.now lower c.args.limits.now c.args.plan earlier (Halt _ _)
-    c.states-read.ensures.machine within is outcome
+    c.show_machine.ensures.machine within is outcome
 
 pub returns-in-Some-clause-earlier : goal.returns-in-Some-clause-earlier
 returns-in-Some-clause-earlier g c = λ lower earlier within is.
     larger_limits_keep c.args.machine.now lower c.args.limits.now c.args.plan earlier _
-    c.states-read.ensures.machine within is (returns-in-Some-clause-verdict g c)
+    c.show_machine.ensures.machine within is (returns-in-Some-clause-verdict g c)
 
 pub returns-in-None-clause-earlier : goal.returns-in-None-clause-earlier
 returns-in-None-clause-earlier g c = λ lower earlier within is.
     larger_limits_keep c.args.machine.now lower c.args.limits.now c.args.plan earlier _
-    c.states-read.ensures.machine within is (returns-in-None-clause-verdict g c)
+    c.show_machine.ensures.machine within is (returns-in-None-clause-verdict g c)
 
 pub returns-in-Halt-clause-few_cells : goal.returns-in-Halt-clause-few_cells
 returns-in-Halt-clause-few_cells g c =
     let outcome = rw c.in-Halt.is at c.in_ok-steps.ensures.outcome in
     few_cells_are_decided c.args.machine.now c.args.limits.now c.args.plan (Halt _ _)
-    c.states-read.ensures.machine outcome
+    c.show_machine.ensures.machine outcome
 
 pub returns-in-Some-clause-few_cells : goal.returns-in-Some-clause-few_cells
 returns-in-Some-clause-few_cells g c =
-    few_cells_are_decided c.args.machine.now c.args.limits.now c.args.plan _ c.states-read.ensures.machine
+    few_cells_are_decided c.args.machine.now c.args.limits.now c.args.plan _ c.show_machine.ensures.machine
     (returns-in-Some-clause-verdict g c)
 
 pub returns-in-None-clause-few_cells : goal.returns-in-None-clause-few_cells
 returns-in-None-clause-few_cells g c =
-    few_cells_are_decided c.args.machine.now c.args.limits.now c.args.plan _ c.states-read.ensures.machine
+    few_cells_are_decided c.args.machine.now c.args.limits.now c.args.plan _ c.show_machine.ensures.machine
     (returns-in-None-clause-verdict g c)

@@ -145,8 +145,8 @@ found_here g c =
     let looks = rw c.in-Some-2.is at c.in_ok-verdict.ensures.looks in
     is_found _ _ _ _ moves.0 here.none _ _ _ _
     (one_ends here.right here.left here.right_side here.left_side stands moves.0 right_is left_is
-    c.look_on.new.right c.look_on.new.left (g.T.Tape.strip c.look_on.new.saved_right)
-    (g.T.Tape.strip c.look_on.new.saved_left) c.in-Some-widened_side.side just _ looks)
+    c.look_on.new.right c.look_on.new.left (g.T.Tape.view c.look_on.new.saved_right)
+    (g.T.Tape.view c.look_on.new.saved_left) c.in-Some-widened_side.side just _ looks)
     reaches.0 (rw moves.0 (counts_next _ _ _ _ _ here.meter moves.1))
 
 pub returns-in-Some-2-clause-found : goal.returns-in-Some-2-clause-found
@@ -176,8 +176,8 @@ loop-runner-preserved g c =
     let reaches = rw c.in-Stepped.is at c.in_ok-advance.ensures.reaches in
     let looks = rw c.in-None.is at c.in_ok-verdict.ensures.looks in
     let both = both_go_on here.right here.left here.right_side here.left_side stands moves.0 right_is left_is
-    c.look_on.new.right c.look_on.new.left (g.T.Tape.strip c.look_on.new.saved_right)
-    (g.T.Tape.strip c.look_on.new.saved_left) c.in-Some-widened_side.side just looks in
+    c.look_on.new.right c.look_on.new.left (g.T.Tape.view c.look_on.new.saved_right)
+    (g.T.Tape.view c.look_on.new.saved_left) c.in-Some-widened_side.side just looks in
     record {
       stands = stands;
       right = both.right_goes_on.searched;

@@ -12,12 +12,12 @@ use Rattle.bb_decide.proofs.translation.run.Given as goal
 -- with its partner
 abbrev pub invariant-loop-runner : goal.invariant-loop-runner
 invariant-loop-runner g l = record {
-  stands : Stands l.machine l.runner (g.T.Tape.strip l.bench.run);
-  right : IsSearched l.machine (steps_of l.runner) l.right (g.T.Tape.strip l.bench.right);
-  left : IsSearched l.machine (steps_of l.runner) l.left (g.T.Tape.strip l.bench.left);
+  stands : Stands l.machine l.runner (g.T.Tape.view l.bench.run);
+  right : IsSearched l.machine (steps_of l.runner) l.right (g.T.Tape.view l.bench.right);
+  left : IsSearched l.machine (steps_of l.runner) l.left (g.T.Tape.view l.bench.left);
   right_side : l.right.side ≡ R;
   left_side : l.left.side ≡ L;
-  tapes : BenchHasCells g.T.Tape.strip l.limits.cells l.bench;
+  tapes : BenchHasCells g.T.Tape.view l.limits.cells l.bench;
   path : l.bench.path ≡ l.fn.bench.path;
   steps : steps_of l.runner ≤ l.limits.steps;
   meter : CountsTo l.machine (steps_of l.runner) l.fn.meter l.meter;

@@ -10,5 +10,5 @@ abbrev pub invariant-loop-i : goal.invariant-loop-i
 invariant-loop-i g l = record {
   unmarked : is_marked l.writer ≡ false;
   sent : Sends (g.W.Write.contents (watched_inner l.fn.writer)) (g.W.Write.contents (watched_inner l.writer))
-      l.fn.waiting.items l.waiting.items (cells_text (g.T.Tape.strip l.tape).content (low_of l.runner) l.i);
+      l.fn.waiting.items l.waiting.items (cells_text (g.T.Tape.view l.tape).content (low_of l.runner) l.i);
 }

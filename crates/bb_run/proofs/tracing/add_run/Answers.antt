@@ -12,7 +12,7 @@ pub advance-requires-clause-room : goal.advance-requires-clause-room
 advance-requires-clause-room g c =
     let few = c.loop-runner.invariant.steps in
     let same = c.loop-runner.invariant.meter in
-    let most = c.steps-accepted.ensures.accepted.steps in
+    let most = c.show_accepted.ensures.accepted.steps in
     omega (arith, few, same, most)
 
 pub loop-runner-preserved : goal.loop-runner-preserved

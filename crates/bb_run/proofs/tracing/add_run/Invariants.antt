@@ -8,8 +8,8 @@ use Rattle.bb_run.proofs.tracing.add_run.Given as goal
 -- the runner stands within the limits, and the lines of the steps before are sent
 abbrev pub invariant-loop-runner : goal.invariant-loop-runner
 invariant-loop-runner g l = record {
-  stands : Stands l.machine l.runner (g.T.Tape.strip l.tape);
-  limit : (g.T.Tape.strip l.tape).limit ≡ l.limits.cells;
+  stands : Stands l.machine l.runner (g.T.Tape.view l.tape);
+  limit : (g.T.Tape.view l.tape).limit ≡ l.limits.cells;
   steps : steps_of l.runner ≤ l.limits.steps;
   meter : l.meter.steps ≡ steps_of l.runner;
   unmarked : is_marked l.writer ≡ false;

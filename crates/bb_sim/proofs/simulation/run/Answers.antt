@@ -1,6 +1,6 @@
 use Rattle.std.proofs.Common.{◌+◌, refl, ap, ◌∙◌, arith}
 use Rattle.bb_tape.specs.Content.{score}
-use Rattle.bb_tape.specs.Strip.{Strip}
+use Rattle.bb_tape.specs.TapeView.{TapeView}
 use Rattle.bb_sim.specs.Meter.{stepped}
 use Rattle.bb_sim.specs.Span.{span}
 use Rattle.bb_sim.proofs.Outcomes.{inside_here, halts_last, steps_last, cells_last, no_halt_inside}
@@ -30,7 +30,7 @@ returns-in-Halted-clause-outcome g c =
     let inside =
     inside_here _ _ _ _ here.stands (g.met.T.Tape.sound c.loop-runner.tape) here.limit here.steps in
     halted_end _ _ _ _ here.stands inside halts _ _ (c.steps.ensures ∙ ap (λ r. r.steps) stays.runner)
-    (c.score.ensures ∙ ap (λ (s : Strip). score s.content) stays.strip)
+    (c.score.ensures ∙ ap (λ (s : TapeView). score s.content) stays.view)
 
 pub returns-in-Halted-clause-counted : goal.returns-in-Halted-clause-counted
 returns-in-Halted-clause-counted g c =

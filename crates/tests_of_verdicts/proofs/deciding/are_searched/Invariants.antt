@@ -6,6 +6,6 @@ use Rattle.tests_of_verdicts.proofs.deciding.are_searched.Given as goal
 
 abbrev pub invariant-loop-text : goal.invariant-loop-text
 invariant-loop-text g l = record {
-  tapes : BenchHasCells g.T.Tape.strip CELLS l.bench;
+  tapes : BenchHasCells g.T.Tape.view CELLS l.bench;
   path : depth_of l.bench.path ≡ 0;
 }

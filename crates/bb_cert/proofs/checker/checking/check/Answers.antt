@@ -28,5 +28,5 @@ returns-in-None-clause-never g c =
     (λ (given : Answer). given ≡ answer.Ok → SaysNever c.args.verdict.now → Never c.args.machine.now) _
     (λ given checks is says.
     let claim = subst (Checks c.args.machine.now c.args.limits.now c.args.verdict.now) is checks in
-    claims_never_halt c.args.machine.now c.args.verdict.now c.states-states.ensures.machine says claim.1)
+    claims_never_halt c.args.machine.now c.args.verdict.now c.show_machine.ensures.machine says claim.1)
     c.check_claim.ensures.checks

@@ -4,9 +4,9 @@ use Rattle.bb_cert.proofs.checker.replay.begin.Goals as goal
 
 pub returns : goal.returns
 returns g c =
-    let some = c.cells-accepted.ensures.accepted in
+    let some = c.show_accepted.ensures.accepted in
     record {
       at = begins _ _ _ _ c.args.meter.now _ c.start.ensures.stands c.start.ensures.steps
           (c.start.ensures.limit ∙ c.requires.limit) some.some_cell c.requires.meter
-          (ap (λ n. record c.args.meter.now { most_cells = n }) c.max-meter.ensures);
+          c.begin_run.ensures;
     }

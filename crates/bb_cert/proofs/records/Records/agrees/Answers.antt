@@ -1,7 +1,7 @@
 use Rattle.std.proofs.Common.{◌≡◌, ◌<ℤ◌, ◌≤ℤ◌, ℤ, pos, inr, Err, arith, ap, sym, subst, ◌∙◌, w64, of_z, rules}
 use Rattle.std.proofs.Common.{FitsSigned}
 use Rattle.std.proofs.lemmas.Int.{ints, to_z-of_z}
-use Rattle.bb_tape.specs.Strip.{Strip, IsInside, visited, width}
+use Rattle.bb_tape.specs.TapeView.{TapeView, IsInside, visited, width}
 use Rattle.bb_cert.specs.records.Follow.{HasSameCells, IsComparable, IsKeptInStateOf}
 use Rattle.bb_cert.proofs.record_lemmas.Stretches.{room_for, comparable_wider, seen_at}
 use Rattle.bb_cert.proofs.records.Records.agrees.Goals as goal
@@ -14,22 +14,22 @@ over a b h k = omega (arith, ints, h, k)
 pub unreachable-requires : goal.unreachable-requires
 unreachable-requires g c =
     let r = c.args.self.now in
-    let s = g.T.Tape.strip c.args.saved.now in
+    let s = g.T.Tape.view c.args.saved.now in
     let same = c.is_in_same_state.ensures.0 c.if-not-is_in_same_state.false in
     let comparable = c.requires.comparable
     (λ e. c.if-position-eq0.false (ap (of_z w64) (c.position.ensures ∙ e)), same.0, same.1) in
     let nearest_fits : FitsSigned w64 r.nearest = search rules in
     let refused = simp to_z-of_z at c.in_default.ensures.cells in
     over (pos s.limit) (width (visited s r.nearest)) (refused.0 (ap Err c.in_default.ensures.memory))
-    (room_for s (g.T.Tape.strip c.args.run.now) r.nearest (g.met.T.Tape.sound c.args.run.now)
+    (room_for s (g.T.Tape.view c.args.run.now) r.nearest (g.met.T.Tape.sound c.args.run.now)
     c.requires.limit comparable.low comparable.high comparable.far_seen)
 
 -- a record is kept in this state, whose tape was widened, and can be compared
 record Widened (g : given.Over) (c : goal.In-Ok g) : Type 0 where
   kept : IsKeptInStateOf c.args.self.now c.args.runner.now
-  comparable : IsComparable c.args.self.now c.args.runner.now (g.T.Tape.strip c.args.saved.now)
-      (g.T.Tape.strip c.args.run.now)
-  reached : g.T.Tape.strip c.reach.new.tape ≡ visited (g.T.Tape.strip c.args.saved.now)
+  comparable : IsComparable c.args.self.now c.args.runner.now (g.T.Tape.view c.args.saved.now)
+      (g.T.Tape.view c.args.run.now)
+  reached : g.T.Tape.view c.widen_to.new.tape ≡ visited (g.T.Tape.view c.args.saved.now)
       c.args.self.now.nearest
 
 widened : (g : given.Over) (c : goal.In-Ok g) → Widened g c
@@ -44,7 +44,7 @@ widened g c =
 pub has_same_cells-requires-clause-comparable : goal.has_same_cells-requires-clause-comparable
 has_same_cells-requires-clause-comparable g c =
     let is = widened g c in
-    subst (λ s. IsComparable c.args.self.now c.args.runner.now s (g.T.Tape.strip c.args.run.now))
+    subst (λ s. IsComparable c.args.self.now c.args.runner.now s (g.T.Tape.view c.args.run.now))
     (sym is.reached)
     (comparable_wider is.comparable)
 
@@ -52,15 +52,15 @@ pub has_same_cells-requires-clause-far : goal.has_same_cells-requires-clause-far
 has_same_cells-requires-clause-far g c =
     let is = widened g c in
     subst (λ s. IsInside s c.args.self.now.nearest) (sym is.reached)
-    (seen_at (g.T.Tape.strip c.args.saved.now) c.args.self.now.nearest)
+    (seen_at (g.T.Tape.view c.args.saved.now) c.args.self.now.nearest)
 
 pub returns-clause-agree : goal.returns-clause-agree
 returns-clause-agree g c =
     let is = widened g c.before in
-    let run = (g.T.Tape.strip c.args.run.now).content in
-    let same = subst (λ (s : Strip). HasSameCells c.args.self.now c.args.runner.now s.content run)
+    let run = (g.T.Tape.view c.args.run.now).content in
+    let same = subst (λ (s : TapeView). HasSameCells c.args.self.now c.args.runner.now s.content run)
     is.reached in
-    let back = subst (λ (s : Strip). HasSameCells c.args.self.now c.args.runner.now s.content run)
+    let back = subst (λ (s : TapeView). HasSameCells c.args.self.now c.args.runner.now s.content run)
     (sym is.reached)
     in (
       λ yes. (is.kept, same (c.has_same_cells.ensures.0 yes)),

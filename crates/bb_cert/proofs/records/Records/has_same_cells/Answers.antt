@@ -43,8 +43,8 @@ length_of-length-requires-clause-to g c =
     simp to_z-of_z (rw c.position-kept.ensures n.kept)
 
 both : (g : given.Over) (c : goal.After-length_of-length g)
-    → IsCompared c.args.self.now c.args.runner.now (g.T.Tape.strip c.args.saved.now)
-    (g.T.Tape.strip c.args.run.now) c.min-from.result c.moved-run_from.result c.length_of-length.result
+    → IsCompared c.args.self.now c.args.runner.now (g.T.Tape.view c.args.saved.now)
+    (g.T.Tape.view c.args.run.now) c.min-from.result c.moved-run_from.result c.length_of-length.result
 both g c =
     let nearest_fits : FitsSigned w64 c.args.self.now.nearest = search rules in
     let kept_fits : FitsSigned w64 c.position-kept.result = search rules in

@@ -13,7 +13,7 @@ use Rattle.bb_cert.proofs.tree.walk.explore.Goals as goal
 pub returns-in_default-clause-explores : goal.returns-in_default-clause-explores
 returns-in_default-clause-explores g c = root_refused c.args.rules.now.list.items
     c.args.rules.now.starts.items c.args.root c.args.entered.now c.args.most c.enter.new.entered
-    (g.T.Tape.strip c.args.tape.now).content (g.T.Tape.strip c.enter.new.tape).content c.requires.blank
+    (g.T.Tape.view c.args.tape.now).content (g.T.Tape.view c.enter.new.tape).content c.requires.blank
     (rw c.in_default.is at c.in_ok-top.ensures.refused)
 
 pub loop-branch-init : goal.loop-branch-init
@@ -21,10 +21,10 @@ loop-branch-init g c =
     let counted = rw c.in-Some.is at c.in_ok-top.ensures.counted in
     record {
       exploring = subst (λ fs. IsExploring c.args.rules.now.list.items c.args.rules.now.starts.items
-          c.args.root c.args.entered.now c.args.most (g.T.Tape.strip c.enter.new.tape) c.in-Some.top fs
+          c.args.root c.args.entered.now c.args.most (g.T.Tape.view c.enter.new.tape) c.in-Some.top fs
           c.enter.new.entered) (sym c.clear.ensures.frames)
-          (exploring_begins _ _ c.args.root c.args.entered.now c.args.most (g.T.Tape.strip c.args.tape.now)
-          (g.T.Tape.strip c.enter.new.tape) c.in-Some.top c.enter.new.entered c.requires.rules
+          (exploring_begins _ _ c.args.root c.args.entered.now c.args.most (g.T.Tape.view c.args.tape.now)
+          (g.T.Tape.view c.enter.new.tape) c.in-Some.top c.enter.new.entered c.requires.rules
           c.requires.root c.requires.blank (g.met.T.Tape.sound c.args.tape.now).symbols
           (rw c.in-Some.is at c.in_ok-top.ensures.enters) counted.0 counted.2);
       room = c.enter.ensures.room;
@@ -54,7 +54,7 @@ next_branch-requires-clause-high g c = top_high _ _ _ _ _ _ _ _ _ c.loop-branch.
 pub enter-requires-in-Some-next_branch-clause-branch : goal.enter-requires-in-Some-next_branch-clause-branch
 enter-requires-in-Some-next_branch-clause-branch g c =
     subst (λ n. IsBranch (length c.args.rules.now.starts.items - 2)
-    (g.T.Tape.strip c.loop-branch.tape).content (n + 1) c.in-Some-next_branch.branch) (sym c.len.ensures)
+    (g.T.Tape.view c.loop-branch.tape).content (n + 1) c.in-Some-next_branch.branch) (sym c.len.ensures)
     (branch_is _ _ _ _ _ _ _ _ _ c.loop-branch.invariant.exploring c.in-Some-next_branch.branch
     c.in-Some-next_branch.next c.in-Some-next_branch.ensures)
 
@@ -88,11 +88,11 @@ pub returns-in_default-2-clause-explores : goal.returns-in_default-2-clause-expl
 returns-in_default-2-clause-explores g c =
     branch_refused _ _ _ _ _ _ _ _ _ c.loop-branch.invariant.exploring c.in-Some-next_branch.branch
     c.in-Some-next_branch.next c.in-Some-next_branch.ensures
-    (subst (λ n. Refused (branch_node (g.T.Tape.strip c.loop-branch.tape).content
+    (subst (λ n. Refused (branch_node (g.T.Tape.view c.loop-branch.tape).content
     c.in-Some-next_branch.branch) (n + 1) c.loop-branch.entered.nodes c.args.most.nodes
     c.args.most.levels) c.len.ensures
     (rw c.in_default-2.is at c.in_ok-child-in-Some-next_branch.ensures.refused))
-    (g.T.Tape.strip c.enter-in-Some-next_branch.new.tape).content c.enter-in-Some-next_branch.new.entered
+    (g.T.Tape.view c.enter-in-Some-next_branch.new.tape).content c.enter-in-Some-next_branch.new.entered
 
 pub returns-in_default-2-clause-limit : goal.returns-in_default-2-clause-limit
 returns-in_default-2-clause-limit g c = c.enter-in-Some-next_branch.ensures.limit
@@ -116,7 +116,7 @@ loop-branch-preserved-in-Some-next_branch g c =
     record {
       exploring = exploring_descends _ _ _ _ _ _ _ _ _ c.loop-branch.invariant.exploring
           c.in-Some-next_branch.branch c.in-Some-next_branch.next c.in-Some-next_branch.ensures
-          (g.T.Tape.strip c.enter-in-Some-next_branch.new.tape) c.in-Some-2.child
+          (g.T.Tape.view c.enter-in-Some-next_branch.new.tape) c.in-Some-2.child
           c.enter-in-Some-next_branch.new.entered (frames_of c.push.new.self) c.requires.rules
           (g.met.T.Tape.sound c.loop-branch.tape).symbols enters counted.0 counted.2 c.push.ensures.frames;
       room = c.enter-in-Some-next_branch.ensures.room;
@@ -148,7 +148,7 @@ returns-in_err-leave-in-None-clause-depth g c = c.loop-branch.invariant.depth
 pub loop-branch-preserved : goal.loop-branch-preserved
 loop-branch-preserved g c = record {
   exploring = exploring_returns _ _ _ _ _ _ _ _ _ c.loop-branch.invariant.exploring c.in-None.ensures
-      (g.T.Tape.strip c.leave.new.tape) c.in_ok-leave-in-None.ensures.left c.in-Some-pop.parent
+      (g.T.Tape.view c.leave.new.tape) c.in_ok-leave-in-None.ensures.left c.in-Some-pop.parent
       (frames_of c.pop.new.self) c.in-Some-pop.ensures.frames;
   room = subst (λ s. HasRoom s c.args.most.levels) (sym c.in_ok-leave-in-None.ensures.left)
       (room_written _ _ _ _ c.loop-branch.invariant.room);
@@ -159,7 +159,7 @@ loop-branch-preserved g c = record {
 
 pub returns-in-None-pop-clause-explores : goal.returns-in-None-pop-clause-explores
 returns-in-None-pop-clause-explores g c = explored _ _ _ _ _ _ _ _ _ c.loop-branch.invariant.exploring
-    c.in-None.ensures (g.T.Tape.strip c.leave.new.tape) c.in_ok-leave-in-None.ensures.left
+    c.in-None.ensures (g.T.Tape.view c.leave.new.tape) c.in_ok-leave-in-None.ensures.left
     c.in-None-pop.ensures.frames _ refl
 
 pub returns-in-None-pop-clause-room : goal.returns-in-None-pop-clause-room

@@ -8,10 +8,10 @@ use Rattle.bb_cert.proofs.tree.walk.explore.Given as goal
 abbrev pub invariant-loop-branch : goal.invariant-loop-branch
 invariant-loop-branch g l = record {
   exploring : IsExploring l.rules.list.items l.rules.starts.items l.fn.root l.fn.entered l.most
-      (g.T.Tape.strip l.tape) l.top (frames_of l.path) l.entered;
-  room : HasRoom (g.T.Tape.strip l.tape) l.most.levels;
+      (g.T.Tape.view l.tape) l.top (frames_of l.path) l.entered;
+  room : HasRoom (g.T.Tape.view l.tape) l.most.levels;
   within : IsWithin l.most l.entered;
-  limit : (g.T.Tape.strip l.tape).limit ≡ (g.T.Tape.strip l.fn.tape).limit;
+  limit : (g.T.Tape.view l.tape).limit ≡ (g.T.Tape.view l.fn.tape).limit;
   depth : depth_of l.path ≡ depth_of l.fn.path;
 }
 

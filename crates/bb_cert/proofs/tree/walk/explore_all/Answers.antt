@@ -39,7 +39,7 @@ returns-then-not-branch-clause-walked g c =
     root_stops c.args.machine.now c.gather.new.self.list.items c.deref-in-loop-index.result.now _
     c.gather.ensures.rules c.deref-in-loop-index.ensures.0 c.loop-index.index _
     (before_end _ _ _ ends c.loop-index-test.true) c.gather.ensures.rules.halting.within
-    c.loop-index.entered c.explore.new.entered c.args.most (g.T.Tape.strip c.explore.new.tape).content
+    c.loop-index.entered c.explore.new.entered c.args.most (g.T.Tape.view c.explore.new.tape).content
     (rw e at c.in_ok-explore.ensures.explores) c.loop-index.invariant.walked
 
 pub loop-index-preserved : goal.loop-index-preserved

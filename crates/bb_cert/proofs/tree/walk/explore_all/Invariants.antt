@@ -11,9 +11,9 @@ invariant-loop-index g l = record {
   walked : IsWalked l.machine
       (map halting_node (slice_range l.rules.list.items l.index
       (slice_index l.rules.starts.items (length l.machine + 1))) ∷ []) l.entered.nodes l.entered.levels;
-  blank : (g.T.Tape.strip l.tape).content ≡ blank;
-  room : HasRoom (g.T.Tape.strip l.tape) l.most.levels;
+  blank : (g.T.Tape.view l.tape).content ≡ blank;
+  room : HasRoom (g.T.Tape.view l.tape) l.most.levels;
   within : IsWithin l.most l.entered;
-  limit : (g.T.Tape.strip l.tape).limit ≡ (g.T.Tape.strip l.fn.tape).limit;
+  limit : (g.T.Tape.view l.tape).limit ≡ (g.T.Tape.view l.fn.tape).limit;
   depth : depth_of l.path ≡ depth_of l.fn.path;
 }

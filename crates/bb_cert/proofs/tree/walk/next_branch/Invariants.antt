@@ -3,6 +3,6 @@ use Rattle.bb_cert.specs.inside.Walk.{branches}
 use Rattle.bb_cert.proofs.tree.walk.next_branch.Given as goal
 
 abbrev pub invariant-loop-index : goal.invariant-loop-index
-invariant-loop-index g l = let content = (g.T.Tape.strip l.tape).content in
+invariant-loop-index g l = let content = (g.T.Tape.view l.tape).content in
     branches l.rules.list.items content l.frame ≡ branches l.rules.list.items content
     (record l.frame { next = l.index })

@@ -43,7 +43,7 @@ returns-clause-before g c =
 
 pub returns-in_default-clause-answers : goal.returns-in_default-clause-answers
 returns-in_default-clause-answers g c =
-    halts_undefined c.args.machine.now c.args.self.now (g.T.Tape.strip c.args.tape.now) c.requires.stands
+    halts_undefined c.args.machine.now c.args.self.now (g.T.Tape.view c.args.tape.now) c.requires.stands
     (rw c.in_default.is refl)
 
 pub returns-in_default-clause-reaches : goal.returns-in_default-clause-reaches
@@ -60,17 +60,17 @@ read_inside-symbol-requires g c =
     let is = c.in-State.is in
     let running_here : old.state ≢ Halt = λ e. cc in
     simp to_z-of_z
-    (head_inside c.args.machine.now old (g.T.Tape.strip c.args.tape.now) c.requires.stands running_here)
+    (head_inside c.args.machine.now old (g.T.Tape.view c.args.tape.now) c.requires.stands running_here)
 
 pub returns-then-self-steps-clause-answers : goal.returns-then-self-steps-clause-answers
 returns-then-self-steps-clause-answers g c =
     let table = c.args.machine.now in
     let old = c.args.self.now in
-    let strip = g.T.Tape.strip c.args.tape.now in
+    let view = g.T.Tape.view c.args.tape.now in
     let fits : FitsSigned w64 old.position = search rules in
-    let by = goes table old strip c.in-State.state c.read_inside-symbol.result c.in-Some.step c.in-State.is
+    let by = goes table old view c.in-State.state c.read_inside-symbol.result c.in-Some.step c.in-State.is
     (simp to_z-of_z at c.read_inside-symbol.ensures) c.in-Some.ensures.value c.in-Some.ensures.named in
-    (moves_on table old strip _ _ _ c.requires.stands by.here, cc)
+    (moves_on table old view _ _ _ c.requires.stands by.here, cc)
 
 pub returns-then-self-steps-clause-reaches : goal.returns-then-self-steps-clause-reaches
 returns-then-self-steps-clause-reaches g c =
@@ -83,13 +83,13 @@ pub moved_by-position-requires : goal.moved_by-position-requires
 moved_by-position-requires g c =
     let table = c.args.machine.now in
     let old = c.args.self.now in
-    let strip = g.T.Tape.strip c.args.tape.now in
+    let view = g.T.Tape.view c.args.tape.now in
     let fits : FitsSigned w64 old.position = search rules in
-    let by = goes table old strip c.in-State.state c.read_inside-symbol.result c.in-Some.step c.in-State.is
+    let by = goes table old view c.in-State.state c.read_inside-symbol.result c.in-Some.step c.in-State.is
     (simp to_z-of_z at c.read_inside-symbol.ensures) c.in-Some.ensures.value c.in-Some.ensures.named in
     let near =
-    near_head table old strip by.dir c.requires.stands
-    (running table old strip _ _ _ c.requires.stands by.here) (g.met.T.Tape.sound c.args.tape.now) in
+    near_head table old view by.dir c.requires.stands
+    (running table old view _ _ _ c.requires.stands by.here) (g.met.T.Tape.sound c.args.tape.now) in
     let low = near.small.0 in
     let high = near.small.1 in
     record { low = omega (arith, ints); high = omega (arith, ints) }
@@ -100,7 +100,7 @@ enter-requires-clause-near g c =
     let fits : FitsSigned w64 old.position = search rules in
     let offset_fits : FitsSigned w8 c.in-Some.step.offset = search rules in
     let result_fits : FitsSigned w64 c.moved_by-position.result = search rules in
-    let led = leads old (g.T.Tape.strip c.args.tape.now) c.in-State.is
+    let led = leads old (g.T.Tape.view c.args.tape.now) c.in-State.is
     (simp to_z-of_z at c.read_inside-symbol.ensures) c.in-Some.ensures.value c.in-Some.ensures.named
     (simp to_z-of_z at c.moved_by-position.ensures) in
     let near =
@@ -114,7 +114,7 @@ returns-then-not-enter-clause-answers g c =
     let fits : FitsSigned w64 old.position = search rules in
     let offset_fits : FitsSigned w8 c.in-Some.step.offset = search rules in
     let result_fits : FitsSigned w64 c.moved_by-position.result = search rules in
-    let led = leads old (g.T.Tape.strip c.args.tape.now) c.in-State.is
+    let led = leads old (g.T.Tape.view c.args.tape.now) c.in-State.is
     (simp to_z-of_z at c.read_inside-symbol.ensures) c.in-Some.ensures.value c.in-Some.ensures.named
     (simp to_z-of_z at c.moved_by-position.ensures) in
     let full = rw led.there at (simp to_z-of_z at c.if-not-enter.ensures.0) in
@@ -140,7 +140,7 @@ step_to-requires-clause-inside g c =
     let fits : FitsSigned w64 old.position = search rules in
     let offset_fits : FitsSigned w8 c.in-Some.step.offset = search rules in
     let result_fits : FitsSigned w64 c.moved_by-position.result = search rules in
-    let led = leads old (g.T.Tape.strip c.args.tape.now) c.in-State.is
+    let led = leads old (g.T.Tape.view c.args.tape.now) c.in-State.is
     (simp to_z-of_z at c.read_inside-symbol.ensures) c.in-Some.ensures.value c.in-Some.ensures.named
     (simp to_z-of_z at c.moved_by-position.ensures) in
     let near =
@@ -148,7 +148,7 @@ step_to-requires-clause-inside g c =
     (g.met.T.Tape.sound c.args.tape.now) in
     let wider : IsWidened old c.enter.new.self c.moved_by-position.result =
     simp to_z-of_z at c.if-not-enter.ensures.2 in
-    rw wider.head (inside_visited (g.T.Tape.strip c.args.tape.now) _ _ old.position
+    rw wider.head (inside_visited (g.T.Tape.view c.args.tape.now) _ _ old.position
     (simp to_z-of_z at c.if-not-enter.ensures.1) near.here)
 
 pub returns-in_default-step_to-clause-wanted : goal.returns-in_default-step_to-clause-wanted
@@ -157,7 +157,7 @@ returns-in_default-step_to-clause-wanted g c =
     let fits : FitsSigned w64 old.position = search rules in
     let offset_fits : FitsSigned w8 c.in-Some.step.offset = search rules in
     let result_fits : FitsSigned w64 c.moved_by-position.result = search rules in
-    let led = leads old (g.T.Tape.strip c.args.tape.now) c.in-State.is
+    let led = leads old (g.T.Tape.view c.args.tape.now) c.in-State.is
     (simp to_z-of_z at c.read_inside-symbol.ensures) c.in-Some.ensures.value c.in-Some.ensures.named
     (simp to_z-of_z at c.moved_by-position.ensures) in
     wanted _ _ _ _ _ _ c.requires.stands led.here c.args.limits.now (λ e. c.if-self-steps.false cc)
@@ -166,15 +166,15 @@ returns-in_default-step_to-clause-wanted g c =
 -- what all clauses of a step follow from
 made_here : (g : given.Over) (c : goal.In-Ok g)
     → Made c.args.machine.now c.args.limits.now c.args.self.now c.step_to.new.self
-    (g.T.Tape.strip c.args.tape.now) (g.T.Tape.strip c.step_to.new.tape) c.args.meter.now c.step_to.new.meter
+    (g.T.Tape.view c.args.tape.now) (g.T.Tape.view c.step_to.new.tape) c.args.meter.now c.step_to.new.meter
 made_here g c =
     let table = c.args.machine.now in
-    let strip = g.T.Tape.strip c.args.tape.now in
+    let view = g.T.Tape.view c.args.tape.now in
     let old = c.args.self.now in
     let fits : FitsSigned w64 old.position = search rules in
     let offset_fits : FitsSigned w8 c.in-Some.step.offset = search rules in
     let result_fits : FitsSigned w64 c.moved_by-position.result = search rules in
-    let led = leads old (g.T.Tape.strip c.args.tape.now) c.in-State.is
+    let led = leads old (g.T.Tape.view c.args.tape.now) c.in-State.is
     (simp to_z-of_z at c.read_inside-symbol.ensures) c.in-Some.ensures.value c.in-Some.ensures.named
     (simp to_z-of_z at c.moved_by-position.ensures) in
     let visited_is = simp to_z-of_z at c.if-not-enter.ensures.1 in
@@ -184,11 +184,11 @@ made_here g c =
     let steps : StepsTo c.enter.new.self c.step_to.new.self (State
     c.in-Some.step.state) c.moved_by-position.result = simp to_z-of_z at c.in-Ok.ensures.steps in
     let stepped_is =
-    into_state table old strip c.in-Some.step.write led.dir c.in-Some.step.state c.requires.stands led.here
-    c.enter.new.self c.step_to.new.self (g.T.Tape.strip c.enter.new.tape) (g.T.Tape.strip c.step_to.new.tape)
+    into_state table old view c.in-Some.step.write led.dir c.in-Some.step.state c.requires.stands led.here
+    c.enter.new.self c.step_to.new.self (g.T.Tape.view c.enter.new.tape) (g.T.Tape.view c.step_to.new.tape)
     c.moved_by-position.result led.there wider visited_is steps c.in-Ok.ensures.written in
-    made table old strip c.in-Some.step.write led.dir (State c.in-Some.step.state) c.requires.stands led.here
-    c.args.limits.now c.step_to.new.self (g.T.Tape.strip c.step_to.new.tape) c.args.meter.now
+    made table old view c.in-Some.step.write led.dir (State c.in-Some.step.state) c.requires.stands led.here
+    c.args.limits.now c.step_to.new.self (g.T.Tape.view c.step_to.new.tape) c.args.meter.now
     c.step_to.new.meter (g.met.T.Tape.sound c.args.tape.now) led.named c.requires.limit c.requires.steps
     (λ e. c.if-self-steps.false cc) room stepped_is
     (c.in-Ok.ensures.counted

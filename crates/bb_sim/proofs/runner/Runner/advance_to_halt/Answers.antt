@@ -60,7 +60,7 @@ step_to-requires-clause-symbol g c =
     let nowhere : GoesNowhere table (Go c.in-Go.write c.in-Go.dir c.in-Go.next) =
     rw c.in-Go.is at c.requires.nowhere in
     let named =
-    (fits_Z (g.T.Tape.strip c.args.tape.now) c.in-Go.write c.in-Go.dir c.in-Go.next table (pos 0)
+    (fits_Z (g.T.Tape.view c.args.tape.now) c.in-Go.write c.in-Go.dir c.in-Go.next table (pos 0)
     (g.met.T.Tape.sound c.args.tape.now) nowhere).1 in
     omega (arith, named.0, c.requires.machine.symbols)
 
@@ -68,23 +68,23 @@ pub returns-in_default-step_to-clause-wanted : goal.returns-in_default-step_to-c
 returns-in_default-step_to-clause-wanted g c =
     let table = c.args.machine.now in
     let old = c.args.self.now in
-    let strip = g.T.Tape.strip c.args.tape.now in
+    let view = g.T.Tape.view c.args.tape.now in
     let nowhere : GoesNowhere table (Go c.in-Go.write c.in-Go.dir c.in-Go.next) =
     rw c.in-Go.is at c.requires.nowhere in
     let here = sym c.in-Go.is ∙ c.requires.entry in
     let fits =
-    (fits_Z strip c.in-Go.write c.in-Go.dir c.in-Go.next table (beside c.in-Go.dir old.position)
+    (fits_Z view c.in-Go.write c.in-Go.dir c.in-Go.next table (beside c.in-Go.dir old.position)
     (g.met.T.Tape.sound c.args.tape.now) nowhere).0 in
-    wanted table old strip c.in-Go.write c.in-Go.dir c.in-Go.next c.requires.stands here c.args.limits.now
+    wanted table old view c.in-Go.write c.in-Go.dir c.in-Go.next c.requires.stands here c.args.limits.now
     (λ e. c.if-self-steps.false cc) c.requires.limit fits
 
 made_here : (g : given.Over) (c : goal.In-Ok g)
     → Made c.args.machine.now c.args.limits.now c.args.self.now c.step_to.new.self
-    (g.T.Tape.strip c.args.tape.now) (g.T.Tape.strip c.step_to.new.tape) c.args.meter.now c.step_to.new.meter
+    (g.T.Tape.view c.args.tape.now) (g.T.Tape.view c.step_to.new.tape) c.args.meter.now c.step_to.new.meter
 made_here g c =
     let table = c.args.machine.now in
     let old = c.args.self.now in
-    let strip = g.T.Tape.strip c.args.tape.now in
+    let view = g.T.Tape.view c.args.tape.now in
     let sound = g.met.T.Tape.sound c.args.tape.now in
     let nowhere : GoesNowhere table (Go c.in-Go.write c.in-Go.dir c.in-Go.next) =
     rw c.in-Go.is at c.requires.nowhere in
@@ -95,14 +95,14 @@ made_here g c =
     let steps : StepsTo old c.step_to.new.self c.in-Go.next (beside c.in-Go.dir old.position) =
     rw there at (simp to_z-of_z at c.in-Ok.ensures.steps) in
     let end =
-    fits_Z strip c.in-Go.write c.in-Go.dir c.in-Go.next table (beside c.in-Go.dir old.position)
+    fits_Z view c.in-Go.write c.in-Go.dir c.in-Go.next table (beside c.in-Go.dir old.position)
     sound nowhere in
     let here = sym c.in-Go.is ∙ c.requires.entry in
     let stepped_is =
-    into_Z table old strip c.in-Go.write c.in-Go.dir c.in-Go.next c.requires.stands here sound nowhere
-    c.step_to.new.self (g.T.Tape.strip c.step_to.new.tape) steps c.in-Ok.ensures.written in
-    made table old strip c.in-Go.write c.in-Go.dir c.in-Go.next c.requires.stands here c.args.limits.now
-    c.step_to.new.self (g.T.Tape.strip c.step_to.new.tape) c.args.meter.now c.step_to.new.meter
+    into_Z table old view c.in-Go.write c.in-Go.dir c.in-Go.next c.requires.stands here sound nowhere
+    c.step_to.new.self (g.T.Tape.view c.step_to.new.tape) steps c.in-Ok.ensures.written in
+    made table old view c.in-Go.write c.in-Go.dir c.in-Go.next c.requires.stands here c.args.limits.now
+    c.step_to.new.self (g.T.Tape.view c.step_to.new.tape) c.args.meter.now c.step_to.new.meter
     sound end.1 c.requires.limit c.requires.steps (λ e. c.if-self-steps.false cc) end.0 stepped_is
     (c.in-Ok.ensures.counted ∙ ap (stepped c.args.meter.now) (cells_stay old c.step_to.new.self _ _ steps))
 

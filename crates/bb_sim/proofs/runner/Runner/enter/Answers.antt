@@ -1,6 +1,6 @@
 use Rattle.std.proofs.Common.{◌≡◌, ◌<ℤ◌, ◌≤ℤ◌, ◌+ℤ◌, pos, refl, sym, ◌∙◌, w64, FitsSigned, IsTrue, rules}
 use Rattle.std.proofs.lemmas.Int.{to_z-of_z}
-use Rattle.bb_tape.specs.Strip.{IsInside}
+use Rattle.bb_tape.specs.TapeView.{IsInside}
 use Rattle.bb_sim.specs.Runner.{low_of, high_of}
 use Rattle.bb_sim.proofs.Positions.{min-same, max-same}
 use Rattle.bb_sim.proofs.Standing.{inside_fits, inside_stays, room_left, fits_next, next_above, low_grows}
@@ -10,15 +10,15 @@ use Rattle.bb_sim.proofs.runner.Runner.enter.Goals as goal
 pub returns-then-is_inside : goal.returns-then-is_inside
 returns-then-is_inside g c =
     let runner = c.args.self.now in
-    let strip = g.T.Tape.strip c.args.tape.now in
+    let view = g.T.Tape.view c.args.tape.now in
     let sound = g.met.T.Tape.sound c.args.tape.now in
     let position_fits : FitsSigned w64 c.args.position = c.ranges.position in
     let test = simp to_z-of_z at c.is_inside.ensures in
     let yes : IsTrue c.is_inside.result = search rules in
     let inside = test.0 yes in
-    let here : IsInside strip c.args.position = (rw c.requires.low inside.0, rw c.requires.high inside.1) in (
-      inside_fits strip c.args.position sound here,
-      sym (inside_stays strip c.args.position here),
+    let here : IsInside view c.args.position = (rw c.requires.low inside.0, rw c.requires.high inside.1) in (
+      inside_fits view c.args.position sound here,
+      sym (inside_stays view c.args.position here),
       record {
         state = refl;
         head = refl;
@@ -31,20 +31,20 @@ returns-then-is_inside g c =
 pub widen_high-requires-clause-room : goal.widen_high-requires-clause-room
 widen_high-requires-clause-room g c =
     let runner = c.args.self.now in
-    let strip = g.T.Tape.strip c.args.tape.now in
-    room_left runner strip c.args.position (g.met.T.Tape.sound c.args.tape.now) c.requires.low c.requires.high
+    let view = g.T.Tape.view c.args.tape.now in
+    room_left runner view c.args.position (g.met.T.Tape.sound c.args.tape.now) c.requires.low c.requires.high
     (λ e. c.if-self-cells.false (e ∙ c.requires.limit ∙ sym c.cells.ensures.value))
 
 pub returns-then-position-self : goal.returns-then-position-self
 returns-then-position-self g c =
     let runner = c.args.self.now in
-    let strip = g.T.Tape.strip c.args.tape.now in
+    let view = g.T.Tape.view c.args.tape.now in
     let sound = g.met.T.Tape.sound c.args.tape.now in
     let position_fits : FitsSigned w64 c.args.position = c.ranges.position in
     let low_fits : FitsSigned w64 runner.low = search rules in
     let below : c.args.position <ℤ runner.low = search rules in
     let near : runner.low ≤ℤ (c.args.position +ℤ pos 1) = rw (← c.requires.low) c.requires.near.0 in (
-      fits_next runner strip c.args.position sound c.requires.low c.requires.high
+      fits_next runner view c.args.position sound c.requires.low c.requires.high
           (λ e. c.if-self-cells.false (e ∙ c.requires.limit ∙ sym c.cells.ensures.value)) c.requires.near,
       simp to_z-of_z at c.widen_low.ensures,
       record {
@@ -60,7 +60,7 @@ returns-then-position-self g c =
 pub returns : goal.returns
 returns g c =
     let runner = c.args.self.now in
-    let strip = g.T.Tape.strip c.args.tape.now in
+    let view = g.T.Tape.view c.args.tape.now in
     let sound = g.met.T.Tape.sound c.args.tape.now in
     let position_fits : FitsSigned w64 c.args.position = c.ranges.position in
     let low_fits : FitsSigned w64 runner.low = search rules in
@@ -69,9 +69,9 @@ returns g c =
     let outside : (low_of runner ≤ℤ c.args.position) × (c.args.position ≤ℤ high_of runner) → ⊥ = λ h.
     let yes : IsTrue c.is_inside.result = test.1 h in absurd (search rules) in
     let next =
-    next_above runner strip c.args.position sound c.requires.low c.requires.high outside c.requires.near at in
+    next_above runner view c.args.position sound c.requires.low c.requires.high outside c.requires.near at in
     let above : c.args.position ≡ high_of runner +ℤ pos 1 = rw (← c.requires.high) next in (
-      fits_next runner strip c.args.position sound c.requires.low c.requires.high
+      fits_next runner view c.args.position sound c.requires.low c.requires.high
           (λ e. c.if-self-cells.false (e ∙ c.requires.limit ∙ sym c.cells.ensures.value)) c.requires.near,
       simp to_z-of_z at c.widen_high.ensures,
       record {

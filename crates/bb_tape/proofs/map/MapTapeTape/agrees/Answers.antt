@@ -1,7 +1,7 @@
 use Rattle.std.proofs.Common.{◌<◌, ◌∙◌, sym, arith, refl, w64, below_more}
 use Rattle.std.proofs.lemmas.Int.{to_z-of_z}
 use Rattle.bb_tape.specs.Entries.{content_of}
-use Rattle.bb_tape.specs.Windowed.{strip_of}
+use Rattle.bb_tape.specs.Windowed.{view_of}
 use Rattle.bb_tape.proofs.Sound.{stretch_begins}
 use Rattle.bb_tape.proofs.map.MapTapeTape.agrees.Goals as goal
 
@@ -9,7 +9,7 @@ pub symbol_after-requires-clause-begins : goal.symbol_after-requires-clause-begi
 symbol_after-requires-clause-begins g c =
     let a = c.args.self.now in
     rw (to_z-of_z w64 _ c.ranges.from)
-    (stretch_begins (strip_of (content_of a.cells.entries) a.window) c.args.from c.args.len c.loop-k.k
+    (stretch_begins (view_of (content_of a.cells.entries) a.window) c.args.from c.args.len c.loop-k.k
     c.requires.here c.loop-k-test.true)
 
 pub symbol_after-requires-in-loop-k-clause-begins :
@@ -17,7 +17,7 @@ pub symbol_after-requires-in-loop-k-clause-begins :
 symbol_after-requires-in-loop-k-clause-begins g c =
     let b = c.args.other.now in
     rw (to_z-of_z w64 _ c.ranges.other_from)
-    (stretch_begins (strip_of (content_of b.cells.entries) b.window) c.args.other_from c.args.len c.loop-k.k
+    (stretch_begins (view_of (content_of b.cells.entries) b.window) c.args.other_from c.args.len c.loop-k.k
     c.requires.there c.loop-k-test.true)
 
 pub loop-k-preserved : goal.loop-k-preserved

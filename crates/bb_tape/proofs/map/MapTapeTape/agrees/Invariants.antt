@@ -1,4 +1,4 @@
-use Rattle.bb_tape.specs.Strip.{AgreesFrom}
+use Rattle.bb_tape.specs.TapeView.{AgreesFrom}
 use Rattle.bb_tape.specs.Entries.{content_of}
 use Rattle.bb_tape.proofs.map.MapTapeTape.agrees.Given as goal
 

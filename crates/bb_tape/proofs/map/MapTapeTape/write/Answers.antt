@@ -3,7 +3,7 @@ use Rattle.std.proofs.lemmas.Int.{to_z-of_z}
 use Rattle.bb_tape.specs.declared.tape.TheConstants.{MAX_SYMBOL}
 use Rattle.bb_tape.specs.Content.{with_cell}
 use Rattle.bb_tape.specs.Entries.{content_of}
-use Rattle.bb_tape.specs.Windowed.{strip_of}
+use Rattle.bb_tape.specs.Windowed.{view_of}
 use Rattle.bb_tape.proofs.Sound.{sound_written}
 use Rattle.bb_tape.proofs.Kept.{content_of-updated}
 use Rattle.bb_tape.proofs.Outcome.{settled}
@@ -25,7 +25,7 @@ returns-then-v-eq0-clause-ok g c =
     let a = c.args.self.now in
     let e : content_of c.remove.new.self.entries ≡ with_cell (content_of a.cells.entries) c.args.p 0 =
     content_of-updated _ _ c.args.p _ None (to_z-of_z w64 _ c.ranges.p) c.remove.ensures.updates.0 in
-    ap (λ d. strip_of d a.window)
+    ap (λ d. view_of d a.window)
     (e ∙ ap (with_cell (content_of a.cells.entries) c.args.p) (sym c.if-v-eq0.true))
 
 pub invariant_of-self-2 : goal.invariant_of-self-2
@@ -55,4 +55,4 @@ returns-in-Ok-clause-ok g c =
     content_of-updated _ _ c.args.p _ (Some (c.args.v - 1)) (to_z-of_z w64 _ c.ranges.p)
     c.in-Ok.ensures.updates.0 in
     let v : c.args.v - 1 + 1 ≡ c.args.v = omega arith in
-    ap (λ d. strip_of d a.window) (e ∙ ap (with_cell (content_of a.cells.entries) c.args.p) v)
+    ap (λ d. view_of d a.window) (e ∙ ap (with_cell (content_of a.cells.entries) c.args.p) v)

@@ -1,8 +1,8 @@
 use Rattle.std.proofs.Common.{◌≡◌, ◌++◌, ℕ, pos, List, take, drop, length, get_or, subst, ap, sym, ◌∙◌}
 use Rattle.std.proofs.Math.Seq.{take-append_seam}
-use Rattle.bb_tape.specs.Strip.{Strip}
+use Rattle.bb_tape.specs.TapeView.{TapeView}
 use Rattle.bb_tape.specs.Ring.{IsClear, ring_content}
-use Rattle.bb_tape.specs.Windowed.{strip_of}
+use Rattle.bb_tape.specs.Windowed.{view_of}
 use Rattle.bb_tape.proofs.RingSteps.{clear_copied, ring_copied}
 use Rattle.bb_tape.proofs.ring.RingTapeTape.copy_from.Goals as goal
 
@@ -21,9 +21,9 @@ invariant_of-self c =
     ∙ ring_copied new b.cells.items v c.upper.result c.lower_at.result c.upper.ensures c.lower_at.ensures
     (λ k h. c.copy_ends.ensures.front k h ∙ ap (λ xs. get_or xs k 0) c.as_slice.ensures.value)
     (λ k h. c.copy_ends.ensures.back k h ∙ ap (λ xs. get_or xs k 0) c.as_slice.ensures.value) in
-    let low : r.window.low ≡ pos 0 = ap (λ (s : Strip). s.low) c.reset.ensures in
-    let high : r.window.high ≡ pos 0 = ap (λ (s : Strip). s.high) c.reset.ensures in
-    let limit : r.window.limit ≡ v.limit = ap (λ (s : Strip). s.limit) c.reset.ensures ∙ c.requires in
+    let low : r.window.low ≡ pos 0 = ap (λ (s : TapeView). s.low) c.reset.ensures in
+    let high : r.window.high ≡ pos 0 = ap (λ (s : TapeView). s.high) c.reset.ensures in
+    let limit : r.window.limit ≡ v.limit = ap (λ (s : TapeView). s.limit) c.reset.ensures ∙ c.requires in
     record {
       whole = ap length written ∙ c.copy_ends.ensures.length ∙ ap length c.as_mut_slice.ensures.value
           ∙ r.whole ∙ limit;
@@ -50,4 +50,4 @@ returns-clause-ok c =
     ∙ ring_copied new b.cells.items v c.upper.result c.lower_at.result c.upper.ensures c.lower_at.ensures
     (λ k h. c.copy_ends.ensures.front k h ∙ ap (λ xs. get_or xs k 0) c.as_slice.ensures.value)
     (λ k h. c.copy_ends.ensures.back k h ∙ ap (λ xs. get_or xs k 0) c.as_slice.ensures.value) in
-    ap (λ d. strip_of d v) e
+    ap (λ d. view_of d v) e

@@ -1,13 +1,13 @@
 use Rattle.std.proofs.Common.{◌≡◌, ◌<ℤ◌, ◌≤ℤ◌, ◌+ℤ◌, ℤ, pos, ap, ◌∙◌, arith, rules, to_z, of_z, w64}
 use Rattle.std.proofs.Common.{FitsSigned}
 use Rattle.std.proofs.lemmas.Int.{ints, to_z-of_z}
-use Rattle.bb_tape.specs.Strip.{visited}
+use Rattle.bb_tape.specs.TapeView.{visited}
 use Rattle.bb_tape.proofs.Facts.{visited-visited-high}
-use Rattle.bb_tape.proofs.reach.reach_high.Goals as goal
+use Rattle.bb_tape.proofs.widening.widen_up_to.Goals as goal
 
 pub loop-high-preserved : goal.loop-high-preserved
 loop-high-preserved g c =
-    let s = g.T.Tape.strip c.args.tape.now in
+    let s = g.T.Tape.view c.args.tape.now in
     let high : ℤ = to_z w64 c.loop-high.high-bits in
     let same : to_z w64 (of_z w64 c.args.p) ≡ c.args.p = to_z-of_z w64 _ c.ranges.p in
     let test : high <ℤ c.args.p = let t = rw same at c.loop-high-test.true in grind (arith, ints, t) in
@@ -18,8 +18,8 @@ loop-high-preserved g c =
     omega (arith, ints, c.loop-high.invariant.from, sound.from_zero, sound.to_zero) in
     let further : high ≤ℤ to_z w64 (of_z w64 (high +ℤ pos 1)) = omega (arith, ints, next) in
     record {
-      strip = c.widen_high.ensures
-          ∙ ap (λ x. visited x (to_z w64 (of_z w64 (high +ℤ pos 1)))) c.loop-high.invariant.strip
+      view = c.widen_high.ensures
+          ∙ ap (λ x. visited x (to_z w64 (of_z w64 (high +ℤ pos 1)))) c.loop-high.invariant.view
           ∙ visited-visited-high s high _ further order;
       to = omega (arith, ints, same, next, test);
       from = omega (arith, ints, next, c.loop-high.invariant.from);

@@ -12,24 +12,24 @@ use bb_tape::{Memory, Tape};
 /// the record is kept, if it is its turn. The records and the runner are locals of a loop: they stay in
 /// registers, since what is out of line gets copies of them.
 #[inline(always)]
-pub fn look<T: Tape>(
+pub fn look_at_record<T: Tape>(
     records: &mut Records,
     runner: &Runner,
     run: &T,
     saved: &mut T,
 ) -> Result<Option<Verdict>, Memory>
-    requires limit { (T.strip saved.old).limit ≡ (T.strip run.now).limit }
-    requires ready { IsReady records.old runner.now (T.strip saved.old) (T.strip run.now) }
-    ensures compared { IfOk result (Compares records.old runner.now (T.strip run.now) (T.strip saved.old)
-        records.new (T.strip saved.new)) }
+    requires limit { (T.view saved.old).limit ≡ (T.view run.now).limit }
+    requires ready { IsReady records.old runner.now (T.view saved.old) (T.view run.now) }
+    ensures compared { IfOk result (Compares records.old runner.now (T.view run.now) (T.view saved.old)
+        records.new (T.view saved.new)) }
     ensures numbers { IfOk result (λ found. IfSome found HasNumbers) }
     ensures side { records.new.side ≡ records.old.side }
-    ensures limit { (T.strip saved.new).limit ≡ (T.strip saved.old).limit }
+    ensures limit { (T.view saved.new).limit ≡ (T.view saved.old).limit }
     ensures memory { OnErr result (IsTrue T.GROWS) }
 {
     let mut looked = *records;
     let found = compare_and_keep(&mut looked, *runner, run, saved)?;
-    records.keep_as(&looked);
+    records.copy_kept(&looked);
     Ok(found)
 }
 
@@ -42,13 +42,13 @@ fn compare_and_keep<T: Tape>(
     run: &T,
     saved: &mut T,
 ) -> Result<Option<Verdict>, Memory>
-    requires limit { (T.strip saved.old).limit ≡ (T.strip run.now).limit }
-    requires ready { IsReady records.old runner (T.strip saved.old) (T.strip run.now) }
-    ensures compared { IfOk result (Compares records.old runner (T.strip run.now) (T.strip saved.old)
-        records.new (T.strip saved.new)) }
+    requires limit { (T.view saved.old).limit ≡ (T.view run.now).limit }
+    requires ready { IsReady records.old runner (T.view saved.old) (T.view run.now) }
+    ensures compared { IfOk result (Compares records.old runner (T.view run.now) (T.view saved.old)
+        records.new (T.view saved.new)) }
     ensures numbers { IfOk result (λ found. IfSome found HasNumbers) }
     ensures side { records.new.side ≡ records.old.side }
-    ensures limit { (T.strip saved.new).limit ≡ (T.strip saved.old).limit }
+    ensures limit { (T.view saved.new).limit ≡ (T.view saved.old).limit }
     ensures memory { OnErr result (IsTrue T.GROWS) }
 {
     if records.agrees(&runner, run, saved) {
@@ -65,6 +65,6 @@ fn compare_and_keep<T: Tape>(
     let Ok(()) = saved.copy_from(run) else {
         return Err(Memory);
     };
-    records.keep(&runner);
+    records.keep_record(&runner);
     Ok(None)
 }

@@ -1,4 +1,4 @@
-//! The tapes of one call.
+//! Rings for a whole list, made once: the only memory that the three calls on lists need.
 ghost use Rattle.std.specs.Prelude.{◌≡◌, IfOk};
 ghost use Rattle.bb_cert.specs.checker.Pair.{PairHasCells};
 ghost use Rattle.bb_cert.specs.tree.Path.{depth_of};
@@ -11,8 +11,8 @@ use bb_tape::{Memory, RingTape, Tape};
 use std::alloc::Global;
 
 /// A bench of three rings for machines under these limits.
-pub(crate) fn bench_of(alloc: Global, limits: &Limits) -> Result<Bench<RingTape>, Memory>
-    ensures tapes { IfOk result (BenchHasCells ⟦<RingTape as Tape>⟧.strip limits.now.cells) }
+pub fn ring_bench(alloc: Global, limits: &Limits) -> Result<Bench<RingTape>, Memory>
+    ensures tapes { IfOk result (BenchHasCells ⟦<RingTape as Tape>⟧.view limits.now.cells) }
     ensures path { IfOk result (λ bench. depth_of bench.path ≡ limits.now.depth) }
 {
     let cells = limits.cells();
@@ -23,8 +23,8 @@ pub(crate) fn bench_of(alloc: Global, limits: &Limits) -> Result<Bench<RingTape>
 }
 
 /// Two rings and a path for claims under these limits.
-pub(crate) fn pair_of(alloc: Global, limits: &Limits) -> Result<(Pair<RingTape>, Path), Memory>
-    ensures tapes { IfOk result (λ made. PairHasCells ⟦<RingTape as Tape>⟧.strip limits.now.cells made.0) }
+pub fn ring_pair(alloc: Global, limits: &Limits) -> Result<(Pair<RingTape>, Path), Memory>
+    ensures tapes { IfOk result (λ made. PairHasCells ⟦<RingTape as Tape>⟧.view limits.now.cells made.0) }
     ensures path { IfOk result (λ made. depth_of made.1 ≡ limits.now.depth) }
 {
     let cells = limits.cells();

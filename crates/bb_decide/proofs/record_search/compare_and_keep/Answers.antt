@@ -5,7 +5,7 @@ use Rattle.std.specs.Prelude.{◌<ℤ◌}
 use Rattle.std.proofs.lemmas.Int.{ints, to_z-of_z}
 use Rattle.bb_sim.specs.Runner.{position_of}
 use Rattle.bb_cert.proofs.Facts.{are_narrow, out_as_far}
-use Rattle.bb_decide.proofs.keeping.compare_and_keep.Goals as goal
+use Rattle.bb_decide.proofs.record_search.compare_and_keep.Goals as goal
 
 pub extent-requires-clause-nearest : goal.extent-requires-clause-nearest
 extent-requires-clause-nearest g c =

@@ -1,14 +1,14 @@
 use Rattle.std.proofs.Common.{◌≡◌, ◌≤ℤ◌, ◌-ℤ◌}
 use Rattle.std.specs.Prelude.{unsigned_abs}
-use Rattle.bb_tape.specs.Strip.{visited}
-use Rattle.bb_tape.proofs.reach.reach_high.Given as goal
+use Rattle.bb_tape.specs.TapeView.{visited}
+use Rattle.bb_tape.proofs.widening.widen_up_to.Given as goal
 
 -- the window is widened up to `high`
 abbrev pub invariant-loop-high : goal.invariant-loop-high
 invariant-loop-high g l = record {
-  strip : g.T.Tape.strip l.tape ≡ visited (g.T.Tape.strip l.fn.tape) l.high;
+  view : g.T.Tape.view l.tape ≡ visited (g.T.Tape.view l.fn.tape) l.high;
   to : l.high ≤ℤ l.p;
-  from : (g.T.Tape.strip l.fn.tape).high ≤ℤ l.high;
+  from : (g.T.Tape.view l.fn.tape).high ≤ℤ l.high;
 }
 
 abbrev pub decreases-loop-high : goal.decreases-loop-high

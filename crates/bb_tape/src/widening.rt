@@ -1,17 +1,17 @@
 //! Widening a tape's window to any position.
 
 ghost use Rattle.std.specs.Prelude.{◌≡◌, ◌↔◌, ◌≤ℤ◌, ◌<ℤ◌, IfErr, OnErr, OnOk, pos};
-ghost use Rattle.bb_tape.specs.Strip.{visited, width};
+ghost use Rattle.bb_tape.specs.TapeView.{visited, width};
 
 use crate::tape::{Tape, TapeFault};
 
 /// Widens the window up to any position, cell by cell.
 /// `Cells` where it would then have more cells than the limit; then nothing changes.
-pub fn reach<T: Tape>(tape: &mut T, p: i64) -> Result<(), TapeFault>
-    ensures ok { OnOk result (T.strip tape.new ≡ visited (T.strip tape.old) p) }
-    ensures err { OnErr result (T.strip tape.new ≡ T.strip tape.old) }
+pub fn widen_to<T: Tape>(tape: &mut T, p: i64) -> Result<(), TapeFault>
+    ensures ok { OnOk result (T.view tape.new ≡ visited (T.view tape.old) p) }
+    ensures err { OnErr result (T.view tape.new ≡ T.view tape.old) }
     ensures cells { (result ≡ Err TapeFault.Cells)
-        ↔ (pos (T.strip tape.old).limit <ℤ width (visited (T.strip tape.old) p)) }
+        ↔ (pos (T.view tape.old).limit <ℤ width (visited (T.view tape.old) p)) }
     ensures memory { IfErr result (λ fault. fault ≡ TapeFault.Cells) }
 {
     let low = tape.low().min(p);
@@ -19,16 +19,16 @@ pub fn reach<T: Tape>(tape: &mut T, p: i64) -> Result<(), TapeFault>
     if high.abs_diff(low) >= tape.limit() {
         return Err(TapeFault::Cells);
     }
-    reach_low(tape, low);
-    reach_high(tape, high);
+    widen_down_to(tape, low);
+    widen_up_to(tape, high);
     Ok(())
 }
 
 /// Widens the window down to a position, where there is room.
-fn reach_low<T: Tape>(tape: &mut T, p: i64)
-    requires below { p ≤ℤ (T.strip tape.old).low }
-    requires room { width (visited (T.strip tape.old) p) ≤ℤ pos (T.strip tape.old).limit }
-    ensures { T.strip tape.new ≡ visited (T.strip tape.old) p }
+fn widen_down_to<T: Tape>(tape: &mut T, p: i64)
+    requires below { p ≤ℤ (T.view tape.old).low }
+    requires room { width (visited (T.view tape.old) p) ≤ℤ pos (T.view tape.old).limit }
+    ensures { T.view tape.new ≡ visited (T.view tape.old) p }
 {
     let mut low = tape.low();
     while p < low {
@@ -38,10 +38,10 @@ fn reach_low<T: Tape>(tape: &mut T, p: i64)
 }
 
 /// Widens the window up to a position, where there is room.
-fn reach_high<T: Tape>(tape: &mut T, p: i64)
-    requires above { (T.strip tape.old).high ≤ℤ p }
-    requires room { width (visited (T.strip tape.old) p) ≤ℤ pos (T.strip tape.old).limit }
-    ensures { T.strip tape.new ≡ visited (T.strip tape.old) p }
+fn widen_up_to<T: Tape>(tape: &mut T, p: i64)
+    requires above { (T.view tape.old).high ≤ℤ p }
+    requires room { width (visited (T.view tape.old) p) ≤ℤ pos (T.view tape.old).limit }
+    ensures { T.view tape.new ≡ visited (T.view tape.old) p }
 {
     let mut high = tape.high();
     while high < p {

@@ -1,7 +1,7 @@
 use Rattle.std.proofs.Common.{◌≡◌, ◌∙◌, subst, sym}
 use Rattle.bb_cert.specs.declared.records.Records.{Records}
 use Rattle.bb_decide.specs.inside.Follow.{Compares}
-use Rattle.bb_decide.proofs.keeping.look.Goals as goal
+use Rattle.bb_decide.proofs.record_search.look_at_record.Goals as goal
 
 -- records that were looked at, whose side stays
 same_records : (old new : Records) → new.side ≡ old.side
@@ -12,6 +12,6 @@ pub returns-clause-compared : goal.returns-clause-compared
 returns-clause-compared g c =
     let same = same_records c.args.records.now c.compare_and_keep.new.records
     c.compare_and_keep.ensures.side in
-    subst (λ r. Compares c.args.records.now c.args.runner.now (g.T.Tape.strip c.args.run.now)
-    (g.T.Tape.strip c.args.saved.now) r (g.T.Tape.strip c.compare_and_keep.new.saved) c.in_ok-found.found)
-    (same ∙ sym c.keep_as.ensures) c.in_ok-found.ensures.compared
+    subst (λ r. Compares c.args.records.now c.args.runner.now (g.T.Tape.view c.args.run.now)
+    (g.T.Tape.view c.args.saved.now) r (g.T.Tape.view c.compare_and_keep.new.saved) c.in_ok-found.found)
+    (same ∙ sym c.copy_kept.ensures) c.in_ok-found.ensures.compared

@@ -1,13 +1,13 @@
 use Rattle.std.proofs.Common.{◌≡◌, ◌<ℤ◌, ◌≤ℤ◌, ◌-ℤ◌, ℤ, pos, ap, ◌∙◌, arith, rules, to_z, of_z, w64}
 use Rattle.std.proofs.Common.{FitsSigned}
 use Rattle.std.proofs.lemmas.Int.{ints, to_z-of_z}
-use Rattle.bb_tape.specs.Strip.{visited}
+use Rattle.bb_tape.specs.TapeView.{visited}
 use Rattle.bb_tape.proofs.Facts.{visited-visited-low}
-use Rattle.bb_tape.proofs.reach.reach_low.Goals as goal
+use Rattle.bb_tape.proofs.widening.widen_down_to.Goals as goal
 
 pub loop-low-preserved : goal.loop-low-preserved
 loop-low-preserved g c =
-    let s = g.T.Tape.strip c.args.tape.now in
+    let s = g.T.Tape.view c.args.tape.now in
     let low : ℤ = to_z w64 c.loop-low.low-bits in
     let same : to_z w64 (of_z w64 c.args.p) ≡ c.args.p = to_z-of_z w64 _ c.ranges.p in
     let test : c.args.p <ℤ low = let t = rw same at c.loop-low-test.true in grind (arith, ints, t) in
@@ -18,8 +18,8 @@ loop-low-preserved g c =
     omega (arith, ints, c.loop-low.invariant.to, sound.from_zero, sound.to_zero) in
     let further : to_z w64 (of_z w64 (low -ℤ pos 1)) ≤ℤ low = omega (arith, ints, next) in
     record {
-      strip = c.widen_low.ensures
-          ∙ ap (λ x. visited x (to_z w64 (of_z w64 (low -ℤ pos 1)))) c.loop-low.invariant.strip
+      view = c.widen_low.ensures
+          ∙ ap (λ x. visited x (to_z w64 (of_z w64 (low -ℤ pos 1)))) c.loop-low.invariant.view
           ∙ visited-visited-low s low _ further order;
       from = omega (arith, ints, same, next, test);
       to = omega (arith, ints, next, c.loop-low.invariant.to);
