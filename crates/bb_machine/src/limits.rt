@@ -110,6 +110,7 @@ impl Limits {
     pub fn show_accepted(&self)
         ensures accepted { IsAccepted self.now }
     {
+        let _ = &self.steps;
     }
 
     /// The greatest number of steps of one simulation.

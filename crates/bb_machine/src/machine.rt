@@ -238,6 +238,7 @@ impl Machine {
     pub fn show_machine(&self)
         ensures machine { IsMachine self.now }
     {
+        let _ = &self.state_count;
     }
 
     /// How many states the machine has, the halting state not counted.

@@ -2,7 +2,7 @@
 pub mod Facts
 mod Content
 mod TapeViews
-mod Widening
+mod WiderWindows
 mod Sound
 mod Kept
 mod Outcome

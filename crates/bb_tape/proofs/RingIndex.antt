@@ -7,7 +7,7 @@ use Rattle.std.specs.Prelude.{unsigned_abs}
 use mir.Val.{SFits}
 use Rattle.bb_tape.specs.Window.{IsWindow}
 use Rattle.bb_tape.specs.RingIndex.{ring_index}
-use Rattle.bb_tape.proofs.Widening.{narrow_fits}
+use Rattle.bb_tape.proofs.WiderWindows.{narrow_fits}
 
 index_of_pos : (size n : ℕ) → n < size → ring_index size (pos n) ≡ n
 unfolding ring_index

@@ -3,7 +3,7 @@ use Rattle.std.proofs.Common.{w64, FitsSigned}
 use Rattle.std.proofs.lemmas.Int.{ints, to_z-of_z}
 use Rattle.std.specs.Int.{int_min, int_max}
 use Rattle.bb_tape.specs.TapeView.{TapeView, visited, width}
-use Rattle.bb_tape.proofs.Widening.{min_is, max_is}
+use Rattle.bb_tape.proofs.WiderWindows.{min_is, max_is}
 use Rattle.bb_tape.proofs.Reaching.{span_is, room_low, above, room_high, reached, fits}
 use Rattle.bb_tape.proofs.widening.widen_to.Goals as goal
 

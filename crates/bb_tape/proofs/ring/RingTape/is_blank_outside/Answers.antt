@@ -1,7 +1,7 @@
 use Rattle.std.proofs.Common.{◌≡◌, pos, ◌+ℤ◌, ◌∙◌, arith, to_z, of_z, w64}
 use Rattle.std.proofs.lemmas.Int.{ints, to_z-of_z}
 use Rattle.bb_tape.specs.Ring.{ring_content}
-use Rattle.bb_tape.proofs.Widening.{low_fits, high_fits, narrow_fits}
+use Rattle.bb_tape.proofs.WiderWindows.{low_fits, high_fits, narrow_fits}
 use Rattle.bb_tape.proofs.Wholes.{zero_outside, zero_below_part, zero_above_part}
 use Rattle.bb_tape.proofs.ring.RingTape.is_blank_outside.Goals as goal
 
