@@ -1,6 +1,6 @@
 //! What a run and a walk cost.
-ghost use Rattle.std.specs.Prelude.{◌≡◌};
-ghost use Rattle.bb_sim.specs.Meter.{counted, greatest_of, zero_meter};
+ghost use Rattle.std.specs.Prelude.{◌≡◌, max};
+ghost use Rattle.bb_sim.specs.Meter.{greatest_of, zero_meter};
 
 /// What the runs and walks under one meter have cost so far.
 #[derive(Clone, Copy, Debug, PartialEq, Eq)]
@@ -31,7 +31,7 @@ impl Meter {
     /// Counts the start of a run, whose window is one cell.
     #[inline(always)]
     pub fn begin_run(&mut self)
-        ensures { self.new ≡ counted self.old 0 1 }
+        ensures { self.new ≡ record self.old { most_cells = max self.old.most_cells 1 } }
     {
         self.most_cells = self.most_cells.max(1);
     }

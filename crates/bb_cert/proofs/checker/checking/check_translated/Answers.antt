@@ -23,7 +23,7 @@ agreement-requires-clause-comparable g c =
     let goes = rw (c.in-None-2.is, first.at) at c.in_ok-answer-2.ensures.follows in
     let start = starts _ _ _ c.begin-runner.ensures.at.under_way.stands c.begin-runner.ensures.at.at in
     let kept = kept_at _ _ _ _ _ _ _ _ _ start c.new.ensures begun first.under_way.stands first.at
-    c.keep.ensures in
+    c.keep_if_record.ensures in
     let saved = rw (sym c.in-Ok.ensures.ok) at kept in
     comparable_at _ _ _ _ _ _ _ _ _ saved goes second.under_way.stands second.at
 
@@ -35,7 +35,7 @@ returns-in_default-agreement-clause-checks g c =
     let goes = rw (c.in-None-2.is, first.at) at c.in_ok-answer-2.ensures.follows in
     let start = starts _ _ _ c.begin-runner.ensures.at.under_way.stands c.begin-runner.ensures.at.at in
     let kept = kept_at _ _ _ _ _ _ _ _ _ start c.new.ensures begun first.under_way.stands first.at
-    c.keep.ensures in
+    c.keep_if_record.ensures in
     let saved = rw (sym c.in-Ok.ensures.ok) at kept in (
       fits_there _ c.args.limits.now _ _ _ _ second,
       λ claim. no_pair_at _ _ _ _ _ _ _ _ _ saved goes second.under_way.stands second.at c.requires.order
@@ -53,7 +53,7 @@ returns-then-not-is_as_told-clause-checks g c =
     let goes = rw (c.in-None-2.is, first.at) at c.in_ok-answer-2.ensures.follows in
     let start = starts _ _ _ c.begin-runner.ensures.at.under_way.stands c.begin-runner.ensures.at.at in
     let kept = kept_at _ _ _ _ _ _ _ _ _ start c.new.ensures begun first.under_way.stands first.at
-    c.keep.ensures in
+    c.keep_if_record.ensures in
     let saved = rw (sym c.in-Ok.ensures.ok) at kept in
     let agree = c.in-Some-agreement.ensures.agree in
     let is = extent_at _ _ _ _ _ _ _ _ _ saved goes second.under_way.stands second.at agree.0 agree.1 _
@@ -71,7 +71,7 @@ returns-clause-checks g c =
     let goes = rw (c.in-None-2.is, first.at) at c.in_ok-answer-2.ensures.follows in
     let start = starts _ _ _ c.begin-runner.ensures.at.under_way.stands c.begin-runner.ensures.at.at in
     let kept = kept_at _ _ _ _ _ _ _ _ _ start c.new.ensures begun first.under_way.stands first.at
-    c.keep.ensures in
+    c.keep_if_record.ensures in
     let saved = rw (sym c.in-Ok.ensures.ok) at kept in
     let agree = c.in-Some-agreement.ensures.agree in
     let is = extent_at _ _ _ _ _ _ _ _ _ saved goes second.under_way.stands second.at agree.0 agree.1 _
