@@ -58,7 +58,7 @@ returns-clause-compared g c =
             c.requires.ready.head_out)
             (ap pos kept ∙ out_as_far c.args.records.now.side (position_of c.args.records.now.kept)
             c.requires.ready.kept_out) c.if-unsigned_abs.false,
-        c.keep.ensures,
+        c.keep_record.ensures,
         c.in-Ok.ensures.ok,
       ),
     )

@@ -30,8 +30,7 @@ loop-runner-init g c =
       };
       path = refl;
       steps = rw zero (omega arith);
-      meter = rw zero (counts_start c.args.machine.now c.args.meter.now _
-          (ap (λ n. record c.args.meter.now { most_cells = n }) c.max-meter.ensures));
+      meter = rw zero (counts_start c.args.machine.now c.args.meter.now _ c.begin_run.ensures);
       none = rw zero (none_at_first _ _);
     }
 
