@@ -1,13 +1,12 @@
 //! Lists and traces over broken streams: what is written by then, and which fault it is.
 
-use crate::decided_lists::{ALL, DEFAULTS};
+use crate::support::rows::{ALL, DEFAULTS};
 use crate::support::streams::{Pieces, Sink};
-use bb_decide::Bench;
 use bb_lines::fault::Fault;
 use bb_lines::watched::Watched;
 use bb_machine::Limits;
-use bb_run::{Summary, run_decide, run_trace};
-use bb_tape::{MapTape, RingTape};
+use bb_run::{Summary, ring_bench, run_decide, run_trace};
+use bb_tape::MapTape;
 use std::io::{ErrorKind, Read};
 use std::process::Abort;
 
@@ -23,10 +22,7 @@ fn decided<R: Read + Drop>(
 ) -> (Result<Summary, Fault>, Sink) {
     let [steps, cells, depth, nodes] = DEFAULTS;
     let limits = Limits::new(steps, cells, depth, nodes).expect(rt, "limits");
-    let run = RingTape::new(rt.alloc(), limits.cells()).expect(rt, "memory");
-    let right = RingTape::new(rt.alloc(), limits.cells()).expect(rt, "memory");
-    let left = RingTape::new(rt.alloc(), limits.cells()).expect(rt, "memory");
-    let mut bench = Bench::new(rt.alloc(), run, right, left, &limits).expect(rt, "memory");
+    let mut bench = ring_bench(rt.alloc(), &limits).expect(rt, "memory");
     let mut reader = Watched::new(reader);
     let mut writer = Watched::new(&mut sink);
     let end = run_decide(&mut reader, &mut writer, &limits, ALL, &mut bench);

@@ -1,16 +1,12 @@
 //! Answers to lists of verdict lines, which were worked out by hand, and to the lists that deciding writes.
-ghost use Rattle.std.specs.Prelude.{◌≡◌, ◌≤◌};
-ghost use Rattle.bb_cert.specs.checker.Pair.{PairHasCells};
-ghost use Rattle.bb_cert.specs.tree.Path.{depth_of};
 
-use crate::decided_lists::{DEFAULTS, Row};
+use crate::support::checking::{assert_checked, checked_on_rings};
+use crate::support::rows::{DEFAULTS, Row};
 use crate::support::streams::{Pieces, Sink};
-use bb_cert::{Pair, Path};
 use bb_lines::fault::Fault;
 use bb_lines::watched::Watched;
 use bb_machine::Limits;
-use bb_run::{Summary, run_check};
-use bb_tape::{MapTape, RingTape, Tape};
+use bb_run::{Summary, ring_pair, run_check};
 use std::io::{ErrorKind, Read};
 use std::process::Abort;
 use std::test::Fail;
@@ -148,53 +144,6 @@ static EXTENTS_AND_OTHERS: [Row; 6] = [
     ),
 ];
 
-/// Checks a list, and answers what was written, too.
-pub(crate) fn checked<T: Tape>(
-    rt: &(impl Abort + AllocGlobal),
-    pair: &mut Pair<T>,
-    path: &mut Path,
-    limits: &Limits,
-    input: &[u8],
-) -> (Result<Summary, Fault>, Vec<u8>)
-    requires tapes { PairHasCells T.view limits.now.cells pair.old }
-    requires path { limits.now.depth ≤ depth_of path.old }
-    ensures tapes { PairHasCells T.view limits.now.cells pair.new }
-    ensures path { depth_of path.new ≡ depth_of path.old }
-{
-    let mut reader = Watched::new(input);
-    let mut writer = Watched::new(Vec::new(rt.alloc()));
-    let end = run_check(&mut reader, &mut writer, limits, pair, path);
-    (end, writer.into_inner())
-}
-
-/// Checks a list on maps.
-pub(crate) fn checked_on_maps(
-    rt: &(impl Abort + AllocGlobal),
-    limits: &Limits,
-    input: &[u8],
-) -> (Result<Summary, Fault>, Vec<u8>) {
-    let mut pair = Pair {
-        run: MapTape::new(rt.alloc(), limits.cells()),
-        saved: MapTape::new(rt.alloc(), limits.cells()),
-    };
-    let mut path = Path::new(rt.alloc(), limits.depth()).expect(rt, "a path");
-    checked(rt, &mut pair, &mut path, limits, input)
-}
-
-/// The same on rings.
-pub(crate) fn checked_on_rings(
-    rt: &(impl Abort + AllocGlobal),
-    limits: &Limits,
-    input: &[u8],
-) -> (Result<Summary, Fault>, Vec<u8>) {
-    let mut pair = Pair {
-        run: RingTape::new(rt.alloc(), limits.cells()).expect(rt, "memory"),
-        saved: RingTape::new(rt.alloc(), limits.cells()).expect(rt, "memory"),
-    };
-    let mut path = Path::new(rt.alloc(), limits.depth()).expect(rt, "a path");
-    checked(rt, &mut pair, &mut path, limits, input)
-}
-
 /// Checks what a reader gives, on rings, into a sink.
 fn checked_over<R: Read + Drop>(
     rt: &(impl Abort + AllocGlobal),
@@ -202,11 +151,7 @@ fn checked_over<R: Read + Drop>(
     reader: R,
     mut sink: Sink,
 ) -> (Result<Summary, Fault>, Sink) {
-    let mut pair = Pair {
-        run: RingTape::new(rt.alloc(), limits.cells()).expect(rt, "memory"),
-        saved: RingTape::new(rt.alloc(), limits.cells()).expect(rt, "memory"),
-    };
-    let mut path = Path::new(rt.alloc(), limits.depth()).expect(rt, "a path");
+    let (mut pair, mut path) = ring_pair(rt.alloc(), limits).expect(rt, "memory");
     let mut reader = Watched::new(reader);
     let mut writer = Watched::new(&mut sink);
     let end = run_check(&mut reader, &mut writer, limits, &mut pair, &mut path);
@@ -215,23 +160,11 @@ fn checked_over<R: Read + Drop>(
     (end, sink)
 }
 
-pub(super) fn answers(rt: &(impl Abort + AllocGlobal), rows: &[Row]) {
-    for (four, input, output, clean) in rows {
-        let limits = Limits::new(four[0], four[1], four[2], four[3]).expect(rt, "limits");
-        let (end, written) = checked_on_maps(rt, &limits, input);
-        assert_eq!(rt; written.as_slice(), *output);
-        let (ring_end, ring_written) = checked_on_rings(rt, &limits, input);
-        assert_eq!(rt; ring_written.as_slice(), *output);
-        assert_eq!(rt; ring_end, end);
-        assert_eq!(rt; end.expect(rt, "no fault").clean, *clean);
-    }
-}
-
 #[test]
 fn answers_claims(rt: HostRuntime) {
-    answers(&rt, CLAIMS.as_slice());
-    answers(&rt, PAIRS_AND_OTHERS.as_slice());
-    answers(&rt, EXTENTS_AND_OTHERS.as_slice());
+    assert_checked(&rt, CLAIMS.as_slice());
+    assert_checked(&rt, PAIRS_AND_OTHERS.as_slice());
+    assert_checked(&rt, EXTENTS_AND_OTHERS.as_slice());
 }
 
 #[test]

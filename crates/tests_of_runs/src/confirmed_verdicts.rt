@@ -1,7 +1,9 @@
 //! Verdicts are checked at the limits that they come from: each decided line is ok, and all others are open.
 
-use crate::checked_lists::{checked_on_maps, checked_on_rings};
-use crate::decided_lists::{Four, Row, decided_lists, decided_on_maps, decided_on_rings};
+use crate::decided_lists::decided_lists;
+use crate::support::checking::{checked_on_maps, checked_on_rings};
+use crate::support::deciding::{decided_on_maps, decided_on_rings};
+use crate::support::rows::{Four, Row};
 use bb_decide::Plan;
 use bb_machine::Limits;
 use std::process::Abort;

@@ -1,12 +1,13 @@
-//! How many writes the engines make.
+//! How many writes the engines make, and a walk of the backward tree.
 ghost use Rattle.std.specs.Prelude.{◌≡◌};
 
-use crate::checked_lists::checked;
-use crate::decided_lists::{ALL, DEFAULTS, Four, decided};
-use crate::support::counting_tape::{NEVER, tallied_tape};
-use bb_cert::{Pair, Path};
+use crate::support::checking::checked;
+use crate::support::counting_tape::{NEVER, counting_tape};
+use crate::support::deciding::decided;
+use crate::support::rows::{ALL, DEFAULTS, Four};
+use bb_cert::{Pair, Path, walk};
 use bb_decide::Bench;
-use bb_machine::Limits;
+use bb_machine::{Limits, Machine};
 use bb_sim::Meter;
 use bb_tape::{MapTape, RingTape, Tape};
 use std::process::Abort;
@@ -31,9 +32,9 @@ fn writes_of_deciding<T: Tape>(
     requires right { (T.view tapes.1).limit ≡ limits.now.cells }
     requires left { (T.view tapes.2).limit ≡ limits.now.cells }
 {
-    let run = tallied_tape(tapes.0, NEVER);
-    let right = tallied_tape(tapes.1, NEVER);
-    let left = tallied_tape(tapes.2, NEVER);
+    let run = counting_tape(tapes.0, NEVER);
+    let right = counting_tape(tapes.1, NEVER);
+    let left = counting_tape(tapes.2, NEVER);
     let mut bench = Bench::new(rt.alloc(), run, right, left, limits).expect(rt, "a bench");
     let (end, _) = decided(rt, &mut bench, limits, ALL, line);
     assert!(rt; end.is_ok());
@@ -89,8 +90,8 @@ fn writes_of_checking<T: Tape>(
     requires saved { (T.view saved).limit ≡ limits.now.cells }
 {
     let mut pair = Pair {
-        run: tallied_tape(run, NEVER),
-        saved: tallied_tape(saved, NEVER),
+        run: counting_tape(run, NEVER),
+        saved: counting_tape(saved, NEVER),
     };
     let mut path = Path::new(rt.alloc(), limits.depth()).expect(rt, "a path");
     let (end, written) = checked(rt, &mut pair, &mut path, limits, line);
@@ -114,5 +115,32 @@ fn checking_goes_no_further_than_the_claim(rt: HostRuntime) {
             assert!(rt; peak.nodes <= *nodes);
             assert!(rt; writes <= *most);
         }
+    }
+}
+
+/// Machines, and the bounds of levels and nodes of their walks: trees that end, and walks that give up at a
+/// bound or at the start.
+static WALKS: [(&[u8], u64, u64); 6] = [
+    (b"0RB---_0LA---", 10, 100),
+    (b"0RB---_0LA---", 2, 3),
+    (b"0RB---_0LA---", 1, 4),
+    (b"1RB---_1LA---", 10, 100),
+    (b"1RB0RA_1LA---", 10, 100),
+    (b"0RB---_0LA1RC_0RC0LB", 10, 100),
+];
+
+#[test]
+fn a_node_costs_two_writes(rt: HostRuntime) {
+    for (text, levels, nodes) in &WALKS {
+        let ring = RingTape::new(rt.alloc(), 19).expect(&rt, "memory");
+        let mut tape = counting_tape(ring, NEVER);
+        let mut path = Path::new(rt.alloc(), 10).expect(&rt, "memory");
+        let machine = Machine::read(text).expect(&rt, "a machine");
+        let mut meter = Meter::new();
+        assert!(rt; *levels <= 10 && *nodes <= 100 && tape.limit() == 19 && path.depth() == 10);
+        let found = walk(&machine, *levels, *nodes, &mut tape, &mut path, &mut meter);
+        assert!(rt; found.is_ok());
+        assert!(rt; tape.writes <= 2 * meter.nodes, "{text:?}");
+        assert!(rt; tape.writes >= meter.nodes, "{text:?}");
     }
 }

@@ -1,36 +1,10 @@
-//! Engines over bytes in memory, with answers that were worked out by hand.
+//! Machines of lists, with verdicts that were worked out by hand.
 
-ghost use Rattle.std.specs.Prelude.{◌≡◌};
-ghost use Rattle.bb_cert.specs.tree.Path.{depth_of};
-ghost use Rattle.bb_decide.specs.Bench.{BenchHasCells};
-
-use bb_decide::{Bench, Plan};
-use bb_lines::fault::Fault;
-use bb_lines::watched::Watched;
-use bb_machine::Limits;
-use bb_run::{Summary, run_decide};
-use bb_tape::{MapTape, RingTape, Tape};
-use std::process::Abort;
-
-/// Limits of steps, cells, levels and nodes.
-pub(crate) type Four = [u64; 4];
-
-/// The limits, the input, the output, and whether each line is a machine's.
-pub(crate) type Row = (Four, &'static [u8], &'static [u8], bool);
-
-pub(crate) const DEFAULTS: Four = [1_000_000, 65_536, 300, 1_000_000];
-
-pub(crate) const SIMULATION: Plan = Plan {
-    cyclers: false,
-    translated: false,
-    backward: false,
+use crate::support::deciding::assert_decided;
+use crate::support::rows::{
+    ALL, CYCLERS, DEFAULTS, NO_CYCLERS, NO_TRANSLATED, PAIRS, Row, SIMULATION, TREES,
 };
-
-pub(crate) const CYCLERS: Plan = Plan {
-    cyclers: true,
-    translated: false,
-    backward: false,
-};
+use bb_decide::Plan;
 
 static HALTS: [Row; 12] = [
     (
@@ -257,12 +231,6 @@ static REPEATS: [Row; 9] = [
     ),
 ];
 
-pub(crate) const PAIRS: Plan = Plan {
-    cyclers: true,
-    translated: true,
-    backward: false,
-};
-
 static RECORDS: [Row; 9] = [
     (
         DEFAULTS,
@@ -321,12 +289,6 @@ static RECORDS: [Row; 9] = [
 ];
 
 /// Backward reasoning alone.
-pub(crate) const TREES: Plan = Plan {
-    cyclers: false,
-    translated: false,
-    backward: true,
-};
-
 static BY_TREES: [Row; 12] = [
     (
         DEFAULTS,
@@ -396,12 +358,6 @@ static BY_TREES: [Row; 12] = [
         true,
     ),
 ];
-
-pub(crate) const ALL: Plan = Plan {
-    cyclers: true,
-    translated: true,
-    backward: true,
-};
 
 static BY_ALL: [Row; 13] = [
     (
@@ -485,12 +441,6 @@ static BY_ALL: [Row; 13] = [
 ];
 
 /// Records and trees, no repeats.
-pub(crate) const NO_CYCLERS: Plan = Plan {
-    cyclers: false,
-    translated: true,
-    backward: true,
-};
-
 static WITHOUT_CYCLERS: [Row; 4] = [
     (
         [1_000_000, 3, 2, 1_000_000],
@@ -519,12 +469,6 @@ static WITHOUT_CYCLERS: [Row; 4] = [
 ];
 
 /// Repeats and trees, no records.
-const NO_TRANSLATED: Plan = Plan {
-    cyclers: true,
-    translated: false,
-    backward: true,
-};
-
 static WITHOUT_TRANSLATED: [Row; 2] = [
     (DEFAULTS, b"1RA1RA\n", b"1RA1RA backward 0 0\n", true),
     (
@@ -534,65 +478,6 @@ static WITHOUT_TRANSLATED: [Row; 2] = [
         true,
     ),
 ];
-
-/// Decides a list, and answers what was written, too.
-pub(crate) fn decided<T: Tape>(
-    rt: &(impl Abort + AllocGlobal),
-    bench: &mut Bench<T>,
-    limits: &Limits,
-    plan: Plan,
-    input: &[u8],
-) -> (Result<Summary, Fault>, Vec<u8>)
-    requires tapes { BenchHasCells T.view limits.now.cells bench.old }
-    requires path { depth_of bench.old.path ≡ limits.now.depth }
-    ensures tapes { BenchHasCells T.view limits.now.cells bench.new }
-    ensures path { depth_of bench.new.path ≡ limits.now.depth }
-{
-    let mut reader = Watched::new(input);
-    let mut writer = Watched::new(Vec::new(rt.alloc()));
-    let end = run_decide(&mut reader, &mut writer, limits, plan, bench);
-    (end, writer.into_inner())
-}
-
-/// Decides a list on maps.
-pub(crate) fn decided_on_maps(
-    rt: &(impl Abort + AllocGlobal),
-    limits: &Limits,
-    plan: Plan,
-    input: &[u8],
-) -> (Result<Summary, Fault>, Vec<u8>) {
-    let run = MapTape::new(rt.alloc(), limits.cells());
-    let right = MapTape::new(rt.alloc(), limits.cells());
-    let left = MapTape::new(rt.alloc(), limits.cells());
-    let mut bench = Bench::new(rt.alloc(), run, right, left, limits).expect(rt, "a bench");
-    decided(rt, &mut bench, limits, plan, input)
-}
-
-/// The same on rings.
-pub(crate) fn decided_on_rings(
-    rt: &(impl Abort + AllocGlobal),
-    limits: &Limits,
-    plan: Plan,
-    input: &[u8],
-) -> (Result<Summary, Fault>, Vec<u8>) {
-    let run = RingTape::new(rt.alloc(), limits.cells()).expect(rt, "memory");
-    let right = RingTape::new(rt.alloc(), limits.cells()).expect(rt, "memory");
-    let left = RingTape::new(rt.alloc(), limits.cells()).expect(rt, "memory");
-    let mut bench = Bench::new(rt.alloc(), run, right, left, limits).expect(rt, "a bench");
-    decided(rt, &mut bench, limits, plan, input)
-}
-
-pub(crate) fn answers(rt: &(impl Abort + AllocGlobal), plan: Plan, rows: &[Row]) {
-    for (four, input, output, clean) in rows {
-        let limits = Limits::new(four[0], four[1], four[2], four[3]).expect(rt, "limits");
-        let (end, written) = decided_on_maps(rt, &limits, plan, input);
-        assert_eq!(rt; written.as_slice(), *output);
-        let (ring_end, ring_written) = decided_on_rings(rt, &limits, plan, input);
-        assert_eq!(rt; ring_written.as_slice(), *output);
-        assert_eq!(rt; ring_end, end);
-        assert_eq!(rt; end.expect(rt, "no fault").clean, *clean);
-    }
-}
 
 /// The lists above, each with a plan that gives its verdicts.
 pub(crate) fn decided_lists() -> [(Plan, &'static [Row]); 9] {
@@ -611,42 +496,42 @@ pub(crate) fn decided_lists() -> [(Plan, &'static [Row]); 9] {
 
 #[test]
 fn halts(rt: HostRuntime) {
-    answers(&rt, SIMULATION, HALTS.as_slice());
-    answers(&rt, CYCLERS, HALTS.as_slice());
-    answers(&rt, ALL, HALTS.as_slice());
+    assert_decided(&rt, SIMULATION, HALTS.as_slice());
+    assert_decided(&rt, CYCLERS, HALTS.as_slice());
+    assert_decided(&rt, ALL, HALTS.as_slice());
 }
 
 #[test]
 fn leaves_undecided(rt: HostRuntime) {
-    answers(&rt, SIMULATION, LEFT_BY_ALL.as_slice());
-    answers(&rt, ALL, LEFT_BY_ALL.as_slice());
-    answers(&rt, SIMULATION, LEFT_BY_RUNNING.as_slice());
+    assert_decided(&rt, SIMULATION, LEFT_BY_ALL.as_slice());
+    assert_decided(&rt, ALL, LEFT_BY_ALL.as_slice());
+    assert_decided(&rt, SIMULATION, LEFT_BY_RUNNING.as_slice());
 }
 
 #[test]
 fn finds_repeats(rt: HostRuntime) {
-    answers(&rt, CYCLERS, REPEATS.as_slice());
+    assert_decided(&rt, CYCLERS, REPEATS.as_slice());
 }
 
 #[test]
 fn finds_records_that_agree(rt: HostRuntime) {
-    answers(&rt, PAIRS, RECORDS.as_slice());
+    assert_decided(&rt, PAIRS, RECORDS.as_slice());
 }
 
 #[test]
 fn finds_trees(rt: HostRuntime) {
-    answers(&rt, TREES, BY_TREES.as_slice());
-    answers(&rt, NO_CYCLERS, WITHOUT_CYCLERS.as_slice());
-    answers(&rt, NO_TRANSLATED, WITHOUT_TRANSLATED.as_slice());
+    assert_decided(&rt, TREES, BY_TREES.as_slice());
+    assert_decided(&rt, NO_CYCLERS, WITHOUT_CYCLERS.as_slice());
+    assert_decided(&rt, NO_TRANSLATED, WITHOUT_TRANSLATED.as_slice());
 }
 
 #[test]
 fn decides_by_all(rt: HostRuntime) {
-    answers(&rt, ALL, BY_ALL.as_slice());
+    assert_decided(&rt, ALL, BY_ALL.as_slice());
 }
 
 #[test]
 fn refuses_lines(rt: HostRuntime) {
-    answers(&rt, SIMULATION, REFUSED.as_slice());
-    answers(&rt, ALL, REFUSED.as_slice());
+    assert_decided(&rt, SIMULATION, REFUSED.as_slice());
+    assert_decided(&rt, ALL, REFUSED.as_slice());
 }

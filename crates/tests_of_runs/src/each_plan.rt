@@ -1,9 +1,8 @@
 //! What is said and counted under each plan, at the limits that were asked for, on both tapes.
 
-use crate::checked_lists::{checked_on_maps, checked_on_rings};
-use crate::decided_lists::{
-    ALL, CYCLERS, DEFAULTS, Four, NO_CYCLERS, PAIRS, SIMULATION, decided_on_maps, decided_on_rings,
-};
+use crate::support::checking::{checked_on_maps, checked_on_rings};
+use crate::support::deciding::{decided_on_maps, decided_on_rings};
+use crate::support::rows::{ALL, CYCLERS, DEFAULTS, Four, NO_CYCLERS, PAIRS, SIMULATION};
 use bb_decide::Plan;
 use bb_machine::Limits;
 

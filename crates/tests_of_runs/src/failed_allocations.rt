@@ -4,11 +4,11 @@ ghost use Rattle.std.specs.Prelude.{◌≡◌, ◌≤◌};
 ghost use Rattle.bb_cert.specs.tree.Path.{depth_of};
 ghost use Rattle.bb_decide.specs.Bench.{BenchHasCells};
 
-use crate::checked_lists::checked;
-use crate::decided_lists::{PAIRS, TREES};
-use crate::support::counting_tape::{NEVER, tallied_tape};
+use crate::support::checking::checked;
+use crate::support::counting_tape::{NEVER, counting_tape};
+use crate::support::rows::{PAIRS, TREES};
 use crate::support::streams::Sink;
-use crate::traces::{traced, traced_on_a_ring};
+use crate::support::tracing::{traced, traced_on_a_ring};
 use bb_cert::{Pair, Path};
 use bb_decide::{Bench, Plan};
 use bb_lines::fault::Fault;
@@ -132,9 +132,9 @@ fn deciding_is_refused(
     before: [u64; 3],
 ) -> bool {
     let limits = Limits::new(1000, 64, 10, 100).expect(rt, "limits");
-    let run = tallied_tape(MapTape::new(rt.alloc(), limits.cells()), before[0]);
-    let right = tallied_tape(MapTape::new(rt.alloc(), limits.cells()), before[1]);
-    let left = tallied_tape(MapTape::new(rt.alloc(), limits.cells()), before[2]);
+    let run = counting_tape(MapTape::new(rt.alloc(), limits.cells()), before[0]);
+    let right = counting_tape(MapTape::new(rt.alloc(), limits.cells()), before[1]);
+    let left = counting_tape(MapTape::new(rt.alloc(), limits.cells()), before[2]);
     let mut bench = Bench::new(rt.alloc(), run, right, left, &limits).expect(rt, "a bench");
     let (end, sink) = decided_over_arrays(&mut bench, &limits, plan);
     let refused = wanted_memory(rt, &end, sink.bytes.as_slice(), output);
@@ -198,8 +198,8 @@ fn checking_is_refused(rt: &(impl Abort + AllocGlobal), before: [u64; 2]) -> boo
     let output = b"ok\nok\nok\nok\n".as_slice();
     let limits = Limits::new(1000, 64, 10, 100).expect(rt, "limits");
     let mut pair = Pair {
-        run: tallied_tape(MapTape::new(rt.alloc(), limits.cells()), before[0]),
-        saved: tallied_tape(MapTape::new(rt.alloc(), limits.cells()), before[1]),
+        run: counting_tape(MapTape::new(rt.alloc(), limits.cells()), before[0]),
+        saved: counting_tape(MapTape::new(rt.alloc(), limits.cells()), before[1]),
     };
     let mut path = Path::new(rt.alloc(), limits.depth()).expect(rt, "a path");
     let (end, written) = checked(rt, &mut pair, &mut path, &limits, CLAIMS);
@@ -234,7 +234,7 @@ fn tracing_ends_at_each_refusal(rt: HostRuntime) {
     let limits = Limits::new(30, 64, 0, 0).expect(&rt, "limits");
     let (_, output) = traced_on_a_ring(&rt, line, &limits);
     for k in 0..30 {
-        let mut tape = tallied_tape(MapTape::new(rt.alloc(), limits.cells()), k);
+        let mut tape = counting_tape(MapTape::new(rt.alloc(), limits.cells()), k);
         let (end, written) = traced(&rt, &mut tape, &limits, line);
         assert!(rt;
             wanted_memory(&rt, &end, written.as_slice(), output.as_slice()),

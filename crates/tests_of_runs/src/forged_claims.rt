@@ -1,7 +1,7 @@
 //! Claims that someone made up, at the default limits: which rule decides each.
 
-use crate::checked_lists::answers;
-use crate::decided_lists::{DEFAULTS, Four, Row};
+use crate::support::checking::assert_checked;
+use crate::support::rows::{DEFAULTS, Four, Row};
 
 const LEAST: Four = [1_000_000, 1, 1, 1_000_000];
 
@@ -80,10 +80,10 @@ static OF_TREES: [Row; 3] = [
 
 #[test]
 fn forged_runs_are_told(rt: HostRuntime) {
-    answers(&rt, OF_RUNS.as_slice());
+    assert_checked(&rt, OF_RUNS.as_slice());
 }
 
 #[test]
 fn forged_trees_are_told(rt: HostRuntime) {
-    answers(&rt, OF_TREES.as_slice());
+    assert_checked(&rt, OF_TREES.as_slice());
 }

@@ -1,19 +1,7 @@
 //! Verdicts at limits that grow: what the limits reach is found, and what was decided stays so.
 
-use crate::decided_lists::{DEFAULTS, Row, answers};
-use bb_decide::Plan;
-
-const ALL: Plan = Plan {
-    cyclers: true,
-    translated: true,
-    backward: true,
-};
-
-const SEARCHES: Plan = Plan {
-    cyclers: true,
-    translated: true,
-    backward: false,
-};
+use crate::support::deciding::assert_decided;
+use crate::support::rows::{ALL, DEFAULTS, PAIRS, Row};
 
 static DECIDED: [Row; 9] = [
     (
@@ -81,6 +69,6 @@ static NOT_REACHED: [Row; 1] = [(
 
 #[test]
 fn larger_limits_lose_nothing(rt: HostRuntime) {
-    answers(&rt, ALL, DECIDED.as_slice());
-    answers(&rt, SEARCHES, NOT_REACHED.as_slice());
+    assert_decided(&rt, ALL, DECIDED.as_slice());
+    assert_decided(&rt, PAIRS, NOT_REACHED.as_slice());
 }

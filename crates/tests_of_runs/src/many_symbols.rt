@@ -1,10 +1,9 @@
 //! Machines of three to ten symbols and up to 25 states, with answers of a second program that reads the
 //! definitions plainly, on both tapes.
 
-use crate::checked_lists::answers as check_answers;
-use crate::decided_lists::{
-    ALL, CYCLERS, DEFAULTS, Four, PAIRS, Row, SIMULATION, TREES, answers, decided_on_rings,
-};
+use crate::support::checking::assert_checked;
+use crate::support::deciding::{assert_decided, decided_on_rings};
+use crate::support::rows::{ALL, CYCLERS, DEFAULTS, Four, PAIRS, Row, SIMULATION, TREES};
 use bb_machine::Limits;
 use std::test::Fail;
 
@@ -192,17 +191,17 @@ static CLAIMS: [Row; 4] = [
 
 #[test]
 fn machines_of_many_symbols_are_decided(rt: HostRuntime) {
-    answers(&rt, SIMULATION, BY_RUNS.as_slice());
-    answers(&rt, CYCLERS, BY_REPEATS.as_slice());
-    answers(&rt, PAIRS, BY_RECORDS.as_slice());
-    answers(&rt, TREES, BY_TREES.as_slice());
-    answers(&rt, ALL, BY_ALL.as_slice());
+    assert_decided(&rt, SIMULATION, BY_RUNS.as_slice());
+    assert_decided(&rt, CYCLERS, BY_REPEATS.as_slice());
+    assert_decided(&rt, PAIRS, BY_RECORDS.as_slice());
+    assert_decided(&rt, TREES, BY_TREES.as_slice());
+    assert_decided(&rt, ALL, BY_ALL.as_slice());
 }
 
 /// What the deciders say of these machines is `ok` to the checker on both tapes.
 #[test]
 fn what_is_said_of_many_symbols_is_ok(rt: HostRuntime) {
-    check_answers(&rt, CLAIMS.as_slice());
+    assert_checked(&rt, CLAIMS.as_slice());
     for rows in [
         BY_RUNS.as_slice(),
         BY_REPEATS.as_slice(),
@@ -213,7 +212,7 @@ fn what_is_said_of_many_symbols_is_ok(rt: HostRuntime) {
             let claims_something = !claim.ends_with(b"steps\n") && !claim.ends_with(b"cells\n");
             let word: &'static [u8] = if claims_something { b"ok\n" } else { b"open\n" };
             if *clean {
-                check_answers(&rt, [(*four, *claim, word, true)].as_slice());
+                assert_checked(&rt, [(*four, *claim, word, true)].as_slice());
             }
         }
     }

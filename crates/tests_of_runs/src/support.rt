@@ -1,4 +1,8 @@
-//! Tapes and streams that the tests share.
+//! Rows, tapes, streams and calls that the tests share.
 
+pub(crate) mod checking;
 pub(crate) mod counting_tape;
+pub(crate) mod deciding;
+pub(crate) mod rows;
 pub(crate) mod streams;
+pub(crate) mod tracing;

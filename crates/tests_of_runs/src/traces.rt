@@ -1,13 +1,9 @@
 //! Traces, with lines that were worked out by hand.
-ghost use Rattle.std.specs.Prelude.{◌≡◌};
 
-use bb_lines::fault::Fault;
-use bb_lines::watched::Watched;
+use crate::support::tracing::{traced_on_a_map, traced_on_a_ring};
 use bb_machine::Limits;
-use bb_run::{Summary, run_trace};
+use bb_run::Summary;
 use bb_sim::Meter;
-use bb_tape::{MapTape, RingTape, Tape};
-use std::process::Abort;
 
 /// A line, the limits of steps and cells, the output, and whether the summary is clean.
 type Row = (&'static [u8], u64, u64, &'static [u8], bool);
@@ -53,41 +49,6 @@ const NOTHING_COUNTED: Meter = Meter {
     nodes: 0,
     most_levels: 0,
 };
-
-/// Traces a line, and answers what was written, too.
-pub(crate) fn traced<T: Tape>(
-    rt: &(impl Abort + AllocGlobal),
-    tape: &mut T,
-    limits: &Limits,
-    line: &[u8],
-) -> (Result<Summary, Fault>, Vec<u8>)
-    requires { (T.view tape.old).limit ≡ limits.now.cells }
-    ensures { (T.view tape.new).limit ≡ limits.now.cells }
-{
-    let mut writer = Watched::new(Vec::new(rt.alloc()));
-    let end = run_trace(line, limits, tape, &mut writer);
-    (end, writer.into_inner())
-}
-
-/// Traces a line on a ring.
-pub(crate) fn traced_on_a_ring(
-    rt: &(impl Abort + AllocGlobal),
-    line: &[u8],
-    limits: &Limits,
-) -> (Result<Summary, Fault>, Vec<u8>) {
-    let mut tape = RingTape::new(rt.alloc(), limits.cells()).expect(rt, "memory");
-    traced(rt, &mut tape, limits, line)
-}
-
-/// The same on an ordered map.
-fn traced_on_a_map(
-    rt: &(impl Abort + AllocGlobal),
-    line: &[u8],
-    limits: &Limits,
-) -> (Result<Summary, Fault>, Vec<u8>) {
-    let mut tape = MapTape::new(rt.alloc(), limits.cells());
-    traced(rt, &mut tape, limits, line)
-}
 
 #[test]
 fn traces_on_both_tapes(rt: HostRuntime) {

@@ -4,8 +4,6 @@
 #[cfg(test)]
 mod check;
 #[cfg(test)]
-mod counting;
-#[cfg(test)]
 mod deciding;
 #[cfg(test)]
 mod verdict_lines;

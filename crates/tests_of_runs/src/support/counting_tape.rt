@@ -6,7 +6,7 @@ use bb_tape::{Tape, TapeFault};
 /// A tape that hands each call on to another. To take over a whole tape, or to reset it, isn't counted as a
 /// write.
 #[derive(Drop)]
-pub(crate) struct Tallied<T> {
+pub(crate) struct CountingTape<T> {
     inner: T,
     pub writes: u64,
     /// How many calls that may take memory come before one that is refused.
@@ -17,17 +17,17 @@ pub(crate) struct Tallied<T> {
 pub(crate) const NEVER: u64 = u64::MAX;
 
 /// A tape that refuses one call that may take memory, the one after so many.
-pub(crate) fn tallied_tape<T>(inner: T, before_refusal: u64) -> Tallied<T>
+pub(crate) fn counting_tape<T>(inner: T, before_refusal: u64) -> CountingTape<T>
     ensures { result.inner ≡ inner }
 {
-    Tallied {
+    CountingTape {
         inner,
         writes: 0,
         before_refusal,
     }
 }
 
-impl<T> Tallied<T> {
+impl<T> CountingTape<T> {
     /// Whether a call is still going to be refused.
     pub(crate) fn will_refuse(&self) -> bool {
         self.before_refusal != NEVER
@@ -48,7 +48,7 @@ impl<T> Tallied<T> {
     }
 }
 
-impl<T: Tape> Tape for Tallied<T> {
+impl<T: Tape> Tape for CountingTape<T> {
     ghost use Rattle.std.specs.Prelude.{true};
 
     ghost view = { λ t. T.view t.inner };
