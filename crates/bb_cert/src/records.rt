@@ -57,7 +57,8 @@ impl Records {
         self.nearest = runner.position();
     }
 
-    /// Keeps what other records of the same side keep. The side isn't written, so a loop for one side stays one.
+    /// Keeps what other records of the same side keep. The side isn't written, so a loop for one side stays
+    /// one.
     #[inline(always)]
     pub fn copy_kept(&mut self, other: &Records)
         ensures { self.new ≡ record self.old { kept = other.now.kept; nearest = other.now.nearest } }

@@ -1,17 +1,23 @@
 -- What the calls on a ring do to its cells.
-use Rattle.std.proofs.Common.{◌≡◌, ◌≢◌, ◌⊎◌, inl, inr, ℕ, ◌<◌, ◌≤◌, ℤ, pos, ◌+ℤ◌, ◌≤ℤ◌, ◌<ℤ◌, List, get_or}
-use Rattle.std.proofs.Common.{set, length, sym, ap, ◌∙◌, arith, get_or-set_same, get_or-set_other}
-use Rattle.std.proofs.lemmas.Int.{ints, clamps, by_lt_z}
+use Rattle.std.proofs.Common.{◌≡◌, ◌≢◌, ◌⊎◌, inl, inr, ℕ, ◌<◌, ◌≤◌, ℤ, pos, ◌+ℤ◌, ◌-ℤ◌, ◌≤ℤ◌, List}
+use Rattle.std.proofs.Common.{get_or, set, length, sym, ap, ◌∙◌, arith, get_or-set_same, get_or-set_other}
+use Rattle.std.proofs.Common.{w64, to_z, of_z}
+use Rattle.std.proofs.lemmas.Int.{ints, clamps, by_lt_z, to_z-of_z}
 use Rattle.std.proofs.lemmas.Bool.{cases_lt}
 use Rattle.std.specs.Prelude.{unsigned_abs}
 use Rattle.std.specs.Int.{int_min, int_max}
+use mir.Val.{SFits}
+use Rattle.bb_tape.specs.declared.ring.RingTape.{RingTape}
 use Rattle.bb_tape.specs.declared.window.Window.{Window}
 use Rattle.bb_tape.specs.Content.{blank, cell, with_cell}
 use Rattle.bb_tape.specs.RingIndex.{ring_index}
 use Rattle.bb_tape.specs.Ring.{IsClear, ring_content}
+use Rattle.bb_tape.specs.TapeView.{IsSound, visited}
+use Rattle.bb_tape.specs.Windowed.{view_of}
 use Rattle.bb_tape.proofs.Content.{by_position, same_content, cell-blank, cell-with_cell-same}
 use Rattle.bb_tape.proofs.Content.{cell-with_cell-other}
 use Rattle.bb_tape.proofs.RingIndex.{index_in, index_below, index_from_zero, index_apart}
+use Rattle.bb_tape.proofs.Sound.{sound_wider}
 use Rattle.bb_tape.proofs.Rings.{by_window, cell-ring-inside, cell-ring-below, cell-ring-above}
 
 -- the window is the cell 0 alone, which is 0
@@ -67,82 +73,125 @@ ring_same cells dells w alike = same_content _ _ (λ q.
     (λ below. cell-ring-below cells w q below ∙ sym (cell-ring-below dells w q below))
     (λ above. cell-ring-above cells w q above ∙ sym (cell-ring-above dells w q above)))
 
--- the positions of a wider window other than the new one
-still_from : (w v : Window) (p : ℤ) → (p <ℤ w.low) ⊎ (w.high <ℤ p) → w.low ≤ℤ (p +ℤ pos 1)
-    → v.low ≡ int_min w.low p → (q : ℤ) → v.low ≤ℤ q → q ≢ p → w.low ≤ℤ q
-still_from w v p outside from low q a other =
-    by_lt_z q w.low
-    (λ lt. elim outside [
-      | inl below ↦ absurd (let here : q ≡ p = omega (arith, ints, clamps, below) in other here)
-      | inr above ↦ absurd (omega (arith, ints, clamps, above))
-    ])
-    (λ ge. ge)
+-- a window that takes in the position next to it, below or above, where all but the window's cells is 0
+module _ (cells : List ℕ) (w v : Window) (p : ℤ) (clear : IsClear cells w) (limit : v.limit ≡ w.limit)
+    (next : (p ≡ w.low -ℤ pos 1) ⊎ (p ≡ w.high +ℤ pos 1)) (low : v.low ≡ int_min w.low p)
+    (high : v.high ≡ int_max w.high p) where
+  still_from : (q : ℤ) → v.low ≤ℤ q → q ≢ p → w.low ≤ℤ q
+  still_from q a other =
+      by_lt_z q w.low
+      (λ lt. elim next [
+        | inl below ↦ absurd (let here : q ≡ p = omega (arith, ints, clamps, below) in other here)
+        | inr above ↦ absurd (omega (arith, ints, clamps, above, w.valid.from_zero, w.valid.to_zero))
+      ])
+      (λ ge. ge)
 
-still_to : (w v : Window) (p : ℤ) → (p <ℤ w.low) ⊎ (w.high <ℤ p) → p ≤ℤ (w.high +ℤ pos 1)
-    → v.high ≡ int_max w.high p → (q : ℤ) → q ≤ℤ v.high → q ≢ p → q ≤ℤ w.high
-still_to w v p outside to high q b other =
-    by_lt_z w.high q
-    (λ lt. elim outside [
-      | inl below ↦ absurd (omega (arith, ints, clamps, below))
-      | inr above ↦ absurd (let here : q ≡ p = omega (arith, ints, clamps, above) in other here)
-    ])
-    (λ ge. ge)
+  still_to : (q : ℤ) → q ≤ℤ v.high → q ≢ p → q ≤ℤ w.high
+  still_to q b other =
+      by_lt_z w.high q
+      (λ lt. elim next [
+        | inl below ↦ absurd (omega (arith, ints, clamps, below, w.valid.from_zero, w.valid.to_zero))
+        | inr above ↦ absurd (let here : q ≡ p = omega (arith, ints, clamps, above) in other here)
+      ])
+      (λ ge. ge)
 
--- where nothing but the window's cells isn't 0, a position next to the window has a 0
-clear_beside : (cells : List ℕ) (w v : Window) (p : ℤ) → IsClear cells w → v.limit ≡ w.limit
-    → (p <ℤ w.low) ⊎ (w.high <ℤ p) → v.low ≡ int_min w.low p → v.high ≡ int_max w.high p
-    → get_or cells (ring_index v.limit p) 0 ≡ 0
-clear_beside cells w v p clear limit outside low high =
-    let pfrom : v.low ≤ℤ p = omega (arith, ints, clamps) in
-    let pto : p ≤ℤ v.high = omega (arith, ints, clamps) in
-    let valid = v.valid.within in
-    let zero_low = w.valid.from_zero in
-    let zero_high = w.valid.to_zero in
-    elim (index_in v.low v.high v.limit v.valid p pfrom pto) [
-      | inl up ↦ elim outside [
-        | inl below ↦ absurd (omega (arith, ints, up.0, below, zero_low))
-        | inr above ↦
-            clear (ring_index v.limit p)
-            (omega (arith, ints, up.1, above))
-            (omega (arith, ints, clamps, up.1, above, limit, low, high, valid))
+  -- the position has a 0
+  clear_beside : get_or cells (ring_index v.limit p) 0 ≡ 0
+  clear_beside =
+      let pfrom : v.low ≤ℤ p = omega (arith, ints, clamps) in
+      let pto : p ≤ℤ v.high = omega (arith, ints, clamps) in
+      let valid = v.valid.within in
+      let zero_low = w.valid.from_zero in
+      let zero_high = w.valid.to_zero in
+      elim (index_in v.low v.high v.limit v.valid p pfrom pto) [
+        | inl up ↦ elim next [
+          | inl below ↦ absurd (omega (arith, ints, up.0, below, zero_low))
+          | inr above ↦
+              clear (ring_index v.limit p)
+              (omega (arith, ints, up.1, above))
+              (omega (arith, ints, clamps, up.1, above, limit, low, high, valid))
+        ]
+        | inr under ↦ elim next [
+          | inl below ↦
+              clear (ring_index v.limit p)
+              (omega (arith, ints, clamps, under.1, below, limit, low, high, valid))
+              (omega (arith, ints, under.1, below, limit))
+          | inr above ↦ absurd (omega (arith, ints, under.0, above, zero_high))
+        ]
       ]
-      | inr under ↦ elim outside [
-        | inl below ↦
-            clear (ring_index v.limit p)
-            (omega (arith, ints, clamps, under.1, below, limit, low, high, valid))
-            (omega (arith, ints, under.1, below, limit))
-        | inr above ↦ absurd (omega (arith, ints, under.0, above, zero_high))
-      ]
-    ]
 
--- the window lets in one more cell, which is 0
-pub ring_wider : (cells : List ℕ) (w v : Window) (p : ℤ) → IsClear cells w → v.limit ≡ w.limit
-    → (p <ℤ w.low) ⊎ (w.high <ℤ p) → w.low ≤ℤ (p +ℤ pos 1) → p ≤ℤ (w.high +ℤ pos 1) → v.low ≡ int_min w.low p
-    → v.high ≡ int_max w.high p → ring_content cells v ≡ ring_content cells w
-ring_wider cells w v p clear limit outside from to low high = same_content _ _ (λ q.
-    by_window v q
-    (λ a b.
-    cell-ring-inside cells v q a b ∙
-    by_position q p _
-    (λ here.
-    ap (λ x. get_or cells (ring_index v.limit x) 0) here
-    ∙ clear_beside cells w v p clear limit outside low high
-    ∙ sym (elim outside [
-      | inl below ↦ cell-ring-below cells w q (omega (arith, ints, here, below))
-      | inr above ↦ cell-ring-above cells w q (omega (arith, ints, here, above))
-    ]))
-    (λ there.
-    let in_low : w.low ≤ℤ q = still_from w v p outside from low q a there in
-    let in_high : q ≤ℤ w.high = still_to w v p outside to high q b there in
-    ap (λ n. get_or cells (ring_index n q) 0) limit ∙ sym (cell-ring-inside cells w q in_low in_high)))
-    (λ below. cell-ring-below cells v q below ∙ sym (cell-ring-below cells w q (omega (arith, ints, clamps))))
-    (λ above. cell-ring-above cells v q above
-    ∙ sym (cell-ring-above cells w q (omega (arith, ints, clamps)))))
+  ring_wider : ring_content cells v ≡ ring_content cells w
+  ring_wider = same_content _ _ (λ q.
+      by_window v q
+      (λ a b.
+      cell-ring-inside cells v q a b ∙
+      by_position q p _
+      (λ here.
+      ap (λ x. get_or cells (ring_index v.limit x) 0) here ∙ clear_beside
+      ∙ sym (elim next [
+        | inl below ↦ cell-ring-below cells w q (omega (arith, ints, here, below))
+        | inr above ↦ cell-ring-above cells w q (omega (arith, ints, here, above))
+      ]))
+      (λ there.
+      ap (λ n. get_or cells (ring_index n q) 0) limit
+      ∙ sym (cell-ring-inside cells w q (still_from q a there) (still_to q b there))))
+      (λ below. cell-ring-below cells v q below
+      ∙ sym (cell-ring-below cells w q (omega (arith, ints, clamps))))
+      (λ above. cell-ring-above cells v q above
+      ∙ sym (cell-ring-above cells w q (omega (arith, ints, clamps)))))
 
-pub clear_wider : (cells : List ℕ) (w v : Window) (p : ℤ) → IsClear cells w → v.limit ≡ w.limit
-    → v.low ≡ int_min w.low p → v.high ≡ int_max w.high p → IsClear cells v
-clear_wider cells w v p clear limit low high k above below =
-    clear k (omega (arith, ints, clamps, above, high)) (omega (arith, ints, clamps, below, low, limit))
+  clear_wider : IsClear cells v
+  clear_wider k above below =
+      clear k (omega (arith, ints, clamps, above, high)) (omega (arith, ints, clamps, below, low, limit))
+
+-- a ring with a window that took in p
+pub record IsWider (a : RingTape) (v : Window) (p : ℤ) : Type 0 where
+  pub whole : length a.cells.items ≡ v.limit
+  pub clear : IsClear a.cells.items v
+  pub sound : IsSound (view_of (ring_content a.cells.items v) v)
+  pub view : view_of (ring_content a.cells.items v) v
+      ≡ visited (view_of (ring_content a.cells.items a.window) a.window) p
+
+wider : (a : RingTape) (v : Window) (p : ℤ) → (p ≡ a.window.low -ℤ pos 1) ⊎ (p ≡ a.window.high +ℤ pos 1)
+    → v.low ≡ int_min a.window.low p → v.high ≡ int_max a.window.high p → v.limit ≡ a.window.limit
+    → IsWider a v p
+wider a v p next low high limit =
+    let cells = a.cells.items in
+    let w = a.window in
+    let e : ring_content cells v ≡ ring_content cells w =
+    ring_wider cells w v p a.clear limit next low high in
+    record {
+      whole = a.whole ∙ sym limit;
+      clear = clear_wider cells w v p a.clear limit next low high;
+      sound = rw e (sound_wider (ring_content cells w) w p v a.sound low high);
+      view = cc;
+    }
+
+pub wider_low : (a : RingTape) (v : Window) {p : ℤ} → SFits w64 p → p ≡ a.window.low -ℤ pos 1
+    → record {
+      low : v.low ≡ to_z w64 (of_z w64 p);
+      high : v.high ≡ a.window.high;
+      limit : v.limit ≡ a.window.limit;
+    }
+    → IsWider a v p
+wider_low a v {p} fits next is =
+    let from = a.window.valid.from_zero in
+    let to = a.window.valid.to_zero in
+    let same = to_z-of_z w64 p fits in
+    wider a v p (inl next) (omega (arith, ints, clamps)) (omega (arith, ints, clamps)) is.limit
+
+pub wider_high : (a : RingTape) (v : Window) {p : ℤ} → SFits w64 p → p ≡ a.window.high +ℤ pos 1
+    → record {
+      low : v.low ≡ a.window.low;
+      high : v.high ≡ to_z w64 (of_z w64 p);
+      limit : v.limit ≡ a.window.limit;
+    }
+    → IsWider a v p
+wider_high a v {p} fits next is =
+    let from = a.window.valid.from_zero in
+    let to = a.window.valid.to_zero in
+    let same = to_z-of_z w64 p fits in
+    wider a v p (inr next) (omega (arith, ints, clamps)) (omega (arith, ints, clamps)) is.limit
 
 pub clear_written : (cells : List ℕ) (w : Window) (p : ℤ) (v : ℕ) → IsClear cells w → w.low ≤ℤ p → p ≤ℤ w.high
     → IsClear (set cells (ring_index w.limit p) v) w

@@ -26,9 +26,9 @@ pub sound_blank : (w : Window) → IsSound (view_of blank w)
 sound_blank w = sound_from blank w (λ p ne. absurd (ne (cell-blank p))) (λ p. omega (arith, cell-blank p))
 
 -- in a wider window
-pub sound_wider : (c : Content) (w : Window) (p p' : ℤ) (v : Window) → IsSound (view_of c w) → p' ≡ p
-    → v.low ≡ int_min w.low p' → v.high ≡ int_max w.high p' → IsSound (view_of c v)
-sound_wider c w p p' v s same low high =
+pub sound_wider : (c : Content) (w : Window) (p : ℤ) (v : Window) → IsSound (view_of c w)
+    → v.low ≡ int_min w.low p → v.high ≡ int_max w.high p → IsSound (view_of c v)
+sound_wider c w p v s low high =
     sound_from c v (λ q ne. let old : IsInside (view_of c w) q = s.nothing_outside q ne in
     (omega (arith, ints, clamps), omega (arith, ints, clamps))) s.symbols
 

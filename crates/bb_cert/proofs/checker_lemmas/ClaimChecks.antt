@@ -77,9 +77,9 @@ translated_cut table bounds side first second extent answer.Ok cut = absurd cut
 translated_cut table bounds side first second extent answer.Open cut = absurd cut
 
 -- a run that came to the step fits
-pub fits_there : (table : Table) (bounds : Bounds) (n : ℕ) (runner : Runner) (view : TapeView) (meter : Meter)
+pub fits_there : {table : Table} (bounds : Bounds) {n : ℕ} {runner : Runner} {view : TapeView} {meter : Meter}
     → IsAtStep table (up_to bounds n) n runner view meter → bounds.cells < span table n → ⊥
-fits_there table bounds n runner view meter is =
+fits_there {table} bounds is =
     not_wide _ _ (subst (λ k. span table k ≤ bounds.cells) is.at is.under_way.inside.within_cells)
 
 -- ---- counts of a run

@@ -1,8 +1,10 @@
 -- A course whose record is kept, and compared with a later one.
 use Rattle.std.proofs.Common.{◌≡◌, ℕ, ◌<◌, pos, IsTrue, Bool, true, false, refl, sym, subst, ap, ◌∙◌}
 use Rattle.std.specs.Prelude.{MatchBool}
+use Rattle.bb_machine.specs.Limits.{Bounds}
 use Rattle.bb_machine.specs.Machine.{Table}
 use Rattle.bb_tape.specs.TapeView.{TapeView}
+use Rattle.bb_sim.specs.declared.meter.Meter.{Meter}
 use Rattle.bb_sim.specs.declared.runner.Runner.{Runner}
 use Rattle.bb_sim.specs.Configuration.{Configuration}
 use Rattle.bb_sim.specs.Laws.{IsRunningAt}
@@ -12,7 +14,7 @@ use Rattle.bb_cert.specs.declared.records.Records.{Records}
 use Rattle.bb_cert.specs.records.Agree.{Agree, AgreeingRecords}
 use Rattle.bb_cert.specs.declared.verdict.Extent.{Extent}
 use Rattle.bb_cert.specs.declared.verdict.Side.{Side}
-use Rattle.bb_cert.specs.inside.Checks.{GoesOn, IsCourse, KeepsStep, MakesRecord}
+use Rattle.bb_cert.specs.inside.Checks.{GoesOn, IsAtStep, IsCourse, KeepsStep, MakesRecord}
 use Rattle.bb_cert.specs.verdict.Extent.{IsExtent}
 use Rattle.bb_cert.specs.records.Follow.{AgreesWithKept, IsComparable, IsKeptInStateOf, LiesAs, with_kept}
 use Rattle.bb_cert.specs.records.Record.{IsRecord, head_at}
@@ -22,7 +24,7 @@ use Rattle.bb_cert.proofs.record_lemmas.Comparing.{keeps_step}
 use Rattle.bb_cert.proofs.record_lemmas.Comparing.{numbered, numbered_at}
 use Rattle.bb_cert.proofs.record_lemmas.Courses.{course_at_first, keeps_on}
 use Rattle.bb_cert.proofs.record_lemmas.Heads.{runs_before}
-use Rattle.bb_cert.proofs.record_lemmas.Positions.{head_at-is}
+use Rattle.bb_cert.proofs.record_lemmas.Positions.{head_at-is, starts}
 
 -- the course after its record, if the last step makes one, was kept
 abbrev pub Keeps : Runner → Course → Course → Type 0
@@ -136,75 +138,89 @@ pub record IsKeptAt (table : Table) (side : Side) (step : ℕ) (course : Course)
   pub side_is : course.records.side ≡ side
 
 -- begun at the start, followed up to the step where the runner stands, and kept there
-pub kept_at : (table : Table) (side : Side) (step : ℕ) (start : Runner) (none : Records) (old new : Course)
-    (runner : Runner) (run : TapeView)
-    → position_of start ≡ pos 0 → none ≡ record { side = side; kept = start; nearest = pos 0 }
-    → GoesOn table 0 step (record { records = none; is_record = false }) old → Stands table runner run
-    → steps_of runner ≡ step → Keeps runner old new → IsKeptAt table side step new run
-kept_at table side step start none old new runner run begun is goes stands here kept = record {
-  known = subst (λ n. IsCourse table n new run) here (course_kept table runner run old new stands known kept);
-  keeps = subst (λ n. KeepsStep table n new.records) here
-      (step_kept table runner run old new stands known
-      (ap position_of goes.same.kept ∙ start_is) kept);
-  side_is = side_kept runner old new kept ∙ goes.same.side ∙ ap (λ (r : Records). r.side) is;
-} where
-  start_is : position_of none.kept ≡ pos 0
-  start_is = ap (λ (r : Records). position_of r.kept) is ∙ begun
+pub kept_at : {table : Table} {side : Side} {bounds : Bounds} {step : ℕ} {start runner : Runner}
+    {none : Records} {old new : Course} {begun run : TapeView} {before meter : Meter}
+    → IsAtStep table bounds 0 start begun before
+    → none ≡ record { side = side; kept = start; nearest = pos 0 }
+    → IsAtStep table bounds step runner run meter
+    → GoesOn table (steps_of start) step (record { records = none; is_record = false }) old
+    → Keeps runner old new → IsKeptAt table side step new run
+kept_at {table} {side} {step = step} {start} {runner} {none} {old} {new} {run = run} at is there from
+    kept = record {
+      known = subst (λ n. IsCourse table n new run) there.at
+          (course_kept table runner run old new there.under_way.stands known kept);
+      keeps = subst (λ n. KeepsStep table n new.records) there.at
+          (step_kept table runner run old new there.under_way.stands known
+          (ap position_of goes.same.kept ∙ start_is) kept);
+      side_is = side_kept runner old new kept ∙ goes.same.side ∙ ap (λ (r : Records). r.side) is;
+    } where
+      goes : GoesOn table 0 step (record { records = none; is_record = false }) old
+      goes = rw at.at at from
 
-  known : IsCourse table (steps_of runner) old run
-  known = subst (λ n. IsCourse table n old run) (sym here)
-      (goes.course run (course_at_first table (record {
-        records = none;
-        is_record =
-            false;
-      }) run start_is refl))
+      start_is : position_of none.kept ≡ pos 0
+      start_is = ap (λ (r : Records). position_of r.kept) is
+          ∙ starts table start _ at.under_way.stands at.at
 
--- followed on from there
-module _ (table : Table) (side : Side) (first second : ℕ) (old new : Course) (runner : Runner)
-    (run saved : TapeView) (kept : IsKeptAt table side first old saved)
-    (goes : GoesOn table first second old new)
-    (stands : Stands table runner run) (here : steps_of runner ≡ second) where
-  known_on : IsCourse table (steps_of runner) new saved
-  known_on = subst (λ n. IsCourse table n new saved) (sym here) (goes.course saved kept.known)
+      known : IsCourse table (steps_of runner) old run
+      known = subst (λ n. IsCourse table n old run) (sym there.at)
+          (goes.course run (course_at_first table _ run start_is refl))
 
-  pub comparable_at : IsTrue new.is_record → IsKeptInStateOf new.records runner
-      → IsComparable new.records runner saved run
-  comparable_at = course_comparable table runner run saved new stands known_on
+-- both steps of a pair are run to, and the record that the first makes is kept
+pub record IsPairRun (table : Table) (bounds : Bounds) (side : Side) (first second : ℕ) (course : Course)
+    (runner : Runner) (run saved : TapeView) : Type 0 where
+  pub old : Course
+  pub meter : Meter
+  pub kept : IsKeptAt table side first old saved
+  pub goes : GoesOn table first second old course
+  pub there : IsAtStep table bounds second runner run meter
+  pub order : first < second
 
-  keeps_first : KeepsStep table first new.records
-  keeps_first = keeps_on table first old.records new.records goes.same kept.keeps
+module _ {table : Table} {bounds : Bounds} {side : Side} {first second : ℕ} {course : Course}
+    {runner : Runner} {run saved : TapeView}
+    (is : IsPairRun table bounds side first second course runner run saved) where
+  stands : Stands table runner run
+  stands = is.there.under_way.stands
+
+  known_on : IsCourse table (steps_of runner) course saved
+  known_on = subst (λ n. IsCourse table n course saved) (sym is.there.at) (is.goes.course saved is.kept.known)
+
+  keeps_first : KeepsStep table first course.records
+  keeps_first = keeps_on table first is.old.records course.records is.goes.same is.kept.keeps
+
+  same_side : course.records.side ≡ side
+  same_side = is.goes.same.side ∙ is.kept.side_is
+
+  pub comparable_at : IsTrue course.is_record → IsKeptInStateOf course.records runner
+      → IsComparable course.records runner saved run
+  comparable_at = course_comparable table runner run saved course stands known_on
 
   -- how the two lie, where they agree, is their extent
-  pub extent_at : IsTrue new.is_record → AgreesWithKept new.records runner saved run → (found : Extent)
-      → LiesAs new.records runner found → IsExtent table side first second found
-  extent_at makes both found lies =
-      let made = (known_on.told.0 makes).0 in
-      let some = numbered table runner run saved new.records stands known_on.followed made both.0 in
-      let at = keeps_first.at both.0.0 in
-      subst (λ s. IsExtent table s first second found) (goes.same.side ∙ kept.side_is)
-      (subst (λ a. IsExtent table new.records.side a second found) at
-      (subst (λ b. IsExtent table new.records.side (steps_of new.records.kept) b found) here
-      (extent_of_records table runner run saved new.records stands known_on.followed made some found lies)))
+  pub extent_at : (found : Extent) → IsTrue course.is_record
+      × AgreesWithKept course.records runner saved run × LiesAs course.records runner found
+      → IsExtent table side first second found
+  extent_at found agree =
+      let made = (known_on.told.0 agree.0).0 in
+      let some = numbered table runner run saved course.records stands known_on.followed made agree.1.0 in
+      let at = keeps_first.at agree.1.0.0 in
+      subst (λ s. IsExtent table s first second found) same_side
+      (subst (λ a. IsExtent table course.records.side a second found) at
+      (subst (λ b. IsExtent table course.records.side (steps_of course.records.kept) b found) is.there.at
+      (extent_of_records table runner run saved course.records stands known_on.followed made some found
+      agree.2)))
 
-  turned : AgreeingRecords table new.records.side first (steps_of runner)
+  less : first < steps_of runner
+  less = rw is.there.at is.order
+
+  pub pair_at : IsTrue course.is_record → AgreesWithKept course.records runner saved run
       → AgreeingRecords table side first second
-  turned pair = subst (λ s. AgreeingRecords table s first second) (goes.same.side ∙ kept.side_is)
-      (subst (λ n. AgreeingRecords table new.records.side first n) here pair)
+  pair_at makes both = subst (λ s. AgreeingRecords table s first second) same_side
+      (subst (λ n. AgreeingRecords table course.records.side first n) is.there.at
+      (pair_of_course table runner run saved course stands known_on makes both first less keeps_first))
 
-  turned_back : AgreeingRecords table side first second → AgreeingRecords table new.records.side first
-      (steps_of runner)
-  turned_back pair = subst (λ n. AgreeingRecords table new.records.side first n) (sym here)
-      (subst (λ s. AgreeingRecords table s first second) (sym (goes.same.side ∙ kept.side_is)) pair)
-
-  pub pair_at : first < second → IsTrue new.is_record → AgreesWithKept new.records runner saved run
-      → AgreeingRecords table side first second
-  pair_at less makes both = turned (pair_of_course table runner run saved new stands known_on makes both first
-      (rw here less) keeps_first)
-
-  pub no_pair_at : first < second
-      → (IsTrue new.is_record → AgreesWithKept new.records runner saved run → ⊥)
+  pub no_pair_at : (IsTrue course.is_record → AgreesWithKept course.records runner saved run → ⊥)
       → AgreeingRecords table side first second → ⊥
-  no_pair_at less none pair =
-      let seen = course_of_pair table runner run saved new stands known_on first (rw here less) keeps_first
-      (turned_back pair) in
+  no_pair_at none pair =
+      let seen = course_of_pair table runner run saved course stands known_on first less keeps_first
+      (subst (λ n. AgreeingRecords table course.records.side first n) (sym is.there.at)
+      (subst (λ s. AgreeingRecords table s first second) (sym same_side) pair)) in
       none seen.0 seen.1

@@ -34,11 +34,10 @@ told_is_one table side a b (Some one) (Some other) first second =
     ap Some (extent_is_one table side a b one other first second)
 
 -- one that may be told is right where it is the one that was found
-pub said_as_found : (table : Table) (side : Side) (a b : ℕ) (found : Extent) → IsExtent table side a b found
+pub said_as_found : {table : Table} {side : Side} {a b : ℕ} {found : Extent} → IsExtent table side a b found
     → (told : Option Extent) → IfSome told (λ extent. extent ≡ found) ↔ SaysExtent table side a b told
-said_as_found table side a b found is None = (λ none. tt, λ none. tt)
-said_as_found table side a b found is (Some told) = (
+said_as_found is None = (λ none. tt, λ none. tt)
+said_as_found {table} {side} {a} {b} {found} is (Some told) = (
   λ same. subst (IsExtent table side a b) (sym same) is,
-  λ says. extent_is_one table side a b told found
-      says is,
+  λ says. extent_is_one table side a b told found says is,
 )

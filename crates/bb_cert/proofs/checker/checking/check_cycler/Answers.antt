@@ -21,7 +21,7 @@ returns-then-is_same-clause-checks g c =
     let kept = subst (Stands c.args.machine.now c.run_to.new.runner)
     (sym c.in-Ok.ensures.ok) first.under_way.stands in
     let same = same_of_alike _ _ _ _ _ second.under_way.stands kept (c.is_same.ensures.0 c.if-is_same.true) in
-    (fits_there _ c.args.limits.now _ _ _ _ second, (c.requires.order, rw (first.at, second.at) at same))
+    (fits_there c.args.limits.now second, (c.requires.order, rw (first.at, second.at) at same))
 
 pub returns-clause-checks : goal.returns-clause-checks
 returns-clause-checks g c =
@@ -29,7 +29,7 @@ returns-clause-checks g c =
     let second = rw (c.in-None-2.is, c.with_steps-limits.ensures) at c.in_ok-answer-2.ensures.runs in
     let kept = subst (Stands c.args.machine.now c.run_to.new.runner)
     (sym c.in-Ok.ensures.ok) first.under_way.stands in (
-      fits_there _ c.args.limits.now _ _ _ _ second,
+      fits_there c.args.limits.now second,
       λ claim.
           let alike = alike_of_same _ _ _ _ _ second.under_way.stands kept
           (rw (first.at, second.at) claim.1) in

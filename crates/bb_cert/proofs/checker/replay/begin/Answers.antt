@@ -1,4 +1,4 @@
-use Rattle.std.proofs.Common.{◌∙◌, ap}
+use Rattle.std.proofs.Common.{◌∙◌}
 use Rattle.bb_cert.proofs.record_lemmas.UnderWay.{begins}
 use Rattle.bb_cert.proofs.checker.replay.begin.Goals as goal
 

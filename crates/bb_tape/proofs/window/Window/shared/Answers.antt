@@ -1,7 +1,8 @@
 use Rattle.std.proofs.Common.{w64}
 use Rattle.std.proofs.lemmas.Int.{to_z-of_z}
 use mir.Val.{SFits}
-use Rattle.bb_tape.proofs.WiderWindows.{low_fits, high_fits, min_is, max_is, shared_low_fits, shared_high_fits}
+use Rattle.bb_tape.proofs.WiderWindows.{low_fits, high_fits, min_is, max_is}
+use Rattle.bb_tape.proofs.WiderWindows.{shared_low_fits, shared_high_fits}
 use Rattle.bb_tape.proofs.WiderWindows.{shared_valid}
 use Rattle.bb_tape.proofs.window.Window.shared.Goals as goal
 
