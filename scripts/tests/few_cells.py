@@ -4,7 +4,7 @@
     scripts/tests/few_cells.py crates/bb/out/bb [--machines N] [--seed S]
 
 A machine of q states and k symbols has q * S * k^S configurations in S cells. With three times as many steps
-no machine may be undecided for want of steps. Held against the program are all machines of two states and two
+no machine may be `undecided steps`. Held against the program are all machines of two states and two
 symbols in 4 cells, and random ones of more states or symbols; each is run here, by the definitions of a run,
 a halt, a span and a cycle alone, and the program's line must be the one that follows. What is said of each
 list is the greatest second step of its cycles. It takes some seconds. The last line is `N passed, M failed`;

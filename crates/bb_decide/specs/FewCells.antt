@@ -21,7 +21,7 @@ abbrev pub FindsInFewCells : Table → Bounds → Option Verdict → Type 0
 FindsInFewCells table bounds found = HasStepsForCells table bounds → Inside table bounds bounds.steps
     → IsRunning table bounds.steps → IsFoundBy (3 * configurations_in table bounds.cells) found
 
--- with so many steps, and the cyclers on, a verdict isn't undecided for want of steps
+-- with so many steps, and the cyclers on, a verdict isn't `undecided steps`
 abbrev pub DecidesFewCells : Table → Bounds → Plan → Verdict → Type 0
 DecidesFewCells table bounds plan verdict =
     IsTrue plan.cyclers → HasStepsForCells table bounds → verdict ≢ Undecided Steps

@@ -32,7 +32,7 @@ use bb_machine::{Limits, Machine};
 use bb_sim::{Meter, Outcome, simulate};
 use bb_tape::{Memory, Tape};
 
-/// The verdict on a machine, and under the meter what it cost: the meter is begun at 0.
+/// Resets `meter`, decides a machine, and records the cost in `meter`.
 ///
 /// After an error nothing is said of what the tapes hold; the next call resets them.
 pub fn decide<T: Tape>(

@@ -33,7 +33,7 @@ pub fn larger_limits_keep()
 {}
 
 /// With the cyclers on, and three times as many steps as there are configurations in the cells, no machine is
-/// undecided for want of steps.
+/// `undecided steps`.
 pub fn few_cells_are_decided()
     ensures { FewCellsAreDecided }
 {}

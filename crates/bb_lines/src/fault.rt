@@ -8,7 +8,7 @@ use std::fmt;
 /// Why a run ended before all lines were answered.
 #[derive(Clone, Copy, Debug, PartialEq, Eq)]
 pub enum Fault {
-    /// A growth was refused. What was written are the replies to the lines before the one at work.
+    /// An allocation failed. What was written are the replies to the lines before the one at work.
     Memory = 1,
     /// A read failed. What was written are the replies to the lines that were complete by then.
     Read = 2,

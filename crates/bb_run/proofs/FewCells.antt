@@ -1,4 +1,4 @@
--- Why the reply to a machine that stays in few cells is not that it is undecided for want of steps.
+-- Why the reply to a machine that stays in few cells is not `undecided steps`.
 use Rattle.std.proofs.Common.{◌≡◌, ◌≢◌, ℕ, List, IsTrue, inl, inr, sym, subst, ◌∙◌}
 use Rattle.bb_machine.specs.Limits.{Bounds}
 use Rattle.bb_machine.specs.Machine.{Table, IsTextOf}

@@ -1,4 +1,4 @@
--- Which machines are never replied to as undecided for want of steps: this project's own.
+-- For which machines the reply is never `undecided steps`: this project's own.
 use Rattle.std.specs.Prelude.{◌≢◌, ℕ, List, IsTrue}
 use Rattle.bb_machine.specs.Limits.{Bounds}
 use Rattle.bb_machine.specs.Machine.{Table, IsTextOf}
@@ -10,7 +10,7 @@ use Rattle.bb_decide.specs.FewCells.{HasStepsForCells}
 use Rattle.bb_run.specs.Reply.{IsReply}
 
 -- with the cyclers on, the reply to a line whose own machine has so few configurations in the cells that the
--- steps are three times as many is not that it is undecided for want of steps
+-- steps are three times as many is not `undecided steps`
 abbrev pub FewCellsAreReplied : Bounds → Plan → Type 0
 FewCellsAreReplied bounds plan = IsTrue plan.cyclers → (table : Table) (line reply : List ℕ)
     → IsTextOf table line → HasStepsForCells table bounds → IsReply bounds plan line reply

@@ -24,8 +24,8 @@ pub fn verdicts_are_borne_out()
     ensures { AllVerdictsAreBorneOut }
 {}
 
-/// With the cyclers on, a machine with few configurations in the cells is never replied to as undecided for
-/// want of steps.
+/// With the cyclers on, the reply to a machine with few configurations in the cells is never `undecided
+/// steps`.
 pub fn few_cells_are_replied()
     ensures { AllFewCellsAreReplied }
 {}

@@ -12,7 +12,7 @@ pub const MAX_CELLS: u64 = 67_108_864;
 /// known symbol r as r + 1, up to 10, since its 0 is a cell of which nothing is known.
 pub const MAX_SYMBOL: u8 = 10;
 
-/// A growth was refused.
+/// An allocation failed.
 #[derive(thiserror::Error, Debug, Drop)]
 #[error("out of memory")]
 pub struct Memory;
@@ -23,7 +23,7 @@ pub enum TapeFault {
     /// The window would have more positions than the tape's limit.
     #[error("the tape has no more cells")]
     Cells = 1,
-    /// A growth was refused.
+    /// An allocation failed.
     #[error("out of memory")]
     Memory = 2,
 }
@@ -86,7 +86,7 @@ pub trait Tape: Drop {
         self.read(p)
     }
 
-    /// Puts a symbol into a cell of the window. It is never refused for want of cells.
+    /// Puts a symbol into a cell of the window. It never needs more cells.
     fn write(&mut self, p: i64, v: u8) -> Result<(), TapeFault>
         requires inside { IsInside (view self.old) p }
         requires symbol { v ≤ MAX_SYMBOL }

@@ -265,7 +265,7 @@ fn writes_a_beginning_before_a_failed_write(rt: HostRuntime) {
 }
 
 #[test]
-fn writes_the_replies_before_a_refused_growth(rt: HostRuntime) {
+fn writes_the_replies_before_a_failed_allocation(rt: HostRuntime) {
     for (answers, written) in [(0, 0), (1, 7), (2, 9)] {
         let ended = shout_all(pieces_of(14, 14), sink_of(64, 64), answers, 0);
         assert_eq!(rt; ended.end, Err(Fault::Memory), "after {answers}");

@@ -159,7 +159,7 @@ fn has_written<T: Tape>(tape: &T, cells: u8) -> bool {
 
 /// How much of a heap is left, in turn: what is refused then works once there is memory.
 #[test]
-fn each_growth_of_a_map_refused(rt: HostRuntime) -> Result<(), Fail> {
+fn each_allocation_of_a_map_refused(rt: HostRuntime) -> Result<(), Fail> {
     let ample = LocalHeap::new(rt.alloc(), 1 << 13)?;
     let heap = LocalHeap::new(rt.alloc(), 1 << 13)?;
     let mut source = MapTape::new_in(&ample, 100);
