@@ -29,7 +29,23 @@ end() {
     echo "bb: proved $1, $proved of $crates" >&2
 }
 
-# Proves the crates that stand on none of the others side by side, then the others in their order.
+# The crates of `left` that stand on `finished` ones alone.
+next_wave() {
+    for crate in $left; do
+        ready=yes
+        for need in $(sed -n "s/^$crate: //p" "$here/crates.txt"); do
+            case " $finished " in
+                *" $need "*) ;;
+                *) case $need in bb_*) ready=no ;; esac ;;
+            esac
+        done
+        if [ $ready = yes ]; then
+            echo "$crate"
+        fi
+    done
+}
+
+# Proves the libraries in waves, those of a wave side by side, and then the program.
 build() {
     logs=$(mktemp -d)
     begun=
@@ -39,19 +55,25 @@ build() {
     trap 'exit 130' INT
     trap 'exit 143' TERM
     echo 'bb: building, which proves every crate first and takes some minutes' >&2
-    lowest=$(sed -n '/: .*bb_/d; s/^\([a-z_]*\):.*/\1/p' "$here/crates.txt")
-    for crate in $lowest; do
-        begin "$crate" lib --jobs 2
-    done
-    set -- $begun
-    for crate in $lowest; do
-        end "$crate" "$1"
-        shift
-    done
-    for crate in $(sed -n 's/^\(bb_[a-z]*\): .*bb_.*/\1/p' "$here/crates.txt"); do
+    left=$(sed -n 's/^\(bb_[a-z_]*\):.*/\1/p' "$here/crates.txt")
+    finished=
+    while [ -n "$left" ]; do
+        wave=$(next_wave)
         begun=
-        begin "$crate" lib
-        end "$crate" "$!"
+        case $(echo $wave) in
+            *' '*) jobs='--jobs 2' ;;
+            *) jobs= ;;
+        esac
+        for crate in $wave; do
+            begin "$crate" lib $jobs
+        done
+        set -- $begun
+        for crate in $wave; do
+            end "$crate" "$1"
+            shift
+            finished="$finished $crate"
+            left=$(echo "$left" | grep -vx "$crate" || true)
+        done
     done
     begun=
     begin bb run -- --help

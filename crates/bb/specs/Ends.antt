@@ -7,8 +7,8 @@ use Rattle.bb_lines.specs.declared.fault.Fault.TheVariants.{Memory}
 use Rattle.bb_run.specs.declared.summary.Summary.{Summary}
 use Rattle.bb_run.specs.CheckEnds.{CheckEnds}
 use Rattle.bb_run.specs.Ends.{DecideEnds, TraceEnds}
-use Rattle.bb.specs.declared.command.Work.{Work}
-use Rattle.bb.specs.declared.command.Work.TheVariants.{Decide, Check, Trace}
+use Rattle.bb_command.specs.declared.command.Work.{Work}
+use Rattle.bb_command.specs.declared.command.Work.TheVariants.{Decide, Check, Trace}
 
 -- memory ran out before the work began: nothing is read and nothing written
 pub record IsNotBegun (left left_then held held_then : Option (List ℕ)) (end : Result Summary Fault)

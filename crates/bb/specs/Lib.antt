@@ -1,3 +1,1 @@
-pub mod Command
-pub mod CommandLine
 pub mod Ends

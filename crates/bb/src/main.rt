@@ -3,21 +3,18 @@
 
 ghost use Rattle.std.specs.Prelude.{IfErr, IfOk, map};
 ghost use Rattle.std.specs.String.{string_bytes};
-ghost use Rattle.bb.specs.Command.{AreGivenBy, IsAskedBy, IsStopOf};
+ghost use Rattle.bb_command.specs.Command.{AreGivenBy, IsAskedBy, IsStopOf};
 
-mod advice;
-mod command;
 mod progress;
 mod serve;
 mod streams;
 #[cfg(test)]
 mod tests;
 
-use advice::Advice;
+use bb_command::{Advice, Asked, Numbers, Stop, ask, numbers_given};
 use bb_lines::fault::Fault;
 use bb_lines::watched::Watched;
 use bb_run::Summary;
-use command::{Asked, Numbers, Stop, ask, numbers_given};
 use progress::Progress;
 use serve::{serve, status};
 use std::alloc::Global;

@@ -1,7 +1,7 @@
 //! How far a list has come, as a line on a terminal.
 
-use crate::command::Work;
 use arrayvec::ArrayString;
+use bb_command::Work;
 use std::cell::RefCell;
 use std::fmt::Write;
 use std::io::IsTerminal;

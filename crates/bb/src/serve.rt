@@ -5,7 +5,7 @@ ghost use Rattle.bb_lines.specs.Watched.{is_marked, watched_inner};
 ghost use Rattle.bb_run.specs.BorneOut.{VerdictsAreBorneOut};
 ghost use Rattle.bb.specs.Ends.{IsNotBegun, ServeEnds, end_status};
 
-use crate::command::{Asked, Work};
+use bb_command::{Asked, Work};
 use bb_lines::fault::Fault;
 use bb_lines::watched::Watched;
 use bb_run::laws::verdicts_are_borne_out;

@@ -1,7 +1,7 @@
 //! Command lines from end to end, over bytes in memory, with answers that were worked out by hand.
 
-use crate::command::{Asked, Stop, ask};
 use crate::serve::{serve, status};
+use bb_command::{Asked, Stop, ask};
 use bb_lines::fault::Fault;
 use bb_lines::watched::Watched;
 use bb_run::Summary;

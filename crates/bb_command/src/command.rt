@@ -5,7 +5,7 @@ ghost use Rattle.clap.specs.declared.builder.command.Command.TheViews.{out-Comma
 ghost use Rattle.clap.specs.Words.{app_of, first_of, found_of, kind_of, rows_of, rule_of, shape_of};
 ghost use Rattle.clap.specs.Simple.{new_shape};
 ghost use Rattle.clap.specs.declared.builder.texts.Texts.TheVariants.{One};
-ghost use Rattle.bb.specs.Command.{
+ghost use Rattle.bb_command.specs.Command.{
   AreGivenBy,
   AsksToCheck,
   AsksToDecide,
@@ -22,7 +22,7 @@ ghost use Rattle.bb.specs.Command.{
   stop_status,
   trace_bounds,
 };
-ghost use Rattle.bb.specs.CommandLine.{
+ghost use Rattle.bb_command.specs.CommandLine.{
   by_default,
   cells_rule,
   check_shape,
@@ -93,7 +93,7 @@ impl Stop {
 
 impl From<AllocError> for Stop {
     ghost use Rattle.std.specs.Prelude.{◌≡◌};
-    ghost use Rattle.bb.specs.declared.command.Stop.TheVariants.{Memory};
+    ghost use Rattle.bb_command.specs.declared.command.Stop.TheVariants.{Memory};
 
     ghost from_gives = { λ _ stop. stop ≡ Memory };
 

@@ -1,8 +1,8 @@
 use Rattle.std.proofs.Common.{◌∙◌}
 use Rattle.std.specs.Str.Parse.{ParsesUnsigned, ExplainsUnsignedError, HasUnsignedDigitsIfOk}
 use Rattle.clap.specs.Words.{found_of}
-use Rattle.bb.proofs.CommandValues.{number_by_rows}
-use Rattle.bb.proofs.command.value.Goals as goal
+use Rattle.bb_command.proofs.CommandValues.{number_by_rows}
+use Rattle.bb_command.proofs.command.value.Goals as goal
 
 pub returns : goal.returns
 returns c =

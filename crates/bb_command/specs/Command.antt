@@ -12,13 +12,13 @@ use Rattle.clap.specs.declared.error.kind.ErrorKind.{ErrorKind}
 use Rattle.clap.specs.declared.error.kind.ErrorKind.TheVariants.{DisplayHelp, DisplayVersion, OutOfMemory}
 use Rattle.bb_machine.specs.Limits.{Bounds, IsFirstFault}
 use Rattle.bb_decide.specs.declared.plan.Plan.{Plan}
-use Rattle.bb.specs.declared.command.Asked.{Asked}
-use Rattle.bb.specs.declared.command.Numbers.{Numbers}
-use Rattle.bb.specs.declared.command.Stop.{Stop}
-use Rattle.bb.specs.declared.command.Stop.TheVariants.{Help, Words, Limits, Memory}
-use Rattle.bb.specs.declared.command.Work.{Work}
-use Rattle.bb.specs.declared.command.Work.TheVariants.{Decide, Check, Trace}
-use Rattle.bb.specs.CommandLine.{command_line}
+use Rattle.bb_command.specs.declared.command.Asked.{Asked}
+use Rattle.bb_command.specs.declared.command.Numbers.{Numbers}
+use Rattle.bb_command.specs.declared.command.Stop.{Stop}
+use Rattle.bb_command.specs.declared.command.Stop.TheVariants.{Help, Words, Limits, Memory}
+use Rattle.bb_command.specs.declared.command.Work.{Work}
+use Rattle.bb_command.specs.declared.command.Work.TheVariants.{Decide, Check, Trace}
+use Rattle.bb_command.specs.CommandLine.{command_line}
 
 -- ---- what the words say
 

@@ -2,8 +2,8 @@ use Rattle.std.proofs.Common.{◌≡◌, [], true, codes, rules}
 use Rattle.std.proofs.lemmas.Result.{IfOk-weaker}
 use Rattle.clap.specs.Simple.{new_shape}
 use Rattle.clap.specs.Words.{App, app_of}
-use Rattle.bb.proofs.CommandShapes.{with_command}
-use Rattle.bb.proofs.command.program.Goals as goal
+use Rattle.bb_command.proofs.CommandShapes.{with_command}
+use Rattle.bb_command.proofs.command.program.Goals as goal
 
 -- the command line without its commands
 abbrev bare : App

@@ -2,7 +2,7 @@ use Rattle.std.proofs.Common.{◌∙◌, ap}
 use Rattle.std.specs.Prelude.{Some}
 use Rattle.clap.specs.Words.{found_of}
 use Rattle.clap.proofs.WalkLemmas.{first_value-rows}
-use Rattle.bb.proofs.command.list_file.Goals as goal
+use Rattle.bb_command.proofs.command.list_file.Goals as goal
 
 pub returns-in_ok-from_str-in-Some : goal.returns-in_ok-from_str-in-Some
 returns-in_ok-from_str-in-Some c =

@@ -2,8 +2,8 @@ use Rattle.std.proofs.Common.{◌∙◌, refl, ap}
 use Rattle.std.specs.Prelude.{[], unwrap_or}
 use Rattle.clap.specs.Words.{found_of}
 use Rattle.clap.proofs.WalkLemmas.{first_value-rows}
-use Rattle.bb.proofs.CommandValues.{text_or}
-use Rattle.bb.proofs.command.trace_of.Goals as goal
+use Rattle.bb_command.proofs.CommandValues.{text_or}
+use Rattle.bb_command.proofs.command.trace_of.Goals as goal
 
 pub returns-clause-asked : goal.returns-clause-asked
 returns-clause-asked c = record {

@@ -3,9 +3,9 @@ use Rattle.std.proofs.Common.{codes}
 use Rattle.clap.specs.Words.{AddsArg}
 use Rattle.clap.specs.Simple.{new_shape}
 use Rattle.clap.specs.declared.builder.command.Command.{Command}
-use Rattle.bb.specs.CommandLine.{decide_shape}
-use Rattle.bb.proofs.CommandShapes.{IsLocal, with_arg}
-use Rattle.bb.proofs.command.decide_command.Goals as goal
+use Rattle.bb_command.specs.CommandLine.{decide_shape}
+use Rattle.bb_command.proofs.CommandShapes.{IsLocal, with_arg}
+use Rattle.bb_command.proofs.command.decide_command.Goals as goal
 
 -- what the last argument leaves
 has_shape : (c : goal.After-arg-8) (command : Command)

@@ -12,7 +12,7 @@ use Rattle.clap.specs.declared.builder.value_parser.ValueParser.TheVariants as v
 use Rattle.clap.proofs.ValueTestLemmas.{accepts-Accepts, Accepts-accepts}
 use Rattle.clap.proofs.WalkLemmas.{one_text-rows}
 use Rattle.clap.specs.declared.parser.matches.Found.{Found}
-use Rattle.bb.specs.Command.{number_in, number_of, is_given}
+use Rattle.bb_command.specs.Command.{number_in, number_of, is_given}
 
 number_read : {E : Type 0} (G : List ℕ → Result ℕ E → Type 0)
     → ((t : List ℕ) (x : Result ℕ E) → G t x → ParsesUnsigned 64 10 t x)

@@ -1,9 +1,9 @@
 use Rattle.std.proofs.Common.{◌≡◌, ◌∙◌, ◌⊎◌, ℕ, Bor, List, ap, codes, inl, inr, map, rules, subst, sym}
 use Rattle.std.specs.Prelude.{Some}
 use Rattle.clap.specs.Words.{Text, found_of, rows_of}
-use Rattle.bb.specs.Command.{Gives}
-use Rattle.bb.proofs.CommandLines.{gives, names_a_list}
-use Rattle.bb.proofs.command.numbers_given.Goals as goal
+use Rattle.bb_command.specs.Command.{Gives}
+use Rattle.bb_command.proofs.CommandLines.{gives, names_a_list}
+use Rattle.bb_command.proofs.command.numbers_given.Goals as goal
 
 pub returns-then-eq : goal.returns-then-eq
 returns-then-eq c =

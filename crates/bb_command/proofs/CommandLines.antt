@@ -16,10 +16,10 @@ use Rattle.clap.specs.declared.error.kind.ErrorKind.{ErrorKind}
 use Rattle.clap.specs.declared.parser.matches.ArgMatches.{ArgMatches}
 use Rattle.clap.specs.declared.parser.matches.ArgMatches.TheViews.{out-ArgMatches, out-SubCommand}
 use Rattle.clap.proofs.OnLiterals.{clap_on_literals}
-use Rattle.bb.specs.declared.command.Stop.{Stop}
-use Rattle.bb.specs.declared.command.Stop.TheVariants.{Help, Words, Limits, Memory}
-use Rattle.bb.specs.Command.{Gives, IsKindStop, IsLimitsStop, IsStopOf, list_bounds, trace_bounds}
-use Rattle.bb.specs.CommandLine.{check_shape, command_line, decide_shape, trace_shape}
+use Rattle.bb_command.specs.declared.command.Stop.{Stop}
+use Rattle.bb_command.specs.declared.command.Stop.TheVariants.{Help, Words, Limits, Memory}
+use Rattle.bb_command.specs.Command.{Gives, IsKindStop, IsLimitsStop, IsStopOf, list_bounds, trace_bounds}
+use Rattle.bb_command.specs.CommandLine.{check_shape, command_line, decide_shape, trace_shape}
 
 simple_and_free : is_simple_and_free command_line ≡ true
 unfolding clap_on_literals

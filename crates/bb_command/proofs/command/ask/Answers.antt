@@ -2,11 +2,11 @@ use Rattle.std.proofs.Common.{◌≡◌, ◌∙◌, ℕ, Bor, List, ap, codes, i
 use Rattle.std.specs.Prelude.{Some}
 use Rattle.std.proofs.lemmas.Result.{IfErr-weaker, IfOk-weaker}
 use Rattle.clap.specs.Words.{Text, found_of, rows_of}
-use Rattle.bb.specs.Command.{Gives}
-use Rattle.bb.proofs.CommandLines.{gives, names_decide, stops_a_check, stops_a_trace, stops_by_kind}
-use Rattle.bb.proofs.CommandLines.{stops_deciding}
-use Rattle.bb.proofs.command.ask.Goals.{Joined-matches, Joined-matches-2, Joined-matches-3}
-use Rattle.bb.proofs.command.ask.Goals as goal
+use Rattle.bb_command.specs.Command.{Gives}
+use Rattle.bb_command.proofs.CommandLines.{gives, names_decide, stops_a_check, stops_a_trace, stops_by_kind}
+use Rattle.bb_command.proofs.CommandLines.{stops_deciding}
+use Rattle.bb_command.proofs.command.ask.Goals.{Joined-matches, Joined-matches-2, Joined-matches-3}
+use Rattle.bb_command.proofs.command.ask.Goals as goal
 
 pub returns-in-Err-clause-stop : goal.returns-in-Err-clause-stop
 returns-in-Err-clause-stop c = stops_by_kind _ c.in_ok-program.ensures _ c.in-Err.error

@@ -1,8 +1,8 @@
 use Rattle.std.proofs.Common.{◌∙◌}
 use Rattle.std.specs.Str.Parse.{ParsesBool}
 use Rattle.clap.specs.Words.{found_of}
-use Rattle.bb.proofs.CommandValues.{given_by_rows}
-use Rattle.bb.proofs.command.given.Goals as goal
+use Rattle.bb_command.proofs.CommandValues.{given_by_rows}
+use Rattle.bb_command.proofs.command.given.Goals as goal
 
 pub returns : goal.returns
 returns c =
