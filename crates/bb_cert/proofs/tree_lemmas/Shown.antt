@@ -169,7 +169,7 @@ named_at states (r ∷ list) all zero d h = all.0
 named_at states (r ∷ list) all (suc index) d h = named_at states list all.1 index d (omega (arith, h))
 
 -- a rule is tried, which stands in the list that the code reads
-module _ (list seen : List Rule) (same : seen ≡ list) (content : Content) (f : Frame) (index : ℕ)
+module _ {list seen : List Rule} (same : seen ≡ list) (content : Content) (f : Frame) {index : ℕ}
     (d : Rule) (from : f.next ≤ index) (less : index < f.end) (within : f.end ≤ length list)
     (so_far : branches list content f ≡ branches list content (record f { next = index })) where
   abbrev tried : Rule
@@ -184,8 +184,8 @@ module _ (list seen : List Rule) (same : seen ≡ list) (content : Content) (f :
       (ap (before_by (shown_node content f.position f.state)) there
       ∙ none_before content f.position f.state tried e)
 
-  module _ (write : ℕ) (dir : Dir) (next : Next) (entry : tried.entry ≡ Go write dir next) (p : ℤ)
-      (at : p ≡ f.position +ℤ left_cell dir) (held : ℕ) (shows : held ≡ cell content p) where
+  module _ {write : ℕ} {dir : Dir} {next : Next} (entry : tried.entry ≡ Go write dir next) {p : ℤ}
+      (at : p ≡ f.position +ℤ left_cell dir) {held : ℕ} (shows : held ≡ cell content p) where
     shows_left : held ≡ cell content (f.position +ℤ left_cell dir)
     shows_left = shows ∙ ap (cell content) at
 
@@ -241,7 +241,7 @@ module _ (list seen : List Rule) (same : seen ≡ list) (content : Content) (f :
           first = branch_here one;
         }
 
-    pub first_unknown : (states : ℕ) → AllByRecursion (IsRule states) list → held ≡ 0
+    pub first_unknown : {states : ℕ} → AllByRecursion (IsRule states) list → held ≡ 0
         → IsFirstBranch list states content f (record {
           position = p;
           state = tried.state;
@@ -250,10 +250,10 @@ module _ (list seen : List Rule) (same : seen ≡ list) (content : Content) (f :
           held = held;
           nonzero_known = f.nonzero_known;
         }) (index + 1)
-    first_unknown states named e = first_by states named
+    first_unknown {states} named e = first_by states named
         (unknown_before content f.position f.state tried write dir next entry held shows_left e)
 
-    pub first_written : (states : ℕ) → AllByRecursion (IsRule states) list → held ≡ write + 1
+    pub first_written : {states : ℕ} → AllByRecursion (IsRule states) list → held ≡ write + 1
         → IsFirstBranch list states content f (record {
           position = p;
           state = tried.state;
@@ -262,7 +262,7 @@ module _ (list seen : List Rule) (same : seen ≡ list) (content : Content) (f :
           held = held;
           nonzero_known = f.nonzero_known;
         }) (index + 1)
-    first_written states named e = first_by states named
+    first_written {states} named e = first_by states named
         (written_before content f.position f.state tried write dir next entry held shows_left e)
 
 pub branches_none : (list : List Rule) (content : Content) (f : Frame) → f.end ≤ f.next
