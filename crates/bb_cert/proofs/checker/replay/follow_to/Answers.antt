@@ -10,7 +10,7 @@ loop-runner-init g c = record {
   under_way = c.requires.under_way;
   ahead = c.requires.ahead;
   limit = refl;
-  goes_on = goes_nowhere _ _ _;
+  goes_on = goes_nowhere;
 }
 
 pub step_on-requires-clause-under_way : goal.step_on-requires-clause-under_way
@@ -27,7 +27,7 @@ loop-runner-preserved g c =
       under_way = one_on.under_way;
       ahead = omega (arith, more, before, steps);
       limit = c.step_on.ensures.limit ∙ here.limit;
-      goes_on = goes-next _ _ _ _ _ _ _ _ _ _ here.goes_on here.under_way.stands one_on.under_way.stands more
+      goes_on = goes-next here.goes_on here.under_way.stands one_on.under_way.stands more
           c.cells-cells.ensures c.pass.ensures;
     }
 
@@ -53,7 +53,7 @@ returns-clause-follows g c =
     (steps_of c.args.runner.now) n c.args.course.now c.loop-runner.course) at here.goes_on
 
 pub returns-clause-within : goal.returns-clause-within
-returns-clause-within g c = under_way_within _ _ _ _ _ c.loop-runner.invariant.under_way
+returns-clause-within g c = under_way_within c.loop-runner.invariant.under_way
 
 pub returns-clause-limit : goal.returns-clause-limit
 returns-clause-limit g c = c.loop-runner.invariant.limit

@@ -35,7 +35,7 @@ returns-clause-runs g c =
     record { under_way = here.under_way; at = omega (arith, ahead, there, steps) }
 
 pub returns-clause-within : goal.returns-clause-within
-returns-clause-within g c = under_way_within _ _ _ _ _ c.loop-runner.invariant.under_way
+returns-clause-within g c = under_way_within c.loop-runner.invariant.under_way
 
 pub returns-clause-limit : goal.returns-clause-limit
 returns-clause-limit g c = c.loop-runner.invariant.limit

@@ -43,7 +43,7 @@ both g c =
     let run_from = rw (c.position-kept.ensures, c.position.ensures) at
     (simp to_z-of_z at c.moved-run_from.ensures) in
     let long = rw c.position-kept.ensures at (simp to_z-of_z at c.length_of-length.ensures) in
-    compared _ _ _ _ _ _ _ c.requires.comparable c.requires.far from run_from long
+    compared c.requires.comparable c.requires.far from run_from long
 
 pub agrees-requires : goal.agrees-requires
 agrees-requires g c =
