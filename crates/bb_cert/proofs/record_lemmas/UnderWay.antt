@@ -45,6 +45,12 @@ pub under_way_within : {table : Table} {bounds : Bounds} {runner : Runner} {view
 under_way_within {table} {bounds} {runner} {meter = meter} is =
     count_is_within table bounds (steps_of runner) zero_meter meter is.inside is.counts
 
+-- a run that has come no farther than to a step, and no less far
+pub comes_to : {table : Table} {bounds : Bounds} {runner : Runner} {view : TapeView} {meter : Meter}
+    {step steps : ℕ} → IsUnderWay table bounds runner view meter → steps_of runner ≤ step
+    → steps ≡ steps_of runner → step ≤ steps → IsAtStep table bounds step runner view meter
+comes_to is ahead same there = record { under_way = is; at = omega (arith, ahead, there, same) }
+
 -- a run that halts before the limit of steps can't come there
 pub cut_by_halt : {table : Table} {bounds : Bounds} {n : ℕ} → Inside table bounds n → HaltsAt table n
     → n < bounds.steps → IsCut table bounds answer.Bad
