@@ -41,15 +41,15 @@ heads_apart p q p' q' at_p at_q = omega (arith, ints)
 distance_is : (p q p' q' : ℤ) → p ≡ p' → q ≡ q' → q' -ℤ p' ≡ q -ℤ p
 distance_is p q p' q' at_p at_q = omega (arith, ints)
 
-farther_out : (d p q : ℤ) (i j : ℕ) → d ≡ q -ℤ p → p ≡ pos i → q ≡ pos j → i < j → pos 1 ≤ℤ d
-farther_out d p q i j e at_p at_q more = omega (arith, ints)
+farther_out : {d p q : ℤ} {i j : ℕ} → d ≡ q -ℤ p → p ≡ pos i → q ≡ pos j → i < j → pos 1 ≤ℤ d
+farther_out e at_p at_q more = omega (arith, ints)
 
 past_first : (h x : ℤ) (i : ℕ) → h ≡ pos i → h <ℤ x → pos i ≤ℤ x
 past_first h x i at past = omega (arith, ints)
 
-past_second : (y x d p q : ℤ) (i j : ℕ) → y ≡ x +ℤ d → d ≡ q -ℤ p → p ≡ pos i → q ≡ pos j → pos i ≤ℤ x
+past_second : (x : ℤ) {y d p q : ℤ} {i j : ℕ} → y ≡ x +ℤ d → d ≡ q -ℤ p → p ≡ pos i → q ≡ pos j → pos i ≤ℤ x
     → pos j ≤ℤ y
-past_second y x d p q i j e apart at_p at_q past = omega (arith, ints)
+past_second x e apart at_p at_q past = omega (arith, ints)
 
 still_beyond : (f p q d : ℤ) → q ≡ p +ℤ d → f ≤ℤ p → pos 1 ≤ℤ d → f ≤ℤ q
 still_beyond f p q d e near more = omega (arith, ints)
@@ -62,7 +62,7 @@ module _ (table : Table) (side : Side) (a b : ℕ) (records : AgreeingRecords ta
       let at_second = stands_on table side records.second_number b records.second_record in
       let more = (records_in_order table side records.first_number records.second_number a b
       records.first_record records.second_record).1 records.in_order in
-      farther_out _ _ _ _ _ (out-subtract side (head_at table b) (head_at table a)) at_first at_second more
+      farther_out (out-subtract side (head_at table b) (head_at table a)) at_first at_second more
 
   -- from a to b the head is no nearer than the least
   within : (u : ℕ) → u ≤ b - a → beyond table side a b (head_at table (a + u))
@@ -77,7 +77,7 @@ module _ (table : Table) (side : Side) (a b : ℕ) (records : AgreeingRecords ta
   blank_at_both x past =
       let at_first = stands_on table side records.first_number a records.first_record in
       let at_second = stands_on table side records.second_number b records.second_record in
-      let past_it = past_second _ _ _ _ _ _ _ (out-add side x (distance table a b))
+      let past_it = past_second (out side x) (out-add side x (distance table a b))
       (out-subtract side (head_at table b) (head_at table a)) at_first at_second past in
       blank_beyond table side records.first_number a records.first_record a (omega arith) records.agree.first
       records.agree.at_first x past

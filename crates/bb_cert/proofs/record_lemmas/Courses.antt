@@ -248,19 +248,19 @@ keeps_on table step old new same is = record {
   at = λ some. ap (λ r. steps_of r) same.kept ∙ is.at (λ none. some (ap position_of same.kept ∙ none));
 }
 
-pub goes_nowhere : (table : Table) (n : ℕ) (course : Course) → GoesOn table n n course course
-goes_nowhere table n course = record {
+pub goes_nowhere : {table : Table} {n : ℕ} {course : Course} → GoesOn table n n course course
+goes_nowhere = record {
   course = λ saved is. is;
   same = record { side = refl; kept = refl };
 }
 
-pub goes-next : (table : Table) (from : ℕ) (first old new : Course) (before after : Runner)
-    (run_before run_after : TapeView) (cells : ℕ)
+pub goes-next : {table : Table} {from : ℕ} {first old new : Course} {before after : Runner}
+    {run_before run_after : TapeView} {cells : ℕ}
     → GoesOn table from (steps_of before) first old → Stands table before run_before
     → Stands table after run_after → steps_of after ≡ steps_of before + 1
     → cells ≡ cells_between (low_of before) (high_of before) → Passes after cells old new
     → GoesOn table from (steps_of after) first new
-goes-next table from first old new before after run_before run_after cells goes stood stands next were passes
+goes-next {table} {old = old} {new} {before} {after} {cells = cells} goes stood stands next were passes
     = record {
       course = λ saved begun. subst (λ k. IsCourse table k new saved) (sym next)
           (course-next table (steps_of before) old new saved (position_of after)
@@ -274,9 +274,8 @@ goes-next table from first old new before after run_before run_after cells goes 
     } where
       is : (passes.told ≡ Some old.records.side) ↔ MakesRecordOutsideZ table old.records.side
           (steps_of before + 1)
-      is = told_by_window table old.records.side before after run_before run_after stood stands next cells
-          were
-          passes.told passes.widens
+      is = told_by_window table old.records.side before after _ _ stood stands next cells were passes.told
+          passes.widens
 
       told : IsTrue new.is_record ↔ MakesRecordOutsideZ table old.records.side (steps_of before + 1)
       told = (λ yes. is.0 (passes.is_told.0 yes), λ made. passes.is_told.1 (is.1 made))

@@ -31,43 +31,6 @@ abbrev pub Keeps : Runner → Course → Course → Type 0
 Keeps runner old new = MatchBool old.is_record
     (new ≡ record old { records = with_kept old.records runner }) (new ≡ old)
 
-module _ (table : Table) (runner : Runner) (run : TapeView) (old new : Course)
-    (stands : Stands table runner run) (course : IsCourse table (steps_of runner) old run) where
-  course_kept : Keeps runner old new → IsCourse table (steps_of runner) new run
-  course_kept kept = by_told old.is_record refl kept where
-    by_told : (told : Bool) → old.is_record ≡ told
-        → MatchBool told (new ≡ record old { records = with_kept old.records runner }) (new ≡ old)
-        → IsCourse table (steps_of runner) new run
-    by_told true makes is = subst (λ c. IsCourse table (steps_of runner) c run) (sym is) (record {
-      followed = keeps table runner run run old.records stands course.followed (course.told.0 makes).0;
-      told = course.told;
-    })
-    by_told false none is = subst (λ c. IsCourse table (steps_of runner) c run) (sym is) course
-
-  step_kept : position_of old.records.kept ≡ pos 0 → Keeps runner old new
-      → KeepsStep table (steps_of runner) new.records
-  step_kept zeroth kept = by_told old.is_record refl kept where
-    by_told : (told : Bool) → old.is_record ≡ told
-        → MatchBool told (new ≡ record old { records = with_kept old.records runner }) (new ≡ old)
-        → KeepsStep table (steps_of runner) new.records
-    by_told true makes is =
-        subst (λ (c : Course). KeepsStep table (steps_of runner) c.records) (sym is)
-        (keeps_step table runner run run old.records stands course.followed (course.told.0 makes).0 _ refl)
-    by_told false none is =
-        subst (λ (c : Course). KeepsStep table (steps_of runner) c.records) (sym is) (record {
-          made = λ made. let makes = course.told.1 made in absurd cc;
-          at = λ some. absurd (some zeroth);
-        })
-
-side_kept : (runner : Runner) (old new : Course) → Keeps runner old new
-    → new.records.side ≡ old.records.side
-side_kept runner old new kept = by_told old.is_record kept where
-  by_told : (told : Bool)
-      → MatchBool told (new ≡ record old { records = with_kept old.records runner }) (new ≡ old)
-      → new.records.side ≡ old.records.side
-  by_told true is = ap (λ (c : Course). c.records.side) is
-  by_told false is = ap (λ (c : Course). c.records.side) is
-
 -- records that agree are made outside Z
 runs_at_pair : (table : Table) (side : Side) (a b : ℕ) → AgreeingRecords table side a b
     → IsRunningAt table a (head_at table a) × IsRunningAt table b (head_at table b)
@@ -137,6 +100,33 @@ pub record IsKeptAt (table : Table) (side : Side) (step : ℕ) (course : Course)
   pub keeps : KeepsStep table step course.records
   pub side_is : course.records.side ≡ side
 
+-- the record that the last step makes, if it makes one, is kept, and none was before
+kept_now : (table : Table) (runner : Runner) (run : TapeView) (old new : Course) → Stands table runner run
+    → IsCourse table (steps_of runner) old run → position_of old.records.kept ≡ pos 0
+    → Keeps runner old new → IsKeptAt table old.records.side (steps_of runner) new run
+kept_now table runner run old new stands course zeroth kept = by_told old.is_record refl kept where
+  by_told : (told : Bool) → old.is_record ≡ told
+      → MatchBool told (new ≡ record old { records = with_kept old.records runner }) (new ≡ old)
+      → IsKeptAt table old.records.side (steps_of runner) new run
+  by_told true makes is = rw is (
+      let made = (course.told.0 makes).0 in
+      record {
+        known = record {
+          followed = keeps table runner run run old.records stands course.followed made;
+          told = course.told;
+        };
+        keeps = keeps_step table runner run run old.records stands course.followed made _ refl;
+        side_is = refl;
+      })
+  by_told false none is = rw is (record {
+    known = course;
+    keeps = record {
+      made = λ made. let makes = course.told.1 made in absurd cc;
+      at = λ some. absurd (some zeroth);
+    };
+    side_is = refl;
+  })
+
 -- begun at the start, followed up to the step where the runner stands, and kept there
 pub kept_at : {table : Table} {side : Side} {bounds : Bounds} {step : ℕ} {start runner : Runner}
     {none : Records} {old new : Course} {begun run : TapeView} {before meter : Meter}
@@ -145,25 +135,14 @@ pub kept_at : {table : Table} {side : Side} {bounds : Bounds} {step : ℕ} {star
     → IsAtStep table bounds step runner run meter
     → GoesOn table (steps_of start) step (record { records = none; is_record = false }) old
     → Keeps runner old new → IsKeptAt table side step new run
-kept_at {table} {side} {step = step} {start} {runner} {none} {old} {new} {run = run} at is there from
-    kept = record {
-      known = subst (λ n. IsCourse table n new run) there.at
-          (course_kept table runner run old new there.under_way.stands known kept);
-      keeps = subst (λ n. KeepsStep table n new.records) there.at
-          (step_kept table runner run old new there.under_way.stands known
-          (ap position_of goes.same.kept ∙ start_is) kept);
-      side_is = side_kept runner old new kept ∙ goes.same.side ∙ ap (λ (r : Records). r.side) is;
-    } where
-      goes : GoesOn table 0 step (record { records = none; is_record = false }) old
-      goes = rw at.at at from
-
-      start_is : position_of none.kept ≡ pos 0
-      start_is = ap (λ (r : Records). position_of r.kept) is
-          ∙ starts table start _ at.under_way.stands at.at
-
-      known : IsCourse table (steps_of runner) old run
-      known = subst (λ n. IsCourse table n old run) (sym there.at)
-          (goes.course run (course_at_first table _ run start_is refl))
+kept_at {table} {start} {runner} {none} {old} {new} {run = run} at is there from kept =
+    let goes = rw (at.at, sym there.at) at from in
+    let zeroth = ap (λ (r : Records). position_of r.kept) is
+    ∙ starts table start _ at.under_way.stands at.at in
+    let course = goes.course run (course_at_first table _ run zeroth refl) in
+    let same = kept_now table runner run old new there.under_way.stands course
+    (ap position_of goes.same.kept ∙ zeroth) kept in
+    rw (there.at, goes.same.side ∙ ap (λ (r : Records). r.side) is) at same
 
 -- both steps of a pair are run to, and the record that the first makes is kept
 pub record IsPairRun (table : Table) (bounds : Bounds) (side : Side) (first second : ℕ) (course : Course)

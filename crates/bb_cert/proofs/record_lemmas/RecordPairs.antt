@@ -95,13 +95,13 @@ module _ (table : Table) (side : Side) (a b : ℕ) (records : AgreeingRecords ta
 pub has_record : HasRecord
 has_record table side a b j records some = every_record table side a b records j some
 
-exactly_out : (p q d s t : ℤ) (i j r : ℕ) → q ≡ p +ℤ d → d ≡ t -ℤ s → s ≡ pos i → t ≡ pos (i + r) → p ≡ pos j
-    → q ≡ pos (j + r)
-exactly_out p q d s t i j r e apart at_s at_t at_p = omega (arith, ints)
+exactly_out : {p q d s t : ℤ} {i j : ℕ} (r : ℕ) → q ≡ p +ℤ d → d ≡ t -ℤ s → s ≡ pos i → t ≡ pos (i + r)
+    → p ≡ pos j → q ≡ pos (j + r)
+exactly_out r e apart at_s at_t at_p = omega (arith, ints)
 
-exactly_back : (p q d s t : ℤ) (i j r : ℕ) → q ≡ p +ℤ d → d ≡ t -ℤ s → s ≡ pos i → t ≡ pos (i + r)
+exactly_back : {p q d s t : ℤ} {i j : ℕ} (r : ℕ) → q ≡ p +ℤ d → d ≡ t -ℤ s → s ≡ pos i → t ≡ pos (i + r)
     → q ≡ pos (j + r) → p ≡ pos j
-exactly_back p q d s t i j r e apart at_s at_t at_q = omega (arith, ints)
+exactly_back r e apart at_s at_t at_q = omega (arith, ints)
 
 module _ (table : Table) (side : Side) (i r a b : ℕ) (some : 0 < r) (first : IsRecord table side i a)
     (second : IsRecord table side (i + r) b) (agree : Agree table side a b) where
@@ -132,11 +132,11 @@ module _ (table : Table) (side : Side) (i r a b : ℕ) (some : 0 < r) (first : I
   -- so back
   on_later : (j u : ℕ) → out side (head_at table (a + u)) ≡ pos j
       → out side (head_at table (b + u)) ≡ pos (j + r)
-  on_later j u at = exactly_out _ _ _ _ _ i j r (farther_by table side a b records u) apart at_a at_b at
+  on_later j u at = exactly_out r (farther_by table side a b records u) apart at_a at_b at
 
   on_earlier : (j u : ℕ) → out side (head_at table (b + u)) ≡ pos (j + r)
       → out side (head_at table (a + u)) ≡ pos j
-  on_earlier j u at = exactly_back _ _ _ _ _ i j r (farther_by table side a b records u) apart at_a at_b at
+  on_earlier j u at = exactly_back r (farther_by table side a b records u) apart at_a at_b at
 
   -- no step before the one u after b makes record j + r, where the step u after a makes record j
   not_before : (j u m : ℕ) → i ≤ j → IsRecord table side j (a + u) → IsRecord table side (j + r) m

@@ -202,13 +202,13 @@ pub record IsCompared (records : Records) (runner : Runner) (saved run : TapeVie
   pub same : AgreesFrom saved.content from run.content other len
       ↔ HasSameCells records runner saved.content run.content
 
-pub compared : (records : Records) (runner : Runner) (saved run : TapeView) (from other : ℤ) (len : ℕ)
+pub compared : {records : Records} {runner : Runner} {saved run : TapeView} {from other : ℤ} {len : ℕ}
     → IsComparable records runner saved run → IsInside saved records.nearest
     → from ≡ int_min records.nearest (position_of records.kept)
     → other ≡ from +ℤ (position_of runner -ℤ position_of records.kept)
     → len ≡ cells_between records.nearest (position_of records.kept)
     → IsCompared records runner saved run from other len
-compared records runner saved run from other len comparable seen from_is other_is len_is = record {
+compared {records} {runner} {saved} {run} {from} {other} {len} comparable seen at other_is len_is = record {
   here = stretch_inside side saved (far_of records) (number_of records) from len lesser long
       (turned_back saved records.nearest seen)
       (turned_back saved (position_of records.kept) comparable.number_saved);
@@ -229,7 +229,7 @@ compared records runner saved run from other len comparable seen from_is other_i
   side = records.side
 
   lesser : from ≡ lesser_of side (far_of records) (number_of records)
-  lesser = from_is ∙ lesser_is side records.nearest (position_of records.kept) comparable.order
+  lesser = at ∙ lesser_is side records.nearest (position_of records.kept) comparable.order
 
   long : pos len ≡ (number_of records -ℤ far_of records) +ℤ pos 1
   long = ap pos len_is ∙ length_is side records.nearest (position_of records.kept) comparable.order

@@ -40,16 +40,21 @@ begins table bounds runner view old new stands zeroth limit some first is = reco
   fits = subst (λ n. span table n ≤ bounds.cells) (sym zeroth) (omega (arith, one, some))
 
 -- no more was counted than the run
-pub under_way_within : (table : Table) (bounds : Bounds) (runner : Runner) (view : TapeView) (meter : Meter)
+pub under_way_within : {table : Table} {bounds : Bounds} {runner : Runner} {view : TapeView} {meter : Meter}
     → IsUnderWay table bounds runner view meter → IsWithinRun bounds zero_meter meter
-under_way_within table bounds runner view meter is =
+under_way_within {table} {bounds} {runner} {meter = meter} is =
     count_is_within table bounds (steps_of runner) zero_meter meter is.inside is.counts
 
+-- a run that has come no farther than to a step, and no less far
+pub comes_to : {table : Table} {bounds : Bounds} {runner : Runner} {view : TapeView} {meter : Meter}
+    {step steps : ℕ} → IsUnderWay table bounds runner view meter → steps_of runner ≤ step
+    → steps ≡ steps_of runner → step ≤ steps → IsAtStep table bounds step runner view meter
+comes_to is ahead same there = record { under_way = is; at = omega (arith, ahead, there, same) }
+
 -- a run that halts before the limit of steps can't come there
-pub cut_by_halt : (table : Table) (bounds : Bounds) (n : ℕ) → Inside table bounds n → HaltsAt table n
-    → n < bounds.steps
-    → IsCut table bounds answer.Bad
-cut_by_halt table bounds n inside halts before = (
+pub cut_by_halt : {table : Table} {bounds : Bounds} {n : ℕ} → Inside table bounds n → HaltsAt table n
+    → n < bounds.steps → IsCut table bounds answer.Bad
+cut_by_halt {table} {bounds} {n} inside halts before = (
   λ there. let few = halt_is_last table n bounds.steps there.here halts there.exists in omega
       (arith, few, before),
   fits_at_halt table bounds n inside halts,

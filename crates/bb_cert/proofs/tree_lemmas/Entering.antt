@@ -3,7 +3,7 @@ use Rattle.std.proofs.Common.{◌≡◌, ℕ, ◌+◌, ◌-◌, ◌<◌, min, Li
 use Rattle.std.proofs.Common.{sym, subst, ◌∙◌, arith}
 use Rattle.std.specs.Int.{int_min, int_max}
 use Rattle.std.proofs.lemmas.Int.{ints, clamps}
-use Rattle.bb_tape.specs.Content.{cell}
+use Rattle.bb_tape.specs.Content.{Content, cell}
 use Rattle.bb_tape.specs.TapeView.{TapeView, visited, written}
 use Rattle.bb_cert.specs.declared.tree.walk.Branch.{Branch}
 use Rattle.bb_cert.specs.inside.Walk.{HasNonzero, HasRoom, IsBranch, Refused}
@@ -38,70 +38,71 @@ pub room_written : (s : TapeView) (p : ℤ) (v levels : ℕ) → HasRoom s level
 room_written s p v levels room =
     record { not_below = room.not_below; not_above = room.not_above; limit = room.limit }
 
-module _ (states level levels : ℕ) (old : TapeView) (branch : Branch)
+pub has_some : {states level : ℕ} {content : Content} {branch : Branch} → IsBranch states content level branch
+    → 1 < branch.held → 0 < branch.nonzero_known
+has_some {content = content} {branch} is more = let held = is.held in
+    some_nonzero content branch.position branch.nonzero_known is.nonzero_known (omega (arith, more, held))
+
+module _ {states level : ℕ} (old : TapeView) {branch : Branch}
     (is : IsBranch states old.content level branch) where
-  pub has_some : 1 < branch.held → 0 < branch.nonzero_known
-  has_some more = let held = is.held in
-      some_nonzero old.content branch.position branch.nonzero_known is.nonzero_known
-      (omega (arith, more, held))
-
-  -- after the window was widened and the symbol written
-  module _ (widened new : TapeView) (p : ℤ) (same : p ≡ branch.position) (first : widened ≡ visited old p)
-      (second : new ≡ written widened p (branch.symbol + 1)) where
-    pub whole : new ≡ written (visited old branch.position) branch.position (branch.symbol + 1)
-    whole = second ∙ ap (λ s. written s p (branch.symbol + 1)) first
-        ∙ ap (λ q. written (visited old q) q (branch.symbol + 1)) same
-
-    pub room_widened : HasRoom old levels → level < levels → HasRoom widened levels
-    room_widened room deep = subst (λ s. HasRoom s levels) (sym (first ∙ ap (visited old) same))
+  -- after the window was widened
+  module _ {widened : TapeView} {p : ℤ} (same : p ≡ branch.position) (first : widened ≡ visited old p) where
+    pub room_widened : {levels : ℕ} → HasRoom old levels → level < levels → HasRoom widened levels
+    room_widened {levels} room deep = subst (λ s. HasRoom s levels) (sym (first ∙ ap (visited old) same))
         (room_visited old branch.position level levels room deep is.not_below is.not_above)
 
-    pub room_entered : HasRoom old levels → level < levels → HasRoom new levels
-    room_entered room deep = subst (λ s. HasRoom s levels) (sym second)
-        (room_written widened p (branch.symbol + 1) levels (room_widened room deep))
+    -- and the symbol written
+    module _ {new : TapeView} (second : new ≡ written widened p (branch.symbol + 1)) where
+      whole : new ≡ written (visited old branch.position) branch.position (branch.symbol + 1)
+      whole = second ∙ ap (λ s. written s p (branch.symbol + 1)) first
+          ∙ ap (λ q. written (visited old q) q (branch.symbol + 1)) same
 
-    module _ (nonzero : ℕ)
-        (sum : nonzero + min 1 (branch.held - 1) ≡ branch.nonzero_known + min 1 branch.symbol) where
-      more_nonzero : HasNonzero (content_in old.content branch) nonzero
-      more_nonzero =
-          let held = is.held in
-          let same_held : min 1 (branch.held - 1) ≡ min 1 (cell old.content branch.position - 1) =
-          ap (λ h. min 1 (h - 1)) held in
-          written_nonzero old.content branch.position branch.symbol branch.nonzero_known nonzero
-          is.nonzero_known
-          (omega (arith, sum, same_held))
+      pub room_entered : {levels : ℕ} → HasRoom old levels → level < levels → HasRoom new levels
+      room_entered {levels} room deep = subst (λ s. HasRoom s levels) (sym second)
+          (room_written widened p (branch.symbol + 1) levels (room_widened room deep))
 
-      pub matched_start : (nodes most_nodes : ℕ) → branch.state ≡ 0 → nonzero ≡ 0
-          → Refused (branch_node old.content branch) level nodes most_nodes levels
-      matched_start nodes most_nodes in_a none =
-          matched (start_matches (content_in old.content branch) branch.position branch.state nonzero
-          more_nonzero in_a none)
+      module _ {nonzero : ℕ}
+          (sum : nonzero + min 1 (branch.held - 1) ≡ branch.nonzero_known + min 1 branch.symbol) where
+        more_nonzero : HasNonzero (content_in old.content branch) nonzero
+        more_nonzero =
+            let held = is.held in
+            let same_held : min 1 (branch.held - 1) ≡ min 1 (cell old.content branch.position - 1) =
+            ap (λ h. min 1 (h - 1)) held in
+            written_nonzero old.content branch.position branch.symbol branch.nonzero_known nonzero
+            is.nonzero_known
+            (omega (arith, sum, same_held))
 
-      pub entered_frame : (starts : List ℕ) (next to : ℕ) → next ≡ slice_index starts branch.state
-          → to ≡ slice_index starts (branch.state + 1) → (branch.state ≡ 0 → nonzero ≡ 0 → ⊥)
-          → Enters starts branch level old new
-          (record {
-            position = p;
-            state = branch.state;
-            before = branch.held;
-            nonzero_known = nonzero;
-            next =
-                next;
-            end = to;
-          })
-      entered_frame starts next to is_next is_to apart = record {
-        content = ap (λ s. s.content) whole;
-        low = ap (λ s. s.low) whole;
-        high = ap (λ s. s.high) whole;
-        position = same;
-        state = refl;
-        before = refl;
-        next = is_next;
-        to = is_to;
-        nonzero_known = subst (λ c. HasNonzero c nonzero) (sym (ap (λ s. s.content) whole)) more_nonzero;
-        few_nonzero = let few = is.few_nonzero in omega (arith, sum, few);
-        apart = λ matches. apart
-            (matched_in_a (content_in old.content branch) branch.position branch.state matches)
-            (matched_none (content_in old.content branch) branch.position branch.state nonzero more_nonzero
-            matches);
-      }
+        pub matched_start : {nodes most_nodes levels : ℕ} → branch.state ≡ 0 → nonzero ≡ 0
+            → Refused (branch_node old.content branch) level nodes most_nodes levels
+        matched_start in_a none =
+            matched (start_matches (content_in old.content branch) branch.position branch.state nonzero
+            more_nonzero in_a none)
+
+        pub entered_frame : {starts : List ℕ} {next to : ℕ} → next ≡ slice_index starts branch.state
+            → to ≡ slice_index starts (branch.state + 1) → (branch.state ≡ 0 → nonzero ≡ 0 → ⊥)
+            → Enters starts branch level old new
+            (record {
+              position = p;
+              state = branch.state;
+              before = branch.held;
+              nonzero_known = nonzero;
+              next =
+                  next;
+              end = to;
+            })
+        entered_frame is_next is_to apart = record {
+          content = ap (λ s. s.content) whole;
+          low = ap (λ s. s.low) whole;
+          high = ap (λ s. s.high) whole;
+          position = same;
+          state = refl;
+          before = refl;
+          next = is_next;
+          to = is_to;
+          nonzero_known = subst (λ c. HasNonzero c nonzero) (sym (ap (λ s. s.content) whole)) more_nonzero;
+          few_nonzero = let few = is.few_nonzero in omega (arith, sum, few);
+          apart = λ matches. apart
+              (matched_in_a (content_in old.content branch) branch.position branch.state matches)
+              (matched_none (content_in old.content branch) branch.position branch.state nonzero more_nonzero
+              matches);
+        }

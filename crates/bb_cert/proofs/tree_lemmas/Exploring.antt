@@ -68,8 +68,8 @@ max_second a b = omega (arith, ints, clamps)
 
 -- a branch was entered
 
-module _ (list : List Rule) (starts : List ℕ) (known : HasTable list starts) (branch : Branch) (level : ℕ)
-    (old new : TapeView) (frame : Frame) (enters : Enters starts branch level old new frame)
+module _ {list : List Rule} {starts : List ℕ} (known : HasTable list starts) {branch : Branch} {level : ℕ}
+    {old new : TapeView} {frame : Frame} (enters : Enters starts branch level old new frame)
     (is : IsBranch (length starts - 2) old.content level branch) (symbols : HasSymbols old.content) where
   undone : with_cell new.content frame.position frame.before ≡ old.content
   undone =
@@ -130,12 +130,12 @@ module _ (list : List Rule) (starts : List ℕ) (known : HasTable list starts) (
       (rules.to_state branch.state (in_states table rules)).are
 
   -- where the frames fs lie on the way to the branch
-  pub walked_entered : (table : Table) (rest more : List Node) (fs : List Frame) (tail : List (List Node))
-      (nodes levels : ℕ) → AreRules table list starts → length tail ≡ level
+  pub walked_entered : (table : Table) (rest : List Node) {more : List Node} (fs : List Frame)
+      {tail : List (List Node)} {nodes levels : ℕ} → AreRules table list starts → length tail ≡ level
       → comb_of list rest old.content fs ≡ more ∷ tail
       → IsWalked table ((branch_node old.content branch ∷ more) ∷ tail) nodes levels
       → IsWalked table (comb_of list rest new.content (frame ∷ fs)) (nodes + 1) (max levels (level + 1))
-  walked_entered table rest more fs tail nodes levels rules long comb walked =
+  walked_entered table rest {more} fs {tail} {nodes} {levels} rules long comb walked =
       let entered = walk_enters table (branch_node old.content branch) more tail nodes levels walked
       enters.apart in
       let deep : max levels (length tail + 1) ≡ max levels (level + 1) = ap (λ n. max levels (n + 1)) long in
@@ -164,24 +164,22 @@ pub record IsExploring (list : List Rule) (starts : List ℕ) (root : Branch) (o
   pub few : length frames < most.levels
   pub walked : WalkedTo list starts root old view.content (top ∷ reverse frames) entered
 
-pub exploring_begins : (list : List Rule) (starts : List ℕ) (root : Branch) (old most : Count)
-    (before after : TapeView) (frame : Frame) (entered : Count) → HasTable list starts
+pub exploring_begins : {list : List Rule} {starts : List ℕ} {root : Branch} {old most : Count}
+    {before after : TapeView} {frame : Frame} {entered : Count} → HasTable list starts
     → IsBranch (length starts - 2) blank 0 root → before.content ≡ blank → HasSymbols before.content
     → Enters starts root 0 before after frame → 0 < most.levels → entered ≡ entered_on 0 old
     → IsExploring list starts root old most after frame [] entered
-exploring_begins list starts root old most before after frame entered known is blank_before symbols enters
-    some counted =
+exploring_begins {list} {starts} {root} {old} {before = before} {after} {frame} known is blank_before symbols
+    enters some counted =
     let is_here : IsBranch (length starts - 2) before.content 0 root =
     subst (λ c. IsBranch (length starts - 2) c 0 root) (sym blank_before) is in
     record {
-      are = frames_entered list starts known root 0 before after frame enters is_here symbols [] refl
-          blank_before;
+      are = frames_entered known enters is_here symbols [] refl blank_before;
       few = some;
       walked = λ table rest rules walked.
           let here = subst (λ c. IsWalked table ((branch_node c root ∷ rest) ∷ []) old.nodes old.levels)
           (sym blank_before) walked in
-          let now = walked_entered list starts known root 0 before after frame enters is_here symbols table
-          rest rest [] [] old.nodes old.levels rules refl refl here in
+          let now = walked_entered known enters is_here symbols table rest [] rules refl refl here in
           subst (λ e. IsWalked table (comb_of list rest after.content (frame ∷ [])) e.nodes e.levels)
           (sym counted) now;
     }
@@ -221,8 +219,8 @@ far_low p n most h a = omega (arith, ints, h, a)
 far_high : (p : ℤ) (n most : ℕ) → n ≤ most → p ≤ℤ pos n → p ≤ℤ pos most
 far_high p n most h a = omega (arith, ints, h, a)
 
-module _ (list : List Rule) (starts : List ℕ) (root : Branch) (old most : Count) (view : TapeView)
-    (top : Frame) (frames : List Frame) (entered : Count)
+module _ {list : List Rule} {starts : List ℕ} {root : Branch} {old most : Count} {view : TapeView}
+    {top : Frame} {frames : List Frame} {entered : Count}
     (now : IsExploring list starts root old most view top frames entered) where
   long : length (reverse frames) ≡ length frames
   long = length-reverse frames
@@ -243,7 +241,7 @@ module _ (list : List Rule) (starts : List ℕ) (root : Branch) (old most : Coun
 
   -- a branch was found
 
-  module _ (branch : Branch) (next : ℕ)
+  module _ {branch : Branch} {next : ℕ}
       (first : IsFirstBranch list (length starts - 2) view.content top branch next) where
     pub branch_is : IsBranch (length starts - 2) view.content (length frames + 1) branch
     branch_is = record {
@@ -297,12 +295,12 @@ module _ (list : List Rule) (starts : List ℕ) (root : Branch) (old most : Coun
     reversed : reverse (frames ++ (tried_top ∷ [])) ≡ tried_top ∷ reverse frames
     reversed = reverse-append frames (tried_top ∷ [])
 
-    pub exploring_descends : (after : TapeView) (child : Frame) (then_entered : Count)
-        (then_frames : List Frame) → HasTable list starts → HasSymbols view.content
+    pub exploring_descends : {after : TapeView} {child : Frame} {then_entered : Count}
+        {then_frames : List Frame} → HasTable list starts → HasSymbols view.content
         → Enters starts branch (length frames + 1) view after child → length frames + 1 < most.levels
         → then_entered ≡ entered_on (length frames + 1) entered → then_frames ≡ frames ++ (tried_top ∷ [])
         → IsExploring list starts root old most after child then_frames then_entered
-    exploring_descends after child then_entered then_frames known symbols enters deep counted pushed =
+    exploring_descends {after} {child} {then_entered} {then_frames} known symbols enters deep counted pushed =
         let order : reverse then_frames ≡ tried_top ∷ reverse frames = ap reverse pushed ∙ reversed in
         let are_tried : AreFrames list view.low view.high view.content (tried_top ∷ reverse frames) = (
           tried_frame list view.low view.high view.content (length (reverse frames)) top next
@@ -313,15 +311,13 @@ module _ (list : List Rule) (starts : List ℕ) (root : Branch) (old most : Coun
         omega (arith, l) in
         record {
           are = subst (λ fs. AreFrames list after.low after.high after.content (child ∷ fs)) (sym order)
-              (frames_entered list starts known branch (length frames + 1) view after child enters branch_is
-              symbols (tried_top ∷ reverse frames) deep_frames are_tried);
+              (frames_entered known enters branch_is symbols (tried_top ∷ reverse frames) deep_frames
+              are_tried);
           few = let n : length then_frames ≡ length frames + 1 = ap length pushed
               ∙ length-append frames (tried_top ∷ []) in omega (arith, n, deep);
           walked = λ table rest rules walked.
-              let here = walked_entered list starts known branch (length frames + 1) view after child enters
-              branch_is symbols table rest (branches list view.content tried_top)
-              (tried_top ∷ reverse frames) (tail_of rest) entered.nodes entered.levels rules
-              (tail_long rest) refl (walked_first table rest rules walked) in
+              let here = walked_entered known enters branch_is symbols table rest (tried_top ∷ reverse frames)
+              rules (tail_long rest) refl (walked_first table rest rules walked) in
               subst (λ fs. IsWalked table (comb_of list rest after.content (child ∷ fs)) then_entered.nodes
               then_entered.levels) (sym order)
               (subst (λ e. IsWalked table
@@ -331,7 +327,7 @@ module _ (list : List Rule) (starts : List ℕ) (root : Branch) (old most : Coun
 
   -- nothing is left before the top node
 
-  module _ (none : branches list view.content top ≡ []) (after : TapeView)
+  module _ (none : branches list view.content top ≡ []) {after : TapeView}
       (left : after ≡ written view top.position top.before) where
     walked_left : WalkedTo list starts root old (with_cell view.content top.position top.before)
         (reverse frames) entered
@@ -342,9 +338,9 @@ module _ (list : List Rule) (starts : List ℕ) (root : Branch) (old most : Coun
         (ns ∷ comb_of list rest (with_cell view.content top.position top.before) (reverse frames))
         entered.nodes entered.levels) none (now.walked table rest rules walked))
 
-    pub explored : frames ≡ [] → (content : Content) → content ≡ after.content
+    pub explored : frames ≡ [] → {content : Content} → content ≡ after.content
         → Explores list starts root most old entered content true
-    explored empty content same =
+    explored empty same =
         let gone : reverse frames ≡ [] = ap reverse empty in (
           same ∙ ap (λ s. s.content) left
               ∙ subst (λ fs. AreFrames list view.low view.high
@@ -354,10 +350,10 @@ module _ (list : List Rule) (starts : List ℕ) (root : Branch) (old most : Coun
               entered.nodes entered.levels) gone (walked_left table rest rules walked),
         )
 
-    pub exploring_returns : (parent : Frame) (then_frames : List Frame)
+    pub exploring_returns : {parent : Frame} {then_frames : List Frame}
         → frames ≡ then_frames ++ (parent ∷ [])
         → IsExploring list starts root old most after parent then_frames entered
-    exploring_returns parent then_frames popped =
+    exploring_returns {parent} {then_frames} popped =
         let order : reverse frames ≡ parent ∷ reverse then_frames = ap reverse popped
         ∙ reverse-append then_frames (parent ∷ []) in
         record {

@@ -21,20 +21,29 @@ abbrev pub root_of : Rule → Branch
 root_of rule =
     record { position = pos 0; state = rule.state; symbol = rule.symbol; held = 0; nonzero_known = 0 }
 
-module _ (table : Table) (list seen : List Rule) (starts : List ℕ) (rules : AreRules table list starts)
-    (same : seen ≡ list) (index to : ℕ) (less : index < to) (within : to ≤ length list) where
+-- a halting rule, which stands in the list that the code reads
+pub record IsRoot (table : Table) (list seen : List Rule) (starts : List ℕ) (index to : ℕ) : Type 0 where
+  pub rules : AreRules table list starts
+  pub same : seen ≡ list
+  pub less : index < to
+  pub within : to ≤ length list
+
+module _ {table : Table} {list seen : List Rule} {starts : List ℕ} {index to : ℕ}
+    (root : IsRoot table list seen starts index to) where
   there : get_or seen index no_rule ≡ get_or list index no_rule
-  there = ap (λ xs. get_or xs index no_rule) same
+  there = ap (λ xs. get_or xs index no_rule) root.same
+
+  in_list : index < length list
+  in_list = let less = root.less in let within = root.within in omega (arith, less, within)
 
   pub root_is : IsBranch (length starts - 2) blank 0 (root_of (get_or seen index no_rule))
   root_is =
       let is : IsRule (length table) (get_or seen index no_rule) = subst (IsRule (length table))
-      (sym there) (named_at (length table) list rules.named index no_rule (omega
-      (arith, less, within))) in
+      (sym there) (named_at (length table) list root.rules.named index no_rule in_list) in
       record {
         not_below = omega (arith, ints);
         not_above = omega (arith, ints);
-        state = let s = is.state in let n = rules.count in omega (arith, s, n);
+        state = let s = is.state in let n = root.rules.count in omega (arith, s, n);
         symbol = is.symbol;
         held = sym (cell-blank (pos 0));
         nonzero_known = blank_nonzero;
@@ -44,23 +53,23 @@ module _ (table : Table) (list seen : List Rule) (starts : List ℕ) (rules : Ar
   pub roots_first : map halting_node (slice_range list index to) ≡ branch_node blank (root_of
       (get_or seen index no_rule)) ∷ map halting_node (slice_range list (index + 1) to)
   roots_first =
-      ap (map halting_node) (slice_step list index to no_rule less (omega (arith, less, within)))
+      ap (map halting_node) (slice_step list index to no_rule root.less in_list)
       ∙ ap (λ n. n ∷ map halting_node (slice_range list (index + 1) to)) (halting_shown
       (get_or list index no_rule) (pos 0) ∙ ap (λ r. branch_node blank (root_of r)) (sym there))
 
-  pub root_explored : (old new most : Count) (content : Content) → Explores list starts (root_of
+  pub root_explored : (old new most : Count) {content : Content} → Explores list starts (root_of
       (get_or seen index no_rule)) most old new content true → IsWalked table (map halting_node
       (slice_range list index to) ∷ []) old.nodes old.levels → IsWalked table (map halting_node
       (slice_range list (index + 1) to) ∷ []) new.nodes new.levels
-  root_explored old new most content explores walked =
-      explores.1 table (map halting_node (slice_range list (index + 1) to)) rules
+  root_explored old new most explores walked =
+      explores.1 table (map halting_node (slice_range list (index + 1) to)) root.rules
       (subst (λ ns. IsWalked table (ns ∷ []) old.nodes old.levels) roots_first walked)
 
   pub root_stops : (old new most : Count) (content : Content) → Explores list starts (root_of
       (get_or seen index no_rule)) most old new content false → IsWalked table (map halting_node
       (slice_range list index to) ∷ []) old.nodes old.levels → EndsNowhere table most.levels most.nodes
   root_stops old new most content explores walked =
-      explores table (map halting_node (slice_range list (index + 1) to)) rules
+      explores table (map halting_node (slice_range list (index + 1) to)) root.rules
       (subst (λ ns. IsWalked table (ns ∷ []) old.nodes old.levels) roots_first walked)
 
 pub roots_begin : (table : Table) (list : List Rule) (from to nodes levels : ℕ)

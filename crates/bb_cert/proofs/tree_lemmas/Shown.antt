@@ -19,6 +19,7 @@ use Rattle.bb_tape.proofs.Facts.{same_content, score-blank, score-with_cell}
 use Rattle.bb_sim.specs.Configuration.{start}
 use Rattle.bb_cert.specs.declared.tree.path.Frame.{Frame}
 use Rattle.bb_cert.specs.declared.tree.rules.Rule.{Rule}
+use Rattle.bb_cert.specs.declared.tree.walk.Branch.{Branch}
 use Rattle.bb_cert.specs.tree.Tree.{Node, Matches, with_known, halting_node, left_cell, may_be, seen_from}
 use Rattle.bb_cert.specs.tree.Tree.{before_by_entry, before_by}
 use Rattle.bb_cert.specs.inside.Walk.{shown_symbol, shown, shown_node, HasNonzero, branches, IsRule}
@@ -169,7 +170,7 @@ named_at states (r ∷ list) all zero d h = all.0
 named_at states (r ∷ list) all (suc index) d h = named_at states list all.1 index d (omega (arith, h))
 
 -- a rule is tried, which stands in the list that the code reads
-module _ (list seen : List Rule) (same : seen ≡ list) (content : Content) (f : Frame) (index : ℕ)
+module _ {list seen : List Rule} (same : seen ≡ list) (content : Content) (f : Frame) {index : ℕ}
     (d : Rule) (from : f.next ≤ index) (less : index < f.end) (within : f.end ≤ length list)
     (so_far : branches list content f ≡ branches list content (record f { next = index })) where
   abbrev tried : Rule
@@ -184,8 +185,8 @@ module _ (list seen : List Rule) (same : seen ≡ list) (content : Content) (f :
       (ap (before_by (shown_node content f.position f.state)) there
       ∙ none_before content f.position f.state tried e)
 
-  module _ (write : ℕ) (dir : Dir) (next : Next) (entry : tried.entry ≡ Go write dir next) (p : ℤ)
-      (at : p ≡ f.position +ℤ left_cell dir) (held : ℕ) (shows : held ≡ cell content p) where
+  module _ {write : ℕ} {dir : Dir} {next : Next} (entry : tried.entry ≡ Go write dir next) {p : ℤ}
+      (at : p ≡ f.position +ℤ left_cell dir) {held : ℕ} (shows : held ≡ cell content p) where
     shows_left : held ≡ cell content (f.position +ℤ left_cell dir)
     shows_left = shows ∙ ap (cell content) at
 
@@ -206,6 +207,15 @@ module _ (list seen : List Rule) (same : seen ≡ list) (content : Content) (f :
         (with_cell content p (tried.symbol + 1)) p tried.state)
         (ap (before_by (shown_node content f.position f.state)) there ∙ here)
 
+    abbrev found : Branch
+    found = record {
+      position = p;
+      state = tried.state;
+      symbol = tried.symbol;
+      held = held;
+      nonzero_known = f.nonzero_known;
+    }
+
     near_low : f.position ≤ℤ (p +ℤ pos 1)
     near_low = elim dir as (λ dir. p ≡ f.position +ℤ left_cell dir → f.position ≤ℤ
         (p +ℤ pos 1)) [ L ↦ λ e. omega (arith, ints, e) | R ↦ λ e. omega (arith, ints, e) ] at
@@ -217,15 +227,7 @@ module _ (list seen : List Rule) (same : seen ≡ list) (content : Content) (f :
     first_by : (states : ℕ) → AllByRecursion (IsRule states) list → before_by
         (shown_node content f.position f.state) tried ≡ shown_node (with_cell content
         (f.position +ℤ left_cell dir) (tried.symbol + 1))
-        (f.position +ℤ left_cell dir) tried.state ∷ [] → IsFirstBranch list states content f
-        (record {
-          position = p;
-          state = tried.state;
-          symbol = tried.symbol;
-          held =
-              held;
-          nonzero_known = f.nonzero_known;
-        }) (index + 1)
+        (f.position +ℤ left_cell dir) tried.state ∷ [] → IsFirstBranch list states content f found (index + 1)
     first_by states named one =
         let is : IsRule states tried = subst (IsRule states) there (named_at states list named index d
         (omega (arith, less, within))) in
@@ -241,28 +243,14 @@ module _ (list seen : List Rule) (same : seen ≡ list) (content : Content) (f :
           first = branch_here one;
         }
 
-    pub first_unknown : (states : ℕ) → AllByRecursion (IsRule states) list → held ≡ 0
-        → IsFirstBranch list states content f (record {
-          position = p;
-          state = tried.state;
-          symbol =
-              tried.symbol;
-          held = held;
-          nonzero_known = f.nonzero_known;
-        }) (index + 1)
-    first_unknown states named e = first_by states named
+    pub first_unknown : {states : ℕ} → AllByRecursion (IsRule states) list → held ≡ 0
+        → IsFirstBranch list states content f found (index + 1)
+    first_unknown {states} named e = first_by states named
         (unknown_before content f.position f.state tried write dir next entry held shows_left e)
 
-    pub first_written : (states : ℕ) → AllByRecursion (IsRule states) list → held ≡ write + 1
-        → IsFirstBranch list states content f (record {
-          position = p;
-          state = tried.state;
-          symbol =
-              tried.symbol;
-          held = held;
-          nonzero_known = f.nonzero_known;
-        }) (index + 1)
-    first_written states named e = first_by states named
+    pub first_written : {states : ℕ} → AllByRecursion (IsRule states) list → held ≡ write + 1
+        → IsFirstBranch list states content f found (index + 1)
+    first_written {states} named e = first_by states named
         (written_before content f.position f.state tried write dir next entry held shows_left e)
 
 pub branches_none : (list : List Rule) (content : Content) (f : Frame) → f.end ≤ f.next

@@ -58,35 +58,32 @@ number_parsed {E} bytes (Err e) parses no_plus no_zero =
     fits fits (sym is) parses in cc
 
 -- two numbers with a space between them are split at that space
-pub pair_split : (a b : ℕ) (prefix rest bytes : List ℕ) → a < 2 ^ 64 → HasNoSpace prefix
+pub pair_split : (a b : ℕ) {prefix rest bytes : List ℕ} → a < 2 ^ 64 → HasNoSpace prefix
     → prefix ++ 32 ∷ rest ≡ bytes → pair_text a b ≡ bytes → (decimal a ≡ prefix) × (decimal b ≡ rest)
-pair_split a b prefix rest bytes fits none parts is =
+pair_split a b {prefix} {rest} fits none parts is =
     same_split (decimal a) prefix (decimal b) rest (decimal_no_space a fits) none (is ∙ sym parts)
 
 -- the steps of two records are split there too
-pub records_split : (a b : ℕ) (extent : Option Extent) (prefix rest bytes : List ℕ) → a < 2 ^ 64
-    → HasNoSpace prefix
-    → prefix ++ 32 ∷ rest ≡ bytes → records_text a b extent ≡ bytes
+pub records_split : (a b : ℕ) (extent : Option Extent) {prefix rest bytes : List ℕ} → a < 2 ^ 64
+    → HasNoSpace prefix → prefix ++ 32 ∷ rest ≡ bytes → records_text a b extent ≡ bytes
     → (decimal a ≡ prefix) × (second_text b extent ≡ rest)
-records_split a b extent prefix rest bytes fits none parts is =
+records_split a b extent {prefix} {rest} fits none parts is =
     same_split (decimal a) prefix (second_text b extent) rest (decimal_no_space a fits) none (is ∙ sym parts)
 
 -- where a space stands after the second of them, an extent does
-pub second_split : (b : ℕ) (extent : Option Extent) (prefix rest bytes : List ℕ) → b < 2 ^ 64
-    → HasNoSpace prefix
-    → prefix ++ 32 ∷ rest ≡ bytes → second_text b extent ≡ bytes
+pub second_split : (b : ℕ) (extent : Option Extent) {prefix rest bytes : List ℕ} → b < 2 ^ 64
+    → HasNoSpace prefix → prefix ++ 32 ∷ rest ≡ bytes → second_text b extent ≡ bytes
     → (told : Extent) × (extent ≡ Some told) × (decimal b ≡ prefix)
     × (pair_text told.shift told.length ≡ rest)
-second_split b None prefix rest bytes fits none parts is =
+second_split b None {prefix} {rest} fits none parts is =
     absurd (no_space_within prefix rest (decimal b) (decimal_no_space b fits) (parts ∙ sym is))
-second_split b (Some told) prefix rest bytes fits none parts is =
+second_split b (Some told) {prefix} {rest} fits none parts is =
     let split = same_split (decimal b) prefix (pair_text told.shift told.length) rest
-    (decimal_no_space b fits) none
-    (is ∙ sym parts) in
+    (decimal_no_space b fits) none (is ∙ sym parts) in
     (told, refl, split.0, split.1)
 
 pub pair_apart : (a b c d : ℕ) → a < 2 ^ 64 → b < 2 ^ 64 → c < 2 ^ 64 → d < 2 ^ 64
     → pair_text a b ≡ pair_text c d → (a ≡ c) × (b ≡ d)
 pair_apart a b c d p q r s is =
-    let parts = pair_split a b (decimal c) (decimal d) (pair_text c d) p (decimal_no_space c r) refl is in
+    let parts = pair_split a b p (decimal_no_space c r) refl is in
     (decimal_injective a c p r parts.0, decimal_injective b d q s parts.1)

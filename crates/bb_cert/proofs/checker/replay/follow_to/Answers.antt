@@ -1,8 +1,6 @@
-use Rattle.std.proofs.Common.{◌∙◌, refl, subst, arith}
-use Rattle.bb_sim.specs.Runner.{steps_of}
-use Rattle.bb_cert.specs.inside.Checks.{GoesOn}
+use Rattle.std.proofs.Common.{◌∙◌, refl, arith}
 use Rattle.bb_cert.proofs.record_lemmas.Courses.{goes_nowhere, goes-next}
-use Rattle.bb_cert.proofs.record_lemmas.UnderWay.{under_way_within}
+use Rattle.bb_cert.proofs.record_lemmas.UnderWay.{comes_to, under_way_within}
 use Rattle.bb_cert.proofs.checker.replay.follow_to.Goals as goal
 
 pub loop-runner-init : goal.loop-runner-init
@@ -10,7 +8,7 @@ loop-runner-init g c = record {
   under_way = c.requires.under_way;
   ahead = c.requires.ahead;
   limit = refl;
-  goes_on = goes_nowhere _ _ _;
+  goes_on = goes_nowhere;
 }
 
 pub step_on-requires-clause-under_way : goal.step_on-requires-clause-under_way
@@ -27,7 +25,7 @@ loop-runner-preserved g c =
       under_way = one_on.under_way;
       ahead = omega (arith, more, before, steps);
       limit = c.step_on.ensures.limit ∙ here.limit;
-      goes_on = goes-next _ _ _ _ _ _ _ _ _ _ here.goes_on here.under_way.stands one_on.under_way.stands more
+      goes_on = goes-next here.goes_on here.under_way.stands one_on.under_way.stands more
           c.cells-cells.ensures c.pass.ensures;
     }
 
@@ -37,23 +35,14 @@ returns-in_err-answer-clause-limit g c = c.step_on.ensures.limit ∙ c.loop-runn
 pub returns-in-Some-clause-limit : goal.returns-in-Some-clause-limit
 returns-in-Some-clause-limit g c = c.step_on.ensures.limit ∙ c.loop-runner.invariant.limit
 
-pub returns-clause-runs : goal.returns-clause-runs
-returns-clause-runs g c =
+pub returns : goal.returns
+returns g c =
     let here = c.loop-runner.invariant in
-    let ahead = here.ahead in
-    let there = c.loop-runner-test.false in
-    let steps = c.steps.ensures in
-    record { under_way = here.under_way; at = omega (arith, ahead, there, steps) }
-
-pub returns-clause-follows : goal.returns-clause-follows
-returns-clause-follows g c =
-    let here = c.loop-runner.invariant in
-    let at = (returns-clause-runs g c).at in
-    subst (λ n. GoesOn c.args.machine.now
-    (steps_of c.args.runner.now) n c.args.course.now c.loop-runner.course) at here.goes_on
-
-pub returns-clause-within : goal.returns-clause-within
-returns-clause-within g c = under_way_within _ _ _ _ _ c.loop-runner.invariant.under_way
-
-pub returns-clause-limit : goal.returns-clause-limit
-returns-clause-limit g c = c.loop-runner.invariant.limit
+    let there = comes_to here.under_way here.ahead c.steps.ensures c.loop-runner-test.false in
+    record {
+      runs = there;
+      follows = rw there.at at here.goes_on;
+      within = under_way_within here.under_way;
+      limit = here.limit;
+      memory = tt;
+    }

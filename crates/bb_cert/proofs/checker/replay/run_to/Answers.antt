@@ -1,5 +1,5 @@
 use Rattle.std.proofs.Common.{refl, ◌∙◌, arith}
-use Rattle.bb_cert.proofs.record_lemmas.UnderWay.{under_way_within}
+use Rattle.bb_cert.proofs.record_lemmas.UnderWay.{comes_to, under_way_within}
 use Rattle.bb_cert.proofs.checker.replay.run_to.Goals as goal
 
 pub loop-runner-init : goal.loop-runner-init
@@ -26,16 +26,12 @@ returns-in_err-answer-clause-limit g c = c.step_on.ensures.limit ∙ c.loop-runn
 pub returns-in-Some-clause-limit : goal.returns-in-Some-clause-limit
 returns-in-Some-clause-limit g c = c.step_on.ensures.limit ∙ c.loop-runner.invariant.limit
 
-pub returns-clause-runs : goal.returns-clause-runs
-returns-clause-runs g c =
+pub returns : goal.returns
+returns g c =
     let here = c.loop-runner.invariant in
-    let ahead = here.ahead in
-    let there = c.loop-runner-test.false in
-    let steps = c.steps.ensures in
-    record { under_way = here.under_way; at = omega (arith, ahead, there, steps) }
-
-pub returns-clause-within : goal.returns-clause-within
-returns-clause-within g c = under_way_within _ _ _ _ _ c.loop-runner.invariant.under_way
-
-pub returns-clause-limit : goal.returns-clause-limit
-returns-clause-limit g c = c.loop-runner.invariant.limit
+    record {
+      runs = comes_to here.under_way here.ahead c.steps.ensures c.loop-runner-test.false;
+      within = under_way_within here.under_way;
+      limit = here.limit;
+      memory = tt;
+    }

@@ -22,7 +22,7 @@ returns-in-Stepped-clause-steps g c =
 pub returns-in-Halted-clause-steps : goal.returns-in-Halted-clause-steps
 returns-in-Halted-clause-steps g c =
     let halts = rw c.in-Halted.is at c.in_ok-advance.ensures.answers in
-    cut_by_halt _ _ _ c.requires.under_way.inside halts c.requires.ahead
+    cut_by_halt c.requires.under_way.inside halts c.requires.ahead
 
 pub returns-in-NoSteps-clause-steps : goal.returns-in-NoSteps-clause-steps
 returns-in-NoSteps-clause-steps g c =

@@ -1,18 +1,15 @@
+use Rattle.std.proofs.Common.{rules}
 use Rattle.bb_cert.proofs.record_lemmas.Records.{record_has_one_step, records_in_order, lower_records_exist}
 use Rattle.bb_cert.proofs.record_lemmas.Records.{short_of_record, record_takes_steps}
 use Rattle.bb_cert.proofs.claims.laws.records_in_order.Goals as goal
 
-pub returns-clause-one_step : goal.returns-clause-one_step
-returns-clause-one_step c = record_has_one_step
-
-pub returns-clause-in_order : goal.returns-clause-in_order
-returns-clause-in_order c = records_in_order
-
-pub returns-clause-lower : goal.returns-clause-lower
-returns-clause-lower c = lower_records_exist
-
-pub returns-clause-short : goal.returns-clause-short
-returns-clause-short c = short_of_record
-
-pub returns-clause-takes_steps : goal.returns-clause-takes_steps
-returns-clause-takes_steps c = record_takes_steps
+pub returns : goal.returns
+returns c = record {
+  one_step = record_has_one_step;
+  one_number = search rules;
+  one_side = search rules;
+  in_order = records_in_order;
+  lower = lower_records_exist;
+  short = short_of_record;
+  takes_steps = record_takes_steps;
+}

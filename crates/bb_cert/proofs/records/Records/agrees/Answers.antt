@@ -1,7 +1,7 @@
 use Rattle.std.proofs.Common.{◌≡◌, ◌<ℤ◌, ◌≤ℤ◌, ℤ, pos, inr, Err, arith, ap, sym, subst, ◌∙◌, w64, of_z, rules}
 use Rattle.std.proofs.Common.{FitsSigned}
 use Rattle.std.proofs.lemmas.Int.{ints, to_z-of_z}
-use Rattle.bb_tape.specs.TapeView.{TapeView, IsInside, visited, width}
+use Rattle.bb_tape.specs.TapeView.{TapeView, visited, width}
 use Rattle.bb_cert.specs.records.Follow.{HasSameCells, IsComparable, IsKeptInStateOf}
 use Rattle.bb_cert.proofs.record_lemmas.Stretches.{room_for, comparable_wider, seen_at}
 use Rattle.bb_cert.proofs.records.Records.agrees.Goals as goal
@@ -41,18 +41,13 @@ widened g c =
     let reached = simp to_z-of_z at c.in-Ok.ensures.ok in
     record { kept = kept; comparable = c.requires.comparable kept; reached = reached }
 
-pub has_same_cells-requires-clause-comparable : goal.has_same_cells-requires-clause-comparable
-has_same_cells-requires-clause-comparable g c =
+pub has_same_cells-requires : goal.has_same_cells-requires
+has_same_cells-requires g c =
     let is = widened g c in
-    subst (λ s. IsComparable c.args.self.now c.args.runner.now s (g.T.Tape.view c.args.run.now))
-    (sym is.reached)
-    (comparable_wider is.comparable)
-
-pub has_same_cells-requires-clause-far : goal.has_same_cells-requires-clause-far
-has_same_cells-requires-clause-far g c =
-    let is = widened g c in
-    subst (λ s. IsInside s c.args.self.now.nearest) (sym is.reached)
-    (seen_at (g.T.Tape.view c.args.saved.now) c.args.self.now.nearest)
+    record {
+      comparable = rw is.reached (comparable_wider is.comparable);
+      far = rw is.reached (seen_at (g.T.Tape.view c.args.saved.now) c.args.self.now.nearest);
+    }
 
 pub returns-clause-agree : goal.returns-clause-agree
 returns-clause-agree g c =

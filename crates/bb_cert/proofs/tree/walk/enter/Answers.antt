@@ -1,48 +1,36 @@
-use Rattle.std.proofs.Common.{◌≡◌, ◌+◌, inl, inr, FitsSigned, slice_index_or, w64, ap, sym, subst, ◌∙◌, rules}
-use Rattle.bb_tape.specs.TapeView.{visited}
-use Rattle.bb_cert.specs.inside.Walk.{HasRoom}
+use Rattle.std.proofs.Common.{◌+◌, inl, inr, FitsSigned, slice_index_or, w64, ap, rules}
 use Rattle.std.proofs.lemmas.Int.{to_z-of_z}
 use Rattle.bb_cert.proofs.tree_lemmas.Entering.{has_some, room_entered, matched_start, entered_frame}
-use Rattle.bb_cert.proofs.tree_lemmas.Entering.{room_visited}
+use Rattle.bb_cert.proofs.tree_lemmas.Entering.{room_widened}
 use Rattle.bb_cert.proofs.tree.walk.enter.Goals as goal
 
 pub returns-in_default-write-clause-room : goal.returns-in_default-write-clause-room
 returns-in_default-write-clause-room g c =
     let fits : FitsSigned w64 c.args.branch.position = search rules in
-    let widened = room_visited (g.T.Tape.view c.args.tape.now) c.args.branch.position c.args.level
-    c.args.most.levels c.requires.room c.if-most-level.false c.requires.branch.not_below
-    c.requires.branch.not_above in
-    let same : g.T.Tape.view c.write.new.self ≡ visited (g.T.Tape.view c.args.tape.now)
-    c.args.branch.position = c.in_default-write.ensures.err ∙ c.in-Ok.ensures.ok
-    ∙ ap (visited (g.T.Tape.view c.args.tape.now)) (to_z-of_z _ _ fits) in
-    subst (λ s. HasRoom s c.args.most.levels) (sym same) widened
+    rw c.in_default-write.ensures.err (room_widened (g.T.Tape.view c.args.tape.now) c.requires.branch
+    (to_z-of_z _ _ fits) c.in-Ok.ensures.ok c.requires.room c.if-most-level.false)
 
 pub count_known-nonzero_known-requires-clause-counted : goal.count_known-nonzero_known-requires-clause-counted
-count_known-nonzero_known-requires-clause-counted g c = has_some _ c.args.level c.args.most.levels
-    (g.T.Tape.view c.args.tape.now) c.args.branch c.requires.branch
+count_known-nonzero_known-requires-clause-counted g c = has_some c.requires.branch
 
 pub returns-then-nonzero_known-eq0-clause-refused : goal.returns-then-nonzero_known-eq0-clause-refused
 returns-then-nonzero_known-eq0-clause-refused g c =
     let fits : FitsSigned w64 c.args.branch.position = search rules in
-    matched_start _ c.args.level c.args.most.levels (g.T.Tape.view c.args.tape.now) c.args.branch
-    c.requires.branch (g.T.Tape.view c.visit.new.self) (g.T.Tape.view c.write.new.self) _
-    (to_z-of_z _ _ fits) c.in-Ok.ensures.ok c.in-Ok-write.ensures.ok c.count_known-nonzero_known.result
-    c.count_known-nonzero_known.ensures _ _ c.if-branch-eq0.true c.if-nonzero_known-eq0.true
+    matched_start (g.T.Tape.view c.args.tape.now) c.requires.branch (to_z-of_z _ _ fits) c.in-Ok.ensures.ok
+    c.in-Ok-write.ensures.ok c.count_known-nonzero_known.ensures c.if-branch-eq0.true
+    c.if-nonzero_known-eq0.true
 
 pub returns-then-nonzero_known-eq0-clause-room : goal.returns-then-nonzero_known-eq0-clause-room
 returns-then-nonzero_known-eq0-clause-room g c =
     let fits : FitsSigned w64 c.args.branch.position = search rules in
-    room_entered _ c.args.level c.args.most.levels (g.T.Tape.view c.args.tape.now) c.args.branch
-    c.requires.branch (g.T.Tape.view c.visit.new.self) (g.T.Tape.view c.write.new.self) _
-    (to_z-of_z _ _ fits) c.in-Ok.ensures.ok c.in-Ok-write.ensures.ok c.requires.room c.if-most-level.false
+    room_entered (g.T.Tape.view c.args.tape.now) c.requires.branch (to_z-of_z _ _ fits) c.in-Ok.ensures.ok
+    c.in-Ok-write.ensures.ok c.requires.room c.if-most-level.false
 
 pub returns-clause-enters : goal.returns-clause-enters
 returns-clause-enters g c =
     let fits : FitsSigned w64 c.args.branch.position = search rules in
-    entered_frame _ c.args.level c.args.most.levels (g.T.Tape.view c.args.tape.now) c.args.branch
-    c.requires.branch (g.T.Tape.view c.visit.new.self) (g.T.Tape.view c.write.new.self) _
-    (to_z-of_z _ _ fits) c.in-Ok.ensures.ok c.in-Ok-write.ensures.ok c.count_known-nonzero_known.result
-    c.count_known-nonzero_known.ensures c.args.rules.now.starts.items _ _
+    entered_frame (g.T.Tape.view c.args.tape.now) c.requires.branch (to_z-of_z _ _ fits) c.in-Ok.ensures.ok
+    c.in-Ok-write.ensures.ok c.count_known-nonzero_known.ensures
     (ap (λ xs. slice_index_or xs c.args.branch.state 0) c.deref.ensures.0)
     (ap (λ xs. slice_index_or xs (c.args.branch.state + 1) 0) c.deref-2.ensures.0)
     (λ in_a none. elim c.else-branch-eq0.either [ inl both ↦ both.1 none | inr other ↦ other in_a ])
@@ -50,6 +38,5 @@ returns-clause-enters g c =
 pub returns-clause-room : goal.returns-clause-room
 returns-clause-room g c =
     let fits : FitsSigned w64 c.args.branch.position = search rules in
-    room_entered _ c.args.level c.args.most.levels (g.T.Tape.view c.args.tape.now) c.args.branch
-    c.requires.branch (g.T.Tape.view c.visit.new.self) (g.T.Tape.view c.write.new.self) _
-    (to_z-of_z _ _ fits) c.in-Ok.ensures.ok c.in-Ok-write.ensures.ok c.requires.room c.if-most-level.false
+    room_entered (g.T.Tape.view c.args.tape.now) c.requires.branch (to_z-of_z _ _ fits) c.in-Ok.ensures.ok
+    c.in-Ok-write.ensures.ok c.requires.room c.if-most-level.false

@@ -2,10 +2,11 @@ use Rattle.std.proofs.Common.{◌≡◌, ◌+◌, false, true, [], ◌∷◌, le
 use Rattle.std.proofs.Common.{ap, sym, refl, subst, ◌∙◌, rules}
 use Rattle.bb_cert.specs.tree.Tree.{halting_node}
 use Rattle.bb_cert.specs.inside.Walk.{IsWalked}
-use Rattle.bb_cert.proofs.tree_lemmas.Roots.{root_is, root_explored, root_stops, roots_begin, roots_end}
-use Rattle.bb_cert.proofs.tree_lemmas.Roots.{end_at, no_more}
-use Rattle.bb_cert.proofs.tree_lemmas.Roots.{before_end, past_end}
+use Rattle.bb_cert.proofs.tree_lemmas.Roots.{IsRoot, root_is, root_explored, root_stops, roots_begin}
+use Rattle.bb_cert.proofs.tree_lemmas.Roots.{before_end, end_at, no_more, past_end, roots_end}
 use Rattle.bb_cert.proofs.tree.walk.explore_all.Goals as goal
+use Rattle.bb_cert.proofs.tree.walk.explore_all.Goals.{After-deref-in-loop-index}
+use Rattle.bb_cert.proofs.tree.walk.explore_all.Given as given
 
 pub loop-index-init : goal.loop-index-init
 loop-index-init g c =
@@ -25,33 +26,39 @@ loop-index-init g c =
       depth = refl;
     }
 
+-- the rule of this turn
+root_here : (g : given.Over) (c : After-deref-in-loop-index g)
+    → IsRoot c.args.machine.now c.gather.new.self.list.items c.deref-in-loop-index.result.now
+    c.gather.new.self.starts.items c.loop-index.index
+    (slice_index c.gather.new.self.starts.items (length c.args.machine.now + 1))
+root_here g c = record {
+  rules = c.gather.ensures.rules;
+  same = c.deref-in-loop-index.ensures.0;
+  less = before_end _ _ _ (end_at _ _ _ _ c.deref-2.ensures.0 c.states-halting.ensures.value)
+      c.loop-index-test.true;
+  within = c.gather.ensures.rules.halting.within;
+}
+
 pub explore-requires-clause-root : goal.explore-requires-clause-root
 explore-requires-clause-root g c =
-    let ends = end_at _ _ _ _ c.deref-2.ensures.0 c.states-halting.ensures.value in
-    root_is c.args.machine.now c.gather.new.self.list.items c.deref-in-loop-index.result.now _
-    c.gather.ensures.rules c.deref-in-loop-index.ensures.0 c.loop-index.index _
-    (before_end _ _ _ ends c.loop-index-test.true) c.gather.ensures.rules.halting.within
+    root_is (root_here g (goal.at.explore-requires-clause-root g c).After-deref-in-loop-index)
 
 pub returns-then-not-branch-clause-walked : goal.returns-then-not-branch-clause-walked
 returns-then-not-branch-clause-walked g c =
-    let ends = end_at _ _ _ _ c.deref-2.ensures.0 c.states-halting.ensures.value in
+    let root = root_here g (goal.at.returns-then-not-branch-clause-walked g c).After-deref-in-loop-index in
     let e : c.in_ok-explore.field-0 ≡ false = search rules in
-    root_stops c.args.machine.now c.gather.new.self.list.items c.deref-in-loop-index.result.now _
-    c.gather.ensures.rules c.deref-in-loop-index.ensures.0 c.loop-index.index _
-    (before_end _ _ _ ends c.loop-index-test.true) c.gather.ensures.rules.halting.within
-    c.loop-index.entered c.explore.new.entered c.args.most (g.T.Tape.view c.explore.new.tape).content
-    (rw e at c.in_ok-explore.ensures.explores) c.loop-index.invariant.walked
+    root_stops root c.loop-index.entered c.explore.new.entered c.args.most
+    (g.T.Tape.view c.explore.new.tape).content (rw e at c.in_ok-explore.ensures.explores)
+    c.loop-index.invariant.walked
 
 pub loop-index-preserved : goal.loop-index-preserved
 loop-index-preserved g c =
-    let ends = end_at _ _ _ _ c.deref-2.ensures.0 c.states-halting.ensures.value in
+    let root = root_here g (goal.at.loop-index-preserved g c).After-deref-in-loop-index in
     let e : c.in_ok-explore.field-0 ≡ true = search rules in
     let explores = rw e at c.in_ok-explore.ensures.explores in
     record {
-      walked = root_explored c.args.machine.now c.gather.new.self.list.items c.deref-in-loop-index.result.now
-          _ c.gather.ensures.rules c.deref-in-loop-index.ensures.0 c.loop-index.index _
-          (before_end _ _ _ ends c.loop-index-test.true) c.gather.ensures.rules.halting.within
-          c.loop-index.entered c.explore.new.entered c.args.most _ explores c.loop-index.invariant.walked;
+      walked = root_explored root c.loop-index.entered c.explore.new.entered c.args.most explores
+          c.loop-index.invariant.walked;
       blank = explores.0;
       room = c.explore.ensures.room;
       within = c.explore.ensures.within;

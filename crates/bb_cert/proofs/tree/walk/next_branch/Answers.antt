@@ -5,6 +5,8 @@ use Rattle.bb_cert.proofs.tree_lemmas.Shown.{no_rule, undefined_else, skips_unde
 use Rattle.bb_cert.proofs.tree_lemmas.Shown.{first_unknown}
 use Rattle.bb_cert.proofs.tree_lemmas.Shown.{first_written, branches_none}
 use Rattle.bb_cert.proofs.tree.walk.next_branch.Goals as goal
+use Rattle.bb_cert.proofs.tree.walk.next_branch.Goals.{After-left_cell-position}
+use Rattle.bb_cert.proofs.tree.walk.next_branch.Given as given
 use Rattle.bb_cert.proofs.tree.walk.next_branch.Goals.{then-held-eq0-via-then-held-eq0}
 use Rattle.bb_cert.proofs.tree.walk.next_branch.Goals.{then-held-eq0-via-else-held-eq0+then-held-write}
 
@@ -12,41 +14,35 @@ pub loop-index-init : goal.loop-index-init
 loop-index-init g c = refl
 
 pub loop-index-preserved-in_default : goal.loop-index-preserved-in_default
-loop-index-preserved-in_default g c = skips_undefined _ _ c.deref.ensures.0 _ c.args.frame c.loop-index.index
-    no_rule c.loop-index.auto.index c.loop-index-test.true c.requires.within c.loop-index.invariant
+loop-index-preserved-in_default g c = skips_undefined c.deref.ensures.0 _ c.args.frame no_rule
+    c.loop-index.auto.index c.loop-index-test.true c.requires.within c.loop-index.invariant
     (undefined_else _ c.in_default.not-Go)
+
+-- where the head was before the move
+cell_left : (g : given.Over) (c : After-left_cell-position g)
+    → to_z w64 (of_z w64 c.left_cell-position.result) ≡ c.args.frame.position +ℤ left_cell c.in-Go.dir
+cell_left g c =
+    let fits : FitsSigned w64 c.left_cell-position.result = search rules in
+    let fits_frame : FitsSigned w64 c.args.frame.position = search rules in
+    to_z-of_z _ _ fits ∙ (simp to_z-of_z at c.left_cell-position.ensures)
 
 pub returns-then-held-eq0 : goal.returns-then-held-eq0
 returns-then-held-eq0 g c =
-    let z = c.left_cell-position.result in
-    let fits : FitsSigned w64 z = search rules in
-    let fits_frame : FitsSigned w64 c.args.frame.position = search rules in
-    let same : to_z w64 (of_z w64 z) ≡ z = to_z-of_z _ _ fits in
-    let at : to_z w64 (of_z w64 z) ≡ c.args.frame.position +ℤ left_cell c.in-Go.dir = same
-    ∙ (simp to_z-of_z at c.left_cell-position.ensures) in
+    let at = cell_left g (goal.at.returns-then-held-eq0 g c).After-left_cell-position in
     elim c.then-held-eq0.branch [
-      | then-held-eq0-via-then-held-eq0 w ↦ first_unknown _ _ c.deref.ensures.0 _ c.args.frame
-          c.loop-index.index no_rule c.loop-index.auto.index c.loop-index-test.true c.requires.within
-          c.loop-index.invariant c.in-Go.write c.in-Go.dir c.in-Go.next c.in-Go.is _ at c.read-held.result
-          c.read-held.ensures _ c.requires.rules w.if-held-eq0.true
-      | then-held-eq0-via-else-held-eq0+then-held-write w ↦
-          first_written _ _ c.deref.ensures.0 _ c.args.frame c.loop-index.index no_rule
+      | then-held-eq0-via-then-held-eq0 w ↦ first_unknown c.deref.ensures.0 _ c.args.frame no_rule
           c.loop-index.auto.index c.loop-index-test.true c.requires.within c.loop-index.invariant
-          c.in-Go.write c.in-Go.dir c.in-Go.next c.in-Go.is _ at c.read-held.result c.read-held.ensures _
-          c.requires.rules w.if-held-write.true
+          c.in-Go.is at c.read-held.ensures c.requires.rules w.if-held-eq0.true
+      | then-held-eq0-via-else-held-eq0+then-held-write w ↦ first_written c.deref.ensures.0 _ c.args.frame
+          no_rule c.loop-index.auto.index c.loop-index-test.true c.requires.within c.loop-index.invariant
+          c.in-Go.is at c.read-held.ensures c.requires.rules w.if-held-write.true
     ]
 
 pub loop-index-preserved : goal.loop-index-preserved
 loop-index-preserved g c =
-    let z = c.left_cell-position.result in
-    let fits : FitsSigned w64 z = search rules in
-    let fits_frame : FitsSigned w64 c.args.frame.position = search rules in
-    let same : to_z w64 (of_z w64 z) ≡ z = to_z-of_z _ _ fits in
-    let at : to_z w64 (of_z w64 z) ≡ c.args.frame.position +ℤ left_cell c.in-Go.dir = same
-    ∙ (simp to_z-of_z at c.left_cell-position.ensures) in
-    skips_unfit _ _ c.deref.ensures.0 _ c.args.frame c.loop-index.index no_rule c.loop-index.auto.index
-    c.loop-index-test.true c.requires.within c.loop-index.invariant c.in-Go.write c.in-Go.dir
-    c.in-Go.next c.in-Go.is _ at c.read-held.result c.read-held.ensures c.if-held-eq0.false
+    let at = cell_left g (goal.at.loop-index-preserved g c).After-left_cell-position in
+    skips_unfit c.deref.ensures.0 _ c.args.frame no_rule c.loop-index.auto.index c.loop-index-test.true
+    c.requires.within c.loop-index.invariant c.in-Go.is at c.read-held.ensures c.if-held-eq0.false
     c.if-held-write.false
 
 pub returns : goal.returns
