@@ -27,7 +27,7 @@ loop-at-init g c =
       prefix = [];
       whole = refl;
       kept = first.0;
-      answered = rw first.1 (answered_none _ _ _ _ _);
+      answered = rw first.1 answered_none;
     }
 
 -- the bytes of the line that are in this piece
@@ -78,9 +78,9 @@ returns-in_err-answer_kept-clause-ends g c =
     let law =
     g.met.A.Responder.keeps_reply c.args.self.now.responder.now c.loop-at.self.responder.now here.keeps in
     rw (p.1, p.2)
-    (fault_after _ _ _ _ _ _ _ _ _ _ here.answered _ law
-    _ _ _ (ap (λ b. prefixes g.A.Responder.KEEP (complete b)) (sym same)
-    ∙ lines) _ _ _ _ c.in_err-answer_kept.ensures.ends)
+    (fault_after here.answered law _ _
+    (ap (λ b. prefixes g.A.Responder.KEEP (complete b)) (sym same) ∙ lines) _ _ _ _
+    c.in_err-answer_kept.ensures.ends)
 
 pub loop-at-preserved : goal.loop-at-preserved
 loop-at-preserved g c =
@@ -114,7 +114,7 @@ loop-at-preserved g c =
       prefix = here.prefix ++ (piece ++ 10 ∷ []);
       whole = rw slice_from (whole g at);
       kept = rw done.kept (rw parts at left);
-      answered = rw (← parts, lines) (answered_more _ _ _ _ _ _ _ _ _ _ here.answered _ law _ _ _ done.ends);
+      answered = rw (← parts, lines) (answered_more here.answered law done.ends);
     }
 
 none_left : (g : Over) (c : After-keep_prefix-2 g) → HasNoNewline c.loop-at.rest.now
