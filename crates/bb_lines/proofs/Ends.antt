@@ -80,13 +80,15 @@ answered_of_written saw none all seen = record {
 }
 
 -- the prefixes of all lines, by whether some of the last is kept
-pub prefixes-some : (keep : ℕ) (bytes kept : List ℕ) → 0 < keep → kept ≡ take keep (unfinished bytes)
-    → 0 < length kept → prefixes keep (lines bytes) ≡ prefixes keep (complete bytes) ++ kept ∷ []
-prefixes-some keep bytes kept some is full = prefixes-lines keep bytes kept some is
-    ∙ ap (λ l. prefixes keep (complete bytes) ++ l) (unless_empty-some kept full)
+pub prefixes-some : (keep : ℕ) (bytes : List ℕ) {kept : List ℕ} → 0 < keep
+    → kept ≡ take keep (unfinished bytes) → 0 < length kept
+    → prefixes keep (lines bytes) ≡ prefixes keep (complete bytes) ++ kept ∷ []
+prefixes-some keep bytes some is full = prefixes-lines keep bytes some is
+    ∙ ap (λ l. prefixes keep (complete bytes) ++ l) (unless_empty-some _ full)
 
-pub prefixes-no_more : (keep : ℕ) (bytes kept : List ℕ) → 0 < keep → kept ≡ take keep (unfinished bytes)
-    → length kept ≡ 0 → prefixes keep (lines bytes) ≡ prefixes keep (complete bytes)
-prefixes-no_more keep bytes kept some is empty = prefixes-lines keep bytes kept some is
-    ∙ ap (λ l. prefixes keep (complete bytes) ++ l) (unless_empty-none kept empty)
+pub prefixes-no_more : (keep : ℕ) (bytes : List ℕ) {kept : List ℕ} → 0 < keep
+    → kept ≡ take keep (unfinished bytes) → length kept ≡ 0
+    → prefixes keep (lines bytes) ≡ prefixes keep (complete bytes)
+prefixes-no_more keep bytes some is empty = prefixes-lines keep bytes some is
+    ∙ ap (λ l. prefixes keep (complete bytes) ++ l) (unless_empty-none _ empty)
     ∙ append-nil (prefixes keep (complete bytes))

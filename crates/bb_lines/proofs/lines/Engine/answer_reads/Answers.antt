@@ -38,7 +38,7 @@ returns-in_err-write_waiting-clause-ends g c =
         p.1,
         p.2,
         after.only_write,
-        prefixes-lines g.A.Responder.KEEP here.past _ g.met.A.Responder.keeps_some here.kept,
+        prefixes-lines g.A.Responder.KEEP here.past g.met.A.Responder.keeps_some here.kept,
       ) (AppendsPrefixOfReplies-writes (prefix_more _ some)),
     )
 
@@ -66,8 +66,7 @@ after : (g : Over) (c : After-answer_lines g)
 after g c =
     let read = c.in-Ok.ensures in
     after_piece g.A.Responder.KEEP (take c.in-Ok.n c.read_chunk.new.chunk) c.loop-self.invariant.past
-    c.read_chunk.new.self.kept.items (rw read.kept c.loop-self.invariant.kept)
-    (rw read.kept c.loop-self.invariant.one_line)
+    (rw read.kept c.loop-self.invariant.kept) (rw read.kept c.loop-self.invariant.one_line)
 
 pub loop-self-preserved : goal.loop-self-preserved
 loop-self-preserved g c =
@@ -76,9 +75,7 @@ loop-self-preserved g c =
     let read = c.in-Ok.ensures in
     let done = c.in_ok-answer_lines.ensures in
     let piece = take c.in-Ok.n c.read_chunk.new.chunk in
-    let law =
-    g.met.A.Responder.keeps_reply c.args.self.now.responder.now c.read_chunk.new.self.responder.now
-    (keeps_now g at) in
+    let law = g.met.A.Responder.keeps_reply _ _ (keeps_now g at) in
     record {
       reader_unmarked = search rules;
       writer_unmarked = search rules;
@@ -94,9 +91,7 @@ loop-self-preserved g c =
       past = here.past ++ piece;
       consumed = rw done.reader (Consumes-trans _ _ _ here.past _ here.consumed read.bytes.0);
       kept = done.kept ∙ (after g at).is_kept;
-      answered =
-          rw (after g at).is_complete
-          (answered_more (answered_now g at) law done.ends);
+      answered = rw (after g at).is_complete (answered_more (answered_now g at) law done.ends);
     }
 
 pub returns-in_err-answer_lines-clause-ends : goal.returns-in_err-answer_lines-clause-ends
@@ -107,12 +102,10 @@ returns-in_err-answer_lines-clause-ends g c =
     let here = c.loop-self.invariant in
     let done = c.in_err-answer_lines.ensures in
     let piece = take c.in-Ok.n c.read_chunk.new.chunk in
-    let law =
-    g.met.A.Responder.keeps_reply c.args.self.now.responder.now c.read_chunk.new.self.responder.now
-    (keeps_now g at) in
+    let law = g.met.A.Responder.keeps_reply _ _ (keeps_now g at) in
     let last = take g.A.Responder.KEEP (unfinished (here.past ++ piece)) in
-    let all = prefixes-lines g.A.Responder.KEEP (here.past ++ piece) last g.met.A.Responder.keeps_some refl
-    ∙ ap (λ l. l ++ unless_empty last) (after g at).is_complete in (
+    let all = prefixes-lines g.A.Responder.KEEP (here.past ++ piece) {kept = last}
+    g.met.A.Responder.keeps_some refl ∙ ap (λ l. l ++ unless_empty last) (after g at).is_complete in (
       here.past ++ piece,
       rw done.reader (Consumes-trans _ _ _ here.past _ here.consumed c.in-Ok.ensures.bytes.0),
       rw (p.1, p.2) (fault_after_none (answered_now g at) law _ _ _ all _ _ _ _ done.ends),
