@@ -21,32 +21,34 @@ pub unless_empty-none : (line : List ℕ) → length line ≡ 0 → unless_empty
 unless_empty-none [] none = refl
 unless_empty-none (byte ∷ line) none = absurd (omega arith)
 
-module _ {A : Type 0} (Reply : List ℕ → List ℕ → Type 0) (saw : A → List ℕ → A → Type 0) (keep : ℕ)
+module _ {Reply : List ℕ → List ℕ → Type 0} (keep : ℕ)
     (reply_law : (line text : List ℕ) → Reply (take keep line) text → Reply line text)
-    (saw_law : (a : A) (line : List ℕ) (b : A) → saw a (take keep line) b → saw a line b)
-    (left left' held held' : Option (List ℕ)) (first now : A) (taken : List ℕ)
-    (consumes : Consumes left left' taken) where
+    (left left' held held' : Option (List ℕ)) (taken : List ℕ) (consumes : Consumes left left' taken) where
   -- a fault, where the first bytes of each line were answered
-  pub fault_of_prefixes : (P : Type 0) (fault : Fault) → MatchEnd {S = Unit {0}} (Err fault) (λ _. P)
+  pub fault_of_prefixes : {A : Type 0} (saw : A → List ℕ → A → Type 0) (first now : A) (P : Type 0)
+      (fault : Fault)
+      → MatchEnd {S = Unit {0}} (Err fault) (λ _. P)
       (AppendsSome Reply held held' (prefixes keep (lines taken)))
       (AppendsReplies Reply held held' (prefixes keep (complete taken)))
       (AppendsPrefixOfReplies Reply held held' (prefixes keep (lines taken)))
       → ListEnds {S = Unit {0}} Reply (λ all _. FoldsTo saw first all now) left left' held held' (Err fault)
-  fault_of_prefixes P Memory ends =
+  fault_of_prefixes saw first now P Memory ends =
       (taken, consumes, AppendsSome-prefixes Reply keep reply_law held held' (lines taken) ends)
-  fault_of_prefixes P Read ends =
+  fault_of_prefixes saw first now P Read ends =
       (taken, consumes, AppendsReplies-prefixes Reply keep reply_law held held' (complete taken) ends)
-  fault_of_prefixes P Write ends =
+  fault_of_prefixes saw first now P Write ends =
       (taken, consumes, AppendsPrefixOfReplies-prefixes Reply keep reply_law held held' (lines taken) ends)
 
   -- and an end without a fault of reading
-  pub end_of_prefixes : (r : Result (Unit {0}) Fault) → IsAtEnd left'
+  pub end_of_prefixes : {A : Type 0} {saw : A → List ℕ → A → Type 0}
+      (saw_law : (a : A) (line : List ℕ) (b : A) → saw a (take keep line) b → saw a line b) (first now : A)
+      (r : Result (Unit {0}) Fault) → IsAtEnd left'
       → MatchEnd r (λ _. AppendsReplies Reply held held' (prefixes keep (lines taken))
       × FoldsTo saw first (prefixes keep (lines taken)) now)
       (AppendsSome Reply held held' (prefixes keep (lines taken))) ⊥
       (AppendsPrefixOfReplies Reply held held' (prefixes keep (lines taken)))
       → ListEnds Reply (λ all _. FoldsTo saw first all now) left left' held held' r
-  end_of_prefixes (Ok u) at_end ends = (
+  end_of_prefixes {saw} saw_law first now (Ok u) at_end ends = (
     taken,
     consumes,
     (
@@ -55,16 +57,18 @@ module _ {A : Type 0} (Reply : List ℕ → List ℕ → Type 0) (saw : A → Li
       FoldsTo-prefixes saw keep saw_law first now (lines taken) ends.1,
     ),
   )
-  end_of_prefixes (Err Memory) at_end ends = fault_of_prefixes Unit Memory ends
-  end_of_prefixes (Err Read) at_end ends = absurd ends
-  end_of_prefixes (Err Write) at_end ends = fault_of_prefixes Unit Write ends
+  end_of_prefixes {saw} saw_law first now (Err Memory) at_end ends =
+      fault_of_prefixes saw first now Unit Memory ends
+  end_of_prefixes {saw} saw_law first now (Err Read) at_end ends = absurd ends
+  end_of_prefixes {saw} saw_law first now (Err Write) at_end ends =
+      fault_of_prefixes saw first now Unit Write ends
 
 -- lines whose replies are written are answered, and nothing waits
-pub answered_of_written : {A : Type 0} (Reply : List ℕ → List ℕ → Type 0) (saw : A → List ℕ → A → Type 0)
-    (held held' : Option (List ℕ)) (waiting' : List ℕ) (first now : A) (lines : List (List ℕ))
+pub answered_of_written : {A : Type 0} {Reply : List ℕ → List ℕ → Type 0} (saw : A → List ℕ → A → Type 0)
+    {held held' : Option (List ℕ)} {waiting' : List ℕ} {first now : A} {lines : List (List ℕ)}
     → waiting' ≡ [] → AppendsReplies Reply held held' lines → FoldsTo saw first lines now
     → AreAnswered Reply saw held held' [] waiting' first now lines
-answered_of_written Reply saw held held' waiting' first now lines none all seen = record {
+answered_of_written saw none all seen = record {
   bytes = all.bytes;
   are_replies = all.are_replies;
   sends = record {
@@ -76,13 +80,15 @@ answered_of_written Reply saw held held' waiting' first now lines none all seen 
 }
 
 -- the prefixes of all lines, by whether some of the last is kept
-pub prefixes-some : (keep : ℕ) (bytes kept : List ℕ) → 0 < keep → kept ≡ take keep (unfinished bytes)
-    → 0 < length kept → prefixes keep (lines bytes) ≡ prefixes keep (complete bytes) ++ kept ∷ []
-prefixes-some keep bytes kept some is full = prefixes-lines keep bytes kept some is
-    ∙ ap (λ l. prefixes keep (complete bytes) ++ l) (unless_empty-some kept full)
+pub prefixes-some : (keep : ℕ) (bytes : List ℕ) {kept : List ℕ} → 0 < keep
+    → kept ≡ take keep (unfinished bytes) → 0 < length kept
+    → prefixes keep (lines bytes) ≡ prefixes keep (complete bytes) ++ kept ∷ []
+prefixes-some keep bytes some is full = prefixes-lines keep bytes some is
+    ∙ ap (λ l. prefixes keep (complete bytes) ++ l) (unless_empty-some _ full)
 
-pub prefixes-no_more : (keep : ℕ) (bytes kept : List ℕ) → 0 < keep → kept ≡ take keep (unfinished bytes)
-    → length kept ≡ 0 → prefixes keep (lines bytes) ≡ prefixes keep (complete bytes)
-prefixes-no_more keep bytes kept some is empty = prefixes-lines keep bytes kept some is
-    ∙ ap (λ l. prefixes keep (complete bytes) ++ l) (unless_empty-none kept empty)
+pub prefixes-no_more : (keep : ℕ) (bytes : List ℕ) {kept : List ℕ} → 0 < keep
+    → kept ≡ take keep (unfinished bytes) → length kept ≡ 0
+    → prefixes keep (lines bytes) ≡ prefixes keep (complete bytes)
+prefixes-no_more keep bytes some is empty = prefixes-lines keep bytes some is
+    ∙ ap (λ l. prefixes keep (complete bytes) ++ l) (unless_empty-none _ empty)
     ∙ append-nil (prefixes keep (complete bytes))

@@ -54,9 +54,9 @@ take-kept (suc keep) [] ys = refl
 take-kept (suc keep) (x ∷ xs) ys = ap (λ l. x ∷ l) (take-kept keep xs ys)
 
 -- what is kept of a line, after a piece more of it
-pub kept_more : (keep : ℕ) (line piece kept kept' : List ℕ) → kept ≡ take keep line
+pub kept_more : (keep : ℕ) (line piece : List ℕ) {kept kept' : List ℕ} → kept ≡ take keep line
     → kept' ≡ take keep (kept ++ piece) → kept' ≡ take keep (line ++ piece)
-kept_more keep line piece kept kept' was is = is ∙ ap (λ l. take keep (l ++ piece)) was
+kept_more keep line piece was is = is ∙ ap (λ l. take keep (l ++ piece)) was
     ∙ take-kept keep line piece
 
 pub prefixes-append : (keep : ℕ) (xs ys : List (List ℕ))
@@ -70,9 +70,10 @@ unless_empty-prefix (suc keep) [] some = refl
 unless_empty-prefix (suc keep) (x ∷ line) some = refl
 
 -- the prefixes of all lines, by what is kept of the last
-pub prefixes-lines : (keep : ℕ) (bytes kept : List ℕ) → 0 < keep → kept ≡ take keep (unfinished bytes)
+pub prefixes-lines : (keep : ℕ) (bytes : List ℕ) {kept : List ℕ} → 0 < keep
+    → kept ≡ take keep (unfinished bytes)
     → prefixes keep (lines bytes) ≡ prefixes keep (complete bytes) ++ unless_empty kept
-prefixes-lines keep bytes kept some is =
+prefixes-lines keep bytes {kept} some is =
     ap (prefixes keep) (lines-parts bytes)
     ∙ prefixes-append keep (complete bytes) (unless_empty (unfinished bytes))
     ∙ ap (λ l. prefixes keep (complete bytes) ++ l) (unless_empty-prefix keep (unfinished bytes) some
@@ -117,7 +118,7 @@ after_byte keep past kept byte false is was others =
     let more = LinesAre-other past byte is in
     let same = LinesAre-other kept byte is in record {
       now = take keep (kept ++ byte ∷ []);
-      is_now = kept_more keep (unfinished past) (byte ∷ []) kept (take keep (kept ++ byte ∷ [])) was refl
+      is_now = kept_more keep (unfinished past) (byte ∷ []) was refl
           ∙ ap (take keep) (sym more.is_unfinished);
       is_same = ap (take keep) (sym (same.is_unfinished ∙ ap (λ b. b ++ byte ∷ []) one.is_unfinished));
       one_line = HasNoNewline-take keep (HasNoNewline-append others (other is none));
@@ -126,9 +127,9 @@ after_byte keep past kept byte false is was others =
           ∙ one.is_complete));
     }
 
-pub after_piece : (keep : ℕ) (piece past kept : List ℕ) → kept ≡ take keep (unfinished past)
+pub after_piece : (keep : ℕ) (piece past : List ℕ) {kept : List ℕ} → kept ≡ take keep (unfinished past)
     → HasNoNewline kept → AfterPiece keep past piece kept
-after_piece keep [] past kept was others = let one = LinesAre-one kept others in record {
+after_piece keep [] past {kept} was others = let one = LinesAre-one kept others in record {
   is_complete = ap (λ b. prefixes keep (complete b)) (append-nil past)
       ∙ sym (append-nil (prefixes keep (complete past)))
       ∙ sym (ap (λ l. prefixes keep (complete past) ++ prefixes keep l) (ap complete (append-nil kept)
@@ -137,10 +138,10 @@ after_piece keep [] past kept was others = let one = LinesAre-one kept others in
       ∙ take-take keep keep (unfinished past) (omega arith)
       ∙ ap (λ b. take keep (unfinished b)) (sym (append-nil past));
 }
-after_piece keep (byte ∷ rest) past kept was others =
+after_piece keep (byte ∷ rest) past {kept} was others =
     let next = after_byte keep past kept byte (byte == 10) refl was others in
-    let all = after_piece keep rest (past ++ byte ∷ []) next.now next.is_now next.one_line in
-    let same = after_piece keep rest (kept ++ byte ∷ []) next.now next.is_same next.one_line in
+    let all = after_piece keep rest (past ++ byte ∷ []) next.is_now next.one_line in
+    let same = after_piece keep rest (kept ++ byte ∷ []) next.is_same next.one_line in
     let past_parts : past ++ (byte ∷ rest) ≡ (past ++ byte ∷ []) ++ rest =
     sym (append_assoc past (byte ∷ []) rest) in
     let kept_parts : kept ++ (byte ∷ rest) ≡ (kept ++ byte ∷ []) ++ rest =
@@ -156,9 +157,9 @@ after_piece keep (byte ∷ rest) past kept was others =
     }
 
 -- before any byte of a piece
-pub kept_at_first : (keep : ℕ) (kept : List ℕ) → length kept ≤ keep → HasNoNewline kept
+pub kept_at_first : (keep : ℕ) {kept : List ℕ} → length kept ≤ keep → HasNoNewline kept
     → (kept ≡ take keep (unfinished (kept ++ []))) × (prefixes keep (complete (kept ++ [])) ≡ [])
-kept_at_first keep kept few others =
+kept_at_first keep {kept} few others =
     let one = LinesAre-one kept others in (
       sym (ap (λ b. take keep (unfinished b)) (append-nil kept) ∙ ap (take keep) one.is_unfinished
           ∙ take-all keep kept few),
@@ -171,7 +172,7 @@ kept_at_first keep kept few others =
     take-all (suc n) [] h = refl
     take-all (suc n) (x ∷ xs) h = ap (λ l. x ∷ l) (take-all n xs (omega arith))
 
-module _ (keep : ℕ) (past piece kept : List ℕ) (others : HasNoNewline piece)
+module _ (keep : ℕ) (past : List ℕ) {piece kept : List ℕ} (others : HasNoNewline piece)
     (is : kept ≡ take keep (unfinished past ++ piece)) where
   -- a line comes to its end
   pub prefixes_line : prefixes keep (complete (past ++ (piece ++ 10 ∷ []))) ≡ prefixes keep (complete past)
@@ -188,14 +189,14 @@ module _ (keep : ℕ) (past piece kept : List ℕ) (others : HasNoNewline piece)
       → prefixes keep (complete ((past ++ (piece ++ 10 ∷ [])) ++ later))
       ≡ (prefixes keep (complete past) ++ kept ∷ []) ++ prefixes keep (complete later)
   prefixes_after_line later =
-      (after_piece keep later (past ++ (piece ++ 10 ∷ [])) [] kept_after_line none).is_complete
+      (after_piece keep later (past ++ (piece ++ 10 ∷ [])) kept_after_line none).is_complete
       ∙ ap (λ l. l ++ prefixes keep (complete later)) prefixes_line
 
 -- no line comes to its end
-pub prefixes_none : (keep : ℕ) (past piece : List ℕ) → HasNoNewline piece
+pub prefixes_none : (keep : ℕ) (past : List ℕ) {piece : List ℕ} → HasNoNewline piece
     → prefixes keep (complete (past ++ piece)) ≡ prefixes keep (complete past)
-prefixes_none keep past piece others = ap (prefixes keep) (LinesAre-more past others).is_complete
+prefixes_none keep past others = ap (prefixes keep) (LinesAre-more past others).is_complete
 
-pub kept_none : (keep : ℕ) (past piece kept : List ℕ) → HasNoNewline piece
+pub kept_none : (keep : ℕ) (past : List ℕ) {piece kept : List ℕ} → HasNoNewline piece
     → kept ≡ take keep (unfinished past ++ piece) → kept ≡ take keep (unfinished (past ++ piece))
-kept_none keep past piece kept others is = is ∙ ap (take keep) (sym (LinesAre-more past others).is_unfinished)
+kept_none keep past others is = is ∙ ap (take keep) (sym (LinesAre-more past others).is_unfinished)

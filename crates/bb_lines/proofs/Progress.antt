@@ -23,64 +23,63 @@ CallEnds r fine Reply held held' waiting lines =
     MatchEnd r fine (WritesSome Reply held held' waiting lines) ⊥
     (WritesPrefix Reply held held' waiting lines)
 
-module _ {A : Type 0} (Reply : List ℕ → List ℕ → Type 0) (saw : A → List ℕ → A → Type 0) where
+module _ {A : Type 0} {Reply : List ℕ → List ℕ → Type 0} {saw : A → List ℕ → A → Type 0} where
   -- no line is answered yet
-  pub answered_none : (held : Option (List ℕ)) (waiting : List ℕ) (first : A)
+  pub answered_none : {held : Option (List ℕ)} {waiting : List ℕ} {first : A}
       → AreAnswered Reply saw held held waiting waiting first first []
-  answered_none held waiting first =
-      record { bytes = []; are_replies = refl; sends = Sends-none held waiting; seen = refl }
+  answered_none = record { bytes = []; are_replies = refl; sends = Sends-none; seen = refl }
 
   -- one line is answered
-  pub answered_one : (held held' : Option (List ℕ)) (waiting waiting' : List ℕ) (first now : A)
-      (line text : List ℕ) → Reply line text → saw first line now
+  pub answered_one : {held held' : Option (List ℕ)} {waiting waiting' : List ℕ} {first now : A}
+      {line : List ℕ} (text : List ℕ) → Reply line text → saw first line now
       → Sends held held' waiting waiting' (text ++ 10 ∷ [])
       → AreAnswered Reply saw held held' waiting waiting' first now (line ∷ [])
-  answered_one held held' waiting waiting' first now line text is_reply one sends = record {
+  answered_one {now} text is_reply one sends = record {
     bytes = text ++ 10 ∷ [];
     are_replies = (text, [], is_reply, refl, sym (append-nil (text ++ 10 ∷ [])));
     sends = sends;
     seen = (now, one, refl);
   }
 
-module _ {A : Type 0} (Reply : List ℕ → List ℕ → Type 0) (saw : A → List ℕ → A → Type 0)
-    (held held' held'' : Option (List ℕ)) (waiting waiting' : List ℕ) (first now : A)
-    (lines : List (List ℕ)) (before : AreAnswered Reply saw held held' waiting waiting' first now lines) where
+-- what comes after some lines are answered
+module _ {A : Type 0} {Reply : List ℕ → List ℕ → Type 0} {saw : A → List ℕ → A → Type 0}
+    {held held' : Option (List ℕ)} {waiting waiting' : List ℕ} {first now : A} {lines : List (List ℕ)}
+    (before : AreAnswered Reply saw held held' waiting waiting' first now lines) where
   -- all that waits is written
-  pub answered_written : Appends held' held'' waiting'
+  pub answered_written : {held'' : Option (List ℕ)} → Appends held' held'' waiting'
       → AreAnswered Reply saw held held'' waiting [] first now lines
   answered_written written = record {
     bytes = before.bytes;
     are_replies = before.are_replies;
-    sends = rw append-nil at
-        (Sends-trans held held' held'' waiting waiting' [] before.bytes [] before.sends
-        (Sends-written held' held'' waiting' written));
+    sends = rw append-nil at (Sends-trans before.sends (Sends-written written));
     seen = before.seen;
   }
 
   -- a prefix of what waits is written
-  pub prefix_written : AppendsPrefix held' held'' waiting' → WritesPrefix Reply held held'' waiting lines
+  pub prefix_written : {held'' : Option (List ℕ)} → AppendsPrefix held' held'' waiting'
+      → WritesPrefix Reply held held'' waiting lines
   prefix_written some = record {
     count = length lines;
     within = omega arith;
     bytes = before.bytes;
     are_replies = rw take-length before.are_replies;
-    prefix = AppendsPrefix-after held held' held'' waiting waiting' before.bytes before.sends some;
+    prefix = AppendsPrefix-after before.sends some;
   }
 
   -- the same by how writing all that waits ends
-  pub ends_written : (r : Result (Unit {0}) Fault) (waiting'' : List ℕ)
+  pub ends_written : (held'' : Option (List ℕ)) (r : Result (Unit {0}) Fault) (waiting'' : List ℕ)
       → OnOk r (Appends held' held'' waiting') → OnOk r (waiting'' ≡ []) → IsOkUnless r Write
       → OnErr r (AppendsPrefix held' held'' waiting')
       → CallEnds r (λ _. AreAnswered Reply saw held held'' waiting waiting'' first now lines) Reply held
       held'' waiting lines
-  ends_written (Ok u) waiting'' ok empty only err =
+  ends_written held'' (Ok u) waiting'' ok empty only err =
       subst (λ w. AreAnswered Reply saw held held'' waiting w first now lines) (sym empty)
       (answered_written ok)
-  ends_written (Err Write) waiting'' ok empty only err = prefix_written err
-  ends_written (Err Memory) waiting'' ok empty only err = cc
-  ends_written (Err Read) waiting'' ok empty only err = cc
+  ends_written held'' (Err Write) waiting'' ok empty only err = prefix_written err
+  ends_written held'' (Err Memory) waiting'' ok empty only err = cc
+  ends_written held'' (Err Read) waiting'' ok empty only err = cc
 
-  module _ (Reply' : List ℕ → List ℕ → Type 0) (law : (line text : List ℕ) → Reply' line text
+  module _ {Reply' : List ℕ → List ℕ → Type 0} (law : (line text : List ℕ) → Reply' line text
       → Reply line text) where
     more_replies : (xs : List (List ℕ)) (bytes : List ℕ) → AreReplies Reply' xs bytes
         → AreReplies Reply (lines ++ xs) (before.bytes ++ bytes)
@@ -89,18 +88,17 @@ module _ {A : Type 0} (Reply : List ℕ → List ℕ → Type 0) (saw : A → Li
         (AreReplies-weaker Reply Reply' law xs bytes are)
 
     -- more lines are answered
-    pub answered_more : (waiting'' : List ℕ) (next : A) (more : List (List ℕ))
+    pub answered_more : {held'' : Option (List ℕ)} {waiting'' : List ℕ} {next : A} {more : List (List ℕ)}
         → AreAnswered Reply' saw held' held'' waiting' waiting'' now next more
         → AreAnswered Reply saw held held'' waiting waiting'' first next (lines ++ more)
-    answered_more waiting'' next more after = record {
+    answered_more {next} {more} after = record {
       bytes = before.bytes ++ after.bytes;
       are_replies = more_replies more after.bytes after.are_replies;
-      sends = Sends-trans held held' held'' waiting waiting' waiting'' before.bytes after.bytes before.sends
-          after.sends;
+      sends = Sends-trans before.sends after.sends;
       seen = FoldsTo-append saw first now next lines more before.seen after.seen;
     }
 
-    module _ (all more later : List (List ℕ)) (is : all ≡ (lines ++ more) ++ later) where
+    module _ {all : List (List ℕ)} (more later : List (List ℕ)) (is : all ≡ (lines ++ more) ++ later) where
       count_replies : (count : ℕ) (bytes : List ℕ) → count ≤ length more
           → AreReplies Reply' (take count more) bytes
           → AreReplies Reply (take (length lines + count) all) (before.bytes ++ bytes)
@@ -109,7 +107,8 @@ module _ {A : Type 0} (Reply : List ℕ → List ℕ → Type 0) (saw : A → Li
           rw (parts, take-append-add, take-append-le count more later within)
           (more_replies (take count more) bytes are)
 
-      some_after : WritesSome Reply' held' held'' waiting' more → WritesSome Reply held held'' waiting all
+      some_after : {held'' : Option (List ℕ)} → WritesSome Reply' held' held'' waiting' more
+          → WritesSome Reply held held'' waiting all
       some_after some = record {
         count = length lines + some.count;
         not_all =
@@ -118,12 +117,10 @@ module _ {A : Type 0} (Reply : List ℕ → List ℕ → Type 0) (saw : A → Li
         bytes = before.bytes ++ some.bytes;
         are_replies = count_replies some.count some.bytes (let few = some.not_all in
             omega (arith, few)) some.are_replies;
-        appends =
-            Appends-further held held' held'' waiting waiting' before.bytes some.bytes before.sends
-            some.appends;
+        appends = Appends-further before.sends _ some.bytes some.appends;
       }
 
-      pub prefix_after : WritesPrefix Reply' held' held'' waiting' more
+      prefix_after : {held'' : Option (List ℕ)} → WritesPrefix Reply' held' held'' waiting' more
           → WritesPrefix Reply held held'' waiting all
       prefix_after some = record {
         count = length lines + some.count;
@@ -132,30 +129,28 @@ module _ {A : Type 0} (Reply : List ℕ → List ℕ → Type 0) (saw : A → Li
             rw is (omega (arith, few, length-append (lines ++ more) later, length-append lines more));
         bytes = before.bytes ++ some.bytes;
         are_replies = count_replies some.count some.bytes some.within some.are_replies;
-        prefix = AppendsPrefix-further held held' held'' waiting waiting' before.bytes some.bytes before.sends
-            some.prefix;
+        prefix = AppendsPrefix-further before.sends some.bytes some.prefix;
       }
 
       -- a call over more lines ends by a fault
-      pub fault_after : (P P' Q : Type 0) (fault : Fault) → MatchEnd {S = Unit {0}} (Err fault) (λ _. P)
-          (WritesSome Reply' held' held'' waiting' more) ⊥ (WritesPrefix Reply' held' held'' waiting' more)
-          → MatchEnd {S = Unit {0}} (Err fault) (λ _. P') (WritesSome Reply held held'' waiting all) Q
-          (WritesPrefix Reply held held'' waiting all)
-      fault_after P P' Q Memory ends = some_after ends
-      fault_after P P' Q Read ends = absurd ends
-      fault_after P P' Q Write ends = prefix_after ends
+      pub fault_after : (held'' : Option (List ℕ)) (P P' : Type 0) (fault : Fault)
+          → CallEnds {S = Unit {0}} (Err fault) (λ _. P) Reply' held' held'' waiting' more
+          → CallEnds {S = Unit {0}} (Err fault) (λ _. P') Reply held held'' waiting all
+      fault_after held'' P P' Memory ends = some_after ends
+      fault_after held'' P P' Read ends = ends
+      fault_after held'' P P' Write ends = prefix_after ends
 
-module _ (Reply : List ℕ → List ℕ → Type 0) (held held' : Option (List ℕ)) where
+module _ {Reply : List ℕ → List ℕ → Type 0} {held held' : Option (List ℕ)} {lines : List (List ℕ)} where
   -- before the first of these lines, a prefix of what waits is written
-  pub prefix_before : (waiting : List ℕ) (lines : List (List ℕ)) → AppendsPrefix held held' waiting
+  pub prefix_before : {waiting : List ℕ} → AppendsPrefix held held' waiting
       → WritesPrefix Reply held held' waiting lines
-  prefix_before waiting lines some =
+  prefix_before some =
       record { count = 0; within = omega arith; bytes = []; are_replies = refl; prefix = rw append-nil some }
 
   -- a prefix of the replies is one of the replies to more lines
-  pub prefix_more : (waiting : List ℕ) (lines more : List (List ℕ))
-      → WritesPrefix Reply held held' waiting lines → WritesPrefix Reply held held' waiting (lines ++ more)
-  prefix_more waiting lines more some = record {
+  pub prefix_more : {waiting : List ℕ} (more : List (List ℕ)) → WritesPrefix Reply held held' waiting lines
+      → WritesPrefix Reply held held' waiting (lines ++ more)
+  prefix_more more some = record {
     count = some.count;
     within = let few = some.within in omega (arith, few, length-append lines more);
     bytes = some.bytes;
@@ -164,87 +159,52 @@ module _ (Reply : List ℕ → List ℕ → Type 0) (held held' : Option (List �
   }
 
   -- where nothing waited
-  pub AppendsSome-writes : (waiting : List ℕ) (lines : List (List ℕ)) → waiting ≡ []
-      → WritesSome Reply held held' waiting lines → AppendsSome Reply held held' lines
-  AppendsSome-writes waiting lines none some = record {
+  AppendsSome-writes : WritesSome Reply held held' [] lines → AppendsSome Reply held held' lines
+  AppendsSome-writes some = record {
     count = some.count;
     not_all = some.not_all;
-    replies =
-        record {
-          bytes = some.bytes;
-          are_replies = some.are_replies;
-          appends = subst (λ w. Appends held held' (w ++ some.bytes)) none some.appends;
-        };
+    replies = record { bytes = some.bytes; are_replies = some.are_replies; appends = some.appends };
   }
 
-  pub AppendsPrefixOfReplies-writes : (waiting : List ℕ) (lines : List (List ℕ)) → waiting ≡ []
-      → WritesPrefix Reply held held' waiting lines → AppendsPrefixOfReplies Reply held held' lines
-  AppendsPrefixOfReplies-writes waiting lines none some = record {
+  pub AppendsPrefixOfReplies-writes : WritesPrefix Reply held held' [] lines
+      → AppendsPrefixOfReplies Reply held held' lines
+  AppendsPrefixOfReplies-writes some = record {
     count = some.count;
     within = some.within;
     bytes = some.bytes;
     are_replies = some.are_replies;
-    prefix = subst (λ w. AppendsPrefix held held' (w ++ some.bytes)) none some.prefix;
+    prefix = some.prefix;
   }
 
-  pub fault-writes : (P P' Q : Type 0) (waiting : List ℕ) (lines : List (List ℕ)) (fault : Fault)
-      → waiting ≡ []
-      → MatchEnd {S = Unit {0}} (Err fault) (λ _. P) (WritesSome Reply held held' waiting lines) Q
-      (WritesPrefix Reply held held' waiting lines)
-      → MatchEnd {S = Unit {0}} (Err fault) (λ _. P') (AppendsSome Reply held held' lines) Q
-      (AppendsPrefixOfReplies Reply held held' lines)
-  fault-writes P P' Q waiting lines Memory none ends = AppendsSome-writes waiting lines none ends
-  fault-writes P P' Q waiting lines Read none ends = ends
-  fault-writes P P' Q waiting lines Write none ends = AppendsPrefixOfReplies-writes waiting lines none ends
+-- where nothing waited at first
+module _ {A : Type 0} {Reply : List ℕ → List ℕ → Type 0} {saw : A → List ℕ → A → Type 0}
+    {held held' : Option (List ℕ)} {waiting' : List ℕ} {first now : A} {lines : List (List ℕ)}
+    (before : AreAnswered Reply saw held held' [] waiting' first now lines) where
+  -- all lines are answered, and then all that waits was to be written, and may have been
+  pub ends_at_last : (held'' : Option (List ℕ)) (r : Result (Unit {0}) Fault)
+      → OnOk r (Appends held' held'' waiting') → IsOkUnless r Write
+      → OnErr r (AppendsPrefix held' held'' waiting')
+      → MatchEnd r (λ _. AppendsReplies Reply held held'' lines × FoldsTo saw first lines now)
+      (AppendsSome Reply held held'' lines) ⊥ (AppendsPrefixOfReplies Reply held held'' lines)
+  ends_at_last held'' (Ok u) ok only err =
+      let all : AreAnswered Reply saw held held'' [] [] first now lines = answered_written before ok in (
+        record { bytes = all.bytes; are_replies = all.are_replies; appends = Appends-sent all.sends },
+        before.seen,
+      )
+  ends_at_last held'' (Err Write) ok only err = AppendsPrefixOfReplies-writes (prefix_written before err)
+  ends_at_last held'' (Err Memory) ok only err = cc
+  ends_at_last held'' (Err Read) ok only err = cc
 
--- all lines are answered, and nothing waits any more
-pub answered_all : {A : Type 0} (Reply : List ℕ → List ℕ → Type 0) (saw : A → List ℕ → A → Type 0)
-    (held held' : Option (List ℕ)) (waiting' : List ℕ) (first now : A) (lines : List (List ℕ))
-    → waiting' ≡ [] → AreAnswered Reply saw held held' [] waiting' first now lines
-    → AppendsReplies Reply held held' lines
-answered_all Reply saw held held' waiting' first now lines none all = record {
-  bytes = all.bytes;
-  are_replies = all.are_replies;
-  appends =
-      Appends-sent held held' [] all.bytes (subst (λ w. Sends held held' [] w all.bytes) none all.sends);
-}
-
--- all lines are answered, and then all that waits was to be written, and may have been
-pub ends_at_last : {A : Type 0} (Reply : List ℕ → List ℕ → Type 0) (saw : A → List ℕ → A → Type 0)
-    (held held' held'' : Option (List ℕ)) (waiting waiting' : List ℕ) (first now : A) (lines : List (List ℕ))
-    → waiting ≡ [] → AreAnswered Reply saw held held' waiting waiting' first now lines
-    → (r : Result (Unit {0}) Fault) → OnOk r (Appends held' held'' waiting') → IsOkUnless r Write
-    → OnErr r (AppendsPrefix held' held'' waiting')
-    → MatchEnd r (λ _. AppendsReplies Reply held held'' lines × FoldsTo saw first lines now)
-    (AppendsSome Reply held held'' lines) ⊥ (AppendsPrefixOfReplies Reply held held'' lines)
-ends_at_last Reply saw held held' held'' waiting waiting' first now lines none before (Ok u) ok only err =
-    let all = answered_written Reply saw held held' held'' waiting waiting' first now lines before ok in (
-      answered_all Reply saw held held'' [] first now lines refl
-          (subst (λ w. AreAnswered Reply saw held held'' w [] first now lines) none all),
-      before.seen,
-    )
-ends_at_last Reply saw held held' held'' waiting waiting' first now lines none before (Err Write)
-    ok only err =
-    AppendsPrefixOfReplies-writes Reply held held'' waiting lines none
-    (prefix_written Reply saw held held' held'' waiting waiting' first now lines before err)
-ends_at_last Reply saw held held' held'' waiting waiting' first now lines none before (Err Memory) ok
-    only err = cc
-ends_at_last Reply saw held held' held'' waiting waiting' first now lines none before (Err Read) ok
-    only err = cc
-
--- a call over more lines ends by a fault, where nothing waited at first
-pub fault_after_none : {A : Type 0} (Reply : List ℕ → List ℕ → Type 0) (saw : A → List ℕ → A → Type 0)
-    (held held' held'' : Option (List ℕ)) (waiting' : List ℕ) (first now : A) (lines : List (List ℕ))
-    → AreAnswered Reply saw held held' [] waiting' first now lines
-    → (Reply' : List ℕ → List ℕ → Type 0) → ((line text : List ℕ) → Reply' line text → Reply line text)
-    → (all more later : List (List ℕ)) → all ≡ (lines ++ more) ++ later
-    → (P P' Q : Type 0) (fault : Fault)
-    → MatchEnd {S = Unit {0}} (Err fault) (λ _. P) (WritesSome Reply' held' held'' waiting' more) ⊥
-    (WritesPrefix Reply' held' held'' waiting' more)
-    → MatchEnd {S = Unit {0}} (Err fault) (λ _. P') (AppendsSome Reply held held'' all) Q
-    (AppendsPrefixOfReplies Reply held held'' all)
-fault_after_none Reply saw held held' held'' waiting' first now lines before Reply' law all more later is P P'
-    Q fault ends =
-    fault-writes Reply held held'' P' P' Q [] all fault refl
-    (fault_after Reply saw held held' held'' [] waiting' first now lines before Reply' law all more later is P
-    P' Q fault ends)
+  -- a call over more lines ends by a fault
+  pub fault_after_none : {Reply' : List ℕ → List ℕ → Type 0}
+      → ((line text : List ℕ) → Reply' line text → Reply line text)
+      → {all : List (List ℕ)} (more later : List (List ℕ)) (held'' : Option (List ℕ))
+      → all ≡ (lines ++ more) ++ later → (P P' Q : Type 0) (fault : Fault)
+      → CallEnds {S = Unit {0}} (Err fault) (λ _. P) Reply' held' held'' waiting' more
+      → MatchEnd {S = Unit {0}} (Err fault) (λ _. P') (AppendsSome Reply held held'' all) Q
+      (AppendsPrefixOfReplies Reply held held'' all)
+  fault_after_none law more later held'' is P P' Q Memory ends =
+      AppendsSome-writes (fault_after before law more later is held'' P P' Memory ends)
+  fault_after_none law more later held'' is P P' Q Read ends = absurd ends
+  fault_after_none law more later held'' is P P' Q Write ends =
+      AppendsPrefixOfReplies-writes (fault_after before law more later is held'' P P' Write ends)

@@ -13,9 +13,9 @@ pub slice_from : (n : ℕ) (xs : List ℕ) → take (length xs - n) (drop n xs) 
 slice_from n xs = grind (arith, common_steps)
 
 -- a beginning is one of more bytes
-pub AppendsPrefix-more : (held held' : Option (List ℕ)) (bytes more : List ℕ) → AppendsPrefix held held' bytes
-    → AppendsPrefix held held' (bytes ++ more)
-AppendsPrefix-more held held' bytes more before = record {
+pub AppendsPrefix-more : {held held' : Option (List ℕ)} {bytes : List ℕ} (more : List ℕ)
+    → AppendsPrefix held held' bytes → AppendsPrefix held held' (bytes ++ more)
+AppendsPrefix-more more before = record {
   prefix = before.prefix;
   rest = before.rest ++ more;
   whole = sym (append_assoc before.prefix before.rest more) ∙ ap (λ b. b ++ more) before.whole;
@@ -23,101 +23,96 @@ AppendsPrefix-more held held' bytes more before = record {
 }
 
 -- a call that writes nothing, where as much waits as before
-pub Sends-none : (held : Option (List ℕ)) (waiting : List ℕ) → Sends held held waiting waiting []
-Sends-none held waiting =
+pub Sends-none : {held : Option (List ℕ)} {waiting : List ℕ} → Sends held held waiting waiting []
+Sends-none {held} {waiting} =
     record { written = []; whole = sym (append-nil waiting); appends = Appends-nil held }
 
--- one call after another
-pub Sends-trans : (held held' held'' : Option (List ℕ)) (waiting waiting' waiting'' bytes more : List ℕ)
-    → Sends held held' waiting waiting' bytes → Sends held' held'' waiting' waiting'' more
-    → Sends held held'' waiting waiting'' (bytes ++ more)
-Sends-trans held held' held'' waiting waiting' waiting'' bytes more first second = record {
-  written = first.written ++ second.written;
-  whole = append_assoc first.written second.written waiting'' ∙ ap (λ b. first.written ++ b) second.whole
-      ∙ sym (append_assoc first.written waiting' more) ∙ ap (λ b. b ++ more) first.whole
-      ∙ append_assoc waiting bytes more;
-  appends = Appends-trans held held' held'' first.written second.written first.appends second.appends;
-}
-
--- a write took the first n bytes of what waits
-pub Sends-write : (held held' held'' : Option (List ℕ)) (waiting waiting' bytes : List ℕ) (n : ℕ)
-    → Sends held held' waiting waiting' bytes → Appends held' held'' (take n waiting')
-    → Sends held held'' waiting (take (length waiting' - n) (drop n waiting')) bytes
-Sends-write held held' held'' waiting waiting' bytes n before took = record {
-  written = before.written ++ take n waiting';
-  whole = rw slice_from (append_assoc before.written (take n waiting') (drop n waiting')
-      ∙ ap (λ b. before.written ++ b) (take-append-drop n waiting') ∙ before.whole);
-  appends = Appends-trans held held' held'' before.written (take n waiting') before.appends took;
-}
-
--- what a call writes is a beginning of what waited and what it sends
-pub AppendsPrefix-sent : (held held' : Option (List ℕ)) (waiting waiting' bytes : List ℕ)
-    → Sends held held' waiting waiting' bytes → AppendsPrefix held held' (waiting ++ bytes)
-AppendsPrefix-sent held held' waiting waiting' bytes sends =
-    record { prefix = sends.written; rest = waiting'; whole = sends.whole; appends = sends.appends }
-
--- then a beginning of what waits is written
-pub AppendsPrefix-after : (held held' held'' : Option (List ℕ)) (waiting waiting' bytes : List ℕ)
-    → Sends held held' waiting waiting' bytes → AppendsPrefix held' held'' waiting'
-    → AppendsPrefix held held'' (waiting ++ bytes)
-AppendsPrefix-after held held' held'' waiting waiting' bytes before after = record {
-  prefix = before.written ++ after.prefix;
-  rest = after.rest;
-  whole = append_assoc before.written after.prefix after.rest ∙ ap (λ b. before.written ++ b) after.whole
-      ∙ before.whole;
-  appends = Appends-trans held held' held'' before.written after.prefix before.appends after.appends;
-}
-
--- then all that waits is written
-pub Appends-after : (held held' held'' : Option (List ℕ)) (waiting waiting' bytes : List ℕ)
-    → Sends held held' waiting waiting' bytes → Appends held' held'' waiting'
-    → Appends held held'' (waiting ++ bytes)
-Appends-after held held' held'' waiting waiting' bytes before after =
-    subst (λ b. Appends held held'' b) before.whole
-    (Appends-trans held held' held'' before.written waiting' before.appends after)
-
 -- all that waits is written, and nothing waits then
-pub Sends-written : (held held' : Option (List ℕ)) (waiting : List ℕ) → Appends held held' waiting
+pub Sends-written : {held held' : Option (List ℕ)} {waiting : List ℕ} → Appends held held' waiting
     → Sends held held' waiting [] []
-Sends-written held held' waiting appends = record { written = waiting; whole = refl; appends = appends }
+Sends-written {waiting} appends = record { written = waiting; whole = refl; appends = appends }
 
 -- all that was sent is written
-pub Appends-sent : (held held' : Option (List ℕ)) (waiting bytes : List ℕ) → Sends held held' waiting [] bytes
+pub Appends-sent : {held held' : Option (List ℕ)} {waiting bytes : List ℕ} → Sends held held' waiting [] bytes
     → Appends held held' (waiting ++ bytes)
-Appends-sent held held' waiting bytes sends =
+Appends-sent {held} {held'} sends =
     subst (λ b. Appends held held' b) (sym (append-nil sends.written) ∙ sends.whole) sends.appends
 
--- a call that changes no byte
-pub Sends-kept : (held held' held'' : Option (List ℕ)) (waiting waiting' bytes : List ℕ)
-    → Sends held held' waiting waiting' bytes → Keeps held' held'' → Sends held held'' waiting waiting' bytes
-Sends-kept held held' held'' waiting waiting' bytes before same = record {
-  written = before.written;
-  whole = before.whole;
-  appends = Appends-kept held held' held'' before.written before.appends same;
-}
+-- what a call writes is a beginning of what waited and what it sends
+pub AppendsPrefix-sent : {held held' : Option (List ℕ)} {waiting waiting' bytes : List ℕ}
+    → Sends held held' waiting waiting' bytes → AppendsPrefix held held' (waiting ++ bytes)
+AppendsPrefix-sent {waiting'} sends =
+    record { prefix = sends.written; rest = waiting'; whole = sends.whole; appends = sends.appends }
 
--- what was sent, and then what still waits and more bytes
-further : (written waiting waiting' bytes more : List ℕ) → written ++ waiting' ≡ waiting ++ bytes
-    → written ++ (waiting' ++ more) ≡ waiting ++ (bytes ++ more)
-further written waiting waiting' bytes more whole =
-    sym (append_assoc written waiting' more) ∙ ap (λ b. b ++ more) whole ∙ append_assoc waiting bytes more
+-- what comes after a call
+module _ {held held' : Option (List ℕ)} {waiting waiting' bytes : List ℕ}
+    (before : Sends held held' waiting waiting' bytes) where
+  -- one call after another
+  pub Sends-trans : {held'' : Option (List ℕ)} {waiting'' more : List ℕ}
+      → Sends held' held'' waiting' waiting'' more → Sends held held'' waiting waiting'' (bytes ++ more)
+  Sends-trans {held''} {waiting''} {more} after = record {
+    written = before.written ++ after.written;
+    whole = append_assoc before.written after.written waiting'' ∙ ap (λ b. before.written ++ b) after.whole
+        ∙ sym (append_assoc before.written waiting' more) ∙ ap (λ b. b ++ more) before.whole
+        ∙ append_assoc waiting bytes more;
+    appends = Appends-trans held held' held'' before.written after.written before.appends after.appends;
+  }
 
--- then all that waits is written, and more bytes
-pub Appends-further : (held held' held'' : Option (List ℕ)) (waiting waiting' bytes more : List ℕ)
-    → Sends held held' waiting waiting' bytes → Appends held' held'' (waiting' ++ more)
-    → Appends held held'' (waiting ++ (bytes ++ more))
-Appends-further held held' held'' waiting waiting' bytes more before after =
-    subst (λ b. Appends held held'' b) (further before.written waiting waiting' bytes more before.whole)
-    (Appends-trans held held' held'' before.written (waiting' ++ more) before.appends after)
+  -- a write took the first n bytes of what waits
+  pub Sends-write : {held'' : Option (List ℕ)} (n : ℕ) → Appends held' held'' (take n waiting')
+      → Sends held held'' waiting (take (length waiting' - n) (drop n waiting')) bytes
+  Sends-write {held''} n took = record {
+    written = before.written ++ take n waiting';
+    whole = rw slice_from (append_assoc before.written (take n waiting') (drop n waiting')
+        ∙ ap (λ b. before.written ++ b) (take-append-drop n waiting') ∙ before.whole);
+    appends = Appends-trans held held' held'' before.written (take n waiting') before.appends took;
+  }
 
--- then a prefix of what waits and of more bytes is written
-pub AppendsPrefix-further : (held held' held'' : Option (List ℕ)) (waiting waiting' bytes more : List ℕ)
-    → Sends held held' waiting waiting' bytes → AppendsPrefix held' held'' (waiting' ++ more)
-    → AppendsPrefix held held'' (waiting ++ (bytes ++ more))
-AppendsPrefix-further held held' held'' waiting waiting' bytes more before after = record {
-  prefix = before.written ++ after.prefix;
-  rest = after.rest;
-  whole = append_assoc before.written after.prefix after.rest ∙ ap (λ b. before.written ++ b) after.whole
-      ∙ further before.written waiting waiting' bytes more before.whole;
-  appends = Appends-trans held held' held'' before.written after.prefix before.appends after.appends;
-}
+  -- a call that changes no byte
+  pub Sends-kept : {held'' : Option (List ℕ)} → Keeps held' held'' → Sends held held'' waiting waiting' bytes
+  Sends-kept {held''} same = record {
+    written = before.written;
+    whole = before.whole;
+    appends = Appends-kept held held' held'' before.written before.appends same;
+  }
+
+  -- then a beginning of what waits is written
+  pub AppendsPrefix-after : {held'' : Option (List ℕ)} → AppendsPrefix held' held'' waiting'
+      → AppendsPrefix held held'' (waiting ++ bytes)
+  AppendsPrefix-after {held''} after = record {
+    prefix = before.written ++ after.prefix;
+    rest = after.rest;
+    whole = append_assoc before.written after.prefix after.rest ∙ ap (λ b. before.written ++ b) after.whole
+        ∙ before.whole;
+    appends = Appends-trans held held' held'' before.written after.prefix before.appends after.appends;
+  }
+
+  -- then all that waits is written
+  pub Appends-after : (held'' : Option (List ℕ)) → Appends held' held'' waiting'
+      → Appends held held'' (waiting ++ bytes)
+  Appends-after held'' after =
+      subst (λ b. Appends held held'' b) before.whole
+      (Appends-trans held held' held'' before.written waiting' before.appends after)
+
+  -- what was sent, and then what still waits and more bytes
+  further : (more : List ℕ) → before.written ++ (waiting' ++ more) ≡ waiting ++ (bytes ++ more)
+  further more = sym (append_assoc before.written waiting' more) ∙ ap (λ b. b ++ more) before.whole
+      ∙ append_assoc waiting bytes more
+
+  -- then all that waits is written, and more bytes
+  pub Appends-further : (held'' : Option (List ℕ)) (more : List ℕ) → Appends held' held'' (waiting' ++ more)
+      → Appends held held'' (waiting ++ (bytes ++ more))
+  Appends-further held'' more after =
+      subst (λ b. Appends held held'' b) (further more)
+      (Appends-trans held held' held'' before.written (waiting' ++ more) before.appends after)
+
+  -- then a prefix of what waits and of more bytes is written
+  pub AppendsPrefix-further : {held'' : Option (List ℕ)} (more : List ℕ)
+      → AppendsPrefix held' held'' (waiting' ++ more) → AppendsPrefix held held'' (waiting ++ (bytes ++ more))
+  AppendsPrefix-further {held''} more after = record {
+    prefix = before.written ++ after.prefix;
+    rest = after.rest;
+    whole = append_assoc before.written after.prefix after.rest ∙ ap (λ b. before.written ++ b) after.whole
+        ∙ further more;
+    appends = Appends-trans held held' held'' before.written after.prefix before.appends after.appends;
+  }

@@ -14,7 +14,7 @@ use Rattle.bb_lines.specs.Ends.{AppendsPrefix}
 use Rattle.bb_lines.specs.Output.{Sends}
 use Rattle.bb_sim.proofs.Facts.{halts_last, steps_last, cells_last, next_inside, fits_at_halt, wide_at_end}
 use Rattle.bb_run.specs.Trace.{step_text, step_lines, lines_text, AppendsSomeLines}
-use Rattle.bb_lines.proofs.Facts.{AppendsPrefix-more}
+use Rattle.bb_lines.proofs.Facts.{AppendsPrefix-further, AppendsPrefix-more, Sends-trans}
 
 -- the lines of one step more
 pub lines-next : (table : Table) (n : ℕ)
@@ -39,16 +39,10 @@ lines_split table n m h =
     ap (λ l. lines_text l ++ lines_text (drop n all)) (sym first)
     ∙ sym (flat_map-append f (take n all) (drop n all)) ∙ ap lines_text (take-append-drop n all)
 
-pub AppendsPrefix-lines : (old new : Option (List ℕ)) (table : Table) (n m : ℕ) → n ≤ m
-    → AppendsPrefix old new (lines_text (step_lines table n))
-    → AppendsPrefix old new (lines_text (step_lines table m))
-AppendsPrefix-lines old new table n m h f = subst (λ bytes. AppendsPrefix old new bytes)
-    (lines_split table n m h) (AppendsPrefix-more old new _ _ f)
-
 -- the lines of fewer steps are some of them
-pub AppendsSomeLines-of : (old new : Option (List ℕ)) (table : Table) (n m : ℕ) → n < m
+pub AppendsSomeLines-of : {old new : Option (List ℕ)} (table : Table) (n m : ℕ) → n < m
     → Appends old new (lines_text (step_lines table n)) → AppendsSomeLines old new (step_lines table m)
-AppendsSomeLines-of old new table n m h appends = record {
+AppendsSomeLines-of {old} {new} table n m h appends = record {
   count = n;
   not_all = let e = length-map-range_with_len (step_text table) 0 m in omega (arith, e, h);
   appends = let first : take n (step_lines table m) ≡ step_lines table n =
@@ -56,16 +50,16 @@ AppendsSomeLines-of old new table n m h appends = record {
       subst (λ l. Appends old new (lines_text l)) (sym first) appends;
 }
 
-module _ (table : Table) (bounds : Bounds) (n last : ℕ) (inside : Inside table bounds n)
+module _ {table : Table} {bounds : Bounds} {n last : ℕ} (inside : Inside table bounds n)
     (is_last : IsLastInside table bounds last) where
-  pub not_past : n ≤ last
+  not_past : n ≤ last
   not_past = is_last.greatest n inside
 
   -- where step n is the last one inside, its lines are all
-  all_lines : (old new : Option (List ℕ)) (waiting : List ℕ) → IsLastInside table bounds n
+  all_lines : {old new : Option (List ℕ)} {waiting : List ℕ} → IsLastInside table bounds n
       → Sends old new [] waiting (lines_text (step_lines table (n + 1)))
       → Sends old new [] waiting (lines_text (step_lines table (last + 1)))
-  all_lines old new waiting end added =
+  all_lines {old} {new} {waiting} end added =
       let below = end.greatest last is_last.inside in
       let same : n ≡ last = omega (arith, below, not_past) in
       subst (λ k. Sends old new [] waiting (lines_text (step_lines table (k + 1)))) same added
@@ -75,52 +69,51 @@ module _ (table : Table) (bounds : Bounds) (n last : ℕ) (inside : Inside table
   Ended old new waiting whole = Sends old new [] waiting (lines_text (step_lines table (last + 1)))
       × (IsTrue whole ↔ (span table bounds.steps ≤ bounds.cells))
 
-  pub ended_by_halt : (old new : Option (List ℕ)) (waiting : List ℕ) → HaltsAt table n
-      → Sends old new [] waiting (lines_text (step_lines table (n + 1))) → Ended old new waiting true
-  ended_by_halt old new waiting halts added = (
-    all_lines old new waiting (halts_last table bounds n inside halts) added,
-    (λ _. fits_at_halt table bounds n inside halts, λ _. refl),
-  )
+  module _ {old new : Option (List ℕ)} {waiting : List ℕ}
+      (added : Sends old new [] waiting (lines_text (step_lines table (n + 1)))) where
+    pub ended_by_halt : HaltsAt table n → Ended old new waiting true
+    ended_by_halt halts = (
+      all_lines (halts_last table bounds n inside halts) added,
+      (λ _. fits_at_halt table bounds n inside halts, λ _. refl),
+    )
 
-  pub ended_by_steps : (old new : Option (List ℕ)) (waiting : List ℕ) → n ≡ bounds.steps
-      → Sends old new [] waiting (lines_text (step_lines table (n + 1))) → Ended old new waiting true
-  ended_by_steps old new waiting e added = (
-    all_lines old new waiting (steps_last table bounds n inside e) added,
-    (λ _. rw (← e) inside.within_cells, λ _. refl),
-  )
+    pub ended_by_steps : n ≡ bounds.steps → Ended old new waiting true
+    ended_by_steps e = (
+      all_lines (steps_last table bounds n inside e) added,
+      (λ _. rw (← e) inside.within_cells, λ _. refl),
+    )
 
-  pub ended_by_cells : (old new : Option (List ℕ)) (waiting : List ℕ) → n ≢ bounds.steps
-      → bounds.cells < span table (n + 1) → Sends old new [] waiting (lines_text (step_lines table (n + 1)))
-      → Ended old new waiting false
-  ended_by_cells old new waiting apart wide added =
-      let over = wide_at_end table bounds n inside wide apart in (
-        all_lines old new waiting (cells_last table bounds n inside wide) added,
-        (λ wrong. cc, λ fits. absurd (omega (arith, over, fits))),
-      )
+    pub ended_by_cells : n ≢ bounds.steps → bounds.cells < span table (n + 1) → Ended old new waiting false
+    ended_by_cells apart wide =
+        let over = wide_at_end table bounds n inside wide apart in (
+          all_lines (cells_last table bounds n inside wide) added,
+          (λ wrong. cc, λ fits. absurd (omega (arith, over, fits))),
+        )
 
   -- a step that was wanted and not made leaves lines to come
-  pub ended_early : (old new : Option (List ℕ)) → (HaltsAt table n → ⊥) → n ≢ bounds.steps
+  pub ended_early : {old new : Option (List ℕ)} → (HaltsAt table n → ⊥) → n ≢ bounds.steps
       → span table (n + 1) ≤ bounds.cells → Appends old new (lines_text (step_lines table (n + 1)))
       → AppendsSomeLines old new (step_lines table (last + 1))
-  ended_early old new goes apart fits appends =
+  ended_early goes apart fits appends =
       let more = is_last.greatest (n + 1) (next_inside table bounds n inside goes apart fits) in
-      AppendsSomeLines-of old new table (n + 1) (last + 1) (omega (arith, more)) appends
+      AppendsSomeLines-of table (n + 1) (last + 1) (omega (arith, more)) appends
 
   -- a beginning of the lines up to step n is one of the trace
-  pub ended_by_write : (old new : Option (List ℕ))
+  pub ended_by_write : {old new : Option (List ℕ)}
       → AppendsPrefix old new (lines_text (step_lines table (n + 1)))
       → AppendsPrefix old new (lines_text (step_lines table (last + 1)))
-  ended_by_write old new f = AppendsPrefix-lines old new table (n + 1) (last + 1) (omega (arith, not_past)) f
+  ended_by_write {old} {new} begun = subst (λ bytes. AppendsPrefix old new bytes)
+      (lines_split table (n + 1) (last + 1) (omega (arith, not_past))) (AppendsPrefix-more _ begun)
 
 -- the line of step n, after the lines before it
-pub Sends-next : (old new : Option (List ℕ)) (waiting : List ℕ) (table : Table) (n : ℕ)
-    → Sends old new [] waiting (lines_text (step_lines table n) ++ (step_text table n ++ 10 ∷ []))
-    → Sends old new [] waiting (lines_text (step_lines table (n + 1)))
-Sends-next old new waiting table n added = subst (λ bytes. Sends old new [] waiting bytes)
-    (lines-next table n) added
+module _ (table : Table) (n : ℕ) {old mid new : Option (List ℕ)} {waiting : List ℕ}
+    (before : Sends old mid [] waiting (lines_text (step_lines table n))) where
+  pub Sends-next : {waiting' : List ℕ} → Sends mid new waiting waiting' (step_text table n ++ 10 ∷ [])
+      → Sends old new [] waiting' (lines_text (step_lines table (n + 1)))
+  Sends-next {waiting'} line =
+      subst (λ bytes. Sends old new [] waiting' bytes) (lines-next table n) (Sends-trans before line)
 
-pub AppendsPrefix-next : (old new : Option (List ℕ)) (table : Table) (n : ℕ)
-    → AppendsPrefix old new (lines_text (step_lines table n) ++ (step_text table n ++ 10 ∷ []))
-    → AppendsPrefix old new (lines_text (step_lines table (n + 1)))
-AppendsPrefix-next old new table n front = subst (λ bytes. AppendsPrefix old new bytes) (lines-next table n)
-    front
+  pub AppendsPrefix-next : AppendsPrefix mid new (waiting ++ (step_text table n ++ 10 ∷ []))
+      → AppendsPrefix old new (lines_text (step_lines table (n + 1)))
+  AppendsPrefix-next begun =
+      subst (λ bytes. AppendsPrefix old new bytes) (lines-next table n) (AppendsPrefix-further before _ begun)

@@ -1,5 +1,5 @@
 -- What a trace comes to, by whether the line is a machine's text.
-use Rattle.std.proofs.Common.{◌≡◌, ℕ, ◌+◌, ◌≤◌, ◌↔◌, IsTrue, Bool, false, List, [], ◌∷◌, ◌++◌, sym, ◌∙◌}
+use Rattle.std.proofs.Common.{ℕ, ◌+◌, ◌≤◌, ◌↔◌, IsTrue, Bool, false, List, [], ◌∷◌, ◌++◌, sym, ◌∙◌}
 use Rattle.std.proofs.Common.{subst, refl, inl, inr, Option, Result, Ok, Err}
 use Rattle.std.proofs.lemmas.List.{append-nil}
 use Rattle.bb_machine.specs.Laws.{TextsDiffer}
@@ -23,71 +23,71 @@ IsAdded bounds line old new waiting r = (lines : List (List ℕ)) × IsTrace bou
     ⊥
     (AppendsPrefix old new (lines_text lines))
 
-module _ (bounds : Bounds) (line : List ℕ) (old new : Option (List ℕ)) (waiting : List ℕ) where
+module _ {bounds : Bounds} {line : List ℕ} where
   -- what is said by the machine's table is said by the line
-  uncut : TextsDiffer → (table : Table) → IsTextOf table line → (whole : Bool)
+  uncut : TextsDiffer → {table : Table} → IsTextOf table line → (whole : Bool)
       → IsTrue whole ↔ (span table bounds.steps ≤ bounds.cells) → IsTrue whole ↔ IsUncut bounds line
-  uncut one table of whole fits = (
+  uncut one {table} of whole fits = (
     λ e. record { table = table; of = of; fits = fits.0 e },
     λ is. fits.1 (subst (λ t. span t bounds.steps ≤ bounds.cells)
         (one is.table table is.of.machine of.machine (is.of.is_text ∙ sym of.is_text)) is.fits),
   )
 
-  by_line : (lines : List (List ℕ)) (r : Result Bool Fault) (table : Table)
-      → ((whole : Bool) → IsTrue whole ↔ (span table bounds.steps ≤ bounds.cells)
-      → IsTrue whole ↔ IsUncut bounds line)
-      → MatchEnd r (λ whole. Sends old new [] waiting (lines_text lines)
-      × (IsTrue whole ↔ (span table bounds.steps ≤ bounds.cells))) (AppendsSomeLines old new lines) ⊥
-      (AppendsPrefix old new (lines_text lines))
-      → MatchEnd r (λ whole. Sends old new [] waiting (lines_text lines)
-      × (IsTrue whole ↔ IsUncut bounds line)) (AppendsSomeLines old new lines) ⊥
-      (AppendsPrefix old new (lines_text lines))
-  by_line lines (Ok whole) table same ends = (ends.0, same whole ends.1)
-  by_line lines (Err Memory) table same ends = ends
-  by_line lines (Err Read) table same ends = ends
-  by_line lines (Err Write) table same ends = ends
-
-  pub added_run : TextsDiffer → (table : Table) → IsTextOf table line → (last : ℕ)
-      → IsLastInside table bounds last → (r : Result Bool Fault)
+  pub added_run : TextsDiffer → {table : Table} → IsTextOf table line → {last : ℕ}
+      → IsLastInside table bounds last → (old new : Option (List ℕ)) (waiting : List ℕ)
+      → (r : Result Bool Fault)
       → MatchEnd r (λ whole. Sends old new [] waiting (lines_text (step_lines table (last + 1)))
       × (IsTrue whole ↔ (span table bounds.steps ≤ bounds.cells)))
       (AppendsSomeLines old new (step_lines table (last + 1))) ⊥
       (AppendsPrefix old new (lines_text (step_lines table (last + 1))))
       → IsAdded bounds line old new waiting r
-  added_run one table of last is_last r ends = (
+  added_run one {table} of {last} is_last old new waiting r ends = (
     step_lines table (last + 1),
     inl (record { table = table; of = of; last = last; is_last = is_last; are_lines = refl }),
-    by_line _ r table (uncut one table of) ends,
+    by_line r ends,
   )
+    where
+      by_line : (r : Result Bool Fault)
+          → MatchEnd r (λ whole. Sends old new [] waiting (lines_text (step_lines table (last + 1)))
+          × (IsTrue whole ↔ (span table bounds.steps ≤ bounds.cells)))
+          (AppendsSomeLines old new (step_lines table (last + 1))) ⊥
+          (AppendsPrefix old new (lines_text (step_lines table (last + 1))))
+          → MatchEnd r (λ whole. Sends old new [] waiting (lines_text (step_lines table (last + 1)))
+          × (IsTrue whole ↔ IsUncut bounds line))
+          (AppendsSomeLines old new (step_lines table (last + 1))) ⊥
+          (AppendsPrefix old new (lines_text (step_lines table (last + 1))))
+      by_line (Ok whole) ends = (ends.0, uncut one of whole ends.1)
+      by_line (Err Memory) ends = ends
+      by_line (Err Read) ends = ends
+      by_line (Err Write) ends = ends
 
-  module _ (column : ℕ) (no_machine : IsMachineLine line → ⊥) (is_column : IsColumn line column) where
-    one_line : refusal_text column ++ 10 ∷ [] ≡ lines_text (refusal_text column ∷ [])
-    one_line = sym (append-nil (refusal_text column ++ 10 ∷ []))
-
+  module _ {column : ℕ} (no_machine : IsMachineLine line → ⊥) (is_column : IsColumn line column) where
     refused : IsTrace bounds line (refusal_text column ∷ [])
-    refused = inr (record {
-      no_machine = no_machine;
-      column = column;
-      is_column = is_column;
-      are_lines =
-          refl;
-    })
+    refused =
+        inr (record {
+          no_machine = no_machine;
+          column = column;
+          is_column = is_column;
+          are_lines = refl;
+        })
 
-    pub added_refusal : Sends old new [] waiting (refusal_text column ++ 10 ∷ [])
+    pub added_refusal : {old new : Option (List ℕ)} {waiting : List ℕ}
+        → Sends old new [] waiting (refusal_text column ++ 10 ∷ [])
         → IsAdded bounds line old new waiting (Ok false)
-    added_refusal added = (
+    added_refusal {old} {new} {waiting} added = (
       refusal_text column ∷ [],
       refused,
       (
-        subst (λ bytes. Sends old new [] waiting bytes) one_line added,
+        subst (λ bytes. Sends old new [] waiting bytes) (sym (append-nil (refusal_text column ++ 10 ∷ [])))
+            added,
         (λ wrong. cc, λ is. absurd (no_machine (is.table, is.of))),
       ),
     )
 
-    pub failed_refusal : AppendsPrefix old new [] → IsAdded bounds line old new waiting (Err Write)
-    failed_refusal front = (
+    pub failed_refusal : {old new : Option (List ℕ)} (waiting : List ℕ) → AppendsPrefix old new []
+        → IsAdded bounds line old new waiting (Err Write)
+    failed_refusal waiting front = (
       refusal_text column ∷ [],
       refused,
-      AppendsPrefix-more old new []
-          (lines_text (refusal_text column ∷ [])) front,
+      AppendsPrefix-more (lines_text (refusal_text column ∷ [])) front,
     )

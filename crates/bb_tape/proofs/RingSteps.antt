@@ -1,7 +1,8 @@
 -- What the calls on a ring do to its cells.
 use Rattle.std.proofs.Common.{◌≡◌, ◌≢◌, ◌⊎◌, inl, inr, ℕ, ◌<◌, ◌≤◌, ℤ, pos, ◌+ℤ◌, ◌-ℤ◌, ◌≤ℤ◌, List}
 use Rattle.std.proofs.Common.{get_or, set, length, sym, ap, ◌∙◌, arith, get_or-set_same, get_or-set_other}
-use Rattle.std.proofs.Common.{w64, to_z, of_z}
+use Rattle.std.proofs.Common.{◌++◌, take, drop, w64, to_z, of_z}
+use Rattle.std.proofs.Math.Seq.{take-append_seam}
 use Rattle.std.proofs.lemmas.Int.{ints, clamps, by_lt_z, to_z-of_z}
 use Rattle.std.proofs.lemmas.Bool.{cases_lt}
 use Rattle.std.specs.Prelude.{unsigned_abs}
@@ -19,6 +20,12 @@ use Rattle.bb_tape.proofs.Content.{cell-with_cell-other}
 use Rattle.bb_tape.proofs.RingIndex.{index_in, index_below, index_from_zero, index_apart}
 use Rattle.bb_tape.proofs.Sound.{sound_wider}
 use Rattle.bb_tape.proofs.Rings.{by_window, cell-ring-inside, cell-ring-below, cell-ring-above}
+
+-- what a vector has after this was written to its slice
+pub written_back : {len : ℕ} {new : List ℕ} (old : List ℕ) → length new ≡ len
+    → take len (new ++ drop (length new) old) ≡ new
+written_back {new} old long =
+    ap (λ n. take n (new ++ drop (length new) old)) (sym long) ∙ take-append_seam new _
 
 -- the window is the cell 0 alone, which is 0
 pub ring_blank : (cells : List ℕ) (w : Window) → w.low ≡ pos 0 → w.high ≡ pos 0 → get_or cells 0 0 ≡ 0

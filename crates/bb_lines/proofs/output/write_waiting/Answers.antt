@@ -5,22 +5,21 @@ use Rattle.bb_lines.proofs.Sends.{Sends-none, Sends-write, AppendsPrefix-sent, A
 use Rattle.bb_lines.proofs.output.write_waiting.Goals as goal
 
 pub loop-rest-init : goal.loop-rest-init
-loop-rest-init g c = record { unmarked = c.requires; sent = Sends-none _ _ }
+loop-rest-init g c = record { unmarked = c.requires; sent = Sends-none }
 
 pub loop-rest-preserved : goal.loop-rest-preserved
 loop-rest-preserved g c = record {
   unmarked = search rules;
-  sent = Sends-write _ _ _ _ _ _ _ c.loop-rest.invariant.sent c.in-Ok.ensures.bytes;
+  sent = Sends-write c.loop-rest.invariant.sent _ c.in-Ok.ensures.bytes;
 }
 
 pub returns-in-Err-clause-err : goal.returns-in-Err-clause-err
 returns-in-Err-clause-err g c =
     rw (append-nil, c.as_slice-rest.ensures.value) at
-    (AppendsPrefix-sent
-    _ _ _ _ _ (Sends-kept _ _ _ _ _ _ c.loop-rest.invariant.sent (rw c.in-Err.is at c.write.ensures.bytes)))
+    (AppendsPrefix-sent (Sends-kept c.loop-rest.invariant.sent (rw c.in-Err.is at c.write.ensures.bytes)))
 
 pub returns-clause-ok : goal.returns-clause-ok
 returns-clause-ok g c =
     let none : c.loop-rest.rest.now ≡ [] = grind (arith, common_steps) in
     rw (append-nil, c.as_slice-rest.ensures.value) at
-    (Appends-sent _ _ _ _ (rw none at c.loop-rest.invariant.sent))
+    (Appends-sent (rw none at c.loop-rest.invariant.sent))

@@ -8,14 +8,14 @@ use Rattle.bb_run.proofs.tracing.add_step.Goals as goal
 pub returns-in_err-add-clause-err : goal.returns-in_err-add-clause-err
 returns-in_err-add-clause-err g c =
     let p = err_from_is_err_and c.from_residual.result c.from_residual.ensures.1 in
-    rw p.1 (AppendsPrefix-more _ _ _ _ c.in_err-add.ensures.err)
+    rw p.1 (AppendsPrefix-more _ c.in_err-add.ensures.err)
 
 pub returns-in_err-add_cells-clause-err : goal.returns-in_err-add_cells-clause-err
 returns-in_err-add_cells-clause-err g c =
     let p = err_from_is_err_and c.from_residual-in_err-add_cells.result
     c.from_residual-in_err-add_cells.ensures.1 in
-    let parts = step_text-is _ _ _ _ c.requires.stands (c.as_slice.ensures.value ∙ c.head_of.ensures.text) in
-    rw p.1 (AppendsPrefix-line _ _ _ _ _ _ _ _ parts c.in_ok-add.ensures.sent c.in_err-add_cells.ensures.err)
+    let parts = step_text-is c.requires.stands (c.as_slice.ensures.value ∙ c.head_of.ensures.text) in
+    rw p.1 (AppendsPrefix-line parts c.in_ok-add.ensures.sent c.in_err-add_cells.ensures.err)
 
 on_ok_weaker : {T E P Q : Type 0} (r : Result T E) → (P → Q) → OnOk r P → OnOk r Q
 on_ok_weaker (Ok a) f p = f p
@@ -23,14 +23,14 @@ on_ok_weaker (Err e) f p = p
 
 pub returns-clause-sent : goal.returns-clause-sent
 returns-clause-sent g c =
-    let parts = step_text-is _ _ _ _ c.requires.stands (c.as_slice.ensures.value ∙ c.head_of.ensures.text) in
+    let parts = step_text-is c.requires.stands (c.as_slice.ensures.value ∙ c.head_of.ensures.text) in
     on_ok_weaker c.add-2.result
-    (Sends-line _ _ _ _ _ _ _ _ parts c.in_ok-add.ensures.sent _ c.in_ok-add_cells.ensures.sent _ _)
+    (Sends-line parts c.in_ok-add.ensures.sent c.in_ok-add_cells.ensures.sent)
     c.add-2.ensures.sent
 
 pub returns-clause-err : goal.returns-clause-err
 returns-clause-err g c =
-    let parts = step_text-is _ _ _ _ c.requires.stands (c.as_slice.ensures.value ∙ c.head_of.ensures.text) in
+    let parts = step_text-is c.requires.stands (c.as_slice.ensures.value ∙ c.head_of.ensures.text) in
     on_err_weaker c.add-2.result
-    (AppendsPrefix-end _ _ _ _ _ _ _ _ parts c.in_ok-add.ensures.sent _ c.in_ok-add_cells.ensures.sent _)
+    (AppendsPrefix-end parts c.in_ok-add.ensures.sent c.in_ok-add_cells.ensures.sent)
     c.add-2.ensures.err

@@ -11,19 +11,18 @@ returns-in-Ok-clause-ends g c =
     let last = c.last_step_exists.ensures c.in-Ok.machine c.args.limits.now some in
     let of : IsTextOf c.in-Ok.machine c.args.line.now =
     record { machine = c.in-Ok.ensures.found.0; is_text = c.in-Ok.ensures.found.1 } in
-    added_run _ _ _ _ _ c.texts_differ.ensures c.in-Ok.machine of last.0 last.1 _
-    (c.add_run.ensures.ends last.0 last.1)
+    added_run c.texts_differ.ensures of last.1 _ _ _ _ (c.add_run.ensures.ends last.0 last.1)
 
 pub returns-in_err-add_refusal-in-Err-clause-ends : goal.returns-in_err-add_refusal-in-Err-clause-ends
 returns-in_err-add_refusal-in-Err-clause-ends g c =
     let p = err_from_is_err_and c.from_residual.result c.from_residual.ensures.1 in
     let begun = rw c.requires.waiting at c.in_err-add_refusal-in-Err.ensures.err in
     rw (p.1, p.2, c.in_err-add_refusal-in-Err.ensures.only_write)
-    (failed_refusal _ _ _ _ c.add_refusal.new.waiting.items c.in-Err.refused.column
-    (λ m. let found = c.in-Err.ensures.only m.0 m.1.machine m.1.is_text in cc) c.in-Err.ensures.column begun)
+    (failed_refusal (λ m. let found = c.in-Err.ensures.only m.0 m.1.machine m.1.is_text in cc)
+    c.in-Err.ensures.column c.add_refusal.new.waiting.items begun)
 
 pub returns-in_ok-add_refusal-in-Err-clause-ends : goal.returns-in_ok-add_refusal-in-Err-clause-ends
 returns-in_ok-add_refusal-in-Err-clause-ends g c =
     let sent = rw c.requires.waiting at c.in_ok-add_refusal-in-Err.ensures.sent in
-    added_refusal _ _ _ _ _ c.in-Err.refused.column
-    (λ m. let found = c.in-Err.ensures.only m.0 m.1.machine m.1.is_text in cc) c.in-Err.ensures.column sent
+    added_refusal (λ m. let found = c.in-Err.ensures.only m.0 m.1.machine m.1.is_text in cc)
+    c.in-Err.ensures.column sent

@@ -10,7 +10,7 @@ returns-in_err-write_and_flush-clause-ends g c =
       ends.0,
       ends.1,
       rw (p.1, p.2, c.in_err-write_and_flush.ensures.only_write)
-          (AppendsPrefix-after _ _ _ _ _ _ ends.2.0 c.in_err-write_and_flush.ensures.err),
+          (AppendsPrefix-after ends.2.0 c.in_err-write_and_flush.ensures.err),
     )
 
 pub returns-clause-ends : goal.returns-clause-ends
@@ -19,7 +19,7 @@ returns-clause-ends g c =
       ends.0,
       ends.1,
       (
-        Appends-after _ _ _ _ _ _ ends.2.0 c.in_ok-write_and_flush.ensures.ok,
+        Appends-after ends.2.0 _ c.in_ok-write_and_flush.ensures.ok,
         record { clean = ends.2.1; peak = c.new.ensures },
       ),
     )

@@ -11,14 +11,14 @@ pub returns-in_err-write_waiting-in-Err-clause-ends : goal.returns-in_err-write_
 returns-in_err-write_waiting-in-Err-clause-ends g c =
     let p = err_from_is_err_and c.from_residual.result c.from_residual.ensures.1 in
     rw (p.1, p.2, c.in_err-write_waiting-in-Err.ensures.only_write)
-    (prefix_before _ _ _ _ _ c.in_err-write_waiting-in-Err.ensures.err)
+    (prefix_before c.in_err-write_waiting-in-Err.ensures.err)
 
 pub returns-in_err-add_line-clause-ends : goal.returns-in_err-add_line-clause-ends
 returns-in_err-add_line-clause-ends g c =
     let p = err_from_is_err_and c.from_residual-in_err-add_line.result
     c.from_residual-in_err-add_line.ensures.1 in
     rw (p.1, p.2, c.in_err-add_line.ensures.only_write)
-    (prefix_before _ _ _ _ _ c.in_err-add_line.ensures.err)
+    (prefix_before c.in_err-add_line.ensures.err)
 
 -- the line is answered, and its reply waits
 line_answered : (g : Over) (c : In_ok-add_line g)
@@ -28,14 +28,12 @@ line_answered : (g : Over) (c : In_ok-add_line g)
     c.add_line.new.waiting.items c.args.self.now.responder.now c.respond.new.self
     (c.args.self.now.kept.items ∷ [])
 line_answered g c =
-    answered_one _ _ _ _ _ _ _ _ _ _ (rw c.as_slice.ensures.value at c.in-Ok.ensures.reply)
+    answered_one _ (rw c.as_slice.ensures.value at c.in-Ok.ensures.reply)
     (rw c.as_slice.ensures.value at c.in-Ok.ensures.saw)
     (rw c.as_slice-2.ensures.value at c.in_ok-add_line.ensures.sent)
 
 pub returns-then-work-gt-LONG_WORK-clause-ends : goal.returns-then-work-gt-LONG_WORK-clause-ends
 returns-then-work-gt-LONG_WORK-clause-ends g c =
     let after = c.write_waiting-then-work-gt-LONG_WORK.ensures in
-    ends_written
-    _ _ _ _ _ _ _ _ _ _ (line_answered g
-    (goal.at.returns-then-work-gt-LONG_WORK-clause-ends g c).In_ok-add_line) _ _ after.ok after.empty
-    after.only_write after.err
+    ends_written (line_answered g (goal.at.returns-then-work-gt-LONG_WORK-clause-ends g c).In_ok-add_line)
+    _ _ _ after.ok after.empty after.only_write after.err

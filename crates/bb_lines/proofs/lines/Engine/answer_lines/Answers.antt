@@ -16,7 +16,7 @@ use Rattle.bb_lines.proofs.lines.Engine.answer_lines.Goals.{After-answer_kept, A
 pub loop-at-init : goal.loop-at-init
 loop-at-init g c =
     let kept = c.args.self.now.kept.items in
-    let first = kept_at_first g.A.Responder.KEEP kept c.requires.kept c.requires.one_line in record {
+    let first = kept_at_first g.A.Responder.KEEP c.requires.kept c.requires.one_line in record {
       unmarked = c.requires.writer;
       ready = c.requires.ready;
       keeps = g.met.A.Responder.keeps_at_first c.args.self.now.responder.now;
@@ -27,7 +27,7 @@ loop-at-init g c =
       prefix = [];
       whole = refl;
       kept = first.0;
-      answered = rw first.1 (answered_none _ _ _ _ _);
+      answered = rw first.1 answered_none;
     }
 
 -- the bytes of the line that are in this piece
@@ -43,8 +43,7 @@ is_kept : (g : Over) (c : After-answer_kept g)
     (unfinished (c.args.self.now.kept.items ++ c.loop-at.invariant.prefix)
     ++ take c.in-Some.at c.loop-at.rest.now)
 is_kept g c =
-    kept_more g.A.Responder.KEEP _ (take c.in-Some.at c.loop-at.rest.now) c.loop-at.self.kept.items
-    c.keep_prefix.new.kept.items c.loop-at.invariant.kept
+    kept_more g.A.Responder.KEEP _ _ c.loop-at.invariant.kept
     (c.keep_prefix.ensures
     ∙ ap (λ k. take k (c.loop-at.self.kept.items ++ take c.in-Some.at c.loop-at.rest.now))
     c.bytes_kept-most.ensures)
@@ -72,15 +71,12 @@ returns-in_err-answer_kept-clause-ends g c =
     ap (λ b. b ++ later) (append_assoc c.args.self.now.kept.items here.prefix (piece ++ 10 ∷ []))
     ∙ append_assoc c.args.self.now.kept.items (here.prefix ++ (piece ++ 10 ∷ [])) later
     ∙ ap (λ b. c.args.self.now.kept.items ++ b) (whole g at) in
-    let lines =
-    prefixes_after_line g.A.Responder.KEEP past piece c.keep_prefix.new.kept.items (others g at)
-    (is_kept g at) later in
-    let law =
-    g.met.A.Responder.keeps_reply c.args.self.now.responder.now c.loop-at.self.responder.now here.keeps in
+    let lines = prefixes_after_line g.A.Responder.KEEP past (others g at) (is_kept g at) later in
+    let law = g.met.A.Responder.keeps_reply _ _ here.keeps in
     rw (p.1, p.2)
-    (fault_after _ _ _ _ _ _ _ _ _ _ here.answered _ law
-    _ _ _ (ap (λ b. prefixes g.A.Responder.KEEP (complete b)) (sym same)
-    ∙ lines) _ _ _ _ c.in_err-answer_kept.ensures.ends)
+    (fault_after here.answered law _ _
+    (ap (λ b. prefixes g.A.Responder.KEEP (complete b)) (sym same) ∙ lines) _ _ _ _
+    c.in_err-answer_kept.ensures.ends)
 
 pub loop-at-preserved : goal.loop-at-preserved
 loop-at-preserved g c =
@@ -90,14 +86,9 @@ loop-at-preserved g c =
     let start = c.args.self.now.kept.items in
     let piece = take c.in-Some.at c.loop-at.rest.now in
     let parts = append_assoc start here.prefix (piece ++ 10 ∷ []) in
-    let law =
-    g.met.A.Responder.keeps_reply c.args.self.now.responder.now c.loop-at.self.responder.now here.keeps in
-    let lines =
-    prefixes_line g.A.Responder.KEEP (start ++ here.prefix) piece c.keep_prefix.new.kept.items (others g at)
-    (is_kept g at) in
-    let left =
-    kept_after_line g.A.Responder.KEEP (start ++ here.prefix) piece c.keep_prefix.new.kept.items (others g at)
-    (is_kept g at) in
+    let law = g.met.A.Responder.keeps_reply _ _ here.keeps in
+    let lines = prefixes_line g.A.Responder.KEEP (start ++ here.prefix) (others g at) (is_kept g at) in
+    let left = kept_after_line g.A.Responder.KEEP (start ++ here.prefix) (others g at) (is_kept g at) in
     record {
       unmarked = search rules;
       ready = done.ready;
@@ -114,7 +105,7 @@ loop-at-preserved g c =
       prefix = here.prefix ++ (piece ++ 10 ∷ []);
       whole = rw slice_from (whole g at);
       kept = rw done.kept (rw parts at left);
-      answered = rw (← parts, lines) (answered_more _ _ _ _ _ _ _ _ _ _ here.answered _ law _ _ _ done.ends);
+      answered = rw (← parts, lines) (answered_more here.answered law done.ends);
     }
 
 none_left : (g : Over) (c : After-keep_prefix-2 g) → HasNoNewline c.loop-at.rest.now
@@ -138,16 +129,14 @@ all g c = append_assoc c.args.self.now.kept.items c.loop-at.invariant.prefix c.l
 
 pub returns-clause-ends : goal.returns-clause-ends
 returns-clause-ends g c =
-    rw (← all g c, prefixes_none g.A.Responder.KEEP _ c.loop-at.rest.now (none_left g c))
+    rw (← all g c, prefixes_none g.A.Responder.KEEP _ (none_left g c))
     c.loop-at.invariant.answered
 
 pub returns-clause-kept : goal.returns-clause-kept
 returns-clause-kept g c =
     rw (← all g c)
-    (kept_none g.A.Responder.KEEP _ c.loop-at.rest.now _ (none_left g c)
-    (kept_more g.A.Responder.KEEP _ c.loop-at.rest.now c.loop-at.self.kept.items
-    c.keep_prefix-2.new.kept.items
-    c.loop-at.invariant.kept (kept_now g c)))
+    (kept_none g.A.Responder.KEEP _ (none_left g c)
+    (kept_more g.A.Responder.KEEP _ _ c.loop-at.invariant.kept (kept_now g c)))
 
 pub returns-clause-one_line : goal.returns-clause-one_line
 returns-clause-one_line g c =

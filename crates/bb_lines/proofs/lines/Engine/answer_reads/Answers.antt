@@ -23,7 +23,7 @@ loop-self-init g c = record {
   past = [];
   consumed = Consumes-nil _;
   kept = rw (c.requires.kept, LinesAre-none.is_unfinished) (take_none _);
-  answered = rw (c.requires.waiting, LinesAre-none.is_complete) (answered_none _ _ _ [] _);
+  answered = rw (c.requires.waiting, LinesAre-none.is_complete) answered_none;
 }
 
 pub returns-in_err-write_waiting-clause-ends : goal.returns-in_err-write_waiting-clause-ends
@@ -31,15 +31,15 @@ returns-in_err-write_waiting-clause-ends g c =
     let p = err_from_is_err_and c.from_residual.result c.from_residual.ensures.1 in
     let here = c.loop-self.invariant in
     let after = c.in_err-write_waiting.ensures in
-    let some = prefix_written _ _ _ _ _ _ _ _ _ _ here.answered after.err in (
+    let some = prefix_written here.answered after.err in (
       here.past,
       here.consumed,
       rw (
         p.1,
         p.2,
         after.only_write,
-        prefixes-lines g.A.Responder.KEEP here.past _ g.met.A.Responder.keeps_some here.kept,
-      ) (AppendsPrefixOfReplies-writes _ _ _ _ _ refl (prefix_more _ _ _ _ _ _ some)),
+        prefixes-lines g.A.Responder.KEEP here.past g.met.A.Responder.keeps_some here.kept,
+      ) (AppendsPrefixOfReplies-writes (prefix_more _ some)),
     )
 
 -- what waited was written before the read
@@ -53,7 +53,7 @@ answered_now : (g : Over) (c : After-answer_lines g)
 answered_now g c =
     let read = c.in-Ok.ensures in
     rw (read.writer, read.waiting, read.responder, c.in_ok-write_waiting.ensures.empty)
-    (answered_written _ _ _ _ _ _ _ _ _ _ c.loop-self.invariant.answered c.in_ok-write_waiting.ensures.ok)
+    (answered_written c.loop-self.invariant.answered c.in_ok-write_waiting.ensures.ok)
 
 keeps_now : (g : Over) (c : After-answer_lines g)
     → g.A.Responder.keeps c.args.self.now.responder.now c.read_chunk.new.self.responder.now
@@ -66,8 +66,7 @@ after : (g : Over) (c : After-answer_lines g)
 after g c =
     let read = c.in-Ok.ensures in
     after_piece g.A.Responder.KEEP (take c.in-Ok.n c.read_chunk.new.chunk) c.loop-self.invariant.past
-    c.read_chunk.new.self.kept.items (rw read.kept c.loop-self.invariant.kept)
-    (rw read.kept c.loop-self.invariant.one_line)
+    (rw read.kept c.loop-self.invariant.kept) (rw read.kept c.loop-self.invariant.one_line)
 
 pub loop-self-preserved : goal.loop-self-preserved
 loop-self-preserved g c =
@@ -76,9 +75,7 @@ loop-self-preserved g c =
     let read = c.in-Ok.ensures in
     let done = c.in_ok-answer_lines.ensures in
     let piece = take c.in-Ok.n c.read_chunk.new.chunk in
-    let law =
-    g.met.A.Responder.keeps_reply c.args.self.now.responder.now c.read_chunk.new.self.responder.now
-    (keeps_now g at) in
+    let law = g.met.A.Responder.keeps_reply _ _ (keeps_now g at) in
     record {
       reader_unmarked = search rules;
       writer_unmarked = search rules;
@@ -92,11 +89,9 @@ loop-self-preserved g c =
         done.references.2 ∙ read.references.2 ∙ here.references.2,
       );
       past = here.past ++ piece;
-      consumed = rw done.reader (Consumes-trans _ _ _ _ _ here.consumed read.bytes.0);
+      consumed = rw done.reader (Consumes-trans _ _ _ here.past _ here.consumed read.bytes.0);
       kept = done.kept ∙ (after g at).is_kept;
-      answered =
-          rw (after g at).is_complete
-          (answered_more _ _ _ _ _ _ _ _ _ _ (answered_now g at) _ law _ _ _ done.ends);
+      answered = rw (after g at).is_complete (answered_more (answered_now g at) law done.ends);
     }
 
 pub returns-in_err-answer_lines-clause-ends : goal.returns-in_err-answer_lines-clause-ends
@@ -107,14 +102,11 @@ returns-in_err-answer_lines-clause-ends g c =
     let here = c.loop-self.invariant in
     let done = c.in_err-answer_lines.ensures in
     let piece = take c.in-Ok.n c.read_chunk.new.chunk in
-    let law =
-    g.met.A.Responder.keeps_reply c.args.self.now.responder.now c.read_chunk.new.self.responder.now
-    (keeps_now g at) in
+    let law = g.met.A.Responder.keeps_reply _ _ (keeps_now g at) in
     let last = take g.A.Responder.KEEP (unfinished (here.past ++ piece)) in
-    let all = prefixes-lines g.A.Responder.KEEP (here.past ++ piece) last g.met.A.Responder.keeps_some refl
-    ∙ ap (λ l. l ++ unless_empty last) (after g at).is_complete in (
+    let all = prefixes-lines g.A.Responder.KEEP (here.past ++ piece) {kept = last}
+    g.met.A.Responder.keeps_some refl ∙ ap (λ l. l ++ unless_empty last) (after g at).is_complete in (
       here.past ++ piece,
-      rw done.reader (Consumes-trans _ _ _ _ _ here.consumed c.in-Ok.ensures.bytes.0),
-      rw (p.1, p.2) (fault_after_none _ _ _ _ _ _ _ _ _ (answered_now g at) _ law _ _ _ all
-          _ _ _ _ done.ends),
+      rw done.reader (Consumes-trans _ _ _ here.past _ here.consumed c.in-Ok.ensures.bytes.0),
+      rw (p.1, p.2) (fault_after_none (answered_now g at) law _ _ _ all _ _ _ _ done.ends),
     )
