@@ -1,3 +1,4 @@
+pub mod Benches
 pub mod Claims
 pub mod Cycles
 pub mod Facts

@@ -30,7 +30,6 @@ use Rattle.bb_sim.specs.Runner.{Stands, position_of, steps_of}
 use Rattle.bb_cert.specs.declared.records.Records.{Records}
 use Rattle.bb_cert.specs.declared.verdict.Extent.{Extent}
 use Rattle.bb_cert.specs.declared.verdict.Side.{Side}
-use Rattle.bb_cert.specs.declared.verdict.Side.TheVariants.{L, R}
 use Rattle.bb_cert.specs.declared.verdict.Verdict.{Verdict}
 use Rattle.bb_cert.specs.declared.verdict.Verdict.TheVariants.{Translated}
 use Rattle.bb_cert.specs.records.Agree.{Agree}
@@ -38,7 +37,6 @@ use Rattle.bb_cert.specs.inside.Checks.{MakesRecord}
 use Rattle.bb_cert.specs.verdict.Extent.{IsExtent}
 use Rattle.bb_cert.specs.records.Follow.{AgreesWithKept, IsFollowed, passed, top_of, with_kept}
 use Rattle.bb_cert.specs.records.Record.{out, head_at, IsRecord}
-use Rattle.bb_cert.proofs.Facts.{MakesJust}
 use Rattle.bb_cert.proofs.Facts.{
   agree_of_cells,
   at_step,
@@ -50,7 +48,7 @@ use Rattle.bb_cert.proofs.Facts.{
 use Rattle.bb_cert.proofs.Facts.{followed_at_first, followed_farther, followed_nearer, head_at-is, keeps}
 use Rattle.bb_cert.proofs.Facts.{made_next, nearer_on, number_narrow, numbered, record_has_one_step}
 use Rattle.bb_cert.proofs.Facts.{records_in_order, stands_on, stays}
-use Rattle.bb_decide.specs.inside.Follow.{Compares, IsReady, IsSearched, KeepsByTurn, Looks, on_side}
+use Rattle.bb_decide.specs.inside.Follow.{Compares, IsReady, IsSearched, KeepsByTurn}
 use Rattle.bb_decide.specs.Partner.{IsKept, IsPartner}
 use Rattle.bb_decide.specs.Translation.{AgreesWithPartner}
 use Rattle.bb_decide.proofs.Partners.{kept_at_first, kept_below, keeps_next, keeps_on, partner_is_unique}
@@ -239,93 +237,46 @@ module _ (table : Table) (n : ℕ) (runner : Runner) (run saved : TapeView) (old
                   (short _ _ _ _ searched.followed.number_is top_is stayed.0);
             })
 
--- a side by its name, and its records after the step under a name of their own
-module _ {table : Table} {n : ℕ} {side : Side} {runner : Runner} {run saved : TapeView} {old new : Records}
-    (searched : IsSearched table n old saved) (side_is : old.side ≡ side) (stands : Stands table runner run)
-    (next : steps_of runner ≡ n + 1) (new_is : new ≡ passed old (position_of runner)) where
+-- a side by its name, whose records have taken in a step
+pub record HasPassed (table : Table) (n : ℕ) (side : Side) (runner : Runner) (run saved : TapeView)
+    (new : Records) : Type 0 where
+  pub old : Records
+  pub searched : IsSearched table n old saved
+  pub side_is : old.side ≡ side
+  pub stands : Stands table runner run
+  pub next : steps_of runner ≡ n + 1
+  pub new_is : new ≡ passed old (position_of runner)
+
+module _ {table : Table} {n : ℕ} {side : Side} {runner : Runner} {run saved : TapeView} {new : Records}
+    (here : HasPassed table n side runner run saved new) where
   pub side_passes_by : (MakesRecord table side (n + 1) → ⊥) → GoesOn table (steps_of runner) side new saved
-  side_passes_by none = subst (λ s. GoesOn table (steps_of runner) s new saved) side_is
-      (subst (λ r. GoesOn table (steps_of runner) old.side r saved) (sym new_is)
-      (passes_by table n runner run saved old stands next searched
-      (λ made. none (subst (λ s. MakesRecord table s (n + 1)) side_is made))))
+  side_passes_by none = subst (λ s. GoesOn table (steps_of runner) s new saved) here.side_is
+      (subst (λ r. GoesOn table (steps_of runner) here.old.side r saved) (sym here.new_is)
+      (passes_by table n runner run saved here.old here.stands here.next here.searched
+      (λ made. none (subst (λ s. MakesRecord table s (n + 1)) here.side_is made))))
 
   module _ (made : MakesRecord table side (n + 1)) where
-    made_there : MakesRecord table old.side (n + 1)
-    made_there = subst (λ s. MakesRecord table s (n + 1)) (sym side_is) made
+    made_there : MakesRecord table here.old.side (n + 1)
+    made_there = subst (λ s. MakesRecord table s (n + 1)) (sym here.side_is) made
 
     pub side_ready : IsSound run → IsReady new runner saved run
-    side_ready sound = subst (λ r. IsReady r runner saved run) (sym new_is)
-        (ready table n runner run saved old stands next searched made_there sound)
+    side_ready sound = subst (λ r. IsReady r runner saved run) (sym here.new_is)
+        (ready table n runner run saved here.old here.stands here.next here.searched made_there sound)
 
     pub side_ends : (looked : Records) (looked_saved : TapeView) (verdict : Verdict)
         → Compares new runner run saved looked looked_saved (Some verdict)
         → EndsWith table side (steps_of runner) verdict
     side_ends looked looked_saved verdict is =
-        subst (λ s. EndsWith table s (steps_of runner) verdict) side_is
-        (ends_with table n runner run saved old stands next searched made_there looked looked_saved verdict
-        (subst (λ r. Compares r runner run saved looked looked_saved (Some verdict)) new_is is))
+        subst (λ s. EndsWith table s (steps_of runner) verdict) here.side_is
+        (ends_with table n runner run saved here.old here.stands here.next here.searched made_there looked
+        looked_saved verdict
+        (subst (λ r. Compares r runner run saved looked looked_saved (Some verdict)) here.new_is is))
 
     pub side_goes_on : (looked : Records) (looked_saved : TapeView)
         → Compares new runner run saved looked looked_saved None → looked.side ≡ new.side
         → GoesOn table (steps_of runner) side looked looked_saved
     side_goes_on looked looked_saved is same =
-        subst (λ s. GoesOn table (steps_of runner) s looked looked_saved) side_is
-        (goes_on table n runner run saved old stands next searched made_there looked looked_saved
-        (subst (λ r. Compares r runner run saved looked looked_saved None) new_is is)
-        (same ∙ ap (λ (r : Records). r.side) new_is))
-
--- both sides after a step
-pub record BothGoOn (table : Table) (n : ℕ) (right left : Records)
-    (saved_right saved_left : TapeView) : Type 0 where
-  pub right_goes_on : GoesOn table n R right saved_right
-  pub left_goes_on : GoesOn table n L left saved_left
-
-module _ {table : Table} {n : ℕ} {runner : Runner} {run saved_right saved_left : TapeView}
-    {right left new_right new_left : Records}
-    (right_searched : IsSearched table n right saved_right)
-    (left_searched : IsSearched table n left saved_left)
-    (right_is : right.side ≡ R) (left_is : left.side ≡ L) (stands : Stands table runner run)
-    (next : steps_of runner ≡ n + 1) (new_right_is : new_right ≡ passed right (position_of runner))
-    (new_left_is : new_left ≡ passed left (position_of runner)) where
-  -- by a step that makes no record
-  pub both_pass_by : MakesJust table (n + 1) None
-      → BothGoOn table (steps_of runner) new_right new_left saved_right saved_left
-  both_pass_by just = record {
-    right_goes_on = side_passes_by right_searched right_is stands next new_right_is (just R);
-    left_goes_on = side_passes_by left_searched left_is stands next new_left_is (just L);
-  }
-
-  -- by one that makes a record of one side
-  pub one_ready : (side : Side) → MakesJust table (n + 1) (Some side) → IsSound run
-      → IsReady (on_side side new_right new_left) runner (on_side side saved_right saved_left) run
-  one_ready R just sound = side_ready right_searched right_is stands next new_right_is just.0 sound
-  one_ready L just sound = side_ready left_searched left_is stands next new_left_is just.0 sound
-
-  module _ (looked_right looked_left : Records) (looked_saved_right looked_saved_left : TapeView) where
-    pub one_ends : (side : Side) → MakesJust table (n + 1) (Some side) → (verdict : Verdict)
-        → Looks side runner run new_right new_left saved_right saved_left looked_right looked_left
-        looked_saved_right looked_saved_left (Some verdict) → EndsWith table side (steps_of runner) verdict
-    one_ends R just verdict looks = side_ends right_searched right_is stands next new_right_is just.0
-        looked_right
-        looked_saved_right verdict looks.0
-    one_ends L just verdict looks = side_ends left_searched left_is stands next new_left_is just.0 looked_left
-        looked_saved_left verdict looks.0
-
-    pub both_go_on : (side : Side) → MakesJust table (n + 1) (Some side)
-        → Looks side runner run new_right new_left saved_right saved_left looked_right looked_left
-        looked_saved_right looked_saved_left None
-        → BothGoOn table (steps_of runner) looked_right looked_left looked_saved_right looked_saved_left
-    both_go_on R just looks = record {
-      right_goes_on = side_goes_on right_searched right_is stands next new_right_is just.0 looked_right
-          looked_saved_right looks.0 looks.1;
-      left_goes_on = subst (λ r. GoesOn table (steps_of runner) L r looked_saved_left) (sym looks.2)
-          (subst (GoesOn table (steps_of runner) L new_left) (sym looks.3)
-          (side_passes_by left_searched left_is stands next new_left_is just.1));
-    }
-    both_go_on L just looks = record {
-      left_goes_on = side_goes_on left_searched left_is stands next new_left_is just.0 looked_left
-          looked_saved_left looks.0 looks.1;
-      right_goes_on = subst (λ r. GoesOn table (steps_of runner) R r looked_saved_right) (sym looks.2)
-          (subst (GoesOn table (steps_of runner) R new_right) (sym looks.3)
-          (side_passes_by right_searched right_is stands next new_right_is just.1));
-    }
+        subst (λ s. GoesOn table (steps_of runner) s looked looked_saved) here.side_is
+        (goes_on table n runner run saved here.old here.stands here.next here.searched made_there looked
+        looked_saved (subst (λ r. Compares r runner run saved looked looked_saved None) here.new_is is)
+        (same ∙ ap (λ (r : Records). r.side) here.new_is))

@@ -1,6 +1,6 @@
 -- What deciding a machine has counted.
-use Rattle.std.proofs.Common.{◌≡◌, ℕ, ◌+◌, ◌≤◌, max, Option, Some, None, Result, Ok, Err, IsTrue, inl, inr}
-use Rattle.std.proofs.Common.{refl, ap, ◌∙◌, arith}
+use Rattle.std.proofs.Common.{◌≡◌, ℕ, ◌+◌, ◌≤◌, max, Bool, true, false, not, IsTrue, Option, Some, None}
+use Rattle.std.proofs.Common.{Result, Ok, Err, inl, inr, refl, ap, ◌∙◌, arith}
 use Rattle.std.specs.Prelude.{IfOk, OnOk}
 use Rattle.bb_machine.specs.Limits.{Bounds}
 use Rattle.bb_machine.specs.Machine.{Table}
@@ -19,7 +19,7 @@ use Rattle.bb_decide.specs.Cycle.{CountsSearch, FindsCycle}
 use Rattle.bb_decide.specs.Translation.{FindsTranslation}
 use Rattle.bb_decide.specs.Backward.{CountsTree, FindsTree, HasNoTree, without_nodes}
 use Rattle.bb_decide.specs.Verdict.{IsVerdict, PassesCycles, PassesTranslations}
-use Rattle.bb_decide.specs.inside.Search.{Adds, CountsIfOn, DecidersCount, DecidersFind, FindsIfOn}
+use Rattle.bb_decide.specs.inside.Search.{Adds, DecidersCount, DecidersFind}
 use Rattle.bb_decide.specs.inside.Search.{ReachesWalk}
 use Rattle.bb_decide.specs.inside.Search.{SearchesCount, SearchesFind}
 use Rattle.bb_decide.specs.Work.{CountsWalk, CountsWork, CycleSteps, MakesWalk, StepsIfMade, TranslationSteps}
@@ -44,7 +44,7 @@ no_walk_counted Made table bounds meter levels nodes never = record {
   not_made = λ not_made. (levels, nodes);
 }
 
-module _ (table : Table) (bounds : Bounds) (plan : Plan) (begin mid : Meter) (zero : begin ≡ zero_meter)
+module _ {table : Table} {bounds : Bounds} (plan : Plan) {begin mid : Meter} (zero : begin ≡ zero_meter)
     (run : CountsRun table bounds begin mid) where
   simulated : Simulated table bounds mid
   simulated =
@@ -77,13 +77,6 @@ module _ (table : Table) (bounds : Bounds) (plan : Plan) (begin mid : Meter) (ze
     walk = no_walk_counted (MakesWalk table bounds plan) table bounds mid s.most_levels s.nodes
         (λ made. made.0 n halts);
   }
-
-  -- no node is counted by then
-  pub no_nodes : mid.nodes ≡ 0
-  no_nodes = simulated.nodes
-
-  pub no_levels : mid.most_levels ≡ 0
-  no_levels = simulated.most_levels
 
   -- else the deciders that are on are asked
   pub work_of_deciders : HaltsNowhere table bounds → (meter : Meter)
@@ -177,10 +170,10 @@ module _ (table : Table) (bounds : Bounds) where
       }
 
   -- a search that was made or not, and what it has added
-  record Searched (Made : Type 0) (Cost : ℕ → Type 0) (old new : Meter) : Type 0 where
-    steps : ℕ
-    is_steps : StepsIfMade Made Cost steps
-    adds : Adds table bounds steps old new
+  pub record Searched (Made : Type 0) (Cost : ℕ → Type 0) (old new : Meter) : Type 0 where
+    pub steps : ℕ
+    pub is_steps : StepsIfMade Made Cost steps
+    pub adds : Adds table bounds steps old new
 
   not_made : (Made : Type 0) (Cost : ℕ → Type 0) (old new : Meter) → (Made → ⊥) → new ≡ old
       → Searched Made Cost old new
@@ -230,86 +223,83 @@ module _ (table : Table) (bounds : Bounds) where
   translations_searched Made (Some (Backward levels nodes)) old new made counts finds = absurd finds
   translations_searched Made (Some (Undecided why)) old new made counts finds = absurd finds
 
-  module _ (plan : Plan) where
-    cycle_search : (found : Option Verdict) (old new : Meter)
-        → CountsIfOn plan.cyclers (FindsCycle table bounds) (CountsSearch table bounds) old new found
-        → Searched (IsTrue plan.cyclers) (CycleSteps table bounds) old new
-    cycle_search found old new (inl made) = cycles_searched
-        (IsTrue plan.cyclers) found old new made.0 made.1 made.2
-    cycle_search found old new (inr off) =
-        not_made (IsTrue plan.cyclers) (CycleSteps table bounds) old new (λ on. let no = off.0 in cc) off.1
+-- no cycle was found, or none was searched for
+pub record PassedCycles (table : Table) (bounds : Bounds) (plan : Plan) (old new : Meter) : Type 0 where
+  pub passes : PassesCycles table bounds plan
+  pub searched : Searched table bounds (IsTrue plan.cyclers) (CycleSteps table bounds) old new
 
-    translation_search : (found : Option Verdict) (old new : Meter) → PassesCycles table bounds plan
-        → CountsIfOn plan.translated (FindsTranslation table bounds) (CountsSearch table bounds) old new found
-        → Searched (PassesCycles table bounds plan × IsTrue plan.translated)
-        (TranslationSteps table bounds) old new
-    translation_search found old new passes (inl made) =
-        translations_searched (PassesCycles table bounds plan × IsTrue plan.translated) found old new
-        (passes, made.0) made.1 made.2
-    translation_search found old new passes (inr off) =
-        not_made (PassesCycles table bounds plan × IsTrue plan.translated)
-        (TranslationSteps table bounds) old new
-        (λ both. let on = both.1 in let no = off.0 in cc) off.1
+-- a cycle that was found was not passed
+not_passed : (table : Table) (bounds : Bounds) (plan : Plan) (verdict : Verdict) → IsTrue plan.cyclers
+    → FindsCycle table bounds (Some verdict) → PassesCycles table bounds plan → ⊥
+not_passed table bounds plan (Cycler first second) on found passes = passes on first second found.cycle
+not_passed table bounds plan (Halt steps score) on found passes = absurd found
+not_passed table bounds plan (Translated side first second extent) on found passes = absurd found
+not_passed table bounds plan (Backward levels nodes) on found passes = absurd found
+not_passed table bounds plan (Undecided why) on found passes = absurd found
 
-    -- where no cycle was found, both searches may have been made
-    pub counts_both : (found : Option Verdict) (old mid new : Meter) → PassesCycles table bounds plan
-        → CountsIfOn plan.cyclers (FindsCycle table bounds) (CountsSearch table bounds) old mid None
-        → CountsIfOn plan.translated (FindsTranslation table bounds) (CountsSearch table bounds) mid new found
-        → SearchesCount table bounds plan old new
-    counts_both found old mid new passes first second =
-        let one = cycle_search None old mid first in
-        let other = translation_search found mid new passes second in
-        record {
-          cycles = one.steps;
-          is_cycles = one.is_steps;
-          translations = other.steps;
-          is_translations = other.is_steps;
-          adds = adds_both one.steps other.steps old mid new one.adds other.adds;
-        }
+module _ {table : Table} {bounds : Bounds} {plan : Plan} {old new : Meter} where
+  pub passed_on : IsTrue plan.cyclers → FindsCycle table bounds None
+      → CountsSearch table bounds old new None → PassedCycles table bounds plan old new
+  passed_on on none counts = record {
+    passes = λ _. none;
+    searched = cycles_searched table bounds (IsTrue plan.cyclers) None old new on counts none;
+  }
 
-    -- where one was found, the other isn't made
-    pub counts_cycles : (verdict : Verdict) (old new : Meter) → (PassesCycles table bounds plan → ⊥)
-        → CountsIfOn plan.cyclers (FindsCycle table bounds) (CountsSearch table bounds) old new (Some verdict)
-        → SearchesCount table bounds plan old new
-    counts_cycles verdict old new found first =
-        let one = cycle_search (Some verdict) old new first in
-        record {
-          cycles = one.steps;
-          is_cycles = one.is_steps;
-          translations = 0;
-          is_translations = inr (λ made. found made.0, refl);
-          adds = adds_both one.steps 0 old new new one.adds (adds_nothing new new refl);
-        }
+  pub passed_off : plan.cyclers ≡ false → new ≡ old → PassedCycles table bounds plan old new
+  passed_off off same = record {
+    passes = λ on. absurd cc;
+    searched = not_made table bounds (IsTrue plan.cyclers) (CycleSteps table bounds) old new (λ on. cc) same;
+  }
 
-    -- a cycle that was found was not passed
-    pub not_passed : (verdict : Verdict) → IsTrue plan.cyclers × FindsCycle table bounds (Some verdict)
-        → PassesCycles table bounds plan → ⊥
-    not_passed (Cycler first second) found passes = passes found.0 first second found.1.cycle
-    not_passed (Halt steps score) found passes = absurd found.1
-    not_passed (Translated side first second extent) found passes = absurd found.1
-    not_passed (Backward levels nodes) found passes = absurd found.1
-    not_passed (Undecided why) found passes = absurd found.1
+  counts : {mid : Meter} → PassedCycles table bounds plan old mid
+      → Searched table bounds (PassesCycles table bounds plan × IsTrue plan.translated)
+      (TranslationSteps table bounds) mid new
+      → SearchesCount table bounds plan old new
+  counts {mid} passed other = record {
+    cycles = passed.searched.steps;
+    is_cycles = passed.searched.is_steps;
+    translations = other.steps;
+    is_translations = other.is_steps;
+    adds = adds_both table bounds passed.searched.steps other.steps old mid new passed.searched.adds
+        other.adds;
+  }
 
-    -- ---- what is found by both
+  -- then the other search is made where it is on
+  pub counts_both : {mid : Meter} → PassedCycles table bounds plan old mid → IsTrue plan.translated
+      → (found : Option Verdict) → FindsTranslation table bounds found
+      → CountsSearch table bounds mid new found → SearchesCount table bounds plan old new
+  counts_both {mid} passed on found finds counted = counts passed
+      (translations_searched table bounds (PassesCycles table bounds plan × IsTrue plan.translated) found mid
+      new (passed.passes, on) counted finds)
 
-    pub cycle_of_searches : (verdict : Verdict) → IsTrue plan.cyclers × FindsCycle table bounds (Some verdict)
-        → SearchesFind table bounds plan (Some verdict)
-    cycle_of_searches (Cycler first second) found = found
-    cycle_of_searches (Halt steps score) found = absurd found.1
-    cycle_of_searches (Translated side first second extent) found = absurd found.1
-    cycle_of_searches (Backward levels nodes) found = absurd found.1
-    cycle_of_searches (Undecided why) found = absurd found.1
+  pub counts_one : PassedCycles table bounds plan old new → (IsTrue plan.translated → ⊥)
+      → SearchesCount table bounds plan old new
+  counts_one passed off = counts passed
+      (not_made table bounds (PassesCycles table bounds plan × IsTrue plan.translated)
+      (TranslationSteps table bounds) new new (λ made. off made.1) refl)
 
-    pub found_by_searches : (found : Option Verdict) → PassesCycles table bounds plan
-        → FindsIfOn plan.translated (FindsTranslation table bounds) found
-        → SearchesFind table bounds plan found
-    found_by_searches None passes none = (passes, none)
-    found_by_searches (Some (Translated side first second extent)) passes found =
-        (passes, found.0, found.1.0, found.1.1)
-    found_by_searches (Some (Halt steps score)) passes found = absurd found.1
-    found_by_searches (Some (Cycler first second)) passes found = absurd found.1
-    found_by_searches (Some (Backward levels nodes)) passes found = absurd found.1
-    found_by_searches (Some (Undecided why)) passes found = absurd found.1
+  -- where one was found, the other isn't made
+  pub counts_cycles : (verdict : Verdict) → IsTrue plan.cyclers → FindsCycle table bounds (Some verdict)
+      → CountsSearch table bounds old new (Some verdict) → SearchesCount table bounds plan old new
+  counts_cycles verdict on finds counted =
+      let one = cycles_searched table bounds (IsTrue plan.cyclers) (Some verdict) old new on counted finds in
+      record {
+        cycles = one.steps;
+        is_cycles = one.is_steps;
+        translations = 0;
+        is_translations = inr (λ made. not_passed table bounds plan verdict on finds made.0, refl);
+        adds = adds_both table bounds one.steps 0 old new new one.adds
+            (adds_nothing table bounds new new refl);
+      }
+
+pub cycle_of_searches : (table : Table) (bounds : Bounds) (plan : Plan) (verdict : Verdict)
+    → IsTrue plan.cyclers → FindsCycle table bounds (Some verdict)
+    → SearchesFind table bounds plan (Some verdict)
+cycle_of_searches table bounds plan (Cycler first second) on found = (on, found)
+cycle_of_searches table bounds plan (Halt steps score) on found = absurd found
+cycle_of_searches table bounds plan (Translated side first second extent) on found = absurd found
+cycle_of_searches table bounds plan (Backward levels nodes) on found = absurd found
+cycle_of_searches table bounds plan (Undecided why) on found = absurd found
 
 -- ---- what the walk finds and counts
 
@@ -348,63 +338,43 @@ module _ (table : Table) (bounds : Bounds) (plan : Plan) (passes : PassesCycles 
   reached : IsTrue plan.backward → ReachesWalk table bounds plan
   reached on = (passes.0, passes.1, on)
 
-  counts_walk : (found : Option Verdict) (old new : Meter) → old.most_levels ≡ 0 → old.nodes ≡ 0
-      → CountsIfOn plan.backward (FindsTree table bounds) (CountsTree bounds) old new found
+  counts_walk : (found : Option Verdict) (old new : Meter) → IsTrue plan.backward
+      → FindsTree table bounds found → CountsTree bounds old new found
       → CountsWalk (ReachesWalk table bounds plan) table bounds new
-  counts_walk None old new levels nodes (inl made) =
-      walk_of_none (ReachesWalk table bounds plan) table bounds old new made.1 made.2 (reached made.0)
-  counts_walk (Some (Backward h k)) old new levels nodes (inl made) =
-      walk_of_tree (ReachesWalk table bounds plan) table bounds old new h k made.1 made.2 (reached made.0)
-  counts_walk (Some (Halt steps score)) old new levels nodes (inl made) = absurd made.2
-  counts_walk (Some (Cycler first second)) old new levels nodes (inl made) = absurd made.2
-  counts_walk (Some (Translated side first second extent)) old new levels nodes (inl made) = absurd made.2
-  counts_walk (Some (Undecided why)) old new levels nodes (inl made) = absurd made.2
-  counts_walk found old new levels nodes (inr off) =
-      no_walk_counted (ReachesWalk table bounds plan) table bounds new (ap (λ
-      (m : Meter). m.most_levels) off.1 ∙ levels)
-      (ap (λ (m : Meter). m.nodes) off.1 ∙ nodes) (λ made. let on = made.2 in let no = off.0 in cc)
+  counts_walk None old new on finds counts =
+      walk_of_none (ReachesWalk table bounds plan) table bounds old new counts finds (reached on)
+  counts_walk (Some (Backward h k)) old new on finds counts =
+      walk_of_tree (ReachesWalk table bounds plan) table bounds old new h k counts finds (reached on)
+  counts_walk (Some (Halt steps score)) old new on finds counts = absurd finds
+  counts_walk (Some (Cycler first second)) old new on finds counts = absurd finds
+  counts_walk (Some (Translated side first second extent)) old new on finds counts = absurd finds
+  counts_walk (Some (Undecided why)) old new on finds counts = absurd finds
 
   -- neither steps nor cells
-  walk_keeps : (found : Option Verdict) (old new : Meter)
-      → CountsIfOn plan.backward (FindsTree table bounds) (CountsTree bounds) old new found
+  walk_keeps : (found : Option Verdict) (old new : Meter) → CountsTree bounds old new found
       → (new.steps ≡ old.steps) × (new.most_cells ≡ old.most_cells)
-  walk_keeps None old new (inl made) = (made.1.steps, made.1.most_cells)
-  walk_keeps (Some (Backward h k)) old new (inl made) =
-      (ap (λ (m : Meter). m.steps) made.1, ap (λ (m : Meter). m.most_cells) made.1)
-  walk_keeps (Some (Halt steps score)) old new (inl made) = absurd made.2
-  walk_keeps (Some (Cycler first second)) old new (inl made) = absurd made.2
-  walk_keeps (Some (Translated side first second extent)) old new (inl made) = absurd made.2
-  walk_keeps (Some (Undecided why)) old new (inl made) = absurd made.2
-  walk_keeps found old new (inr off) = (
-    ap (λ (m : Meter). m.steps) off.1,
-    ap (λ
-        (m : Meter). m.most_cells) off.1,
-  )
+  walk_keeps None old new counts = (counts.steps, counts.most_cells)
+  walk_keeps (Some (Backward h k)) old new counts =
+      (ap (λ (m : Meter). m.steps) counts, ap (λ (m : Meter). m.most_cells) counts)
+  walk_keeps (Some (Halt steps score)) old new counts = absurd counts
+  walk_keeps (Some (Cycler first second)) old new counts = absurd counts
+  walk_keeps (Some (Translated side first second extent)) old new counts = absurd counts
+  walk_keeps (Some (Undecided why)) old new counts = absurd counts
 
-  -- where the searches found nothing, the walk may have been made
-  pub counts_all : (found : Option Verdict) (begin old new : Meter) → begin.most_levels ≡ 0 → begin.nodes ≡ 0
+  -- where the searches found nothing, the walk is made where it is on
+  pub counts_all : (found : Option Verdict) (begin old new : Meter)
       → SearchesCount table bounds plan begin old
-      → CountsIfOn plan.backward (FindsTree table bounds) (CountsTree bounds) old new found
+      → IsTrue plan.backward → FindsTree table bounds found → CountsTree bounds old new found
       → DecidersCount table bounds plan begin new
-  counts_all found begin old new levels nodes searches walk =
-      let kept = walk_keeps found old new walk in
+  counts_all found begin old new searches on finds counts =
+      let kept = walk_keeps found old new counts in
       record {
         searched = old;
         searches = searches;
         steps = kept.0;
         most_cells = kept.1;
-        walk = counts_walk found old new (searches.adds.most_levels ∙ levels) (searches.adds.nodes
-            ∙ nodes) walk;
+        walk = counts_walk found old new on finds counts;
       }
-
-  pub found_by_all : (found : Option Verdict) → FindsIfOn plan.backward (FindsTree table bounds) found
-      → DecidersFind table bounds plan found
-  found_by_all None none = (passes.0, passes.1, none)
-  found_by_all (Some (Backward levels nodes)) found = (passes.0, passes.1, found.0, found.1)
-  found_by_all (Some (Halt steps score)) found = absurd found.1
-  found_by_all (Some (Cycler first second)) found = absurd found.1
-  found_by_all (Some (Translated side first second extent)) found = absurd found.1
-  found_by_all (Some (Undecided why)) found = absurd found.1
 
 module _ (table : Table) (bounds : Bounds) (plan : Plan) where
   -- where a search has found something, no walk is reached
@@ -438,16 +408,25 @@ module _ (table : Table) (bounds : Bounds) (plan : Plan) where
   search_of_all (Backward levels nodes) found = absurd found
   search_of_all (Undecided why) found = absurd found
 
+-- a test that was turned round
+pub on_where_not : (test : Bool) → not test ≡ false → IsTrue test
+on_where_not true is = refl
+on_where_not false is = absurd cc
+
+pub off_where_not : (test : Bool) → not test ≡ true → IsTrue test → ⊥
+off_where_not true is on = cc
+off_where_not false is on = cc
+
 -- what holds of an answer, from what else holds of it
 pub if_ok_map : {A E : Type 0} (r : Result A E) (P Q : A → Type 0) → ((x : A) → P x → Q x) → IfOk r P
     → IfOk r Q
 if_ok_map (Ok x) P Q f holds = f x holds
 if_ok_map (Err e) P Q f holds = tt
 
-pub if_ok_on : {A E : Type 0} (r : Result A E) (P : A → Type 0) (Q : Type 0) → ((x : A) → P x → Q)
-    → IfOk r P → OnOk r Q
-if_ok_on (Ok x) P Q f holds = f x holds
-if_ok_on (Err e) P Q f holds = tt
+pub if_ok_on : {A E : Type 0} (r : Result A E) (P Q : A → Type 0) (R : Type 0) → ((x : A) → P x → Q x → R)
+    → IfOk r P → IfOk r Q → OnOk r R
+if_ok_on (Ok x) P Q R f one other = f x one other
+if_ok_on (Err e) P Q R f one other = tt
 
 -- the verdict, where the machine doesn't halt inside the bounds and a decider has found it
 pub verdict_of_deciders : (table : Table) (bounds : Bounds) (plan : Plan) (verdict : Verdict)

@@ -1,6 +1,6 @@
 //! The search for a configuration that comes again, by Brent's cycle detection (R. P. Brent, "An improved
-//! Monte Carlo factorization algorithm", 1980): one configuration is kept, anew at each power of two, and each
-//! later one is compared with it.
+//! Monte Carlo factorization algorithm", 1980): one configuration is kept, anew at each power of two, and
+//! each later one is compared with it.
 ghost use Rattle.std.specs.Prelude.{◌≡◌, ◌*◌, ◌≤◌, IfOk, IfSome, IsTrue, OnErr, OnOk};
 ghost use Rattle.bb_sim.specs.Meter.{IsWithinRun};
 ghost use Rattle.bb_sim.specs.Run.{Never};

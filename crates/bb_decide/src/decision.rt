@@ -1,6 +1,5 @@
 //! The verdict on one machine.
-ghost use Rattle.std.specs.Prelude.{◌≡◌, ◌*◌, ◌≤◌, IfOk, IfSome, IsTrue, OnErr, OnOk};
-ghost use Rattle.bb_sim.specs.Meter.{IsWithinRun};
+ghost use Rattle.std.specs.Prelude.{◌≡◌, ◌≤◌, IfOk, IfSome, IsTrue, OnErr, OnOk};
 ghost use Rattle.bb_sim.specs.Run.{Never};
 ghost use Rattle.bb_cert.specs.declared.checker.answer.Answer.{Answer};
 ghost use Rattle.bb_cert.specs.declared.verdict.reader.Line.{Line};
@@ -9,16 +8,12 @@ ghost use Rattle.bb_cert.specs.claims.Claim.{Claim, SaysNever};
 ghost use Rattle.bb_cert.specs.verdict.Line.{IsLineOf, line_text};
 ghost use Rattle.bb_cert.specs.tree.Path.{depth_of};
 ghost use Rattle.bb_cert.specs.verdict.Verdict.{HasNumbers};
-ghost use Rattle.bb_cert.specs.tree.WalkMeter.{IsWithinWalk};
-ghost use Rattle.bb_decide.specs.Backward.{CountsTree, FindsTree, without_nodes};
 ghost use Rattle.bb_decide.specs.Bench.{BenchHasCells};
 ghost use Rattle.bb_decide.specs.FewCells.{DecidesFewCells};
-ghost use Rattle.bb_decide.specs.Cycle.{CountsSearch, FindsCycle};
-ghost use Rattle.bb_decide.specs.inside.Search.{CountsIfOn, DecidersCount, DecidersFind, FindsIfOn};
+ghost use Rattle.bb_decide.specs.inside.Search.{DecidersCount, DecidersFind};
 ghost use Rattle.bb_decide.specs.inside.Search.{IsWithinDeciders, IsWithinSearches};
 ghost use Rattle.bb_decide.specs.inside.Search.{SearchesCount, SearchesFind};
 ghost use Rattle.bb_decide.specs.Sure.{KeepsEarlier};
-ghost use Rattle.bb_decide.specs.Translation.{FindsTranslation};
 ghost use Rattle.bb_decide.specs.Verdict.{IsVerdict};
 ghost use Rattle.bb_decide.specs.Work.{CountsWork, IsWithinWork};
 
@@ -100,7 +95,10 @@ fn find<T: Tape>(
         Some(verdict) => return Ok(Some(verdict)),
         None => {}
     }
-    backward_if_on(machine, limits, plan, bench, meter)
+    if !plan.backward {
+        return Ok(None);
+    }
+    backward(machine, limits, bench, meter)
 }
 
 /// What the two searches that are on find, that for cycles first.
@@ -122,89 +120,14 @@ fn search<T: Tape>(
     ensures path { bench.new.path ≡ bench.old.path }
     ensures memory { OnErr result (IsTrue T.GROWS) }
 {
-    match cyclers_if_on(machine, limits, plan, bench, meter)? {
-        Some(verdict) => return Ok(Some(verdict)),
-        None => {}
+    if plan.cyclers {
+        match cyclers(machine, limits, bench, meter)? {
+            Some(verdict) => return Ok(Some(verdict)),
+            None => {}
+        }
     }
-    translated_if_on(machine, limits, plan, bench, meter)
-}
-
-/// What the cyclers find, where they are on.
-fn cyclers_if_on<T: Tape>(
-    machine: &Machine,
-    limits: &Limits,
-    plan: Plan,
-    bench: &mut Bench<T>,
-    meter: &mut Meter,
-) -> Result<Option<Verdict>, Memory>
-    requires tapes { BenchHasCells T.view limits.now.cells bench.old }
-    requires room { meter.old.steps ≤ 2 * limits.now.steps }
-    ensures found { IfOk result (FindsIfOn plan.cyclers (FindsCycle machine.now limits.now)) }
-    ensures counted { IfOk result (CountsIfOn plan.cyclers (FindsCycle machine.now limits.now)
-        (CountsSearch machine.now limits.now) meter.old meter.new) }
-    ensures within { IsWithinRun limits.now meter.old meter.new }
-    ensures claim { IfOk result (λ found. IfSome found (Claim machine.now)) }
-    ensures numbers { IfOk result (λ found. IfSome found HasNumbers) }
-    ensures tapes { BenchHasCells T.view limits.now.cells bench.new }
-    ensures path { bench.new.path ≡ bench.old.path }
-    ensures memory { OnErr result (IsTrue T.GROWS) }
-{
-    if !plan.cyclers {
-        return Ok(None);
-    }
-    cyclers(machine, limits, bench, meter)
-}
-
-/// What the search for records that agree finds, where it is on.
-fn translated_if_on<T: Tape>(
-    machine: &Machine,
-    limits: &Limits,
-    plan: Plan,
-    bench: &mut Bench<T>,
-    meter: &mut Meter,
-) -> Result<Option<Verdict>, Memory>
-    requires tapes { BenchHasCells T.view limits.now.cells bench.old }
-    requires room { meter.old.steps ≤ 2 * limits.now.steps }
-    ensures found { IfOk result (FindsIfOn plan.translated (FindsTranslation machine.now limits.now)) }
-    ensures counted { IfOk result (CountsIfOn plan.translated (FindsTranslation machine.now limits.now)
-        (CountsSearch machine.now limits.now) meter.old meter.new) }
-    ensures within { IsWithinRun limits.now meter.old meter.new }
-    ensures claim { IfOk result (λ found. IfSome found (Claim machine.now)) }
-    ensures numbers { IfOk result (λ found. IfSome found HasNumbers) }
-    ensures tapes { BenchHasCells T.view limits.now.cells bench.new }
-    ensures path { bench.new.path ≡ bench.old.path }
-    ensures memory { OnErr result (IsTrue T.GROWS) }
-{
     if !plan.translated {
         return Ok(None);
     }
     translated(machine, limits, bench, meter)
-}
-
-/// What backward reasoning finds, where it is on.
-fn backward_if_on<T: Tape>(
-    machine: &Machine,
-    limits: &Limits,
-    plan: Plan,
-    bench: &mut Bench<T>,
-    meter: &mut Meter,
-) -> Result<Option<Verdict>, Memory>
-    requires tapes { BenchHasCells T.view limits.now.cells bench.old }
-    requires path { depth_of bench.old.path ≡ limits.now.depth }
-    requires nodes { meter.old.nodes ≡ 0 }
-    requires most_levels { meter.old.most_levels ≡ 0 }
-    ensures found { IfOk result (FindsIfOn plan.backward (FindsTree machine.now limits.now)) }
-    ensures counted { IfOk result (CountsIfOn plan.backward (FindsTree machine.now limits.now)
-        (CountsTree limits.now) meter.old meter.new) }
-    ensures within { IsWithinWalk limits.now.depth limits.now.nodes meter.old meter.new }
-    ensures claim { IfOk result (λ found. IfSome found (Claim machine.now)) }
-    ensures numbers { IfOk result (λ found. IfSome found HasNumbers) }
-    ensures tapes { BenchHasCells T.view limits.now.cells bench.new }
-    ensures path { depth_of bench.new.path ≡ depth_of bench.old.path }
-    ensures memory { OnErr result (IsTrue T.GROWS) }
-{
-    if !plan.backward {
-        return Ok(None);
-    }
-    backward(machine, limits, bench, meter)
 }

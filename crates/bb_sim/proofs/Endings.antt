@@ -1,18 +1,20 @@
 -- What is known where a run ends, whichever way it does.
-use Rattle.std.proofs.Common.{◌≡◌, ℕ, ap, subst}
+use Rattle.std.proofs.Common.{◌≡◌, ℕ, refl, ◌∙◌, ap}
 use Rattle.bb_machine.specs.declared.entry.Next.TheVariants.{Halt}
 use Rattle.bb_machine.specs.Limits.{Bounds}
 use Rattle.bb_machine.specs.Machine.{Table}
 use Rattle.bb_tape.specs.Content.{cell}
 use Rattle.bb_tape.specs.TapeView.{TapeView}
 use Rattle.bb_sim.specs.declared.meter.Meter.{Meter}
+use Rattle.bb_sim.specs.declared.runner.Moved.{Moved}
+use Rattle.bb_sim.specs.declared.runner.Moved.TheVariants.{Halted, NoCells, NoSteps, Stepped}
 use Rattle.bb_sim.specs.declared.runner.Runner.{Runner}
 use Rattle.bb_sim.specs.Configuration.{Configuration, entry_at, followed, next}
 use Rattle.bb_sim.specs.Meter.{CountsRun, CountsTo, IsWithinRun}
 use Rattle.bb_sim.specs.Run.{HaltsAt}
-use Rattle.bb_sim.specs.Runner.{Stands, position_of, state_of, steps_of}
-use Rattle.bb_sim.specs.Span.{Inside, IsLastInside}
-use Rattle.bb_sim.proofs.Counting.{Stopped, counts_stopped}
+use Rattle.bb_sim.specs.Runner.{Moves, Reaches, Stands, Stays, position_of, state_of, steps_of}
+use Rattle.bb_sim.specs.Span.{IsLastInside}
+use Rattle.bb_sim.proofs.Counting.{HasStepped, RunsWithin}
 use Rattle.bb_sim.proofs.Outcomes.{halts_last}
 use Rattle.bb_sim.proofs.RunLaws.{count_is_within}
 
@@ -31,15 +33,22 @@ ends_at table bounds n first meter last counts = record {
 }
 
 -- where a call doesn't step
-pub ends_stopped : {table : Table} {bounds : Bounds} {old new : Runner} {view_old view_new : TapeView}
-    {first meter_old meter_new : Meter}
-    → Stopped table bounds old new view_old view_new meter_old meter_new
-    → CountsTo table (steps_of old) first meter_old → IsEnd table bounds (steps_of old) first meter_new
-ends_stopped {table} {bounds} {old} {new} {view_old} {view_new} {first} {meter_old} {meter_new} stop
-    counts =
-    subst (λ r. IsEnd table bounds (steps_of r) first meter_new) stop.stays.runner
-    (ends_at table bounds (steps_of new) first meter_new stop.last
-    (counts_stopped table bounds old new view_old view_new meter_old meter_new first stop counts))
+module _ {table : Table} {bounds : Bounds} {old new : Runner} {view_old view_new : TapeView}
+    {first meter_old : Meter} (run : RunsWithin table bounds old view_old first meter_old)
+    (stands : Stands table new view_new) (meter : Meter) where
+  ends_stays : IsLastInside table bounds (steps_of new)
+      → Stays old new view_old view_new meter_old meter → IsEnd table bounds (steps_of old) first meter
+  ends_stays last stays =
+      let same = ap steps_of stays.runner in
+      ends_at table bounds (steps_of old) first meter (rw same at last) (stays.meter ∙ run.counts)
+
+  pub ends_stopped : (moved : Moved) → (moved ≡ Stepped → ⊥) → Reaches table bounds new view_new moved
+      → Moves table old new view_old view_new meter_old meter moved
+      → IsEnd table bounds (steps_of old) first meter
+  ends_stopped Halted apart last stays = ends_stays last stays
+  ends_stopped NoSteps apart last stays = ends_stays last stays
+  ends_stopped NoCells apart last stays = ends_stays last stays
+  ends_stopped Stepped apart reaches moves = let same : Stepped ≡ Stepped = refl in absurd (apart same)
 
 -- a runner in Z stands where the machine halts
 pub halts_in_Z : (table : Table) (runner : Runner) (run : TapeView) → Stands table runner run
@@ -59,9 +68,10 @@ halts_in_Z table runner run stands halts = record {
 }
 
 -- where a step goes into Z
-pub ends_in_Z : {table : Table} {bounds : Bounds} {runner : Runner} {run : TapeView} {first meter : Meter}
-    → Stands table runner run → state_of runner ≡ Halt → Inside table bounds (steps_of runner)
-    → CountsTo table (steps_of runner) first meter → IsEnd table bounds (steps_of runner) first meter
-ends_in_Z {table} {bounds} {runner} {run} {first} {meter} stands halts inside counts =
-    ends_at table bounds (steps_of runner) first meter
-    (halts_last table bounds (steps_of runner) inside (halts_in_Z table runner run stands halts)) counts
+pub ends_in_Z : {table : Table} {bounds : Bounds} {old new : Runner} {view : TapeView} {first meter : Meter}
+    → HasStepped table bounds old new view first meter → state_of new ≡ Halt
+    → IsEnd table bounds (steps_of new) first meter
+ends_in_Z {table} {bounds} {old} {new} {view} {first} {meter} step halts =
+    ends_at table bounds (steps_of new) first meter
+    (halts_last table bounds (steps_of new) step.inside (halts_in_Z table new view step.run.stands halts))
+    step.run.counts

@@ -8,7 +8,7 @@ pub use Rattle.bb_sim.proofs.RunLaws.{least_bounds, greatest_bounds}
 pub use Rattle.bb_sim.proofs.Positions.{least-next, greatest-next, least_last, greatest_last}
 pub use Rattle.bb_sim.proofs.Positions.{cells_between-is}
 pub use Rattle.bb_sim.proofs.Steps.{led, conf-start, conf-next, counted_head-at}
-pub use Rattle.bb_sim.proofs.Counting.{counts_start, counts_next, stopped}
+pub use Rattle.bb_sim.proofs.Counting.{HasStepped, RunsWithin, counts_start, counts_next, has_stepped}
 pub use Rattle.bb_sim.proofs.Endings.{IsEnd, ends_in_Z, ends_stopped, halts_in_Z}
 pub use Rattle.bb_sim.proofs.FewCells.{few_cells_repeat_before, running_below}
 pub use Rattle.bb_sim.proofs.RunningOn.{RunsOn, runs_on}

@@ -13,7 +13,7 @@ use Rattle.bb_sim.specs.Configuration.{Configuration, start, next}
 use Rattle.bb_sim.specs.Run.{after, conf, HaltsAt, IsScore}
 use Rattle.bb_sim.specs.CellsBetween.{cells_between}
 use Rattle.bb_sim.specs.Span.{counted_position_in, counted_head, least, greatest, span, Inside, IsLastInside}
-use Rattle.bb_sim.specs.Meter.{stepped, counted, CountsRun}
+use Rattle.bb_sim.specs.Meter.{stepped, counted}
 use Rattle.bb_sim.specs.Outcome.{HaltsInside}
 use Rattle.bb_sim.specs.Runner.{Stands}
 use Rattle.bb_sim.proofs.Positions.{least_last, greatest_last, cells_between-is, cells_between_wider}
@@ -205,7 +205,7 @@ counted-next meter n a b h = both _ _ _ _ (omega arith) (omega arith) where
       → record meter { steps = i; most_cells = k } ≡ record meter { steps = j; most_cells = l }
   both i j k l e d = cc
 
-module _ (table : Table) (runner : Runner) (view : TapeView) (bounds : Bounds)
+module _ {table : Table} {runner : Runner} {view : TapeView} {bounds : Bounds}
     (stands : Stands table runner view) (inside : Inside table bounds runner.steps) where
   -- a runner that stands at a halt
   pub halted_end : HaltsAt table runner.steps → (n ones : ℕ) → n ≡ runner.steps → ones ≡ score view.content
@@ -216,8 +216,3 @@ module _ (table : Table) (runner : Runner) (view : TapeView) (bounds : Bounds)
         record { halts = halts; inside = inside },
         record { here = _; exists = stands.at; counted = counted_is },
       )
-
-  -- the run is counted where it ended
-  pub counts_end : (old new : Meter) → IsLastInside table bounds runner.steps
-      → new ≡ counted old runner.steps (span table runner.steps) → CountsRun table bounds old new
-  counts_end old new last meter = record { last = runner.steps; is_last = last; counts = meter }

@@ -87,7 +87,7 @@ pub record Made (table : Table) (bounds : Bounds) (old new : Runner) (view view_
   pub reaches : Reaches table bounds new view_new moved.Stepped
   pub end : Stands table new view_new
 
-module _ (table : Table) (old : Runner) (view : TapeView) (write : ℕ) (dir : Dir) (next : Next)
+module _ {table : Table} {old : Runner} {view : TapeView} {write : ℕ} {dir : Dir} {next : Next}
     (stands : Stands table old view)
     (here : Go write dir next ≡ entry_at table old.state (cell view.content old.position)) where
   pub running : old.state ≢ Halt
@@ -189,7 +189,7 @@ pub into_Z : (table : Table) (old : Runner) (view : TapeView) (write : ℕ) (dir
     (here : Go write dir next ≡ entry_at table old.state (cell view.content old.position))
     → IsSound view → GoesNowhere table (Go write dir next) → (new : Runner) (view_new : TapeView)
     → StepsTo old new next (beside dir old.position) → view_new ≡ written view old.position write
-    → Stepped table old view write dir next stands here new view_new
+    → Stepped stands here new view_new
 into_Z table old view write dir (State q) stands here sound nowhere new view_new steps is = absurd nowhere
 into_Z table old view write dir Halt stands here sound nowhere new view_new steps is =
     let zero : IsInside view (pos 0) = (sound.from_zero, sound.to_zero) in
@@ -220,7 +220,7 @@ pub into_state : (table : Table) (old : Runner) (view : TapeView) (write : ℕ) 
     → (mid new : Runner) (view_mid view_new : TapeView) (p : ℤ) → p ≡ beside dir old.position
     → IsWidened old mid p → view_mid ≡ visited view p
     → StepsTo mid new (State q) p → view_new ≡ written view_mid mid.position write
-    → Stepped table old view write dir (State q) stands here new view_new
+    → Stepped stands here new view_new
 into_state table old view write dir q stands here mid new view_mid view_new p there wider
     visited_is steps is =
     record {

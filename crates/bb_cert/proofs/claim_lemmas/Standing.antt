@@ -26,7 +26,7 @@ made state head tape = record { state = state; head = head; tape = tape }
 one_configuration : (s t : Next) (p q : ℤ) (c d : Content) → s ≡ t → p ≡ q → c ≡ d → made s p c ≡ made t q d
 one_configuration s t p q c d states heads tapes = cc
 
-module _ (table : Table) (a b : Runner) (view_a view_b : TapeView) (stands_a : Stands table a view_a)
+module _ {table : Table} {a b : Runner} {view_a view_b : TapeView} (stands_a : Stands table a view_a)
     (stands_b : Stands table b view_b) where
   pub same_of_alike : AreAlike a view_a b view_b → Same table (steps_of b) (steps_of a)
   same_of_alike alike = record {

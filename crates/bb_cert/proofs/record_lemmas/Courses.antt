@@ -215,14 +215,13 @@ module _ (table : Table) (side : Side) (before after : Runner) (run_before run_a
   told_by_window cells were told widens = by_state (state_of after) refl where
     by_state : (state : Next) → state_of after ≡ state → (told ≡ Some side) ↔ MakesRecordOutsideZ table side n
     by_state Halt halts = (
-      λ is. absurd (none_wider table before after run_before run_after stood stands next halts cells were side
+      λ is. absurd (none_wider stood stands next halts cells were side
           (subst (TellsWidening after cells) is widens)),
       λ made. absurd (outside made halts),
     )
     by_state (State q) is =
         let runs : state_of after ≢ Halt = λ halts. cc in
-        let just = makes_just table before after run_before run_after stood stands next runs cells were told
-        widens in (
+        let just = makes_just stood stands next runs were told widens in (
           λ is. (made_by told just is, running runs),
           λ made. tells_made told just made.0,
         )

@@ -252,7 +252,7 @@ MakesJust table n (Some R) = MakesRecord table R n × (MakesRecord table L n →
 MakesJust table n (Some L) = MakesRecord table L n × (MakesRecord table R n → ⊥)
 
 -- a runner that has made a step, and how its window was before
-module _ (table : Table) (before after : Runner) (run_before run_after : TapeView)
+module _ {table : Table} {before after : Runner} {run_before run_after : TapeView}
     (stood : Stands table before run_before) (stands : Stands table after run_after)
     (next : steps_of after ≡ steps_of before + 1) where
   abbrev n : ℕ
@@ -318,10 +318,9 @@ module _ (table : Table) (before after : Runner) (run_before run_after : TapeVie
     makes_none side within = none_within table side n running there
         (subst (λ p. out side p ≤ℤ out side (end table side n)) (sym head) within)
 
-    pub makes_just : (cells : ℕ) → cells ≡ cells_between (low_of before) (high_of before) →
-        (told : Option Side)
-        → TellsWidening after cells told → MakesJust table (n + 1) told
-    makes_just cells were None same = none_of where
+    pub makes_just : {cells : ℕ} → cells ≡ cells_between (low_of before) (high_of before)
+        → (told : Option Side) → TellsWidening after cells told → MakesJust table (n + 1) told
+    makes_just were None same = none_of where
       inside : (least (counted_head table) n ≤ℤ position_of after)
           × (position_of after ≤ℤ greatest (counted_head table) n)
       inside = within_ends _ _ _ in_order (sym (cells_are _ at) ∙ same ∙ were ∙ cells_were)
@@ -329,12 +328,12 @@ module _ (table : Table) (before after : Runner) (run_before run_after : TapeVie
       none_of : (side : Side) → MakesRecord table side (n + 1) → ⊥
       none_of R = makes_none R inside.1
       none_of L = makes_none L (turned _ _ inside.0)
-    makes_just cells were (Some L) told =
+    makes_just were (Some L) told =
         let below = below_low _ _ _ in_order
         (λ same. told.0 (cells_are _ at ∙ same ∙ sym (were ∙ cells_were)))
         (told.1 ∙ low_is ∙ ap (int_min (least (counted_head table) n)) at) in
         (makes L (omega (arith, ints, below)), makes_none R (omega (arith, ints, below, in_order)))
-    makes_just cells were (Some R) told =
+    makes_just were (Some R) told =
         let above = above_high _ _ _ in_order
         (λ same. told.0 (cells_are _ at ∙ same ∙ sym (were ∙ cells_were)))
         (λ low. told.1 (low ∙ sym (low_is ∙ ap (int_min (least (counted_head table) n)) at))) in

@@ -31,8 +31,8 @@ pub struct Pair<T> {
     pub saved: T,
 }
 
-/// Resets `meter`, answers whether the claim of a verdict on a machine holds, and records the cost in `meter`.
-/// Nothing past what the verdict names is run or walked.
+/// Resets `meter`, answers whether the claim of a verdict on a machine holds, and records the cost in
+/// `meter`. Nothing past what the verdict names is run or walked.
 ///
 /// After an error nothing is said of what the tapes hold; the next call resets them.
 pub fn check<T: Tape>(

@@ -1,6 +1,6 @@
 -- What the deciders that are on find, as the functions of this crate tell one another; no public contract
 -- cites it.
-use Rattle.std.specs.Prelude.{◌≡◌, ℕ, ◌+◌, ◌*◌, ◌≤◌, ◌⊎◌, max, Bool, false, IsTrue, Option, Some, None}
+use Rattle.std.specs.Prelude.{◌≡◌, ℕ, ◌+◌, ◌*◌, ◌≤◌, max, IsTrue, Option, Some, None}
 use Rattle.bb_machine.specs.Limits.{Bounds}
 use Rattle.bb_machine.specs.Machine.{Table}
 use Rattle.bb_sim.specs.declared.meter.Meter.{Meter}
@@ -14,17 +14,6 @@ use Rattle.bb_decide.specs.Cycle.{IsFirstCycle}
 use Rattle.bb_decide.specs.Translation.{IsFirstTranslation}
 use Rattle.bb_decide.specs.Verdict.{PassesAll, PassesCycles, PassesTranslations}
 use Rattle.bb_decide.specs.Work.{CountsWalk, CycleSteps, StepsIfMade, TranslationSteps}
-
--- what a decider finds where it is on: none where it is off, or there is nothing to find
-abbrev pub FindsIfOn : Bool → (Option Verdict → Type 0) → Option Verdict → Type 0
-FindsIfOn on finds None = IsTrue on → finds None
-FindsIfOn on finds (Some verdict) = IsTrue on × finds (Some verdict)
-
--- and what it counts: its search, or nothing where it is off
-abbrev pub CountsIfOn : Bool → (Option Verdict → Type 0) → (Meter → Meter → Option Verdict → Type 0) → Meter
-    → Meter → Option Verdict → Type 0
-CountsIfOn on finds counts old new found =
-    (IsTrue on × counts old new found × finds found) ⊎ ((on ≡ false) × (new ≡ old))
 
 -- what the two searches find, that for cycles first
 abbrev pub SearchesFind : Table → Bounds → Plan → Option Verdict → Type 0

@@ -11,7 +11,7 @@ use Rattle.bb_decide.proofs.decision.decide.Goals.{in-NoSteps, in-NoCells}
 pub returns-in-Halt-clause-counted : goal.returns-in-Halt-clause-counted
 returns-in-Halt-clause-counted g c =
     let outcome = rw c.in-Halt.is at c.in_ok-steps.ensures.outcome in
-    work_of_halt _ _ _ _ _ c.new.ensures c.in_ok-steps.ensures.counted _ outcome.0
+    work_of_halt _ c.new.ensures c.in_ok-steps.ensures.counted _ outcome.0
 
 pub returns-in-Some-clause-never : goal.returns-in-Some-clause-never
 returns-in-Some-clause-never g c = λ says.
@@ -22,11 +22,11 @@ pub returns-in-Some-clause-counted : goal.returns-in-Some-clause-counted
 returns-in-Some-clause-counted g c = elim c.match-branch-2.branch [
   | in-NoSteps w ↦
       let outcome = rw w.in-NoSteps.is at c.in_ok-steps.ensures.outcome in
-      work_of_deciders _ _ _ _ _ c.new.ensures c.in_ok-steps.ensures.counted outcome.0 _
+      work_of_deciders _ c.new.ensures c.in_ok-steps.ensures.counted outcome.0 _
       c.in_ok-verdict.ensures.counted
   | in-NoCells w ↦
       let outcome = rw w.in-NoCells.is at c.in_ok-steps.ensures.outcome in
-      work_of_deciders _ _ _ _ _ c.new.ensures c.in_ok-steps.ensures.counted outcome.0 _
+      work_of_deciders _ c.new.ensures c.in_ok-steps.ensures.counted outcome.0 _
       c.in_ok-verdict.ensures.counted
 ]
 
@@ -34,11 +34,11 @@ pub returns-in-None-clause-counted : goal.returns-in-None-clause-counted
 returns-in-None-clause-counted g c = elim c.match-branch-2.branch [
   | in-NoSteps w ↦
       let outcome = rw w.in-NoSteps.is at c.in_ok-steps.ensures.outcome in
-      work_of_deciders _ _ _ _ _ c.new.ensures c.in_ok-steps.ensures.counted outcome.0 _
+      work_of_deciders _ c.new.ensures c.in_ok-steps.ensures.counted outcome.0 _
       c.in_ok-verdict.ensures.counted
   | in-NoCells w ↦
       let outcome = rw w.in-NoCells.is at c.in_ok-steps.ensures.outcome in
-      work_of_deciders _ _ _ _ _ c.new.ensures c.in_ok-steps.ensures.counted outcome.0 _
+      work_of_deciders _ c.new.ensures c.in_ok-steps.ensures.counted outcome.0 _
       c.in_ok-verdict.ensures.counted
 ]
 

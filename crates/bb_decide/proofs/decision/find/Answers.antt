@@ -1,5 +1,4 @@
-use Rattle.bb_decide.proofs.Works.{counts_all, counts_searches, found_by_all, if_ok_map, if_ok_on}
-use Rattle.bb_decide.proofs.Works.{search_of_all}
+use Rattle.bb_decide.proofs.Works.{counts_all, counts_searches, if_ok_on, on_where_not, search_of_all}
 use Rattle.bb_decide.proofs.decision.find.Goals as goal
 
 pub returns-in-Some-clause-found : goal.returns-in-Some-clause-found
@@ -14,17 +13,10 @@ returns-in-Some-clause-counted g c =
     c.requires.most_levels
     c.requires.nodes found c.in_ok-verdict.ensures.counted
 
-pub returns-clause-found : goal.returns-clause-found
-returns-clause-found g c =
-    let passes = rw c.in-None.is at c.in_ok-verdict.ensures.found in
-    if_ok_map c.backward_if_on.result _ _
-    (λ found. found_by_all c.args.machine.now c.args.limits.now c.args.plan passes found)
-    c.backward_if_on.ensures.found
-
 pub returns-clause-counted : goal.returns-clause-counted
 returns-clause-counted g c =
     let passes = rw c.in-None.is at c.in_ok-verdict.ensures.found in
-    if_ok_on c.backward_if_on.result _ _
+    if_ok_on c.backward.result _ _ _
     (λ found. counts_all c.args.machine.now c.args.limits.now c.args.plan passes found _ _ _
-    c.requires.most_levels
-    c.requires.nodes c.in_ok-verdict.ensures.counted) c.backward_if_on.ensures.counted
+    c.in_ok-verdict.ensures.counted (on_where_not _ c.if-not-plan.false)) c.backward.ensures.found
+    c.backward.ensures.counted

@@ -1,30 +1,47 @@
-use Rattle.bb_decide.proofs.Works.{counts_both, counts_cycles, cycle_of_searches, found_by_searches}
-use Rattle.bb_decide.proofs.Works.{if_ok_map, if_ok_on, not_passed}
+use Rattle.bb_decide.proofs.Works.{PassedCycles, counts_both, counts_cycles, counts_one, cycle_of_searches}
+use Rattle.bb_decide.proofs.Works.{if_ok_on, off_where_not, on_where_not, passed_off, passed_on}
+use Rattle.bb_decide.proofs.decision.search.Given as given
 use Rattle.bb_decide.proofs.decision.search.Goals as goal
+use Rattle.bb_decide.proofs.decision.search.Goals.{then-plan+in_ok-verdict+in-None, else-plan}
 
 pub returns-in-Some-clause-found : goal.returns-in-Some-clause-found
 returns-in-Some-clause-found g c =
     let found = rw c.in-Some.is at c.in_ok-verdict.ensures.found in
-    cycle_of_searches c.args.machine.now c.args.limits.now c.args.plan _ found
+    cycle_of_searches c.args.machine.now c.args.limits.now c.args.plan _ c.if-plan.true found
 
 pub returns-in-Some-clause-counted : goal.returns-in-Some-clause-counted
 returns-in-Some-clause-counted g c =
     let found = rw c.in-Some.is at c.in_ok-verdict.ensures.found in
     let counted = rw c.in-Some.is at c.in_ok-verdict.ensures.counted in
-    counts_cycles c.args.machine.now c.args.limits.now c.args.plan c.in-Some.verdict _ _
-    (not_passed c.args.machine.now c.args.limits.now c.args.plan c.in-Some.verdict found) counted
+    counts_cycles _ c.if-plan.true found counted
 
-pub returns-clause-found : goal.returns-clause-found
-returns-clause-found g c =
-    let passes = rw c.in-None.is at c.in_ok-verdict.ensures.found in
-    if_ok_map c.translated_if_on.result _ _
-    (λ found. found_by_searches c.args.machine.now c.args.limits.now c.args.plan found passes)
-    c.translated_if_on.ensures.found
+passed : (g : given.Over) (c : goal.Then-not-plan g)
+    → PassedCycles c.args.machine.now c.args.limits.now c.args.plan c.args.meter.now c.if-plan.meter
+passed g c = elim c.if-plan.branch [
+  | then-plan+in_ok-verdict+in-None w ↦
+      let found = rw w.in-None.is at w.in_ok-verdict.ensures.found in
+      let counted = rw w.in-None.is at w.in_ok-verdict.ensures.counted in
+      rw w.meter-is (passed_on w.if-plan.true found counted)
+  | else-plan w ↦ passed_off w.if-plan.false w.meter-is
+]
+
+pub returns-then-not-plan-clause-found : goal.returns-then-not-plan-clause-found
+returns-then-not-plan-clause-found g c =
+    ((passed g c).passes, λ on. absurd (off_where_not _ c.if-not-plan.true on))
+
+pub returns-then-not-plan-clause-counted : goal.returns-then-not-plan-clause-counted
+returns-then-not-plan-clause-counted g c =
+    counts_one (passed g c) (off_where_not _ c.if-not-plan.true)
 
 pub returns-clause-counted : goal.returns-clause-counted
 returns-clause-counted g c =
-    let passes = rw c.in-None.is at c.in_ok-verdict.ensures.found in
-    let first = rw c.in-None.is at c.in_ok-verdict.ensures.counted in
-    if_ok_on c.translated_if_on.result _ _
-    (λ found. counts_both c.args.machine.now c.args.limits.now c.args.plan found _ _ _ passes first)
-    c.translated_if_on.ensures.counted
+    let passed : PassedCycles c.args.machine.now c.args.limits.now c.args.plan c.args.meter.now
+    c.if-plan.meter = elim c.if-plan.branch [
+      | then-plan+in_ok-verdict+in-None w ↦
+          let found = rw w.in-None.is at w.in_ok-verdict.ensures.found in
+          let counted = rw w.in-None.is at w.in_ok-verdict.ensures.counted in
+          rw w.meter-is (passed_on w.if-plan.true found counted)
+      | else-plan w ↦ passed_off w.if-plan.false w.meter-is
+    ] in
+    if_ok_on c.translated.result _ _ _ (counts_both passed (on_where_not _ c.if-not-plan.false))
+    c.translated.ensures.found c.translated.ensures.counted

@@ -20,7 +20,7 @@ returns-then-is_same-clause-checks g c =
     let second = rw (c.in-None-2.is, c.with_steps-limits.ensures) at c.in_ok-answer-2.ensures.runs in
     let kept = subst (Stands c.args.machine.now c.run_to.new.runner)
     (sym c.in-Ok.ensures.ok) first.under_way.stands in
-    let same = same_of_alike _ _ _ _ _ second.under_way.stands kept (c.is_same.ensures.0 c.if-is_same.true) in
+    let same = same_of_alike second.under_way.stands kept (c.is_same.ensures.0 c.if-is_same.true) in
     (fits_there c.args.limits.now second, (c.requires.order, rw (first.at, second.at) at same))
 
 pub returns-clause-checks : goal.returns-clause-checks
@@ -31,8 +31,7 @@ returns-clause-checks g c =
     (sym c.in-Ok.ensures.ok) first.under_way.stands in (
       fits_there c.args.limits.now second,
       λ claim.
-          let alike = alike_of_same _ _ _ _ _ second.under_way.stands kept
-          (rw (first.at, second.at) claim.1) in
+          let alike = alike_of_same second.under_way.stands kept (rw (first.at, second.at) claim.1) in
           let yes = c.is_same.ensures.1 alike in
           let no = c.if-is_same.false in
           cc,

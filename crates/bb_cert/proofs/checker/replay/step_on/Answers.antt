@@ -13,7 +13,7 @@ returns-in-Stepped-clause-steps g c =
         stands = c.in_ok-advance.ensures.stands;
         inside = reaches.0;
         limit = c.in_ok-advance.ensures.limit ∙ here.limit;
-        counts = rw moves.0 (counts_next _ _ _ _ _ here.counts moves.1);
+        counts = rw moves.0 (counts_next _ _ _ here.counts moves.1);
       };
       one_more = moves.0;
       near = reaches.1;

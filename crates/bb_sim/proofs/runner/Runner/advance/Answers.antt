@@ -70,7 +70,7 @@ returns-then-self-steps-clause-answers g c =
     let fits : FitsSigned w64 old.position = search rules in
     let by = goes table old view c.in-State.state c.read_inside-symbol.result c.in-Some.step c.in-State.is
     (simp to_z-of_z at c.read_inside-symbol.ensures) c.in-Some.ensures.value c.in-Some.ensures.named in
-    (moves_on table old view _ _ _ c.requires.stands by.here, cc)
+    (moves_on c.requires.stands by.here, cc)
 
 pub returns-then-self-steps-clause-reaches : goal.returns-then-self-steps-clause-reaches
 returns-then-self-steps-clause-reaches g c =
@@ -89,7 +89,7 @@ moved_by-position-requires g c =
     (simp to_z-of_z at c.read_inside-symbol.ensures) c.in-Some.ensures.value c.in-Some.ensures.named in
     let near =
     near_head table old view by.dir c.requires.stands
-    (running table old view _ _ _ c.requires.stands by.here) (g.met.T.Tape.sound c.args.tape.now) in
+    (running c.requires.stands by.here) (g.met.T.Tape.sound c.args.tape.now) in
     let low = near.small.0 in
     let high = near.small.1 in
     record { low = omega (arith, ints); high = omega (arith, ints) }
@@ -104,7 +104,7 @@ enter-requires-clause-near g c =
     (simp to_z-of_z at c.read_inside-symbol.ensures) c.in-Some.ensures.value c.in-Some.ensures.named
     (simp to_z-of_z at c.moved_by-position.ensures) in
     let near =
-    near_head _ old _ led.dir c.requires.stands (running _ _ _ _ _ _ c.requires.stands led.here)
+    near_head _ old _ led.dir c.requires.stands (running c.requires.stands led.here)
     (g.met.T.Tape.sound c.args.tape.now) in
     simp to_z-of_z (rw led.there near.near)
 
@@ -118,8 +118,8 @@ returns-then-not-enter-clause-answers g c =
     (simp to_z-of_z at c.read_inside-symbol.ensures) c.in-Some.ensures.value c.in-Some.ensures.named
     (simp to_z-of_z at c.moved_by-position.ensures) in
     let full = rw led.there at (simp to_z-of_z at c.if-not-enter.ensures.0) in
-    let spans = next-span _ _ _ _ _ _ c.requires.stands led.here in (
-      moves_on _ _ _ _ _ _ c.requires.stands led.here,
+    let spans = next-span c.requires.stands led.here in (
+      moves_on c.requires.stands led.here,
       λ e. c.if-self-steps.false cc,
       omega (arith, spans, full, c.requires.limit),
     )
@@ -144,7 +144,7 @@ step_to-requires-clause-inside g c =
     (simp to_z-of_z at c.read_inside-symbol.ensures) c.in-Some.ensures.value c.in-Some.ensures.named
     (simp to_z-of_z at c.moved_by-position.ensures) in
     let near =
-    near_head _ old _ led.dir c.requires.stands (running _ _ _ _ _ _ c.requires.stands led.here)
+    near_head _ old _ led.dir c.requires.stands (running c.requires.stands led.here)
     (g.met.T.Tape.sound c.args.tape.now) in
     let wider : IsWidened old c.enter.new.self c.moved_by-position.result =
     simp to_z-of_z at c.if-not-enter.ensures.2 in
@@ -160,7 +160,7 @@ returns-in_default-step_to-clause-wanted g c =
     let led = leads old (g.T.Tape.view c.args.tape.now) c.in-State.is
     (simp to_z-of_z at c.read_inside-symbol.ensures) c.in-Some.ensures.value c.in-Some.ensures.named
     (simp to_z-of_z at c.moved_by-position.ensures) in
-    wanted _ _ _ _ _ _ c.requires.stands led.here c.args.limits.now (λ e. c.if-self-steps.false cc)
+    wanted c.requires.stands led.here c.args.limits.now (λ e. c.if-self-steps.false cc)
     c.requires.limit (rw led.there at (simp to_z-of_z at c.if-not-enter.ensures.0))
 
 -- what all clauses of a step follow from
@@ -187,9 +187,9 @@ made_here g c =
     into_state table old view c.in-Some.step.write led.dir c.in-Some.step.state c.requires.stands led.here
     c.enter.new.self c.step_to.new.self (g.T.Tape.view c.enter.new.tape) (g.T.Tape.view c.step_to.new.tape)
     c.moved_by-position.result led.there wider visited_is steps c.in-Ok.ensures.written in
-    made table old view c.in-Some.step.write led.dir (State c.in-Some.step.state) c.requires.stands led.here
-    c.args.limits.now c.step_to.new.self (g.T.Tape.view c.step_to.new.tape) c.args.meter.now
-    c.step_to.new.meter (g.met.T.Tape.sound c.args.tape.now) led.named c.requires.limit c.requires.steps
+    made c.requires.stands led.here c.args.limits.now c.step_to.new.self
+    (g.T.Tape.view c.step_to.new.tape) c.args.meter.now c.step_to.new.meter
+    (g.met.T.Tape.sound c.args.tape.now) led.named c.requires.limit c.requires.steps
     (λ e. c.if-self-steps.false cc) room stepped_is
     (c.in-Ok.ensures.counted
     ∙ ap (stepped c.args.meter.now) (cells_stay c.enter.new.self c.step_to.new.self _ _ steps))

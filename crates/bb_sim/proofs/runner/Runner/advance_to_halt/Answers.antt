@@ -24,7 +24,7 @@ returns-in_default-clause-reaches g c =
 
 pub returns-then-self-steps-clause-answers : goal.returns-then-self-steps-clause-answers
 returns-then-self-steps-clause-answers g c =
-    (moves_on _ _ _ _ _ _ c.requires.stands (rw c.in-Go.is at c.requires.entry), cc)
+    (moves_on c.requires.stands (rw c.in-Go.is at c.requires.entry), cc)
 
 pub returns-then-self-steps-clause-reaches : goal.returns-then-self-steps-clause-reaches
 returns-then-self-steps-clause-reaches g c =
@@ -36,7 +36,7 @@ returns-then-self-steps-clause-reaches g c =
 pub beside-position-requires-clause-low : goal.beside-position-requires-clause-low
 beside-position-requires-clause-low g c =
     let n = near_head _ _ _ c.in-Go.dir c.requires.stands
-    (running _ _ _ _ _ _ c.requires.stands (rw c.in-Go.is at c.requires.entry))
+    (running c.requires.stands (rw c.in-Go.is at c.requires.entry))
     (g.met.T.Tape.sound c.args.tape.now) in
     let low = n.small.0 in
     omega (arith, ints)
@@ -44,7 +44,7 @@ beside-position-requires-clause-low g c =
 pub beside-position-requires-clause-high : goal.beside-position-requires-clause-high
 beside-position-requires-clause-high g c =
     let n = near_head _ _ _ c.in-Go.dir c.requires.stands
-    (running _ _ _ _ _ _ c.requires.stands (rw c.in-Go.is at c.requires.entry))
+    (running c.requires.stands (rw c.in-Go.is at c.requires.entry))
     (g.met.T.Tape.sound c.args.tape.now) in
     let high = n.small.1 in
     omega (arith, ints)
@@ -52,7 +52,7 @@ beside-position-requires-clause-high g c =
 pub step_to-requires-clause-inside : goal.step_to-requires-clause-inside
 step_to-requires-clause-inside g c =
     head_inside _ _ _ c.requires.stands
-    (running _ _ _ _ _ _ c.requires.stands (rw c.in-Go.is at c.requires.entry))
+    (running c.requires.stands (rw c.in-Go.is at c.requires.entry))
 
 pub step_to-requires-clause-symbol : goal.step_to-requires-clause-symbol
 step_to-requires-clause-symbol g c =
@@ -75,7 +75,7 @@ returns-in_default-step_to-clause-wanted g c =
     let fits =
     (fits_Z view c.in-Go.write c.in-Go.dir c.in-Go.next table (beside c.in-Go.dir old.position)
     (g.met.T.Tape.sound c.args.tape.now) nowhere).0 in
-    wanted table old view c.in-Go.write c.in-Go.dir c.in-Go.next c.requires.stands here c.args.limits.now
+    wanted c.requires.stands here c.args.limits.now
     (λ e. c.if-self-steps.false cc) c.requires.limit fits
 
 made_here : (g : given.Over) (c : goal.In-Ok g)
@@ -101,7 +101,7 @@ made_here g c =
     let stepped_is =
     into_Z table old view c.in-Go.write c.in-Go.dir c.in-Go.next c.requires.stands here sound nowhere
     c.step_to.new.self (g.T.Tape.view c.step_to.new.tape) steps c.in-Ok.ensures.written in
-    made table old view c.in-Go.write c.in-Go.dir c.in-Go.next c.requires.stands here c.args.limits.now
+    made c.requires.stands here c.args.limits.now
     c.step_to.new.self (g.T.Tape.view c.step_to.new.tape) c.args.meter.now c.step_to.new.meter
     sound end.1 c.requires.limit c.requires.steps (λ e. c.if-self-steps.false cc) end.0 stepped_is
     (c.in-Ok.ensures.counted ∙ ap (stepped c.args.meter.now) (cells_stay old c.step_to.new.self _ _ steps))
