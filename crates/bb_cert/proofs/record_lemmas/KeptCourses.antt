@@ -11,7 +11,7 @@ use Rattle.bb_sim.specs.Laws.{IsRunningAt}
 use Rattle.bb_sim.specs.Runner.{Stands, position_of, steps_of}
 use Rattle.bb_cert.specs.declared.checker.replay.Course.{Course}
 use Rattle.bb_cert.specs.declared.records.Records.{Records}
-use Rattle.bb_cert.specs.records.Agree.{Agree, AgreeingRecords}
+use Rattle.bb_cert.specs.records.Agree.{AgreeingRecords}
 use Rattle.bb_cert.specs.declared.verdict.Extent.{Extent}
 use Rattle.bb_cert.specs.declared.verdict.Side.{Side}
 use Rattle.bb_cert.specs.inside.Checks.{GoesOn, IsAtStep, IsCourse, KeepsStep, MakesRecord}
@@ -49,49 +49,6 @@ runs_at_pair table side a b pair = (
 ) where
   before : IsRunningAt table a (head_at table a)
   before = runs_before table a b pair.in_order (record { here = _; exists = pair.agree.at_second })
-
-module _ (table : Table) (runner : Runner) (run saved : TapeView) (course : Course)
-    (stands : Stands table runner run) (known : IsCourse table (steps_of runner) course saved) where
-  course_comparable : IsTrue course.is_record → IsKeptInStateOf course.records runner
-      → IsComparable course.records runner saved run
-  course_comparable makes =
-      comparable table runner run saved course.records stands known.followed (known.told.0 makes).0
-
-  -- this step makes a record that agrees with that of the step that is kept
-  pair_of_course : IsTrue course.is_record → AgreesWithKept course.records runner saved run
-      → (first : ℕ) → first < steps_of runner → KeepsStep table first course.records
-      → AgreeingRecords table course.records.side first (steps_of runner)
-  pair_of_course makes both first less kept =
-      let made = (known.told.0 makes).0 in
-      let some = numbered table runner run saved course.records stands known.followed made both.0 in
-      let at = kept.at both.0.0 in
-      record {
-        in_order = less;
-        first_number = known.followed.number;
-        second_number = made.0;
-        first_record = subst (IsRecord table course.records.side known.followed.number) at
-            (known.followed.kept some).made;
-        second_record = made.1;
-        agree = subst (λ a. Agree table course.records.side a (steps_of runner)) at
-            (agree_of_cells table runner run saved course.records stands known.followed made some both);
-      }
-
-  -- where it does, that was seen
-  course_of_pair : (first : ℕ) → first < steps_of runner → KeepsStep table first course.records
-      → AgreeingRecords table course.records.side first (steps_of runner)
-      → IsTrue course.is_record × AgreesWithKept course.records runner saved run
-  course_of_pair first less kept pair =
-      let made : MakesRecord table course.records.side (steps_of runner) =
-      (pair.second_number, pair.second_record) in
-      let runs = runs_at_pair table course.records.side first (steps_of runner) pair in
-      let apart = kept.made ((pair.first_number, pair.first_record), runs.0) in
-      let at = kept.at apart in
-      let some = numbered_at table course.records saved (steps_of runner) known.followed apart in (
-        known.told.1 (made, runs.1),
-        cells_of_agree table runner run saved course.records stands known.followed
-            made some (rw at less)
-            (subst (λ a. Agree table course.records.side a (steps_of runner)) (sym at) pair.agree),
-      )
 
 -- a course is known up to this step, whose record is kept, if it makes one
 pub record IsKeptAt (table : Table) (side : Side) (step : ℕ) (course : Course) (saved : TapeView)
@@ -169,37 +126,54 @@ module _ {table : Table} {bounds : Bounds} {side : Side} {first second : ℕ} {c
   same_side : course.records.side ≡ side
   same_side = is.goes.same.side ∙ is.kept.side_is
 
-  pub comparable_at : IsTrue course.is_record → IsKeptInStateOf course.records runner
-      → IsComparable course.records runner saved run
-  comparable_at = course_comparable table runner run saved course stands known_on
-
-  -- how the two lie, where they agree, is their extent
-  pub extent_at : (found : Extent) → IsTrue course.is_record
-      × AgreesWithKept course.records runner saved run × LiesAs course.records runner found
-      → IsExtent table side first second found
-  extent_at found agree =
-      let made = (known_on.told.0 agree.0).0 in
-      let some = numbered table runner run saved course.records stands known_on.followed made agree.1.0 in
-      let at = keeps_first.at agree.1.0.0 in
-      subst (λ s. IsExtent table s first second found) same_side
-      (subst (λ a. IsExtent table course.records.side a second found) at
-      (subst (λ b. IsExtent table course.records.side (steps_of course.records.kept) b found) is.there.at
-      (extent_of_records table runner run saved course.records stands known_on.followed made some found
-      agree.2)))
-
   less : first < steps_of runner
   less = rw is.there.at is.order
 
-  pub pair_at : IsTrue course.is_record → AgreesWithKept course.records runner saved run
-      → AgreeingRecords table side first second
-  pair_at makes both = subst (λ s. AgreeingRecords table s first second) same_side
-      (subst (λ n. AgreeingRecords table course.records.side first n) is.there.at
-      (pair_of_course table runner run saved course stands known_on makes both first less keeps_first))
+  pub comparable_at : IsTrue course.is_record → IsKeptInStateOf course.records runner
+      → IsComparable course.records runner saved run
+  comparable_at makes =
+      comparable table runner run saved course.records stands known_on.followed (known_on.told.0 makes).0
 
+  -- the second makes a record, which agrees with the kept one
+  module _ (makes : IsTrue course.is_record) (both : AgreesWithKept course.records runner saved run) where
+    made : MakesRecord table course.records.side (steps_of runner)
+    made = (known_on.told.0 makes).0
+
+    some : 0 < known_on.followed.number
+    some = numbered table runner run saved course.records stands known_on.followed made both.0
+
+    at : steps_of course.records.kept ≡ first
+    at = keeps_first.at both.0.0
+
+    -- how the two lie is their extent
+    pub extent_at : {found : Extent} → LiesAs course.records runner found
+        → IsExtent table side first second found
+    extent_at lies = rw (sym same_side, sym at, sym is.there.at) (extent_of_records table runner run saved
+        course.records stands known_on.followed made some _ lies)
+
+    pub pair_at : AgreeingRecords table side first second
+    pair_at = rw (sym same_side, sym is.there.at) (record {
+      in_order = less;
+      first_number = known_on.followed.number;
+      second_number = made.0;
+      first_record = subst (IsRecord table course.records.side known_on.followed.number) at
+          (known_on.followed.kept some).made;
+      second_record = made.1;
+      agree = rw (sym at)
+          (agree_of_cells table runner run saved course.records stands known_on.followed made some both);
+    })
+
+  -- where they agree, that was seen
   pub no_pair_at : (IsTrue course.is_record → AgreesWithKept course.records runner saved run → ⊥)
       → AgreeingRecords table side first second → ⊥
-  no_pair_at none pair =
-      let seen = course_of_pair table runner run saved course stands known_on first less keeps_first
-      (subst (λ n. AgreeingRecords table course.records.side first n) (sym is.there.at)
-      (subst (λ s. AgreeingRecords table s first second) (sym same_side) pair)) in
-      none seen.0 seen.1
+  no_pair_at none agreeing =
+      let pair : AgreeingRecords table course.records.side first (steps_of runner) =
+      rw (same_side, is.there.at) agreeing in
+      let runs = runs_at_pair table course.records.side first (steps_of runner) pair in
+      let apart = keeps_first.made ((pair.first_number, pair.first_record), runs.0) in
+      let at = keeps_first.at apart in
+      none (known_on.told.1 ((pair.second_number, pair.second_record), runs.1))
+      (cells_of_agree table runner run saved course.records stands known_on.followed
+      (pair.second_number, pair.second_record)
+      (numbered_at table course.records saved (steps_of runner) known_on.followed apart)
+      (rw at less) (rw at pair.agree))

@@ -23,29 +23,29 @@ use Rattle.bb_cert.specs.inside.Walk.{shown_node, branches, comb_of, content_in,
 use Rattle.bb_cert.specs.inside.Steps.{HasTable, Enters, Explores, IsFirstBranch, entered_on}
 use Rattle.bb_cert.proofs.tree_lemmas.Comb.{walk_enters, walk_leaves, walk_refused}
 
-frame_wider : (list : List Rule) (low high low' high' : ℤ) (content : Content) (level : ℕ) (f : Frame)
-    → low' ≤ℤ low → high ≤ℤ high' → IsFrame list low high content level f
-    → IsFrame list low' high' content level f
-frame_wider list low high low' high' content level f below above is = record {
+-- a frame of a narrower window is one of a wider one, also with another rule to be tried next
+frame_kept : {list : List Rule} {low high low' high' : ℤ} {content : Content} {level : ℕ} {f : Frame}
+    (next : ℕ) → low' ≤ℤ low → high ≤ℤ high' → next ≤ f.end → IsFrame list low high content level f
+    → IsFrame list low' high' content level (record f { next = next })
+frame_kept next below above within is = record {
   not_below = is.not_below;
   not_above = is.not_above;
   from_low = let a = is.from_low in omega (arith, ints, a, below);
   to_high = let a = is.to_high in omega (arith, ints, a, above);
   symbol = is.symbol;
-  in_order = is.in_order;
+  in_order = within;
   in_rules = is.in_rules;
   nonzero_known = is.nonzero_known;
   few_nonzero = is.few_nonzero;
 }
 
-frames_wider : (list : List Rule) (low high low' high' : ℤ) → low' ≤ℤ low → high ≤ℤ high'
+frames_wider : (list : List Rule) {low high low' high' : ℤ} → low' ≤ℤ low → high ≤ℤ high'
     → (fs : List Frame) (content : Content) → AreFrames list low high content fs
     → AreFrames list low' high' content fs
-frames_wider list low high low' high' below above [] content are = are
-frames_wider list low high low' high' below above (f ∷ fs) content are = (
-  frame_wider list low high low' high' content (length fs) f below above are.0,
-  frames_wider list low high
-      low' high' below above fs (with_cell content f.position f.before) are.1,
+frames_wider list below above [] content are = are
+frames_wider list below above (f ∷ fs) content are = (
+  frame_kept f.next below above are.0.in_order are.0,
+  frames_wider list below above fs (with_cell content f.position f.before) are.1,
 )
 
 pub comb_long : (list : List Rule) (rest : List Node) (fs : List Frame) (content : Content)
@@ -107,8 +107,7 @@ module _ {list : List Rule} {starts : List ℕ} (known : HasTable list starts) {
       → AreFrames list new.low new.high new.content (frame ∷ fs)
   frames_entered fs long are = (
     subst (λ n. IsFrame list new.low new.high new.content n frame) (sym long) frame_is,
-    frames_wider list old.low old.high new.low new.high
-        (subst (λ l. l ≤ℤ old.low) (sym enters.low) (int_min_below old.low branch.position))
+    frames_wider list (subst (λ l. l ≤ℤ old.low) (sym enters.low) (int_min_below old.low branch.position))
         (subst (λ h. old.high ≤ℤ h) (sym enters.high) (int_max_above old.high branch.position))
         fs _ (subst (λ c. AreFrames list old.low old.high c fs) (sym undone) are),
   )
@@ -184,22 +183,8 @@ exploring_begins {list} {starts} {root} {old} {before = before} {after} {frame} 
           (sym counted) now;
     }
 
--- the frames of a node whose rules were tried up to one
-
-tried_frame : (list : List Rule) (low high : ℤ) (content : Content) (level : ℕ) (f : Frame) (next : ℕ)
-    → next ≤ f.end → IsFrame list low high content level f
-    → IsFrame list low high content level (record f { next = next })
-tried_frame list low high content level f next within is = record {
-  not_below = is.not_below;
-  not_above = is.not_above;
-  from_low = is.from_low;
-  to_high = is.to_high;
-  symbol = is.symbol;
-  in_order = within;
-  in_rules = is.in_rules;
-  nonzero_known = is.nonzero_known;
-  few_nonzero = is.few_nonzero;
-}
+same_place : (z : ℤ) → z ≤ℤ z
+same_place z = omega (arith, ints)
 
 below_more : (p q : ℤ) (n : ℕ) → neg_ℤ (pos n) ≤ℤ p → p ≤ℤ (q +ℤ pos 1) → neg_ℤ (pos (n + 1)) ≤ℤ q
 below_more p q n a b = omega (arith, ints, a, b)
@@ -303,8 +288,7 @@ module _ {list : List Rule} {starts : List ℕ} {root : Branch} {old most : Coun
     exploring_descends {after} {child} {then_entered} {then_frames} known symbols enters deep counted pushed =
         let order : reverse then_frames ≡ tried_top ∷ reverse frames = ap reverse pushed ∙ reversed in
         let are_tried : AreFrames list view.low view.high view.content (tried_top ∷ reverse frames) = (
-          tried_frame list view.low view.high view.content (length (reverse frames)) top next
-              first.within now.are.0,
+          frame_kept next (same_place _) (same_place _) first.within now.are.0,
           now.are.1,
         ) in
         let deep_frames : length (tried_top ∷ reverse frames) ≡ length frames + 1 = let l = long in

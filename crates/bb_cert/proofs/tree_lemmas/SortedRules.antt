@@ -322,7 +322,7 @@ are_rules table list starts machine is_list is_starts =
 
 -- while the rules of the first n states are gathered
 
-module _ (table : Table) (machine : IsMachine table) (list : List Rule) (starts : List ℕ) (n states : ℕ)
+module _ {table : Table} (machine : IsMachine table) {list : List Rule} {starts : List ℕ} (n : ℕ) {states : ℕ}
     (is_list : list ≡ sorted table n) (is_starts : starts ≡ starts_of table n) (all : states ≡ length table)
   where
     pub room_for_state : length list + length (rules_to table (State n)) ≤ MAX_STATES * MAX_SYMBOLS
@@ -340,10 +340,10 @@ module _ (table : Table) (machine : IsMachine table) (list : List Rule) (starts 
         let most = machine.states in
         omega (arith, e, long, most, h, all)
 
-    pub rules_gathered : n ≤ states → states ≤ n → (then_list : List Rule) (then_starts : List ℕ)
+    pub rules_gathered : n ≤ states → states ≤ n → {then_list : List Rule} {then_starts : List ℕ}
         → then_list ≡ list ++ rules_to table Halt → then_starts ≡ starts ++ (length then_list ∷ [])
         → AreRules table then_list then_starts
-    rules_gathered h past then_list then_starts more more_starts =
+    rules_gathered h past {then_list} {then_starts} more more_starts =
         let e : n ≡ length table = omega (arith, h, past, all) in
         are_rules table then_list then_starts machine
         (more ∙ ap (λ l. l ++ rules_to table Halt) (is_list ∙ ap (sorted table) e))

@@ -49,7 +49,8 @@ apart told is isnt = cc
 pub returns-then-not-is_as_told-clause-checks : goal.returns-then-not-is_as_told-clause-checks
 returns-then-not-is_as_told-clause-checks g c =
     let is = both_run g (goal.at.returns-then-not-is_as_told-clause-checks g c).In-None-2 in
-    let said = said_as_found (extent_at is _ c.in-Some-agreement.ensures.agree) c.args.extent in (
+    let agree = c.in-Some-agreement.ensures.agree in
+    let said = said_as_found (extent_at is agree.0 agree.1 agree.2) c.args.extent in (
       fits_there c.args.limits.now is.there,
       λ claim. apart _ (c.is_as_told.ensures.1 (said.1 claim.1)) c.if-not-is_as_told.true,
     )
@@ -58,7 +59,7 @@ pub returns-clause-checks : goal.returns-clause-checks
 returns-clause-checks g c =
     let is = both_run g (goal.at.returns-clause-checks g c).In-None-2 in
     let agree = c.in-Some-agreement.ensures.agree in
-    let said = said_as_found (extent_at is _ agree) c.args.extent in (
+    let said = said_as_found (extent_at is agree.0 agree.1 agree.2) c.args.extent in (
       fits_there c.args.limits.now is.there,
       (pair_at is agree.0 agree.1, said.0 (c.is_as_told.ensures.0 c.if-not-is_as_told.false)),
     )

@@ -1,4 +1,4 @@
-use Rattle.std.proofs.Common.{◌≡◌, ℕ, ◌+◌, ◌<◌, ◌≤◌, refl, ap, ◌∙◌, arith, rules}
+use Rattle.std.proofs.Common.{◌≡◌, ℕ, ◌+◌, ◌<◌, ◌≤◌, refl, ◌∙◌, arith, rules}
 use Rattle.bb_machine.specs.declared.limits.TheConstants.{MAX_LEVELS}
 use Rattle.bb_cert.proofs.tree_lemmas.Entering.{room_written}
 use Rattle.bb_cert.proofs.tree_lemmas.Exploring.{exploring_begins, top_is, top_low, top_high}
@@ -115,7 +115,7 @@ returns-in_err-leave-in-None g c =
       explores = search rules;
       room = rw kept c.loop-branch.invariant.room;
       within = c.loop-branch.invariant.within;
-      limit = ap (λ s. s.limit) kept ∙ c.loop-branch.invariant.limit;
+      limit = rw kept c.loop-branch.invariant.limit;
       depth = c.loop-branch.invariant.depth;
       memory = search rules;
     }
@@ -128,7 +128,7 @@ loop-branch-preserved g c =
           c.in-Some-pop.ensures.frames;
       room = rw left (room_written _ _ _ _ c.loop-branch.invariant.room);
       within = c.loop-branch.invariant.within;
-      limit = ap (λ s. s.limit) left ∙ c.loop-branch.invariant.limit;
+      limit = rw left c.loop-branch.invariant.limit;
       depth = c.pop.ensures.depth ∙ c.loop-branch.invariant.depth;
     }
 
@@ -140,7 +140,7 @@ returns-in-None-pop g c =
           c.in-None-pop.ensures.frames refl;
       room = rw left (room_written _ _ _ _ c.loop-branch.invariant.room);
       within = c.loop-branch.invariant.within;
-      limit = ap (λ s. s.limit) left ∙ c.loop-branch.invariant.limit;
+      limit = rw left c.loop-branch.invariant.limit;
       depth = c.pop.ensures.depth ∙ c.loop-branch.invariant.depth;
       memory = tt;
     }
