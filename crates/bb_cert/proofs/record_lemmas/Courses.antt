@@ -159,38 +159,26 @@ module _ (table : Table) (side : Side) (before after : Runner) (run_before run_a
   abbrev n : ℕ
   n = steps_of before + 1
 
+  abbrev now : Configuration
+  now = record { state = state_of after; head = position_of after; tape = run_after.content }
+
+  stands_now : conf table n ≡ Some now
+  stands_now = rw next at stands.at
+
   outside : MakesRecordOutsideZ table side n → state_of after ≢ Halt
-  outside made halts =
-      let there = made.1.exists in
-      let at = stands.at in
-      made.1.runs (state_is made.1.here halts (rw next at at) there) where
-        state_is : (here : Configuration) → state_of after ≡ Halt
-            → conf table n ≡ Some (record {
-              state = state_of after;
-              head = position_of after;
-              tape =
-                  run_after.content;
-            })
-            → conf table n ≡ Some here → here.state ≡ Halt
-        state_is here halts a b =
-            let same : record {
-              state = state_of after;
-              head = position_of after;
-              tape =
-                  run_after.content;
-            } ≡ here = cc in
-            sym (ap (λ (c : Configuration). c.state) same) ∙ halts
+  outside made halts = made.1.runs (state_is made.1.here halts stands_now made.1.exists) where
+    state_is : (here : Configuration) → state_of after ≡ Halt → conf table n ≡ Some now
+        → conf table n ≡ Some here → here.state ≡ Halt
+    state_is here halts a b =
+        let same : now ≡ here = cc in
+        sym (ap (λ (c : Configuration). c.state) same) ∙ halts
 
   running : state_of after ≢ Halt → IsRunningAt table n (head_at table n)
   running runs = record {
     here = _;
-    exists = subst (λ m. conf table m ≡ Some (record {
-      state = state_of after;
-      head = position_of after;
-      tape = run_after.content;
-    })) next stands.at;
+    exists = stands_now;
     runs = runs;
-    at = sym (ap (head_at table) (sym next) ∙ head_at-is table (steps_of after) _ stands.at);
+    at = sym (head_at-is table n _ stands_now);
   }
 
   made_by : (told : Option Side) → MakesJust table n told → told ≡ Some side → MakesRecord table side n
@@ -232,10 +220,8 @@ pub course-next : (table : Table) (n : ℕ) (old new : Course) (saved : TapeView
     → IsTrue new.is_record ↔ MakesRecordOutsideZ table old.records.side (n + 1)
     → IsCourse table n old saved → IsCourse table (n + 1) new saved
 course-next table n old new saved position there at is told course = record {
-  followed = subst (λ r. IsFollowed table (n + 1) r saved) (sym is)
-      (followed-next table n old.records saved there position at course.followed);
-  told = subst (λ (r : Records). IsTrue new.is_record ↔ MakesRecordOutsideZ table r.side (n + 1))
-      (sym is) told;
+  followed = rw is (followed-next table n old.records saved there position at course.followed);
+  told = rw is told;
 }
 
 -- the record of a step stays kept
@@ -261,7 +247,7 @@ pub goes-next : {table : Table} {from : ℕ} {first old new : Course} {before af
     → GoesOn table from (steps_of after) first new
 goes-next {table} {old = old} {new} {before} {after} {cells = cells} goes stood stands next were passes
     = record {
-      course = λ saved begun. subst (λ k. IsCourse table k new saved) (sym next)
+      course = λ saved begun. rw next
           (course-next table (steps_of before) old new saved (position_of after)
           (subst (Exists table) next (record { here = _; exists = stands.at }))
           (sym (head_at-is table (steps_of after) _ stands.at) ∙ ap (head_at table) next) passes.records told

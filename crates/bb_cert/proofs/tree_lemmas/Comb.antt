@@ -132,10 +132,10 @@ has_node : (table : Table) (node : Node) (rest : List Node) (i : ℕ) → IsPart
     → level table i ≢ []
 has_node table node rest i part none = part_of_none node part.earlier (rest ++ part.rest) (sym none ∙ part.is)
 
-pub walk_enters : (table : Table) (node : Node) (rest : List Node) (comb : List (List Node))
-    (nodes levels : ℕ) → IsWalked table ((node ∷ rest) ∷ comb) nodes levels → (Matches node start → ⊥)
+pub walk_enters : {table : Table} {node : Node} {rest : List Node} {comb : List (List Node)}
+    {nodes levels : ℕ} → IsWalked table ((node ∷ rest) ∷ comb) nodes levels → (Matches node start → ⊥)
     → IsWalked table (before table node ∷ rest ∷ comb) (nodes + 1) (max levels (length comb + 1))
-walk_enters table node rest comb nodes levels walked apart = record {
+walk_enters {table} {node} {rest} {comb} {levels = levels} walked apart = record {
   counted = λ h deep.
       let old = walked.counted h (omega (arith, deep)) in
       let new = below_entered table node rest comb h (omega (arith, deep)) in
@@ -160,9 +160,9 @@ no_matches table comb i (inr further) = further
 no_matches table comb i (inl both) =
     absurd (subst (λ nodes. MatchesOne nodes start) (grown-empty table (i - length comb)) both.1)
 
-pub walk_leaves : (table : Table) (comb : List (List Node)) (nodes levels : ℕ)
+pub walk_leaves : {table : Table} {comb : List (List Node)} {nodes levels : ℕ}
     → IsWalked table ([] ∷ comb) nodes levels → IsWalked table comb nodes levels
-walk_leaves table comb nodes levels walked = record {
+walk_leaves {table} {comb} walked = record {
   counted = λ h deep.
       let old = walked.counted h deep in
       let none = empty_below table (h - length comb) in
@@ -174,16 +174,16 @@ walk_leaves table comb nodes levels walked = record {
 
 -- the tree goes on where a node is still to be entered
 
-module _ (table : Table) (node : Node) (rest : List Node) (comb : List (List Node)) (nodes levels : ℕ)
-    (walked : IsWalked table ((node ∷ rest) ∷ comb) nodes levels) (h k : ℕ) (ends : Ends table h k) where
-  pub goes_deeper : length comb < h
+module _ {table : Table} {node : Node} {rest : List Node} {comb : List (List Node)} {nodes levels : ℕ}
+    (walked : IsWalked table ((node ∷ rest) ∷ comb) nodes levels) {h k : ℕ} (ends : Ends table h k) where
+  goes_deeper : length comb < h
   goes_deeper = elim (cases_lt (length comb) h) [
     | inl less ↦ less
     | inr more ↦ absurd (has_node table node rest (length comb) walked.parts.0
         (empty_levels_stay table h (length comb) more ends.is_empty))
   ]
 
-  pub goes_further : nodes < k
+  goes_further : nodes < k
   goes_further =
       let deep : levels ≤ h = elim (cases_lt h levels) [
         | inl less ↦ absurd (walked.reached h less ends.is_empty)
@@ -194,31 +194,30 @@ module _ (table : Table) (node : Node) (rest : List Node) (comb : List (List Nod
       let size = ends.counted in
       omega (arith, all, more, size)
 
-  pub never_clear : Matches node start → Clear table h → ⊥
+  never_clear : Matches node start → Clear table h → ⊥
   never_clear here clear =
       let part = walked.parts.0 in
       let one : MatchesOne (part.earlier ++ ((node ∷ rest) ++ part.rest)) start =
       one-append_right (λ n. Matches n start) part.earlier ((node ∷ rest) ++ part.rest) (inl here) in
       clear.clear (length comb) goes_deeper (subst (λ ns. MatchesOne ns start) (sym part.is) one)
 
-pub walk_refused : (table : Table) (node : Node) (rest : List Node) (comb : List (List Node))
-    (nodes levels most_nodes most_levels : ℕ) → IsWalked table ((node ∷ rest) ∷ comb) nodes levels
+pub walk_refused : {table : Table} {node : Node} {rest : List Node} {comb : List (List Node)}
+    {nodes levels most_nodes most_levels : ℕ} → IsWalked table ((node ∷ rest) ∷ comb) nodes levels
     → Refused node (length comb) nodes most_nodes most_levels → EndsNowhere table most_levels most_nodes
-walk_refused table node rest comb nodes levels most_nodes most_levels walked (too_deep deep) = record {
+walk_refused walked (too_deep deep) = record {
   nowhere = λ h k within.
-      let more = goes_deeper table node rest comb nodes levels walked h k within.ends in
+      let more = goes_deeper walked within.ends in
       let most = within.within_levels in
       omega arith;
 }
-walk_refused table node rest comb nodes levels most_nodes most_levels walked (too_many many) = record {
+walk_refused walked (too_many many) = record {
   nowhere = λ h k within.
-      let more = goes_further table node rest comb nodes levels walked h k within.ends in
+      let more = goes_further walked within.ends in
       let most = within.within_nodes in
       omega arith;
 }
-walk_refused table node rest comb nodes levels most_nodes most_levels walked (matched here) = record {
-  nowhere = λ h k within. never_clear table node rest comb nodes levels walked h k within.ends here
-      within.clear;
+walk_refused walked (matched here) = record {
+  nowhere = λ h k within. never_clear walked within.ends here within.clear;
 }
 
 -- the walk's start and its end
@@ -240,9 +239,9 @@ none_if_short : (nodes : List Node) → length nodes ≡ 0 → nodes ≡ []
 none_if_short [] e = refl
 none_if_short (n ∷ nodes) e = absurd (omega arith)
 
-pub walk_ends : (table : Table) (nodes levels : ℕ) → IsWalked table ([] ∷ []) nodes levels
+pub walk_ends : {table : Table} {nodes levels : ℕ} → IsWalked table ([] ∷ []) nodes levels
     → Ends table levels nodes × Clear table levels
-walk_ends table nodes levels walked =
+walk_ends {table} {levels = levels} walked =
     let here = walked.counted levels (omega arith) in
     let next = walked.counted (suc levels) (omega arith) in
     let none_here = empty_below table (levels - 0) in

@@ -1,6 +1,6 @@
 -- What entering a branch does to the tape and its window.
 use Rattle.std.proofs.Common.{◌≡◌, ℕ, ◌+◌, ◌-◌, ◌<◌, min, List, slice_index, ℤ, pos, neg_ℤ, ◌≤ℤ◌, refl, ap}
-use Rattle.std.proofs.Common.{sym, subst, ◌∙◌, arith}
+use Rattle.std.proofs.Common.{arith}
 use Rattle.std.specs.Int.{int_min, int_max}
 use Rattle.std.proofs.lemmas.Int.{ints, clamps}
 use Rattle.bb_tape.specs.Content.{Content, cell}
@@ -48,17 +48,16 @@ module _ {states level : ℕ} (old : TapeView) {branch : Branch}
   -- after the window was widened
   module _ {widened : TapeView} {p : ℤ} (same : p ≡ branch.position) (first : widened ≡ visited old p) where
     pub room_widened : {levels : ℕ} → HasRoom old levels → level < levels → HasRoom widened levels
-    room_widened {levels} room deep = subst (λ s. HasRoom s levels) (sym (first ∙ ap (visited old) same))
+    room_widened {levels} room deep = rw (first, same)
         (room_visited old branch.position level levels room deep is.not_below is.not_above)
 
     -- and the symbol written
     module _ {new : TapeView} (second : new ≡ written widened p (branch.symbol + 1)) where
       whole : new ≡ written (visited old branch.position) branch.position (branch.symbol + 1)
-      whole = second ∙ ap (λ s. written s p (branch.symbol + 1)) first
-          ∙ ap (λ q. written (visited old q) q (branch.symbol + 1)) same
+      whole = rw (second, first, same) refl
 
       pub room_entered : {levels : ℕ} → HasRoom old levels → level < levels → HasRoom new levels
-      room_entered {levels} room deep = subst (λ s. HasRoom s levels) (sym second)
+      room_entered {levels} room deep = rw second
           (room_written widened p (branch.symbol + 1) levels (room_widened room deep))
 
       module _ {nonzero : ℕ}
@@ -99,7 +98,7 @@ module _ {states level : ℕ} (old : TapeView) {branch : Branch}
           before = refl;
           next = is_next;
           to = is_to;
-          nonzero_known = subst (λ c. HasNonzero c nonzero) (sym (ap (λ s. s.content) whole)) more_nonzero;
+          nonzero_known = rw (ap (λ s. s.content) whole) more_nonzero;
           few_nonzero = let few = is.few_nonzero in omega (arith, sum, few);
           apart = λ matches. apart
               (matched_in_a (content_in old.content branch) branch.position branch.state matches)

@@ -1,6 +1,6 @@
 -- What a walk knows between its steps, and why each step keeps it.
 use Rattle.std.proofs.Common.{◌≡◌, ℕ, ◌+◌, ◌-◌, ◌<◌, ◌≤◌, max, true, false, List, [], ◌∷◌, ◌++◌, length}
-use Rattle.std.proofs.Common.{reverse, slice_index, slice_range, ℤ, pos, neg_ℤ, ◌+ℤ◌, ◌≤ℤ◌, refl, ap, sym}
+use Rattle.std.proofs.Common.{reverse, ℤ, pos, neg_ℤ, ◌+ℤ◌, ◌≤ℤ◌, refl, ap, sym}
 use Rattle.std.proofs.Common.{subst, ◌∙◌, length-append, arith}
 use Rattle.std.specs.Int.{int_min, int_max}
 use Rattle.std.specs.List.{flat_map}
@@ -19,7 +19,7 @@ use Rattle.bb_cert.specs.declared.tree.walk.Count.{Count}
 use Rattle.bb_cert.specs.tree.Tree.{Node, before, before_by}
 use Rattle.bb_cert.specs.inside.Walk.{AreRules, AreFrames, IsFrame, IsBranch, IsRange, IsWalked, HasNonzero}
 use Rattle.bb_cert.specs.inside.Walk.{Refused}
-use Rattle.bb_cert.specs.inside.Walk.{shown_node, branches, comb_of, content_in, branch_node}
+use Rattle.bb_cert.specs.inside.Walk.{branches, comb_of, branch_node}
 use Rattle.bb_cert.specs.inside.Steps.{HasTable, Enters, Explores, IsFirstBranch, entered_on}
 use Rattle.bb_cert.proofs.tree_lemmas.Comb.{walk_enters, walk_leaves, walk_refused}
 
@@ -72,30 +72,21 @@ module _ {list : List Rule} {starts : List ℕ} (known : HasTable list starts) {
     {old new : TapeView} {frame : Frame} (enters : Enters starts branch level old new frame)
     (is : IsBranch (length starts - 2) old.content level branch) (symbols : HasSymbols old.content) where
   undone : with_cell new.content frame.position frame.before ≡ old.content
-  undone =
-      ap (λ p. with_cell new.content p frame.before) enters.position
-      ∙ ap (λ c. with_cell c branch.position frame.before) enters.content
-      ∙ ap (with_cell (content_in old.content branch) branch.position) (enters.before ∙ is.held)
-      ∙ put_back old.content branch.position (branch.symbol + 1)
+  undone = rw (enters.position, enters.content, enters.before, is.held)
+      (put_back old.content branch.position (branch.symbol + 1))
 
   in_states : (table : Table) → AreRules table list starts → branch.state < length table
   in_states table rules = let n = rules.count in let s = is.state in omega (arith, n, s)
 
   range : IsRange known.0 list frame.next frame.end (State branch.state)
-  range =
-      subst (λ n. IsRange known.0 list n frame.end (State branch.state)) (sym enters.next)
-      (subst (λ t. IsRange known.0 list (slice_index starts branch.state) t (State branch.state))
-      (sym enters.to)
-      (known.1.to_state branch.state (in_states known.0 known.1)))
+  range = rw (enters.next, enters.to) (known.1.to_state branch.state (in_states known.0 known.1))
 
   frame_is : IsFrame list new.low new.high new.content level frame
   frame_is = record {
-    not_below = subst (λ p. neg_ℤ (pos level) ≤ℤ p) (sym enters.position) is.not_below;
-    not_above = subst (λ p. p ≤ℤ pos level) (sym enters.position) is.not_above;
-    from_low = subst (λ p. new.low ≤ℤ p) (sym enters.position)
-        (subst (λ l. l ≤ℤ branch.position) (sym enters.low) (min_second old.low branch.position));
-    to_high = subst (λ p. p ≤ℤ new.high) (sym enters.position)
-        (subst (λ h. branch.position ≤ℤ h) (sym enters.high) (max_second old.high branch.position));
+    not_below = rw enters.position is.not_below;
+    not_above = rw enters.position is.not_above;
+    from_low = rw (enters.position, enters.low) (min_second old.low branch.position);
+    to_high = rw (enters.position, enters.high) (max_second old.high branch.position);
     symbol = let most = symbols branch.position in let e = enters.before ∙ is.held in omega (arith, most, e);
     in_order = range.in_order;
     in_rules = range.within;
@@ -106,27 +97,18 @@ module _ {list : List Rule} {starts : List ℕ} (known : HasTable list starts) {
   pub frames_entered : (fs : List Frame) → length fs ≡ level → AreFrames list old.low old.high old.content fs
       → AreFrames list new.low new.high new.content (frame ∷ fs)
   frames_entered fs long are = (
-    subst (λ n. IsFrame list new.low new.high new.content n frame) (sym long) frame_is,
-    frames_wider list (subst (λ l. l ≤ℤ old.low) (sym enters.low) (int_min_below old.low branch.position))
-        (subst (λ h. old.high ≤ℤ h) (sym enters.high) (int_max_above old.high branch.position))
-        fs _ (subst (λ c. AreFrames list old.low old.high c fs) (sym undone) are),
+    rw long frame_is,
+    frames_wider list {low = old.low} {high = old.high}
+        (rw enters.low (int_min_below old.low branch.position))
+        (rw enters.high (int_max_above old.high branch.position)) fs _ (rw undone are),
   )
 
   branches_before : (table : Table) → AreRules table list starts
       → branches list new.content frame ≡ before table (branch_node old.content branch)
   branches_before table rules =
-      ap (λ c. flat_map (before_by (shown_node c frame.position frame.state))
-      (slice_range list frame.next frame.end)) enters.content
-      ∙ ap (λ p. flat_map (before_by (shown_node (content_in old.content branch) p frame.state))
-      (slice_range list frame.next frame.end)) enters.position
-      ∙ ap (λ s. flat_map (before_by (shown_node (content_in old.content branch) branch.position s))
-      (slice_range list frame.next frame.end)) enters.state
-      ∙ ap (λ n. flat_map (before_by (branch_node old.content branch)) (slice_range list n frame.end))
-      enters.next
-      ∙ ap (λ t. flat_map (before_by (branch_node old.content branch))
-      (slice_range list (slice_index starts branch.state) t)) enters.to
-      ∙ ap (flat_map (before_by (branch_node old.content branch)))
-      (rules.to_state branch.state (in_states table rules)).are
+      rw (enters.content, enters.position, enters.state, enters.next, enters.to)
+      (ap (flat_map (before_by (branch_node old.content branch)))
+      (rules.to_state branch.state (in_states table rules)).are)
 
   -- where the frames fs lie on the way to the branch
   pub walked_entered : (table : Table) (rest : List Node) {more : List Node} (fs : List Frame)
@@ -134,20 +116,8 @@ module _ {list : List Rule} {starts : List ℕ} (known : HasTable list starts) {
       → comb_of list rest old.content fs ≡ more ∷ tail
       → IsWalked table ((branch_node old.content branch ∷ more) ∷ tail) nodes levels
       → IsWalked table (comb_of list rest new.content (frame ∷ fs)) (nodes + 1) (max levels (level + 1))
-  walked_entered table rest {more} fs {tail} {nodes} {levels} rules long comb walked =
-      let entered = walk_enters table (branch_node old.content branch) more tail nodes levels walked
-      enters.apart in
-      let deep : max levels (length tail + 1) ≡ max levels (level + 1) = ap (λ n. max levels (n + 1)) long in
-      let below : comb_of list rest (with_cell new.content frame.position frame.before) fs ≡ more ∷ tail =
-      ap (λ c. comb_of list rest c fs) undone ∙ comb in
-      let all : comb_of list rest new.content (frame ∷ fs) ≡ before table (branch_node old.content branch) ∷
-      more ∷ tail =
-      ap (λ ns. ns ∷ comb_of list rest (with_cell new.content frame.position frame.before) fs)
-      (branches_before table rules)
-      ∙ ap (λ comb. before table (branch_node old.content branch) ∷ comb) below in
-      subst (λ comb. IsWalked table comb (nodes + 1) (max levels (level + 1))) (sym all)
-      (subst (λ l. IsWalked table (before table (branch_node old.content branch) ∷ more ∷ tail) (nodes + 1)
-      l) deep entered)
+  walked_entered table rest fs rules long comb walked =
+      rw (branches_before table rules, undone, comb, sym long) (walk_enters walked enters.apart)
 
 -- what a walk from a root knows between its steps
 
@@ -211,7 +181,7 @@ module _ {list : List Rule} {starts : List ℕ} {root : Branch} {old most : Coun
   long = length-reverse frames
 
   pub top_is : IsFrame list view.low view.high view.content (length frames) top
-  top_is = subst (λ n. IsFrame list view.low view.high view.content n top) long now.are.0
+  top_is = rw long at now.are.0
 
   pub top_low : most.levels ≤ MAX_LEVELS → neg_ℤ (pos MAX_LEVELS) ≤ℤ top.position
   top_low h = let few = now.few in far_low top.position (length frames) MAX_LEVELS (omega (arith, h, few))
@@ -264,18 +234,13 @@ module _ {list : List Rule} {starts : List ℕ} {root : Branch} {old most : Coun
         → IsWalked table ((branch_node blank root ∷ rest) ∷ []) old.nodes old.levels
         → IsWalked table ((branch_node view.content branch ∷ branches list view.content tried_top) ∷
         tail_of rest) entered.nodes entered.levels
-    walked_first table rest rules walked = subst (λ comb. IsWalked table comb entered.nodes entered.levels)
-        (comb_first rest) (now.walked table rest rules walked)
+    walked_first table rest rules walked = rw (comb_first rest) at (now.walked table rest rules walked)
 
     pub branch_refused : Refused (branch_node view.content branch) (length frames + 1) entered.nodes
         most.nodes most.levels → (content : Content) (new : Count)
         → Explores list starts root most old new content false
     branch_refused refused content new table rest rules walked =
-        walk_refused table (branch_node view.content branch) (branches list view.content tried_top)
-        (tail_of rest) entered.nodes entered.levels most.nodes most.levels
-        (walked_first table rest rules walked)
-        (subst (λ n. Refused (branch_node view.content branch) n entered.nodes most.nodes most.levels)
-        (sym (tail_long rest)) refused)
+        walk_refused (walked_first table rest rules walked) (rw (tail_long rest) refused)
 
     reversed : reverse (frames ++ (tried_top ∷ [])) ≡ tried_top ∷ reverse frames
     reversed = reverse-append frames (tried_top ∷ [])
@@ -294,19 +259,13 @@ module _ {list : List Rule} {starts : List ℕ} {root : Branch} {old most : Coun
         let deep_frames : length (tried_top ∷ reverse frames) ≡ length frames + 1 = let l = long in
         omega (arith, l) in
         record {
-          are = subst (λ fs. AreFrames list after.low after.high after.content (child ∷ fs)) (sym order)
-              (frames_entered known enters branch_is symbols (tried_top ∷ reverse frames) deep_frames
-              are_tried);
+          are = rw order (frames_entered known enters branch_is symbols (tried_top ∷ reverse frames)
+              deep_frames are_tried);
           few = let n : length then_frames ≡ length frames + 1 = ap length pushed
               ∙ length-append frames (tried_top ∷ []) in omega (arith, n, deep);
-          walked = λ table rest rules walked.
-              let here = walked_entered known enters branch_is symbols table rest (tried_top ∷ reverse frames)
-              rules (tail_long rest) refl (walked_first table rest rules walked) in
-              subst (λ fs. IsWalked table (comb_of list rest after.content (child ∷ fs)) then_entered.nodes
-              then_entered.levels) (sym order)
-              (subst (λ e. IsWalked table
-              (comb_of list rest after.content (child ∷ tried_top ∷ reverse frames)) e.nodes e.levels)
-              (sym counted) here);
+          walked = λ table rest rules walked. rw (order, counted)
+              (walked_entered known enters branch_is symbols table rest (tried_top ∷ reverse frames) rules
+              (tail_long rest) refl (walked_first table rest rules walked));
         }
 
   -- nothing is left before the top node
@@ -316,22 +275,15 @@ module _ {list : List Rule} {starts : List ℕ} {root : Branch} {old most : Coun
     walked_left : WalkedTo list starts root old (with_cell view.content top.position top.before)
         (reverse frames) entered
     walked_left table rest rules walked =
-        walk_leaves table (comb_of list rest (with_cell view.content top.position top.before)
-        (reverse frames)) entered.nodes entered.levels
-        (subst (λ ns. IsWalked table
-        (ns ∷ comb_of list rest (with_cell view.content top.position top.before) (reverse frames))
-        entered.nodes entered.levels) none (now.walked table rest rules walked))
+        walk_leaves (rw none at (now.walked table rest rules walked))
 
     pub explored : frames ≡ [] → {content : Content} → content ≡ after.content
         → Explores list starts root most old entered content true
     explored empty same =
         let gone : reverse frames ≡ [] = ap reverse empty in (
           same ∙ ap (λ s. s.content) left
-              ∙ subst (λ fs. AreFrames list view.low view.high
-              (with_cell view.content top.position top.before) fs) gone now.are.1,
-          λ table rest rules walked. subst
-              (λ fs. IsWalked table (comb_of list rest (with_cell view.content top.position top.before) fs)
-              entered.nodes entered.levels) gone (walked_left table rest rules walked),
+              ∙ (rw gone at now.are.1),
+          λ table rest rules walked. rw gone at (walked_left table rest rules walked),
         )
 
     pub exploring_returns : {parent : Frame} {then_frames : List Frame}
@@ -342,16 +294,10 @@ module _ {list : List Rule} {starts : List ℕ} {root : Branch} {old most : Coun
         ∙ reverse-append then_frames (parent ∷ []) in
         record {
           are = subst (λ s. AreFrames list s.low s.high s.content (parent ∷ reverse then_frames)) (sym left)
-              (subst (λ fs. AreFrames list view.low view.high
-              (with_cell view.content top.position top.before) fs) order now.are.1);
+              (rw order at now.are.1);
           few = let n : length frames ≡ length then_frames + 1 = ap length popped
               ∙ length-append then_frames (parent ∷ []) in let few = now.few in omega (arith, n, few);
-          walked = λ table rest rules walked.
-              subst (λ s. IsWalked table (comb_of list rest s.content (parent ∷ reverse then_frames))
-              entered.nodes entered.levels) (sym left)
-              (subst (λ fs. IsWalked table
-              (comb_of list rest (with_cell view.content top.position top.before) fs) entered.nodes
-              entered.levels) order (walked_left table rest rules walked));
+          walked = λ table rest rules walked. rw left (rw order at (walked_left table rest rules walked));
         }
 
 -- the root itself is refused
@@ -360,5 +306,4 @@ pub root_refused : (list : List Rule) (starts : List ℕ) (root : Branch) (old m
     → Refused (branch_node content root) 0 old.nodes most.nodes most.levels
     → Explores list starts root most old new after false
 root_refused list starts root old most new content after blank_before refused table rest rules walked =
-    walk_refused table (branch_node blank root) rest [] old.nodes old.levels most.nodes most.levels walked
-    (subst (λ c. Refused (branch_node c root) 0 old.nodes most.nodes most.levels) blank_before refused)
+    walk_refused walked (rw blank_before at refused)

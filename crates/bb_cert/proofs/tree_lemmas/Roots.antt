@@ -1,6 +1,6 @@
 -- The trees of the halting entries, one after another.
 use Rattle.std.proofs.Common.{◌≡◌, ℕ, ◌+◌, ◌-◌, ◌<◌, ◌≤◌, true, false, List, [], ◌∷◌, length, get_or}
-use Rattle.std.proofs.Common.{map, slice_range, pos, ap, sym, subst, ◌∙◌, arith}
+use Rattle.std.proofs.Common.{map, slice_range, pos, ap, sym, ◌∙◌, arith}
 use Rattle.std.proofs.lemmas.Int.{ints}
 use Rattle.bb_machine.specs.declared.entry.Next.TheVariants.{Halt}
 use Rattle.bb_machine.specs.Machine.{Table}
@@ -38,8 +38,8 @@ module _ {table : Table} {list seen : List Rule} {starts : List ℕ} {index to :
 
   pub root_is : IsBranch (length starts - 2) blank 0 (root_of (get_or seen index no_rule))
   root_is =
-      let is : IsRule (length table) (get_or seen index no_rule) = subst (IsRule (length table))
-      (sym there) (named_at (length table) list root.rules.named index no_rule in_list) in
+      let is : IsRule (length table) (get_or seen index no_rule) = rw there
+      (named_at (length table) list root.rules.named index no_rule in_list) in
       record {
         not_below = omega (arith, ints);
         not_above = omega (arith, ints);
@@ -63,30 +63,26 @@ module _ {table : Table} {list seen : List Rule} {starts : List ℕ} {index to :
       (slice_range list (index + 1) to) ∷ []) new.nodes new.levels
   root_explored old new most explores walked =
       explores.1 table (map halting_node (slice_range list (index + 1) to)) root.rules
-      (subst (λ ns. IsWalked table (ns ∷ []) old.nodes old.levels) roots_first walked)
+      (rw roots_first at walked)
 
   pub root_stops : (old new most : Count) (content : Content) → Explores list starts (root_of
       (get_or seen index no_rule)) most old new content false → IsWalked table (map halting_node
       (slice_range list index to) ∷ []) old.nodes old.levels → EndsNowhere table most.levels most.nodes
   root_stops old new most content explores walked =
       explores table (map halting_node (slice_range list (index + 1) to)) root.rules
-      (subst (λ ns. IsWalked table (ns ∷ []) old.nodes old.levels) roots_first walked)
+      (rw roots_first at walked)
 
-pub roots_begin : (table : Table) (list : List Rule) (from to nodes levels : ℕ)
-    → IsRange table list from to Halt → nodes ≡ 0 → levels ≡ 0 → IsWalked table (map halting_node
-    (slice_range list from to) ∷ []) nodes levels
-roots_begin table list from to nodes levels range none no_levels =
-    subst (λ n. IsWalked table (map halting_node (slice_range list from to) ∷ []) n levels) (sym none)
-    (subst (λ l. IsWalked table (map halting_node (slice_range list from to) ∷ []) 0 l) (sym no_levels)
-    (subst (λ rs. IsWalked table (map halting_node rs ∷ []) 0 0) (sym range.are) (walk_begins table)))
+pub roots_begin : {table : Table} {list : List Rule} {from to nodes levels : ℕ}
+    → IsRange table list from to Halt → nodes ≡ 0 → levels ≡ 0
+    → IsWalked table (map halting_node (slice_range list from to) ∷ []) nodes levels
+roots_begin {table} range none no_levels =
+    rw (none, no_levels, range.are) (walk_begins table)
 
 pub roots_end : (table : Table) (list : List Rule) (index to : ℕ) (most entered : Count) → to ≤ index
     → IsWalked table (map halting_node (slice_range list index to) ∷ []) entered.nodes entered.levels
     → WalksAll table most entered true
 roots_end table list index to most entered past walked =
-    walk_ends table entered.nodes entered.levels
-    (subst (λ rs. IsWalked table (map halting_node rs ∷ []) entered.nodes entered.levels)
-    (slice_none list index to past) walked)
+    walk_ends (rw (slice_none list index to past) at walked)
 
 pub no_more : (most entered : Count) → entered.nodes ≡ 0 → entered.levels ≡ 0 → IsWithin most entered
 no_more most entered none no_levels = record {
@@ -96,13 +92,13 @@ no_more most entered none no_levels = record {
 }
 
 -- where the halting rules end, as the code reads it
-pub end_at : (seen starts : List ℕ) (states n : ℕ) → seen ≡ starts → states ≡ n → get_or seen
-    (states + 1) 0 ≡ get_or starts (n + 1) 0
-end_at seen starts states n same e = ap (λ xs. get_or xs (states + 1) 0) same ∙ ap (λ k. get_or starts
-    (k + 1) 0) e
+pub end_at : {seen starts : List ℕ} {states n : ℕ} → seen ≡ starts → states ≡ n
+    → get_or seen (states + 1) 0 ≡ get_or starts (n + 1) 0
+end_at {starts = starts} {states} same e =
+    ap (λ xs. get_or xs (states + 1) 0) same ∙ ap (λ k. get_or starts (k + 1) 0) e
 
-pub before_end : (index read to : ℕ) → read ≡ to → index < read → index < to
-before_end index read to e h = omega (arith, e, h)
+pub before_end : {index read to : ℕ} → read ≡ to → index < read → index < to
+before_end e h = omega (arith, e, h)
 
-pub past_end : (index read to : ℕ) → read ≡ to → read ≤ index → to ≤ index
-past_end index read to e h = omega (arith, e, h)
+pub past_end : {index read to : ℕ} → read ≡ to → read ≤ index → to ≤ index
+past_end e h = omega (arith, e, h)

@@ -1,6 +1,6 @@
 -- The rules of a table are its entries.
 use Rattle.std.proofs.Common.{◌≡◌, ℕ, zero, suc, ◌+◌, ◌<◌, true, inl, inr, List, [], ◌∷◌, length, get_or}
-use Rattle.std.proofs.Common.{refl, ap, subst, arith}
+use Rattle.std.proofs.Common.{refl, ap, arith}
 use Rattle.std.proofs.lemmas.Bool.{eqb-true, eq-eqb}
 use Rattle.bb_machine.specs.declared.entry.Next.{Next}
 use Rattle.bb_machine.specs.declared.entry.Next.TheVariants.{State, Halt}
@@ -37,27 +37,22 @@ one-in_group : (P : Rule → Type 0) (state symbol : ℕ) (group : List Entry)
     → OneOf P (rules_in state symbol group) → InGroup P state symbol group
 one-in_group P state symbol [] one = absurd one
 one-in_group P state symbol (entry ∷ entries) (inl p) =
-    let e : symbol ≡ symbol + zero = omega arith in
-    record { index = zero; within = omega arith; holds = subst (λ s. P (rule state s entry)) e p }
+    let e : symbol + zero ≡ symbol = omega arith in
+    record { index = zero; within = omega arith; holds = rw e p }
 one-in_group P state symbol (entry ∷ entries) (inr one) =
     let further = one-in_group P state (symbol + 1) entries one in
-    let e : (symbol + 1) + further.index ≡ symbol + suc further.index = omega arith in
-    record {
-      index = suc further.index;
-      within = omega (arith, further.within);
-      holds = subst (λ s. P (rule state s (get_or entries further.index Undefined))) e further.holds;
-    }
+    let e : symbol + suc further.index ≡ (symbol + 1) + further.index = omega arith in
+    record { index = suc further.index; within = omega (arith, further.within); holds = rw e further.holds }
 
 one-group : (P : Rule → Type 0) (state symbol : ℕ) (group : List Entry) (index : ℕ) → index < length group
     → P (rule state (symbol + index) (get_or group index Undefined)) → OneOf P (rules_in state symbol group)
 one-group P state symbol [] index within p = absurd (omega (arith, within))
 one-group P state symbol (entry ∷ entries) zero within p =
     let e : symbol + zero ≡ symbol = omega arith in
-    inl (subst (λ s. P (rule state s entry)) e p)
+    inl (rw e at p)
 one-group P state symbol (entry ∷ entries) (suc index) within p =
     let e : symbol + suc index ≡ (symbol + 1) + index = omega arith in
-    inr (one-group P state (symbol + 1) entries index (omega (arith, within))
-    (subst (λ s. P (rule state s (get_or entries index Undefined))) e p))
+    inr (one-group P state (symbol + 1) entries index (omega (arith, within)) (rw e at p))
 
 -- P holds of the rule of an entry in a table's groups
 record InGroups (P : Rule → Type 0) (state : ℕ) (groups : Table) : Type 0 where
@@ -73,24 +68,22 @@ one-in_groups P state (group ∷ groups) one =
     elim (one-append_cases P (rules_in state 0 group) (rules_from (state + 1) groups) one) [
       | inl here ↦
           let found = one-in_group P state 0 group here in
-          let e : state ≡ state + zero = omega arith in
+          let e : state + zero ≡ state = omega arith in
           let n : 0 + found.index ≡ found.index = omega arith in
           record {
             index = zero;
             symbol = found.index;
             within = found.within;
-            holds = subst (λ s. P (rule s found.index (get_or group found.index Undefined))) e
-                (subst (λ s. P (rule state s (get_or group found.index Undefined))) n found.holds);
+            holds = rw e (rw n at found.holds);
           }
       | inr there ↦
           let further = one-in_groups P (state + 1) groups there in
-          let e : (state + 1) + further.index ≡ state + suc further.index = omega arith in
+          let e : state + suc further.index ≡ (state + 1) + further.index = omega arith in
           record {
             index = suc further.index;
             symbol = further.symbol;
             within = further.within;
-            holds = subst (λ s. P (rule s further.symbol (entry_of groups further.index further.symbol))) e
-                further.holds;
+            holds = rw e further.holds;
           }
     ]
 
@@ -100,16 +93,13 @@ one-groups : (P : Rule → Type 0) (state : ℕ) (groups : Table) (index symbol 
 one-groups P state [] index symbol within p = absurd (omega (arith, within))
 one-groups P state (group ∷ groups) zero symbol within p =
     let e : state + zero ≡ state = omega arith in
-    let n : symbol ≡ 0 + symbol = omega arith in
+    let n : 0 + symbol ≡ symbol = omega arith in
     one-append_left P (rules_in state 0 group) (rules_from (state + 1) groups)
-    (one-group P state 0 group symbol within
-    (subst (λ s. P (rule state s (get_or group symbol Undefined))) n
-    (subst (λ s. P (rule s symbol (get_or group symbol Undefined))) e p)))
+    (one-group P state 0 group symbol within (rw n (rw e at p)))
 one-groups P state (group ∷ groups) (suc index) symbol within p =
     let e : state + suc index ≡ (state + 1) + index = omega arith in
     one-append_right P (rules_in state 0 group) (rules_from (state + 1) groups)
-    (one-groups P (state + 1) groups index symbol within
-    (subst (λ s. P (rule s symbol (entry_of groups index symbol))) e p))
+    (one-groups P (state + 1) groups index symbol within (rw e at p))
 
 -- P holds of the rule of an entry in a table that leads to a state, or halts
 pub record InTable (P : Rule → Type 0) (table : Table) (next : Next) : Type 0 where
@@ -131,18 +121,14 @@ one-in_table P table next one =
       symbol = found.symbol;
       within = found.within;
       leads = is_same-true (goes_to entry) next found.holds.0;
-      holds = subst (λ s. P (rule s found.symbol entry)) e found.holds.1;
+      holds = rw e at found.holds.1;
     }
 
 pub one-table : (P : Rule → Type 0) (table : Table) (next : Next) → InTable P table next
     → OneOf P (rules_to table next)
 one-table P table next found =
-    let e : found.state ≡ 0 + found.state = omega arith in
+    let e : 0 + found.state ≡ found.state = omega arith in
     let entry = entry_of table found.state found.symbol in
     one-filter P (λ r. is_same (goes_to r.entry) next) (rules_from 0 table)
     (one-groups (λ r. (is_same (goes_to r.entry) next ≡ true) × P r) 0 table found.state found.symbol
-    found.within (
-      is_same-itself (goes_to entry) next found.leads,
-      subst (λ s. P (rule s found.symbol entry)) e
-          found.holds,
-    ))
+    found.within (is_same-itself (goes_to entry) next found.leads, rw e found.holds))

@@ -1,7 +1,5 @@
-use Rattle.std.proofs.Common.{◌≡◌, ◌+◌, false, true, [], ◌∷◌, length, get_or, map, slice_index, slice_range}
-use Rattle.std.proofs.Common.{ap, sym, refl, subst, ◌∙◌, rules}
-use Rattle.bb_cert.specs.tree.Tree.{halting_node}
-use Rattle.bb_cert.specs.inside.Walk.{IsWalked}
+use Rattle.std.proofs.Common.{◌≡◌, ◌+◌, false, true, length, get_or, slice_index}
+use Rattle.std.proofs.Common.{ap, refl, ◌∙◌, rules}
 use Rattle.bb_cert.proofs.tree_lemmas.Roots.{IsRoot, root_is, root_explored, root_stops, roots_begin}
 use Rattle.bb_cert.proofs.tree_lemmas.Roots.{before_end, end_at, no_more, past_end, roots_end}
 use Rattle.bb_cert.proofs.tree.walk.explore_all.Goals as goal
@@ -13,12 +11,7 @@ loop-index-init g c =
     let from = ap (λ xs. get_or xs c.states-halting.result 0) c.deref.ensures.0
     ∙ ap (λ n. get_or c.gather.new.self.starts.items n 0) c.states-halting.ensures.value in
     record {
-      walked = subst (λ n. IsWalked c.args.machine.now
-          (map halting_node (slice_range c.gather.new.self.list.items n
-          (slice_index c.gather.new.self.starts.items (length c.args.machine.now + 1))) ∷ [])
-          c.args.entered.now.nodes c.args.entered.now.levels) (sym from)
-          (roots_begin c.args.machine.now c.gather.new.self.list.items _ _ _ _ c.gather.ensures.rules.halting
-          c.requires.nodes c.requires.levels);
+      walked = rw from (roots_begin c.gather.ensures.rules.halting c.requires.nodes c.requires.levels);
       blank = c.requires.blank;
       room = c.requires.room;
       within = no_more c.args.most c.args.entered.now c.requires.nodes c.requires.levels;
@@ -34,7 +27,7 @@ root_here : (g : given.Over) (c : After-deref-in-loop-index g)
 root_here g c = record {
   rules = c.gather.ensures.rules;
   same = c.deref-in-loop-index.ensures.0;
-  less = before_end _ _ _ (end_at _ _ _ _ c.deref-2.ensures.0 c.states-halting.ensures.value)
+  less = before_end (end_at c.deref-2.ensures.0 c.states-halting.ensures.value)
       c.loop-index-test.true;
   within = c.gather.ensures.rules.halting.within;
 }
@@ -68,6 +61,6 @@ loop-index-preserved g c =
 
 pub returns-clause-walked : goal.returns-clause-walked
 returns-clause-walked g c =
-    let ends = end_at _ _ _ _ c.deref-2.ensures.0 c.states-halting.ensures.value in
+    let ends = end_at c.deref-2.ensures.0 c.states-halting.ensures.value in
     roots_end c.args.machine.now c.gather.new.self.list.items c.loop-index.index _ c.args.most
-    c.loop-index.entered (past_end _ _ _ ends c.loop-index-test.false) c.loop-index.invariant.walked
+    c.loop-index.entered (past_end ends c.loop-index-test.false) c.loop-index.invariant.walked

@@ -10,8 +10,9 @@ use Rattle.bb_cert.proofs.verdict_lemmas.Numbers.{number_parsed}
 use Rattle.bb_cert.proofs.verdict_lemmas.Options.{MatchOption-result_ok}
 use Rattle.bb_cert.proofs.verdict.reader.read_number.Goals as goal
 use Rattle.bb_cert.proofs.verdict.reader.read_number.Goals.{then-first-eq43-via-then-first-eq43}
-use Rattle.bb_cert.proofs.verdict.reader.read_number.Goals.{}
-use Rattle.bb_cert.proofs.verdict.reader.read_number.Goals.{then-first-eq43-via-else-first-eq43+then-digits-gt1}
+use Rattle.bb_cert.proofs.verdict.reader.read_number.Goals.{
+  then-first-eq43-via-else-first-eq43+then-digits-gt1,
+}
 
 pub returns-in_err-first : goal.returns-in_err-first
 returns-in_err-first c =
