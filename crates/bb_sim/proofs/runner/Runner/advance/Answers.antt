@@ -188,7 +188,8 @@ made_here g c =
     c.enter.new.self c.step_to.new.self (g.T.Tape.view c.enter.new.tape) (g.T.Tape.view c.step_to.new.tape)
     c.moved_by-position.result led.there wider visited_is steps c.in-Ok.ensures.written in
     made c.requires.stands led.here c.args.limits.now c.step_to.new.self
-    (g.T.Tape.view c.step_to.new.tape) c.args.meter.now c.step_to.new.meter (g.met.T.Tape.sound c.args.tape.now) led.named c.requires.limit c.requires.steps
+    (g.T.Tape.view c.step_to.new.tape) c.args.meter.now c.step_to.new.meter
+    (g.met.T.Tape.sound c.args.tape.now) led.named c.requires.limit c.requires.steps
     (λ e. c.if-self-steps.false cc) room stepped_is
     (c.in-Ok.ensures.counted
     ∙ ap (stepped c.args.meter.now) (cells_stay c.enter.new.self c.step_to.new.self _ _ steps))
