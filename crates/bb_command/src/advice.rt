@@ -20,11 +20,7 @@ impl Display for Advice {
         let numbers = &self.numbers;
         match self.fault {
             LimitFault::Steps if numbers.is_of_trace => {
-                write!(
-                    f,
-                    "--upto {} is not within 0 to {MAX_STEPS}",
-                    numbers.steps
-                )
+                write!(f, "--upto {} is not within 0 to {MAX_STEPS}", numbers.steps)
             }
             LimitFault::Steps => write!(
                 f,
