@@ -117,7 +117,7 @@ def count_instructions(name, program):
     plans = [SWITCHES, ["--no-translated", "--no-backward"], ["--no-cyclers", "--no-backward"]]
     counts = [[count(program, options, steps) for steps in COUNTED] for options in plans]
     if None in [each for pair in counts for each in pair]:
-        print(f"instructions a step of {name}: not counted, for want of valgrind")
+        print(f"instructions a step of {name}: not counted, since there is no valgrind")
         return
     run, cycles, records = [(pair[1] - pair[0]) / (COUNTED[1] - COUNTED[0]) for pair in counts]
     told = f"simulation {run:.1f}, cyclers add {cycles - run:.1f}, translated {records - run:.1f}"
