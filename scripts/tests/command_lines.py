@@ -83,9 +83,13 @@ def cases(folder):
 
 def helps(program):
     """Help goes to standard output, with status 0."""
-    for words in (["--help"], ["decide", "--help"], ["check", "--help"], ["trace", "--help"]):
+    for command in ([], ["decide"], ["check"], ["trace"]):
+        words = [*command, "--help"]
         ended = subprocess.run([program, *words], capture_output=True)
         yield " ".join(words), ended.returncode == 0 and b"Usage" in ended.stdout and not ended.stderr
+        words = ["help", *command]
+        same = subprocess.run([program, *words], capture_output=True)
+        yield " ".join(words), same.returncode == 0 and same.stdout == ended.stdout and not same.stderr
 
 
 def full_output(program):

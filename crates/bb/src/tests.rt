@@ -214,7 +214,7 @@ fn refuses_limits(rt: HostRuntime) {
 }
 
 /// Words that are no command line, and what the text that refuses them names.
-static NO_COMMAND_LINES: [(&[&str], &str); 12] = [
+static NO_COMMAND_LINES: [(&[&str], &str); 14] = [
     (&["decide", "--steps=x"], "--steps"),
     (&["decide", "--cells=18446744073709551616"], "--cells"),
     (&["decide", "--cels=4"], "--cels"),
@@ -229,6 +229,8 @@ static NO_COMMAND_LINES: [(&[&str], &str); 12] = [
         "--depth",
     ),
     (&["trace", "--upto", "1", "1RA1RA", "1RB1RB"], "1RB1RB"),
+    (&["help", "halt"], "halt"),
+    (&["help", "trace", "--upto"], "help"),
     (&[], "Usage"),
 ];
 
@@ -251,6 +253,8 @@ fn tells_what_it_is_asked(rt: HostRuntime) {
         (["decide", "--help"].as_slice(), "halt STEPS SCORE"),
         (["check", "-h"].as_slice(), "| bb check "),
         (["trace", "--help"].as_slice(), "STEP STATE POSITION CELLS"),
+        (["help"].as_slice(), "| bb decide "),
+        (["help", "trace"].as_slice(), "STEP STATE POSITION CELLS"),
         (["--version"].as_slice(), "bb 0.1.0\n"),
     ] {
         let stop = stop(&rt, words);

@@ -1,7 +1,9 @@
 -- What a parse of the program's command line gives.
 use Rattle.std.proofs.Common.{◌≡◌, ◌⊎◌, ◌∙◌, ◌∷◌, Bool, true, false, List, [], Option, Some, None, refl, sym}
-use Rattle.std.proofs.Common.{subst, ap, inl, inr, codes, option_map}
+use Rattle.std.proofs.Common.{subst, ap, inl, inr, codes, option_map, length, map, get_or}
 use Rattle.std.specs.Prelude.{Box, find}
+use Rattle.std.specs.Borrow.{Bor}
+use Rattle.std.specs.Str.{bytes_eq}
 use Rattle.std.specs.Box.{box_value}
 use Rattle.clap.specs.declared.parser.matches.SubCommand.{SubCommand}
 use Rattle.std.specs.Option.{option_map_or}
@@ -19,6 +21,7 @@ use Rattle.clap.proofs.OnLiterals.{clap_on_literals}
 use Rattle.bb_command.specs.declared.command.Stop.{Stop}
 use Rattle.bb_command.specs.declared.command.Stop.TheVariants.{Help, Words, Limits, Memory}
 use Rattle.bb_command.specs.Command.{Gives, IsKindStop, IsLimitsStop, IsStopOf, list_bounds, trace_bounds}
+use Rattle.bb_command.specs.Command.{words_meant}
 use Rattle.bb_command.specs.CommandLine.{check_shape, command_line, decide_shape, trace_shape}
 
 simple_and_free : is_simple_and_free command_line ≡ true
@@ -158,3 +161,19 @@ stops_by_kind app is words error kinds stop kind =
     by_kind (Words text) is_other (inr among) = (kind_of error, among, is_other.0, is_other.1)
     by_kind (Limits fault) never h = absurd never
     by_kind Memory is_memory h = tt
+
+-- ---- help that is asked for by a word
+
+-- the second of two or three words isn't `help`
+abbrev pub IsNotHelp : Bor Text → List (Bor Text) → Type 0
+IsNotHelp other words = bytes_eq (get_or words 1 other).now (codes "help") ≡ false
+
+-- words that don't ask for help by a word are meant as they stand
+pub as_they_stand : (other : Bor Text) (words : List (Bor Text)) → (length words ≡ 2 → IsNotHelp other words)
+    → (length words ≡ 3 → IsNotHelp other words)
+    → words_meant (map (λ word. word.now) words) ≡ map (λ word. word.now) words
+as_they_stand other [] two three = refl
+as_they_stand other (name ∷ []) two three = refl
+as_they_stand other (name ∷ word ∷ []) two three = rw (two refl) refl
+as_they_stand other (name ∷ word ∷ command ∷ []) two three = rw (three refl) refl
+as_they_stand other (name ∷ word ∷ command ∷ more ∷ rest) two three = refl

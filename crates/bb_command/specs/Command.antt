@@ -1,5 +1,5 @@
 -- What a command line asks for, and why one leads to no work: this project's own.
-use Rattle.std.specs.Prelude.{◌≡◌, ◌≢◌, ◌⊎◌, ℕ, Bool, false, true, not, List, [], Some, None, codes}
+use Rattle.std.specs.Prelude.{◌≡◌, ◌≢◌, ◌⊎◌, ℕ, Bool, false, true, not, List, [], ◌∷◌, Some, None, codes}
 use Rattle.std.specs.Prelude.{unwrap_or}
 use Rattle.std.specs.Prelude.{option_map, if◌then◌else◌}
 use Rattle.std.specs.Option.{option_map_or}
@@ -21,6 +21,14 @@ use Rattle.bb_command.specs.declared.command.Work.TheVariants.{Decide, Check, Tr
 use Rattle.bb_command.specs.CommandLine.{command_line}
 
 -- ---- what the words say
+
+-- the words as they are meant: `bb help` stands for `bb --help`, and `bb help COMMAND` for `bb COMMAND --help`
+abbrev pub words_meant : List Text → List Text
+words_meant (name ∷ word ∷ []) =
+    if bytes_eq word (codes "help") then name ∷ codes "--help" ∷ [] else name ∷ word ∷ []
+words_meant (name ∷ word ∷ command ∷ []) =
+    if bytes_eq word (codes "help") then name ∷ command ∷ codes "--help" ∷ [] else name ∷ word ∷ command ∷ []
+words_meant words = words
 
 -- the words are a command line and name this command, and the rows tell what they give for its options and
 -- arguments

@@ -21,6 +21,7 @@ ghost use Rattle.bb_command.specs.Command.{
   number_of,
   stop_status,
   trace_bounds,
+  words_meant,
 };
 ghost use Rattle.bb_command.specs.CommandLine.{
   by_default,
@@ -104,8 +105,23 @@ impl From<AllocError> for Stop {
 
 /// Reads a command line. The first word is the program's name.
 ///
-/// The words are read first, then the limits are tested.
+/// The words are read first, then the limits are tested. Help may be asked for by a word too: `bb help` and
+/// `bb help COMMAND`.
 pub fn ask(alloc: Global, words: &[&str]) -> Result<Asked, Stop>
+    ensures asked { IfOk result (IsAskedBy (words_meant (map (λ word. word.now) words.now))) }
+    ensures stop { IfErr result (IsStopOf (words_meant (map (λ word. word.now) words.now))) }
+{
+    if words.len() == 2 && words[1] == "help" {
+        read_words(alloc, &[words[0], "--help"])
+    } else if words.len() == 3 && words[1] == "help" {
+        read_words(alloc, &[words[0], words[2], "--help"])
+    } else {
+        read_words(alloc, words)
+    }
+}
+
+/// Reads a command line in which help is asked for by an option alone.
+fn read_words(alloc: Global, words: &[&str]) -> Result<Asked, Stop>
     ensures asked { IfOk result (IsAskedBy (map (λ word. word.now) words.now)) }
     ensures stop { IfErr result (IsStopOf (map (λ word. word.now) words.now)) }
 {

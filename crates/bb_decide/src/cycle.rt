@@ -1,7 +1,7 @@
 //! The search for a configuration that comes again, by Brent's cycle detection (R. P. Brent, "An improved
 //! Monte Carlo factorization algorithm", 1980): one configuration is kept, anew at each power of two, and
 //! each later one is compared with it.
-ghost use Rattle.std.specs.Prelude.{◌≡◌, ◌*◌, ◌≤◌, IfOk, IfSome, IsTrue, OnErr, OnOk};
+ghost use Rattle.std.specs.Prelude.{◌≡◌, ◌*◌, ◌≤◌, Err, IfOk, IfSome, IsTrue, OnErr, OnOk};
 ghost use Rattle.bb_sim.specs.Meter.{IsWithinRun};
 ghost use Rattle.bb_sim.specs.Run.{Never};
 ghost use Rattle.bb_cert.specs.claims.Claim.{Claim};
@@ -9,6 +9,7 @@ ghost use Rattle.bb_cert.specs.verdict.Verdict.{HasNumbers};
 ghost use Rattle.bb_decide.specs.Bench.{BenchHasCells};
 ghost use Rattle.bb_decide.specs.Cycle.{CountsSearch, FindsCycle};
 ghost use Rattle.bb_decide.specs.FewCells.{FindsInFewCells};
+ghost use Rattle.bb_decide.specs.inside.Search.{IsPromised};
 ghost use Rattle.bb_decide.specs.Sure.{FindsRepeats};
 
 use crate::bench::Bench;
@@ -64,11 +65,9 @@ fn run<T: Tape>(
     ensures counted { IfOk result (CountsSearch machine.now limits.now meter.old meter.new) }
     ensures within { IsWithinRun limits.now meter.old meter.new }
     ensures never { IfOk result (λ found. IfSome found (λ verdict. Never machine.now)) }
-    ensures claim { IfOk result (λ found. IfSome found (Claim machine.now)) }
-    ensures numbers { IfOk result (λ found. IfSome found HasNumbers) }
+    ensures promised { IsPromised machine.now T.GROWS result }
     ensures tapes { BenchHasCells T.view limits.now.cells bench.new }
     ensures path { bench.new.path ≡ bench.old.path }
-    ensures memory { OnErr result (IsTrue T.GROWS) }
 {
     limits.show_accepted();
     let mut runner = Runner::start(machine, &mut bench.run);
@@ -108,7 +107,7 @@ fn save<T: Tape>(saved: &mut T, run: &T) -> Result<(), TapeFault>
     requires { (T.view saved.old).limit ≡ (T.view run.now).limit }
     ensures ok { OnOk result (T.view saved.new ≡ T.view run.now) }
     ensures limit { (T.view saved.new).limit ≡ (T.view saved.old).limit }
-    ensures memory { OnErr result (IsTrue T.GROWS) }
+    ensures only_memory { OnErr result ((result ≡ Err TapeFault.Memory) × IsTrue T.GROWS) }
 {
     saved.copy_from(run)
 }

@@ -10,7 +10,7 @@ ghost use Rattle.bb_cert.specs.tree.Path.{depth_of};
 ghost use Rattle.bb_cert.specs.verdict.Verdict.{HasNumbers};
 ghost use Rattle.bb_decide.specs.Bench.{BenchHasCells};
 ghost use Rattle.bb_decide.specs.FewCells.{DecidesFewCells};
-ghost use Rattle.bb_decide.specs.inside.Search.{DecidersCount, DecidersFind};
+ghost use Rattle.bb_decide.specs.inside.Search.{DecidersCount, DecidersFind, IsPromised};
 ghost use Rattle.bb_decide.specs.inside.Search.{IsWithinDeciders, IsWithinSearches};
 ghost use Rattle.bb_decide.specs.inside.Search.{SearchesCount, SearchesFind};
 ghost use Rattle.bb_decide.specs.Sure.{KeepsEarlier};
@@ -85,11 +85,9 @@ fn find<T: Tape>(
     ensures found { IfOk result (DecidersFind machine.now limits.now plan) }
     ensures counted { OnOk result (DecidersCount machine.now limits.now plan meter.old meter.new) }
     ensures within { IsWithinDeciders limits.now meter.old meter.new }
-    ensures claim { IfOk result (λ found. IfSome found (Claim machine.now)) }
-    ensures numbers { IfOk result (λ found. IfSome found HasNumbers) }
+    ensures promised { IsPromised machine.now T.GROWS result }
     ensures tapes { BenchHasCells T.view limits.now.cells bench.new }
     ensures path { depth_of bench.new.path ≡ depth_of bench.old.path }
-    ensures memory { OnErr result (IsTrue T.GROWS) }
 {
     match search(machine, limits, plan, bench, meter)? {
         Some(verdict) => return Ok(Some(verdict)),
@@ -114,11 +112,9 @@ fn search<T: Tape>(
     ensures found { IfOk result (SearchesFind machine.now limits.now plan) }
     ensures counted { OnOk result (SearchesCount machine.now limits.now plan meter.old meter.new) }
     ensures within { IsWithinSearches limits.now meter.old meter.new }
-    ensures claim { IfOk result (λ found. IfSome found (Claim machine.now)) }
-    ensures numbers { IfOk result (λ found. IfSome found HasNumbers) }
+    ensures promised { IsPromised machine.now T.GROWS result }
     ensures tapes { BenchHasCells T.view limits.now.cells bench.new }
     ensures path { bench.new.path ≡ bench.old.path }
-    ensures memory { OnErr result (IsTrue T.GROWS) }
 {
     if plan.cyclers {
         match cyclers(machine, limits, bench, meter)? {

@@ -7,6 +7,7 @@ ghost use Rattle.bb_cert.specs.verdict.Verdict.{HasNumbers};
 ghost use Rattle.bb_decide.specs.Bench.{BenchHasCells};
 ghost use Rattle.bb_decide.specs.Cycle.{CountsSearch};
 ghost use Rattle.bb_decide.specs.inside.Follow.{IsReady, Looks, on_side};
+ghost use Rattle.bb_decide.specs.inside.Search.{IsPromised};
 ghost use Rattle.bb_decide.specs.Sure.{FindsAgreeingRecords};
 ghost use Rattle.bb_decide.specs.Translation.{FindsTranslation};
 
@@ -63,11 +64,9 @@ fn run<T: Tape>(
     ensures counted { IfOk result (CountsSearch machine.now limits.now meter.old meter.new) }
     ensures within { IsWithinRun limits.now meter.old meter.new }
     ensures never { IfOk result (λ found. IfSome found (λ verdict. Never machine.now)) }
-    ensures claim { IfOk result (λ found. IfSome found (Claim machine.now)) }
-    ensures numbers { IfOk result (λ found. IfSome found HasNumbers) }
+    ensures promised { IsPromised machine.now T.GROWS result }
     ensures tapes { BenchHasCells T.view limits.now.cells bench.new }
     ensures path { bench.new.path ≡ bench.old.path }
-    ensures memory { OnErr result (IsTrue T.GROWS) }
 {
     limits.show_accepted();
     let mut runner = Runner::start(machine, &mut bench.run);

@@ -1,4 +1,4 @@
-//! Rings for a whole list, made once: the only memory that the three calls on lists need.
+//! Rings for a whole list, made once: the only memory that deciding or checking a list needs.
 ghost use Rattle.std.specs.Prelude.{◌≡◌, IfOk};
 ghost use Rattle.bb_cert.specs.checker.Pair.{PairHasCells};
 ghost use Rattle.bb_cert.specs.tree.Path.{depth_of};

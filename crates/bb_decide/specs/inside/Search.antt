@@ -1,19 +1,30 @@
 -- What the deciders that are on find, as the functions of this crate tell one another; no public contract
 -- cites it.
-use Rattle.std.specs.Prelude.{◌≡◌, ℕ, ◌+◌, ◌*◌, ◌≤◌, max, IsTrue, Option, Some, None}
+use Rattle.std.specs.Prelude.{◌≡◌, ℕ, ◌+◌, ◌*◌, ◌≤◌, max, Bool, IfOk, IfSome, IsTrue, OnErr, Option, Some, None}
+use Rattle.std.specs.Prelude.{Result}
 use Rattle.bb_machine.specs.Limits.{Bounds}
 use Rattle.bb_machine.specs.Machine.{Table}
+use Rattle.bb_tape.specs.declared.tape.Memory.{Memory}
 use Rattle.bb_sim.specs.declared.meter.Meter.{Meter}
 use Rattle.bb_sim.specs.Span.{span, IsLastInside}
 use Rattle.bb_cert.specs.declared.verdict.Verdict.{Verdict}
 use Rattle.bb_cert.specs.declared.verdict.Verdict.TheVariants.{Halt, Cycler, Translated, Backward, Undecided}
+use Rattle.bb_cert.specs.claims.Claim.{Claim}
 use Rattle.bb_cert.specs.verdict.Extent.{TellsExtent}
+use Rattle.bb_cert.specs.verdict.Verdict.{HasNumbers}
 use Rattle.bb_cert.specs.tree.Tree.{Back}
 use Rattle.bb_decide.specs.declared.plan.Plan.{Plan}
 use Rattle.bb_decide.specs.Cycle.{IsFirstCycle}
 use Rattle.bb_decide.specs.Translation.{IsFirstTranslation}
 use Rattle.bb_decide.specs.Verdict.{PassesAll, PassesCycles, PassesTranslations}
 use Rattle.bb_decide.specs.Work.{CountsWalk, CycleSteps, StepsIfMade, TranslationSteps}
+
+-- what each search promises of its result: what it finds is claimed rightly and has numbers that fit a line,
+-- and it fails only for memory, on tapes that may grow
+pub record IsPromised (table : Table) (grows : Bool) (result : Result (Option Verdict) Memory) : Type 0 where
+  pub claim : IfOk result (λ found. IfSome found (Claim table))
+  pub numbers : IfOk result (λ found. IfSome found HasNumbers)
+  pub memory : OnErr result (IsTrue grows)
 
 -- what the two searches find, that for cycles first
 abbrev pub SearchesFind : Table → Bounds → Plan → Option Verdict → Type 0

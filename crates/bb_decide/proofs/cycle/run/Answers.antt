@@ -1,4 +1,4 @@
-use Rattle.std.proofs.Common.{◌*◌, refl, ap, arith}
+use Rattle.std.proofs.Common.{◌*◌, refl, ap, arith, rules}
 use Rattle.bb_sim.proofs.Facts.{ends_in_Z, ends_stopped, has_stepped}
 use Rattle.bb_cert.proofs.Facts.{repeats_never_halt}
 use Rattle.bb_decide.proofs.Benches.{tapes_keep}
@@ -17,24 +17,26 @@ returns-in_default g c =
       counted = end.counted;
       within = end.within;
       never = tt;
-      claim = tt;
-      numbers = tt;
+      promised = record { claim = tt; numbers = tt; memory = tt };
       tapes = tapes_keep call.limit refl refl here.tapes;
       path = here.path;
-      memory = tt;
     }
 
-pub returns-then-is_same-clause-claim : goal.returns-then-is_same-clause-claim
-returns-then-is_same-clause-claim g c =
+pub returns-then-is_same-clause-promised : goal.returns-then-is_same-clause-promised
+returns-then-is_same-clause-promised g c =
     let here = c.loop-runner.invariant.search in
     let call = c.in_ok-advance.ensures in
     let step = has_stepped here.run call.stands _ call.reaches call.moves c.in-Stepped.is in
-    rw (c.steps.ensures, c.steps-then-is_same.ensures)
-    (kept_earlier here step, comes_again here step c.is_same.ensures c.if-is_same.true)
+    record {
+      claim = rw (c.steps.ensures, c.steps-then-is_same.ensures)
+          (kept_earlier here step, comes_again here step c.is_same.ensures c.if-is_same.true);
+      numbers = search rules;
+      memory = tt;
+    }
 
 pub returns-then-is_same-clause-never : goal.returns-then-is_same-clause-never
 returns-then-is_same-clause-never g c =
-    let claim = returns-then-is_same-clause-claim g c in
+    let claim = (returns-then-is_same-clause-promised g c).claim in
     repeats_never_halt _ _ _ claim.0 claim.1
 
 pub returns-then-is_same-clause-found : goal.returns-then-is_same-clause-found

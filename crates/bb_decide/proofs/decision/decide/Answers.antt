@@ -15,7 +15,7 @@ returns-in-Halt-clause-counted g c =
 
 pub returns-in-Some-clause-never : goal.returns-in-Some-clause-never
 returns-in-Some-clause-never g c = λ says.
-    let claim = rw c.in-Some.is at c.in_ok-verdict.ensures.claim in
+    let claim = rw c.in-Some.is at c.in_ok-verdict.ensures.promised.claim in
     claims_never_halt _ _ c.show_machine.ensures.machine says claim
 
 pub returns-in-Some-clause-counted : goal.returns-in-Some-clause-counted
@@ -84,7 +84,7 @@ returns-in-Halt-clause-line g c = (c.show_machine.ensures.machine, search rules,
 
 pub returns-in-Some-clause-line : goal.returns-in-Some-clause-line
 returns-in-Some-clause-line g c =
-    (c.show_machine.ensures.machine, rw c.in-Some.is at c.in_ok-verdict.ensures.numbers, refl)
+    (c.show_machine.ensures.machine, rw c.in-Some.is at c.in_ok-verdict.ensures.promised.numbers, refl)
 
 pub returns-in-None-clause-line : goal.returns-in-None-clause-line
 returns-in-None-clause-line g c = (c.show_machine.ensures.machine, tt, refl)

@@ -41,11 +41,9 @@ returns-in_default g c =
       counted = end.counted;
       within = end.within;
       never = tt;
-      claim = tt;
-      numbers = tt;
+      promised = record { claim = tt; numbers = tt; memory = tt };
       tapes = tapes_keep call.limit refl refl here.tapes;
       path = here.path;
-      memory = tt;
     }
 
 -- a step into Z ends the run
@@ -109,8 +107,12 @@ returns-in-Some-2-clause-counted g c = (found_here g c).counted
 pub returns-in-Some-2-clause-never : goal.returns-in-Some-2-clause-never
 returns-in-Some-2-clause-never g c = (found_here g c).never
 
-pub returns-in-Some-2-clause-claim : goal.returns-in-Some-2-clause-claim
-returns-in-Some-2-clause-claim g c = (found_here g c).claim
+pub returns-in-Some-2-clause-promised : goal.returns-in-Some-2-clause-promised
+returns-in-Some-2-clause-promised g c = record {
+  claim = (found_here g c).claim;
+  numbers = rw c.in-Some-2.is at c.in_ok-verdict.ensures.numbers;
+  memory = tt;
+}
 
 pub loop-runner-preserved : goal.loop-runner-preserved
 loop-runner-preserved g c =
