@@ -14,11 +14,11 @@ stands c = as_they_stand _ _
     (λ two. elim c.else-words-eq2.branch [
       | else-words-eq2-via-then-words-eq2+else-eq w ↦ sym w.eq.ensures ∙ w.if-eq.false
       | else-words-eq2-via-else-words-eq2 w ↦ absurd (w.if-words-eq2.false two)
-      ])
+    ])
     (λ three. elim c.else-words-eq3.branch [
       | else-words-eq3-via-then-words-eq3+else-eq-2 w ↦ sym w.eq-then-words-eq3.ensures ∙ w.if-eq-2.false
       | else-words-eq3-via-else-words-eq3 w ↦ absurd (w.if-words-eq3.false three)
-      ])
+    ])
 
 pub returns-else-words-eq3-clause-asked : goal.returns-else-words-eq3-clause-asked
 returns-else-words-eq3-clause-asked c = rw (stands c) c.read_words-else-words-eq3.ensures.asked
