@@ -11,11 +11,10 @@ pub record IsLocal (command : Command) (shape : Shape) : Type 0 where
   pub is_shape : shape_of command ≡ shape
   pub no_globals : (fields_of command).has_globals ≡ false
 
-pub with_arg : (old new : Command) (arg : Arg) (shape : Shape) (rule : Rule) → AddsArg old arg new
-    → IsLocal old shape
-    → rule_of arg ≡ rule → arg.global ≡ false
+pub with_arg : {old new : Command} {arg : Arg} {shape : Shape} {rule : Rule} → AddsArg old arg new
+    → IsLocal old shape → rule_of arg ≡ rule → arg.global ≡ false
     → IsLocal new (record shape { rules = shape.rules ++ rule ∷ [] })
-with_arg old new arg shape rule adds local is_rule not_global = record {
+with_arg adds local is_rule not_global = record {
   is_shape =
       ap (λ (a : App). a.top) (adds.shape not_global)
       ∙ ap₂ (λ (s : Shape) (r : Rule). record s { rules = s.rules ++ r ∷ [] }) local.is_shape is_rule;
@@ -23,8 +22,8 @@ with_arg old new arg shape rule adds local is_rule not_global = record {
 }
 
 -- how the command line grows by a command
-pub with_command : (old new sub : Command) (app : App) (shape : Shape) → AddsSubcommand old sub new
+pub with_command : {old new sub : Command} {app : App} {shape : Shape} → AddsSubcommand old sub new
     → app_of old ≡ app → shape_of sub ≡ shape → (fields_of sub).has_globals ≡ false
     → app_of new ≡ with_subcommand app shape
-with_command old new sub app shape adds is_app is_shape local =
+with_command adds is_app is_shape local =
     adds.shape local ∙ ap₂ (λ (a : App) (s : Shape). with_subcommand a s) is_app is_shape

@@ -1,8 +1,6 @@
-//! Tests of the lower libraries: machines, tapes, lines and runs.
+//! Tests of the lower libraries: machines, tapes and runs.
 #![tactic(auto)]
 
-#[cfg(test)]
-mod lines;
 #[cfg(test)]
 mod machine;
 #[cfg(test)]

@@ -1,4 +1,4 @@
-//! Tests of whole lists and traces, from bytes to bytes.
+//! Tests of the engine of lines, of whole lists and of traces, from bytes to bytes.
 #![tactic(auto)]
 
 #[cfg(test)]
@@ -19,6 +19,8 @@ mod failed_allocations;
 mod forged_claims;
 #[cfg(test)]
 mod larger_limits;
+#[cfg(test)]
+mod line_engine;
 #[cfg(test)]
 mod many_symbols;
 #[cfg(test)]

@@ -23,8 +23,8 @@ AreAlike a view_a b view_b =
 abbrev made : Next → ℤ → Content → Configuration
 made state head tape = record { state = state; head = head; tape = tape }
 
-one_configuration : (s t : Next) (p q : ℤ) (c d : Content) → s ≡ t → p ≡ q → c ≡ d → made s p c ≡ made t q d
-one_configuration s t p q c d states heads tapes = cc
+one_configuration : {s t : Next} {p q : ℤ} {c d : Content} → s ≡ t → p ≡ q → c ≡ d → made s p c ≡ made t q d
+one_configuration states heads tapes = cc
 
 module _ {table : Table} {a b : Runner} {view_a view_b : TapeView} (stands_a : Stands table a view_a)
     (stands_b : Stands table b view_b) where
@@ -33,7 +33,7 @@ module _ {table : Table} {a b : Runner} {view_a view_b : TapeView} (stands_a : S
     here = _;
     at_first = stands_b.at;
     at_second = stands_a.at ∙ ap (λ (c : Configuration). Some c)
-        (one_configuration _ _ _ _ _ _ alike.0 alike.1 alike.2);
+        (one_configuration alike.0 alike.1 alike.2);
   }
 
   pub alike_of_same : Same table (steps_of b) (steps_of a) → AreAlike a view_a b view_b

@@ -40,12 +40,14 @@ impl Read for Pieces {
     }
 }
 
-/// Takes a few bytes a call and a number of bytes in all.
+/// Takes a few bytes a call and a number of bytes in all, and counts its calls.
 #[derive(Drop)]
 pub(crate) struct Sink {
     pub bytes: ArrayVec<u8, 128>,
     pub most: usize,
     pub room: usize,
+    pub writes: u64,
+    pub flushes: u64,
     pub can_flush: bool,
 }
 
@@ -56,6 +58,8 @@ impl Sink {
             bytes: ArrayVec::new(),
             most,
             room,
+            writes: 0,
+            flushes: 0,
             can_flush: true,
         }
     }
@@ -71,6 +75,7 @@ impl Sink {
 
 impl Write for Sink {
     fn write(&mut self, buf: &[u8]) -> Result<usize> {
+        self.writes = self.writes.saturating_add(1);
         if self.room == 0 {
             return Err(Error::from(ErrorKind::Interrupted));
         }
@@ -83,6 +88,7 @@ impl Write for Sink {
     }
 
     fn flush(&mut self) -> Result<()> {
+        self.flushes = self.flushes.saturating_add(1);
         if self.can_flush {
             Ok(())
         } else {

@@ -13,11 +13,11 @@ has_shape : (c : goal.After-arg-5) (command : Command)
 has_shape c command adds =
     let s0 : IsLocal c.command.result (new_shape (codes "check")) =
     record { is_shape = c.command.ensures.shape; no_globals = c.command.ensures.local } in
-    let s1 = with_arg _ _ _ _ _ c.in_ok-arg.ensures s0 c.steps.ensures.rule c.steps.ensures.local in
-    let s2 = with_arg _ _ _ _ _ c.in_ok-arg-2.ensures s1 c.cells.ensures.rule c.cells.ensures.local in
-    let s3 = with_arg _ _ _ _ _ c.in_ok-arg-3.ensures s2 c.depth.ensures.rule c.depth.ensures.local in
-    let s4 = with_arg _ _ _ _ _ c.in_ok-arg-4.ensures s3 c.nodes.ensures.rule c.nodes.ensures.local in
-    with_arg _ _ _ _ _ adds s4 c.positional-file.ensures.rule c.positional-file.ensures.local
+    let s1 = with_arg c.in_ok-arg.ensures s0 c.steps.ensures.rule c.steps.ensures.local in
+    let s2 = with_arg c.in_ok-arg-2.ensures s1 c.cells.ensures.rule c.cells.ensures.local in
+    let s3 = with_arg c.in_ok-arg-3.ensures s2 c.depth.ensures.rule c.depth.ensures.local in
+    let s4 = with_arg c.in_ok-arg-4.ensures s3 c.nodes.ensures.rule c.nodes.ensures.local in
+    with_arg adds s4 c.positional-file.ensures.rule c.positional-file.ensures.local
 
 pub returns-clause-shape : goal.returns-clause-shape
 returns-clause-shape c =

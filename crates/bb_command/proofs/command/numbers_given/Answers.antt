@@ -1,4 +1,4 @@
-use Rattle.std.proofs.Common.{◌≡◌, ◌∙◌, ◌⊎◌, ℕ, Bor, List, ap, codes, inl, inr, map, rules, subst, sym}
+use Rattle.std.proofs.Common.{◌≡◌, ◌∙◌, ℕ, Bor, List, ap, codes, inl, inr, map, rules, subst, sym}
 use Rattle.std.specs.Prelude.{Some}
 use Rattle.clap.specs.Words.{Text, found_of, rows_of}
 use Rattle.bb_command.specs.Command.{Gives}

@@ -21,11 +21,11 @@ is_bare c = search rules
 
 pub returns : goal.returns
 returns c =
-    let one = with_command _ _ _ bare _ c.in_ok-subcommand.ensures (is_bare c)
+    let one = with_command c.in_ok-subcommand.ensures (is_bare c)
     c.in_ok-decide_command.ensures.shape c.in_ok-decide_command.ensures.local in
-    let two = with_command _ _ _ _ _ c.in_ok-subcommand-2.ensures one
+    let two = with_command c.in_ok-subcommand-2.ensures one
     c.in_ok-check_command.ensures.shape c.in_ok-check_command.ensures.local in
     IfOk-weaker c.subcommand-3.result _ _
     (λ command adds.
-    with_command _ _ _ _ _ adds two c.in_ok-trace_command.ensures.shape c.in_ok-trace_command.ensures.local)
+    with_command adds two c.in_ok-trace_command.ensures.shape c.in_ok-trace_command.ensures.local)
     c.subcommand-3.ensures

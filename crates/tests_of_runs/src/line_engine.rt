@@ -3,13 +3,14 @@ ghost use Rattle.std.specs.Prelude.{◌≡◌, ℕ, ◌+◌, ◌^◌, ◌-◌, L
 ghost use Rattle.std.proofs.Common.{rules};
 ghost use Rattle.std.proofs.lemmas.Grind.{common_steps};
 
+use crate::support::streams::{Pieces, Sink};
 use arrayvec::ArrayVec;
 use bb_lines::fault::Fault;
 use bb_lines::lines::run;
 use bb_lines::responder::{LONG_WORK, REPLY, Responder};
 use bb_lines::watched::Watched;
 use std::alloc::AllocError;
-use std::io::{Error, ErrorKind, Read, Result, Write};
+use std::io::{ErrorKind, Read, Result};
 use std::process::Abort;
 use std::test::Fail;
 
@@ -78,86 +79,9 @@ impl Responder for Shout<'_> {
     }
 }
 
-/// Gives its bytes a few at a time, a first piece of its own length, and fails at one call.
-#[derive(Drop)]
-struct Pieces {
-    bytes: &'static [u8],
-    first: usize,
-    most: usize,
-    before_failure: u64,
-    error: ErrorKind,
-}
-
-impl Read for Pieces {
-    fn read(&mut self, buf: &mut [u8]) -> Result<usize> {
-        if self.before_failure == 0 {
-            return Err(Error::from(self.error));
-        }
-        self.before_failure -= 1;
-        let n = self.bytes.len().min(self.first).min(buf.len());
-        buf[..n].copy_from_slice(&self.bytes[..n]);
-        self.bytes = &self.bytes[n..];
-        self.first = self.most;
-        Ok(n)
-    }
-}
-
-/// Takes a few bytes a call and a number of bytes in all, and counts its calls.
-#[derive(Drop)]
-struct Sink {
-    bytes: ArrayVec<u8, 64>,
-    most: usize,
-    room: usize,
-    writes: u64,
-    flushes: u64,
-    can_flush: bool,
-}
-
-impl Write for Sink {
-    fn write(&mut self, buf: &[u8]) -> Result<usize> {
-        self.writes = self.writes.saturating_add(1);
-        if self.room == 0 {
-            return Err(Error::from(ErrorKind::Interrupted));
-        }
-        let n = buf.len().min(self.most).min(self.room);
-        self.room -= n;
-        match self.bytes.try_extend_from_slice(&buf[..n]) {
-            Ok(()) => Ok(n),
-            Err(_) => Err(Error::from(ErrorKind::WriteZero)),
-        }
-    }
-
-    fn flush(&mut self) -> Result<()> {
-        self.flushes = self.flushes.saturating_add(1);
-        if self.can_flush {
-            Ok(())
-        } else {
-            Err(Error::from(ErrorKind::BrokenPipe))
-        }
-    }
-}
-
 /// The input in pieces: one of `first` bytes, and then of at most `most`.
 fn pieces_of(first: usize, most: usize) -> Pieces {
-    Pieces {
-        bytes: INPUT,
-        first,
-        most,
-        before_failure: u64::MAX,
-        error: ErrorKind::Interrupted,
-    }
-}
-
-/// A sink that takes at most `most` bytes a call and `room` in all.
-fn sink_of(most: usize, room: usize) -> Sink {
-    Sink {
-        bytes: ArrayVec::new(),
-        most,
-        room,
-        writes: 0,
-        flushes: 0,
-        can_flush: true,
-    }
+    Pieces::of(INPUT, first, most)
 }
 
 /// How a run over a reader and a sink ended.
@@ -195,7 +119,7 @@ fn shout_all<R: Read + Drop>(reader: R, mut sink: Sink, before_refusal: u64, wor
 fn answers_in_any_pieces(rt: HostRuntime) {
     for first in 1..15 {
         for most in [1, 2, 7, 64] {
-            let ended = shout_all(pieces_of(first, most), sink_of(64, 64), 9, 0);
+            let ended = shout_all(pieces_of(first, most), Sink::of(64, 64), 9, 0);
             assert_eq!(rt; ended.end, Ok(()), "{first} and {most}");
             assert_eq!(rt;
                 ended.sink.bytes.as_slice(),
@@ -218,7 +142,7 @@ fn writes_what_was_complete_before_a_failed_read(rt: HostRuntime) {
                 error,
                 ..pieces_of(1, 1)
             };
-            let ended = shout_all(reader, sink_of(64, 64), 9, 0);
+            let ended = shout_all(reader, Sink::of(64, 64), 9, 0);
             let written = match k {
                 1..=7 => 0,
                 8 => 7,
@@ -248,26 +172,22 @@ fn written_into(
 #[test]
 fn writes_a_beginning_before_a_failed_write(rt: HostRuntime) {
     for room in 0..16 {
-        let ended = written_into(&rt, sink_of(64, room), Err(Fault::Write), &OUTPUT[..room]);
+        let ended = written_into(&rt, Sink::of(64, room), Err(Fault::Write), &OUTPUT[..room]);
         assert_eq!(rt; ended.sink.flushes, 0);
         assert!(rt; !ended.read_failed && ended.write_failed);
     }
     // a sink that takes no byte, one that takes a byte a call, and one whose flush fails
-    let ended = written_into(&rt, sink_of(0, 64), Err(Fault::Write), &[]);
+    let ended = written_into(&rt, Sink::of(0, 64), Err(Fault::Write), &[]);
     assert_eq!(rt; ended.sink.writes, 1);
-    written_into(&rt, sink_of(1, 64), Ok(()), OUTPUT.as_slice());
-    let stiff = Sink {
-        can_flush: false,
-        ..sink_of(64, 64)
-    };
-    let ended = written_into(&rt, stiff, Err(Fault::Write), OUTPUT.as_slice());
+    written_into(&rt, Sink::of(1, 64), Ok(()), OUTPUT.as_slice());
+    let ended = written_into(&rt, Sink::without_flush(), Err(Fault::Write), OUTPUT.as_slice());
     assert_eq!(rt; ended.sink.flushes, 1);
 }
 
 #[test]
 fn writes_the_replies_before_a_failed_allocation(rt: HostRuntime) {
     for (answers, written) in [(0, 0), (1, 7), (2, 9)] {
-        let ended = shout_all(pieces_of(14, 14), sink_of(64, 64), answers, 0);
+        let ended = shout_all(pieces_of(14, 14), Sink::of(64, 64), answers, 0);
         assert_eq!(rt; ended.end, Err(Fault::Memory), "after {answers}");
         assert_eq!(rt;
             ended.sink.bytes.as_slice(),
@@ -281,7 +201,7 @@ fn writes_the_replies_before_a_failed_allocation(rt: HostRuntime) {
 #[test]
 fn writes_long_work_at_once(rt: HostRuntime) {
     for (work, writes) in [(0, 2), (LONG_WORK, 2), (LONG_WORK + 1, 3)] {
-        let ended = shout_all(pieces_of(14, 14), sink_of(64, 64), 9, work);
+        let ended = shout_all(pieces_of(14, 14), Sink::of(64, 64), 9, work);
         assert_eq!(rt; ended.end, Ok(()));
         assert_eq!(rt; ended.sink.writes, writes);
     }
@@ -305,7 +225,7 @@ impl Read for Long {
 #[test]
 fn keeps_the_prefix_of_a_long_line(rt: HostRuntime) {
     for left in [4, 5, 6, 16384, 1_000_000] {
-        let ended = shout_all(Long { left }, sink_of(64, 64), 9, 0);
+        let ended = shout_all(Long { left }, Sink::of(64, 64), 9, 0);
         let wanted = if left == 4 {
             &b"xxxx!\n"[..]
         } else {
