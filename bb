@@ -45,7 +45,7 @@ next_wave() {
     done
 }
 
-# Proves the libraries in waves, those of a wave side by side, and then the program.
+# Proves the libraries, those that stand on none of the others side by side, and then the program.
 build() {
     logs=$(mktemp -d)
     begun=
@@ -60,10 +60,12 @@ build() {
     while [ -n "$left" ]; do
         wave=$(next_wave)
         begun=
-        case $(echo $wave) in
-            *' '*) jobs='--jobs 2' ;;
-            *) jobs= ;;
-        esac
+        jobs='--jobs 2'
+        if [ -n "$finished" ]; then
+            # `rt` keeps others out of a crate's libraries: two crates over one library would wait for each other.
+            wave=$(echo "$wave" | head -n 1)
+            jobs=
+        fi
         for crate in $wave; do
             begin "$crate" lib $jobs
         done
