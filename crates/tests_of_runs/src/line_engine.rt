@@ -180,7 +180,12 @@ fn writes_a_beginning_before_a_failed_write(rt: HostRuntime) {
     let ended = written_into(&rt, Sink::of(0, 64), Err(Fault::Write), &[]);
     assert_eq!(rt; ended.sink.writes, 1);
     written_into(&rt, Sink::of(1, 64), Ok(()), OUTPUT.as_slice());
-    let ended = written_into(&rt, Sink::without_flush(), Err(Fault::Write), OUTPUT.as_slice());
+    let ended = written_into(
+        &rt,
+        Sink::without_flush(),
+        Err(Fault::Write),
+        OUTPUT.as_slice(),
+    );
     assert_eq!(rt; ended.sink.flushes, 1);
 }
 
