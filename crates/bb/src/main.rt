@@ -3,7 +3,7 @@
 
 ghost use Rattle.std.specs.Prelude.{IfErr, IfOk, map};
 ghost use Rattle.std.specs.String.{string_bytes};
-ghost use Rattle.bb_command.specs.Command.{AreGivenBy, IsAskedBy, IsStopOf};
+ghost use Rattle.bb_command.specs.Command.{AreGivenBy, IsAskedBy, IsStopOf, words_meant};
 
 mod progress;
 mod serve;
@@ -52,8 +52,8 @@ fn arguments(rt: &HostRuntime) -> Result<Vec<String>, Stop> {
 
 /// What the arguments ask for.
 fn asked(alloc: Global, arguments: &[String]) -> Result<Asked, Stop>
-    ensures asked { IfOk result (IsAskedBy (map string_bytes arguments.now)) }
-    ensures stop { IfErr result (IsStopOf (map string_bytes arguments.now)) }
+    ensures asked { IfOk result (IsAskedBy (words_meant (map string_bytes arguments.now))) }
+    ensures stop { IfErr result (IsStopOf (words_meant (map string_bytes arguments.now))) }
 {
     let words: Vec<&str> = arguments.iter().map(|word| word.as_str()).collect(alloc)?;
     ask(alloc, words.as_slice())
