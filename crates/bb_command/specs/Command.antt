@@ -27,7 +27,8 @@ abbrev pub words_meant : List Text → List Text
 words_meant (name ∷ word ∷ []) =
     if bytes_eq word (codes "help") then name ∷ codes "--help" ∷ [] else name ∷ word ∷ []
 words_meant (name ∷ word ∷ command ∷ []) =
-    if bytes_eq word (codes "help") then name ∷ command ∷ codes "--help" ∷ [] else name ∷ word ∷ command ∷ []
+    if bytes_eq word (codes "help") then name ∷ command ∷ codes "--help" ∷ []
+    else name ∷ word ∷ command ∷ []
 words_meant words = words
 
 -- the words are a command line and name this command, and the rows tell what they give for its options and

@@ -409,6 +409,7 @@ fn nodes<'a>(alloc: Global) -> Arg<'a>
     )
 }
 
+/// An option with a default. Help is one literal, so the ranges of `bb_machine::limits` are written out in it.
 fn limit<'a>(alloc: Global, name: &'a str, default: &'a str, help: &'a str) -> Arg<'a>
     ensures rule { rule_of result ≡ by_default default.now (number_rule name.now) }
     ensures local { result.global ≡ false }
