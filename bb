@@ -62,7 +62,8 @@ build() {
         begun=
         jobs='--jobs 2'
         if [ -n "$finished" ]; then
-            # `rt` keeps others out of a crate's libraries: two crates over one library would wait for each other.
+            # `rt` keeps others out of a crate's libraries, so two crates over one library would wait for
+            # each other.
             wave=$(echo "$wave" | head -n 1)
             jobs=
         fi

@@ -52,7 +52,7 @@ def decide(
     an allocation failed, ValueError where a text has a newline.
     """
     lines = _lines(machines)
-    room = sum(map(len, lines)) + 98 * len(lines)
+    room = sum(map(len, lines)) + 99 * len(lines)
     plan = (cyclers, translated, backward)
     return _called(_library.bb_decide, (*_numbers(steps, cells, depth, nodes), *plan), lines, room)
 

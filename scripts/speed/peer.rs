@@ -299,8 +299,8 @@ impl Kept {
         self.cells[run.low..=run.high] == tape.cells[run.low..=run.high]
     }
 
-    /// Whether the record that a run has just made agrees with this one, since which the head has come back to
-    /// `nearest`: how far the two are apart, and how many cells agree.
+    /// Whether the record that a run has just made agrees with this one, since which the head has come back
+    /// to `nearest`: how far the two are apart, and how many cells agree.
     #[inline(never)]
     fn agreement(&self, nearest: usize, run: &Run, tape: &Tape) -> Option<(usize, usize)> {
         let kept = &self.run;
@@ -447,7 +447,8 @@ struct Branch {
     others: u16,
 }
 
-/// A walk through the tree of what could come before a halt. A cell shows a known symbol as one more, an unknown one as 0.
+/// A walk through the tree of what could come before a halt. A cell shows a known symbol as one more, an
+/// unknown one as 0.
 struct Walk<'a> {
     rules: &'a Rules,
     cells: &'a mut [u8],
@@ -536,7 +537,8 @@ impl Walk<'_> {
     }
 }
 
-/// The levels and the nodes of the tree, where it ends within the limits and the start matches none of its nodes.
+/// The levels and the nodes of the tree, where it ends within the limits and the start matches none of its
+/// nodes.
 fn backward(
     machine: &Machine,
     limits: &Limits,
