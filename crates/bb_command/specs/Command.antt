@@ -22,7 +22,7 @@ use Rattle.bb_command.specs.CommandLine.{command_line}
 
 -- ---- what the words say
 
--- the words as they are meant: `bb help` stands for `bb --help`, and `bb help COMMAND` for `bb COMMAND --help`
+-- the words as they are meant: `bb help` stands for `bb --help`, `bb help COMMAND` for `bb COMMAND --help`
 abbrev pub words_meant : List Text → List Text
 words_meant (name ∷ word ∷ []) =
     if bytes_eq word (codes "help") then name ∷ codes "--help" ∷ [] else name ∷ word ∷ []

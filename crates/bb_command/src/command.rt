@@ -204,6 +204,8 @@ fn list_numbers(matches: &ArgMatches<'_>) -> Numbers
 
 /// What the program's help says after the commands.
 const ABOUT_ALL: &str = "\
+bb help COMMAND and bb COMMAND --help say more of a command.
+
 A machine is a text such as 1RB1LB_1LA1RZ: a group for each state, A first, and in it
 an entry for each symbol that is read: the symbol that is written, L or R, and the next
 state, Z for the halting one. --- is an undefined entry.
@@ -409,7 +411,8 @@ fn nodes<'a>(alloc: Global) -> Arg<'a>
     )
 }
 
-/// An option with a default. Help is one literal, so the ranges of `bb_machine::limits` are written out in it.
+/// An option with a default. Help is one literal, so the ranges of `bb_machine::limits` are written out
+/// in it.
 fn limit<'a>(alloc: Global, name: &'a str, default: &'a str, help: &'a str) -> Arg<'a>
     ensures rule { rule_of result ≡ by_default default.now (number_rule name.now) }
     ensures local { result.global ≡ false }
