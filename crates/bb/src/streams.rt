@@ -17,6 +17,7 @@ impl<'p, 'r, X> Observed<'p, 'r, X> {
     /// Observes `inner`, of which no call has failed yet.
     pub fn new(inner: X, progress: Option<&'p Progress<'r>>) -> Self
         ensures inner { result.inner ≡ inner }
+        ensures error { result.error ≡ None }
     {
         Observed {
             inner,

@@ -1,10 +1,13 @@
 //! Command lines from end to end, over bytes in memory, with answers that were worked out by hand.
 
 use crate::serve::{serve, status};
+use arrayvec::ArrayString;
 use bb_command::{Asked, Stop, ask};
 use bb_lines::fault::Fault;
 use bb_lines::watched::Watched;
+use bb_machine::limits::{MAX_CELLS, MAX_LEVELS, MAX_NODES, MAX_STEPS};
 use bb_run::Summary;
+use std::fmt::Write;
 use std::process::Abort;
 use std::test::Fail;
 
@@ -261,6 +264,23 @@ fn tells_what_it_is_asked(rt: HostRuntime) {
         assert!(rt; matches!(&stop, Stop::Help(text) if text.as_str().contains(told)));
         assert_eq!(rt; stop.status(), 0);
     }
+}
+
+/// Help is one literal: each range in it is that of the limits' constants.
+#[test]
+fn help_gives_the_ranges_of_limits(rt: HostRuntime) -> Result<(), Fail> {
+    for (least, most) in [
+        (0, MAX_STEPS),
+        (1, MAX_CELLS),
+        (0, MAX_LEVELS),
+        (0, MAX_NODES),
+    ] {
+        let mut range: ArrayString<50> = ArrayString::new();
+        write!(range, ", {least} to {most} ")?;
+        let stop = stop(&rt, &["decide", "--help"]);
+        assert!(rt; matches!(&stop, Stop::Help(text) if text.as_str().contains(range.as_str())));
+    }
+    Ok(())
 }
 
 fn stop(rt: &(impl Abort + AllocGlobal), words: &[&'static str]) -> Stop {
