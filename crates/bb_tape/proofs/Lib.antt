@@ -14,3 +14,4 @@ mod RingSteps
 mod Pieces
 mod Wholes
 mod Reaching
+mod Room

@@ -1,5 +1,6 @@
 -- What follows from a test, and from a call that may be refused.
-use Rattle.std.proofs.Common.{◌≡◌, ◌↔◌, Bool, true, IsTrue, Result, Ok, Err, OnOk, OnErr, is_ok}
+use Rattle.std.proofs.Common.{◌≡◌, ◌↔◌, Bool, true, false, IsTrue, ap}
+use Rattle.std.proofs.Common.{Result, Ok, Err, OnOk, OnErr, IfErr, is_ok}
 use Rattle.std.specs.Bool.{Decides}
 
 -- a test that decides P tells of what holds exactly where P does
@@ -15,3 +16,13 @@ settled (Err e) p q done refused = refused q
 pub at_ok : {T E P : Type 0} (r : Result T E) → is_ok r ≡ true → OnOk r P → P
 at_ok (Ok x) e p = p
 at_ok (Err x) e p = cc
+
+-- what holds where it wasn't, as the one thing that it is refused for isn't so
+pub admitted : {T E P Q : Type 0} {e : E} (r : Result T E) → OnOk r P → IfErr r (λ f. f ≡ e)
+    → ((r ≡ Err e) ↔ Q) → (Q → ⊥) → P
+admitted (Ok x) p only when never = p
+admitted (Err f) p only when never = absurd (never (when.0 (ap Err only)))
+
+-- what a test that fails tells
+pub refuted : {P : Type 0} (b : Bool) → b ≡ false → IsTrue b ↔ P → P → ⊥
+refuted b fails is p = let so : b ≡ true = is.1 p in cc

@@ -1,4 +1,5 @@
-use Rattle.std.proofs.Common.{◌+◌, inl, inr, FitsSigned, slice_index_or, w64, ap, rules}
+use Rattle.std.proofs.Common.{ℕ, ◌+◌, ◌<◌, ◌≤◌, inl, inr, FitsSigned, slice_index_or, w64, refl, ap}
+use Rattle.std.proofs.Common.{arith, rules}
 use Rattle.std.proofs.lemmas.Int.{to_z-of_z}
 use Rattle.bb_cert.proofs.tree_lemmas.Entering.{has_some, room_entered, matched_start, entered_frame}
 use Rattle.bb_cert.proofs.tree_lemmas.Entering.{room_widened}
@@ -40,3 +41,26 @@ returns-clause-room g c =
     let fits : FitsSigned w64 c.args.branch.position = search rules in
     room_entered (g.T.Tape.view c.args.tape.now) c.requires.branch (to_z-of_z _ _ fits) c.in-Ok.ensures.ok
     c.in-Ok-write.ensures.ok c.requires.room c.if-most-level.false
+
+next_within : (n most : ℕ) → n < most → n + 1 ≤ most
+next_within n most less = omega arith
+
+pub overflow_add-entered : goal.overflow_add-entered
+overflow_add-entered g c =
+    let few = next_within c.args.entered.now.nodes c.args.most.nodes c.if-most-entered.false in omega arith
+
+pub returns-then-nonzero_known-eq0-clause-within : goal.returns-then-nonzero_known-eq0-clause-within
+returns-then-nonzero_known-eq0-clause-within g c = record {
+  nodes = next_within _ _ c.if-most-entered.false;
+  levels = omega arith;
+}
+
+pub returns-clause-counted : goal.returns-clause-counted
+returns-clause-counted g c =
+    (c.if-most-level.false, c.if-most-entered.false, rw c.max-entered.ensures refl)
+
+pub returns-clause-within : goal.returns-clause-within
+returns-clause-within g c = record {
+  nodes = next_within _ _ c.if-most-entered.false;
+  levels = omega arith;
+}

@@ -20,3 +20,14 @@ returns-then-column-eq0 c = λ column some few is.
       | then-column-eq0-via-then-column-eq0 w ↦ omega arith
       | then-column-eq0-via-else-column-eq0+then-column w ↦ omega arith
     ]
+
+pub returns : goal.returns
+returns c =
+    let rest = c.in_ok-digits.digits.now in
+    let prefix = strip_prefix_is Decides-eqb c.args.bytes.now c.as_slice.result.now
+    (Some c.in_ok-digits.digits) c.in_ok-digits.ensures.cases in
+    let bytes = prefix ∙ ap (λ word. word ++ rest) c.as_slice.ensures in (
+      omega arith,
+      c.if-column.false,
+      ap (λ digits. codes "refused " ++ digits) c.in_ok-column.ensures.1 ∙ sym bytes,
+    )

@@ -134,6 +134,19 @@ returns-then-not-enter-clause-reaches g c =
     ap (λ (r : Runner). r.steps) c.if-not-enter.ensures.2 in
     rw same (cells_last _ _ _ inside wide)
 
+pub returns-then-not-enter-clause-moves : goal.returns-then-not-enter-clause-moves
+returns-then-not-enter-clause-moves g c =
+    record { runner = c.if-not-enter.ensures.2; view = c.if-not-enter.ensures.1; meter = refl }
+
+pub step_to-requires-clause-symbol : goal.step_to-requires-clause-symbol
+step_to-requires-clause-symbol g c =
+    let old = c.args.self.now in
+    let fits : FitsSigned w64 old.position = search rules in
+    let by = goes c.args.machine.now old (g.T.Tape.view c.args.tape.now) c.in-State.state
+    c.read_inside-symbol.result c.in-Some.step c.in-State.is
+    (simp to_z-of_z at c.read_inside-symbol.ensures) c.in-Some.ensures.value c.in-Some.ensures.named in
+    omega (arith, by.named.0, c.in-Some.ensures.machine.symbols)
+
 pub step_to-requires-clause-inside : goal.step_to-requires-clause-inside
 step_to-requires-clause-inside g c =
     let old = c.args.self.now in

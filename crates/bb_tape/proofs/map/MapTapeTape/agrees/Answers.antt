@@ -1,4 +1,4 @@
-use Rattle.std.proofs.Common.{◌<◌, ◌∙◌, sym, arith, refl, w64, below_more}
+use Rattle.std.proofs.Common.{◌<◌, ◌∙◌, sym, arith, refl, w64, below_more, below_none}
 use Rattle.std.proofs.lemmas.Int.{to_z-of_z}
 use Rattle.bb_tape.specs.Entries.{content_of}
 use Rattle.bb_tape.specs.Windowed.{view_of}
@@ -32,3 +32,6 @@ returns g c = (
       rw (to_z-of_z w64 _ c.ranges.from, to_z-of_z w64 _ c.ranges.other_from) at (c.loop-k.invariant k done),
   λ _. refl,
 )
+
+pub loop-k-init : goal.loop-k-init
+loop-k-init g c = below_none _

@@ -1,0 +1,23 @@
+use Rattle.std.proofs.Common.{◌≡◌, ℤ, pos, ◌+ℤ◌, ◌-ℤ◌, ◌≤ℤ◌, FitsSigned, w64, arith, rules}
+use Rattle.std.proofs.lemmas.Int.{ints, to_z-of_z}
+use Rattle.bb_sim.specs.CellsBetween.{cells_between}
+use Rattle.bb_sim.specs.Runner.{position_of}
+use Rattle.bb_cert.specs.declared.verdict.Side.{Side}
+use Rattle.bb_cert.specs.declared.verdict.Side.TheVariants.{L, R}
+use Rattle.bb_cert.specs.records.Record.{out}
+use Rattle.bb_cert.proofs.records.Records.extent.Goals as goal
+
+length_is : (side : Side) (near kept : ℤ) → out side near ≤ℤ out side kept
+    → pos (cells_between near kept) ≡ (out side kept -ℤ out side near) +ℤ pos 1
+length_is L near kept order = omega (arith, ints)
+length_is R near kept order = omega (arith, ints)
+
+pub returns : goal.returns
+returns c =
+    let nearest_fits : FitsSigned w64 c.args.self.now.nearest = search rules in
+    let kept_fits : FitsSigned w64 c.position-3.result = search rules in
+    let nearest_is = to_z-of_z w64 c.args.self.now.nearest nearest_fits in
+    let kept_is = to_z-of_z w64 c.position-3.result kept_fits in
+    let is = length_is c.args.self.now.side c.args.self.now.nearest (position_of c.args.self.now.kept)
+    c.requires.order in
+    record { shift = search rules; length = cc }
