@@ -1,5 +1,5 @@
 use Rattle.bb_lines.specs.Watched.{watched_inner}
-use Rattle.std.proofs.Common.{[], ◌∷◌}
+use Rattle.std.proofs.Common.{[], ◌∷◌, arith}
 use Rattle.std.proofs.lemmas.Result.{err_from_is_err_and}
 use Rattle.bb_lines.specs.inside.Progress.{AreAnswered}
 use Rattle.bb_lines.proofs.Progress.{answered_one, ends_written, prefix_before}
@@ -37,3 +37,6 @@ returns-then-work-gt-LONG_WORK-clause-ends g c =
     let after = c.write_waiting-then-work-gt-LONG_WORK.ensures in
     ends_written (line_answered g (goal.at.returns-then-work-gt-LONG_WORK-clause-ends g c).In_ok-add_line)
     _ _ _ after.ok after.empty after.only_write after.err
+
+pub returns-clause-prompt : goal.returns-clause-prompt
+returns-clause-prompt g c = λ long. absurd (omega (arith, long, c.in-Ok.ensures.work, c.if-work-gt-LONG_WORK.false))
