@@ -17,12 +17,12 @@ pub at_ok : {T E P : Type 0} (r : Result T E) → is_ok r ≡ true → OnOk r P 
 at_ok (Ok x) e p = p
 at_ok (Err x) e p = cc
 
--- what holds where it wasn't, as the one thing that it is refused for isn't so
+-- what a call that wasn't refused gives, where the one reason to refuse doesn't hold
 pub admitted : {T E P Q : Type 0} {e : E} (r : Result T E) → OnOk r P → IfErr r (λ f. f ≡ e)
     → ((r ≡ Err e) ↔ Q) → (Q → ⊥) → P
 admitted (Ok x) p only when never = p
 admitted (Err f) p only when never = absurd (never (when.0 (ap Err only)))
 
--- what a test that fails tells
+-- where a test fails, what it tests for isn't so
 pub refuted : {P : Type 0} (b : Bool) → b ≡ false → IsTrue b ↔ P → P → ⊥
 refuted b fails is p = let so : b ≡ true = is.1 p in cc

@@ -24,7 +24,7 @@ module _ (s : TapeView) (p : ℤ) (sound : IsSound s) where
       by_lt_z p s.low (λ under. omega (arith, ints, clamps))
       (λ from. by_lt_z s.high p (λ over. omega (arith, ints, clamps)) (λ to. absurd (outside (from, to))))
 
--- with a position above it taken in
+-- a window with a position above it taken in
 pub above_is : (s : TapeView) (p : ℤ) {low high : ℤ} {limit : ℕ} → low ≡ s.low → high ≡ p → limit ≡ s.limit
     → s.low ≤ℤ p → (IsInside s p → ⊥) → record s { low = low; high = high; limit = limit } ≡ visited s p
 above_is s p {low} {high} {limit} el eh em from outside =
@@ -38,7 +38,7 @@ above_is s p {low} {high} {limit} el eh em from outside =
       most : high ≡ int_max s.high p
       most = omega (arith, ints, clamps, over)
 
--- a window that isn't full
+-- a window that isn't full has room
 pub room_left : (w : Window) (b : Bool) → IsTrue b ↔ (pos w.limit ≡ (w.high -ℤ w.low) +ℤ pos 1) → b ≡ false
     → ((w.high -ℤ w.low) +ℤ pos 1) <ℤ pos w.limit
 room_left w b is fails =

@@ -39,4 +39,5 @@ returns-then-work-gt-LONG_WORK-clause-ends g c =
     _ _ _ after.ok after.empty after.only_write after.err
 
 pub returns-clause-prompt : goal.returns-clause-prompt
-returns-clause-prompt g c = λ long. absurd (omega (arith, long, c.in-Ok.ensures.work, c.if-work-gt-LONG_WORK.false))
+returns-clause-prompt g c = λ long.
+    absurd (omega (arith, long, c.in-Ok.ensures.work, c.if-work-gt-LONG_WORK.false))
