@@ -19,6 +19,7 @@ from tally import Tally, end_with, words
 
 LIST = b"1RB1LB_1LA1RZ\n0RB---_0LA---\n1RA1RA\n1rB1LB\n1RB---_1LA---\n"
 SLOW = ["--steps", "300000", "--cells", "4096"]
+KINDS = ["halt", "cycler", "translated", "backward", "undecided", "refused"]
 
 
 def on_terminal(command, given, output):
@@ -83,6 +84,12 @@ def broken_pipe(program):
     return status == 3 and shown.endswith("bb: write failed\n") and "standard output" not in shown
 
 
+def kind(reply):
+    """Which kind a reply of `decide` is of."""
+    fields = reply.split()
+    return fields[0] if fields[0] == "refused" else fields[1]
+
+
 def progress(program, folder):
     """The line of progress over a list that takes some seconds."""
     listed, written = os.path.join(folder, "list"), os.path.join(folder, "out")
@@ -96,13 +103,16 @@ def progress(program, folder):
         yield "the same output and status", (status, output.read()) == (plain.returncode, plain.stdout)
     yield "nothing where standard error is no terminal", plain.stderr == b""
     pattern = (
-        r"\r(\d+) lines, (\d+) halt, (\d+) cycler, (\d+) backward, (\d+) undecided, (\d+) refused, "
-        r"(\d+) translated; (\d+) of %d bytes read\x1b\[K" % os.path.getsize(listed)
+        r"\r(\d+) lines, (\d+) halt, (\d+) cycler, (\d+) translated, (\d+) backward, (\d+) undecided, "
+        r"(\d+) refused; (\d+) of %d bytes read\x1b\[K" % os.path.getsize(listed)
     )
     lines = [[int(field) for field in found] for found in re.findall(pattern, shown)]
     yield "a line that is rewritten", len(lines) >= 2
     yield "lines grow", all(a[0] <= b[0] for a, b in zip(lines, lines[1:]))
-    yield "the kinds add up", all(line[0] == sum(line[1:7]) for line in lines)
+    kinds = [kind(reply) for reply in plain.stdout.decode().splitlines()]
+    yield "the kinds are those of the first lines", all(
+        line[1:7] == [kinds[: line[0]].count(name) for name in KINDS] for line in lines
+    )
     yield "it goes at the end", shown.endswith("\r\x1b[K") and re.sub(pattern, "", shown) == "\r\x1b[K"
     reader, terminal = pty.openpty()
     subprocess.run([program, "decide", "--steps", "9"], input=LIST, stdout=terminal, stderr=terminal)

@@ -15,7 +15,7 @@ use bb_command::{Advice, Asked, Numbers, Stop, ask, numbers_given};
 use bb_lines::fault::Fault;
 use bb_lines::watched::Watched;
 use bb_run::Summary;
-use progress::Progress;
+use progress::{Counts, Progress};
 use serve::{serve, status};
 use std::alloc::Global;
 use std::io::{ErrorKind, IsTerminal, Read};
@@ -101,8 +101,9 @@ fn served_from<R: Read + Drop>(
     size: Option<u64>,
     input: R,
 ) -> (Result<Summary, Fault>, Option<io::Error>) {
-    let progress = Progress::of(rt, &asked.work, size);
-    let ended = served_with(rt, asked, input, progress.as_ref());
+    let counts = Counts::default();
+    let progress = Progress::of(rt, &asked.work, size, &counts);
+    let ended = served_with(rt, asked, input, &counts, progress.as_ref());
     if let Some(progress) = &progress {
         progress.end();
     }
@@ -114,11 +115,12 @@ fn served_with<R: Read + Drop>(
     rt: &HostRuntime,
     asked: &Asked,
     input: R,
+    counts: &Counts,
     progress: Option<&Progress<'_>>,
 ) -> (Result<Summary, Fault>, Option<io::Error>) {
     let mut reader = Watched::new(Observed::new(input, progress));
     let mut writer = Watched::new(Observed::new(rt.stdout(), progress));
-    let end = serve(rt.alloc(), asked, &mut reader, &mut writer);
+    let end = serve(rt.alloc(), asked, &mut reader, &mut writer, counts);
     let error = match &end {
         Err(Fault::Read) => reader.into_inner().into_error(),
         Err(Fault::Write) => writer.into_inner().into_error(),

@@ -5,22 +5,26 @@ ghost use Rattle.bb_lines.specs.Watched.{is_marked, watched_inner};
 ghost use Rattle.bb_run.specs.BorneOut.{VerdictsAreBorneOut};
 ghost use Rattle.bb.specs.Ends.{IsNotBegun, ServeEnds, end_status};
 
+use crate::progress::Counts;
 use bb_command::{Asked, Work};
 use bb_lines::fault::Fault;
 use bb_lines::watched::Watched;
 use bb_run::laws::verdicts_are_borne_out;
-use bb_run::{Summary, ring_bench, ring_pair, run_check, run_decide, run_trace};
+use bb_run::{
+    Summary, ring_bench, ring_pair, run_check_with_counts, run_decide_with_counts, run_trace,
+};
 use bb_tape::RingTape;
 use std::alloc::Global;
 use std::io::{Read, Write};
 
 /// Does the work on rings and a path of its own, which take no memory once they are made. For a trace nothing
-/// is read.
+/// is read. The lines of a list are counted in `counts` as they are answered.
 pub fn serve<R: Read, W: Write>(
     alloc: Global,
     asked: &Asked,
     reader: &mut Watched<R>,
     writer: &mut Watched<W>,
+    counts: &Counts,
 ) -> Result<Summary, Fault>
     requires reader { is_marked reader.old ≡ false }
     requires writer { is_marked writer.old ≡ false }
@@ -46,11 +50,25 @@ pub fn serve<R: Read, W: Write>(
     let limits = asked.limits;
     match &asked.work {
         Work::Decide(plan) => match ring_bench(alloc, &limits) {
-            Ok(mut bench) => run_decide(reader, writer, &limits, *plan, &mut bench),
+            Ok(mut bench) => run_decide_with_counts(
+                reader,
+                writer,
+                &limits,
+                *plan,
+                &mut bench,
+                &counts.verdicts,
+            ),
             Err(_) => Err(Fault::Memory),
         },
         Work::Check => match ring_pair(alloc, &limits) {
-            Ok((mut pair, mut path)) => run_check(reader, writer, &limits, &mut pair, &mut path),
+            Ok((mut pair, mut path)) => run_check_with_counts(
+                reader,
+                writer,
+                &limits,
+                &mut pair,
+                &mut path,
+                &counts.answers,
+            ),
             Err(_) => Err(Fault::Memory),
         },
         Work::Trace(text) => match RingTape::new(alloc, limits.cells()) {

@@ -56,7 +56,7 @@ impl<W: Write> Write for Observed<'_, '_, W> {
     fn write(&mut self, buf: &[u8]) -> Result<usize> {
         let result = self.inner.write(buf);
         match (&result, self.progress) {
-            (Ok(count), Some(progress)) => progress.add_written(&buf[..*count]),
+            (Ok(_), Some(progress)) => progress.show(),
             (Ok(_), None) => {}
             (Err(error), _) => self.error = Some(same_error(error)),
         }

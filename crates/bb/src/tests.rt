@@ -1,5 +1,6 @@
 //! Command lines from end to end, over bytes in memory, with answers that were worked out by hand.
 
+use crate::progress::Counts;
 use crate::serve::{serve, status};
 use arrayvec::ArrayString;
 use bb_command::{Asked, Stop, ask};
@@ -22,7 +23,13 @@ fn decided(
     let asked = ask(rt.alloc(), words.as_slice()).expect(rt, "a command line");
     let mut reader = Watched::new(input);
     let mut writer = Watched::new(Vec::new(rt.alloc()));
-    let end = serve(rt.alloc(), &asked, &mut reader, &mut writer);
+    let end = serve(
+        rt.alloc(),
+        &asked,
+        &mut reader,
+        &mut writer,
+        &Counts::default(),
+    );
     (end, writer.into_inner())
 }
 
@@ -91,7 +98,13 @@ fn asks_all_deciders(rt: HostRuntime) {
     let input = b"1RB1LB_1LA1RZ\n0RB---_0LA---\n1RA1RA\n".as_slice();
     let mut reader = Watched::new(input);
     let mut writer = Watched::new(Vec::new(rt.alloc()));
-    let end = serve(rt.alloc(), &asked, &mut reader, &mut writer);
+    let end = serve(
+        rt.alloc(),
+        &asked,
+        &mut reader,
+        &mut writer,
+        &Counts::default(),
+    );
     assert_eq!(rt;
         writer.into_inner().as_slice(),
         b"1RB1LB_1LA1RZ halt 6 4\n0RB---_0LA--- cycler 2 4\n1RA1RA translated R 1 2 1 1\n".as_slice()
@@ -122,7 +135,14 @@ fn checks(rt: HostRuntime) {
     ] {
         let asked = ask(rt.alloc(), words).expect(&rt, "a command line");
         let mut writer = Watched::new(Vec::new(rt.alloc()));
-        let end = serve(rt.alloc(), &asked, &mut Watched::new(claims), &mut writer);
+        let mut reader = Watched::new(claims);
+        let end = serve(
+            rt.alloc(),
+            &asked,
+            &mut reader,
+            &mut writer,
+            &Counts::default(),
+        );
         assert_eq!(rt; writer.into_inner().as_slice(), output);
         assert_eq!(rt; status(&end), code);
     }
@@ -153,7 +173,13 @@ fn traces(rt: HostRuntime) {
     let asked = ask(rt.alloc(), words.as_slice()).expect(&rt, "a command line");
     let mut writer = Watched::new(Vec::new(rt.alloc()));
     let mut reader = Watched::new(b"not read".as_slice());
-    let end = serve(rt.alloc(), &asked, &mut reader, &mut writer);
+    let end = serve(
+        rt.alloc(),
+        &asked,
+        &mut reader,
+        &mut writer,
+        &Counts::default(),
+    );
     assert_eq!(rt;
         writer.into_inner().as_slice(),
         b"0 A 0 0\n1 Z 1 1\n".as_slice()

@@ -6,6 +6,7 @@ ghost use Rattle.bb_lines.specs.Watched.{is_marked, watched_inner};
 ghost use Rattle.bb_run.specs.CheckEnds.{CheckEnds};
 ghost use Rattle.bb_run.specs.CheckSeen.{is_fine};
 
+use crate::counts::AnswerCounts;
 use crate::summary::Summary;
 use arrayvec::ArrayVec;
 use bb_cert::{Answer, LINE_BUFFER, LineContent, Pair, Path, check, read_line_in_place};
@@ -30,6 +31,7 @@ struct Checker<'a, T> {
     summary: Summary,
     // The steps and the nodes that the last line cost; 0 where nothing was run, and before the first line.
     last_effort: u64,
+    counts: &'a AnswerCounts,
 }
 
 impl<T: Tape> Responder for Checker<'_, T> {
@@ -84,12 +86,14 @@ impl<T: Tape> Responder for Checker<'_, T> {
             Some(LineContent::Claim(verdict)) => verdict,
             Some(LineContent::Refusal(_)) => {
                 self.last_effort = 0;
+                self.counts.add(Answer::Open);
                 put(Answer::Open.word(), text);
                 return Ok(0);
             }
             None => {
                 self.summary.clean = false;
                 self.last_effort = 0;
+                self.counts.add_unread();
                 put(b"unread", text);
                 return Ok(0);
             }
@@ -110,6 +114,7 @@ impl<T: Tape> Responder for Checker<'_, T> {
         self.summary.clean = self.summary.clean & leaves_clean(answer);
         self.summary.peak = self.summary.peak.greatest(meter);
         self.last_effort = meter.steps + meter.nodes;
+        self.counts.add(answer);
         Ok(self.last_effort)
     }
 }
@@ -163,6 +168,38 @@ pub fn run_check<R: Read, W: Write, T: Tape>(
     ensures tapes { PairHasCells T.view limits.now.cells pair.new }
     ensures path { depth_of path.new ≡ depth_of path.old }
 {
+    let counts = AnswerCounts::default();
+    run_check_with_counts(reader, writer, limits, pair, path, &counts)
+}
+
+/// The same as [`run_check`], and counts what the lines come to. A line is counted once its reply is known,
+/// before it is written.
+pub fn run_check_with_counts<R: Read, W: Write, T: Tape>(
+    reader: &mut Watched<R>,
+    writer: &mut Watched<W>,
+    limits: &Limits,
+    pair: &mut Pair<T>,
+    path: &mut Path,
+    counts: &AnswerCounts,
+) -> Result<Summary, Fault>
+    requires reader { is_marked reader.old ≡ false }
+    requires writer { is_marked writer.old ≡ false }
+    requires tapes { PairHasCells T.view limits.now.cells pair.old }
+    requires path { limits.now.depth ≤ depth_of path.old }
+
+    // How the run ends, and what is written then.
+    ensures ends { CheckEnds limits.now
+        (R.remaining (watched_inner reader.old)) (R.remaining (watched_inner reader.new))
+        (W.contents (watched_inner writer.old)) (W.contents (watched_inner writer.new)) result }
+
+    // When each fault comes.
+    ensures memory { result ≡ Err Fault.Memory → IsTrue T.GROWS }
+    ensures read { (result ≡ Err Fault.Read) ↔ (is_marked reader.new ≡ true) }
+    ensures write { (result ≡ Err Fault.Write) ↔ (is_marked writer.new ≡ true) }
+
+    ensures tapes { PairHasCells T.view limits.now.cells pair.new }
+    ensures path { depth_of path.new ≡ depth_of path.old }
+{
     let mut checker = Checker {
         limits: *limits,
         pair,
@@ -173,6 +210,7 @@ pub fn run_check<R: Read, W: Write, T: Tape>(
             peak: Meter::new(),
         },
         last_effort: 0,
+        counts,
     };
     run(reader, writer, &mut checker)?;
     Ok(checker.summary)

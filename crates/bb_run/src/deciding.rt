@@ -7,6 +7,7 @@ ghost use Rattle.bb_run.specs.BorneOut.{VerdictsAreBorneOut};
 ghost use Rattle.bb_run.specs.Ends.{DecideEnds};
 ghost use Rattle.bb_run.specs.FewCells.{FewCellsAreReplied};
 
+use crate::counts::VerdictCounts;
 use crate::summary::Summary;
 use arrayvec::ArrayVec;
 use bb_cert::{lines_are_short, refusal_into, verdict_into};
@@ -33,6 +34,7 @@ struct Decider<'a, T> {
     summary: Summary,
     // The steps and the nodes that the last line cost; 0 where it was refused, and before the first line.
     last_effort: u64,
+    counts: &'a VerdictCounts,
 }
 
 impl<T: Tape> Responder for Decider<'_, T> {
@@ -89,6 +91,7 @@ impl<T: Tape> Responder for Decider<'_, T> {
             Err(refused) => {
                 self.summary.clean = false;
                 self.last_effort = 0;
+                self.counts.add_refusal();
                 refusal_into(refused.column, text);
                 return Ok(0);
             }
@@ -110,6 +113,7 @@ impl<T: Tape> Responder for Decider<'_, T> {
         verdict_into(&verdict, text);
         self.summary.peak = self.summary.peak.greatest(meter);
         self.last_effort = meter.steps + meter.nodes;
+        self.counts.add(&verdict);
         Ok(self.last_effort)
     }
 }
@@ -147,6 +151,42 @@ pub fn run_decide<R: Read, W: Write, T: Tape>(
     ensures tapes { BenchHasCells T.view limits.now.cells bench.new }
     ensures path { depth_of bench.new.path ≡ depth_of bench.old.path }
 {
+    let counts = VerdictCounts::default();
+    run_decide_with_counts(reader, writer, limits, plan, bench, &counts)
+}
+
+/// The same as [`run_decide`], and counts what the lines come to. A line is counted once its reply is known,
+/// before it is written.
+pub fn run_decide_with_counts<R: Read, W: Write, T: Tape>(
+    reader: &mut Watched<R>,
+    writer: &mut Watched<W>,
+    limits: &Limits,
+    plan: Plan,
+    bench: &mut Bench<T>,
+    counts: &VerdictCounts,
+) -> Result<Summary, Fault>
+    requires reader { is_marked reader.old ≡ false }
+    requires writer { is_marked writer.old ≡ false }
+    requires tapes { BenchHasCells T.view limits.now.cells bench.old }
+    requires path { depth_of bench.old.path ≡ limits.now.depth }
+
+    // How the run ends, and what is written then.
+    ensures ends { DecideEnds limits.now plan
+        (R.remaining (watched_inner reader.old)) (R.remaining (watched_inner reader.new))
+        (W.contents (watched_inner writer.old)) (W.contents (watched_inner writer.new)) result }
+
+    // What stands behind each verdict that is written.
+    ensures borne_out { VerdictsAreBorneOut limits.now plan }
+    ensures few_cells { FewCellsAreReplied limits.now plan }
+
+    // When each fault comes.
+    ensures memory { result ≡ Err Fault.Memory → IsTrue T.GROWS }
+    ensures read { (result ≡ Err Fault.Read) ↔ (is_marked reader.new ≡ true) }
+    ensures write { (result ≡ Err Fault.Write) ↔ (is_marked writer.new ≡ true) }
+
+    ensures tapes { BenchHasCells T.view limits.now.cells bench.new }
+    ensures path { depth_of bench.new.path ≡ depth_of bench.old.path }
+{
     let mut decider = Decider {
         limits: *limits,
         plan,
@@ -157,6 +197,7 @@ pub fn run_decide<R: Read, W: Write, T: Tape>(
             peak: Meter::new(),
         },
         last_effort: 0,
+        counts,
     };
     run(reader, writer, &mut decider)?;
     texts_differ();

@@ -3,14 +3,16 @@
 #![tactic(auto)]
 
 mod checking;
+mod counts;
 mod deciding;
 pub mod laws;
 mod rings;
 mod summary;
 mod tracing;
 
-pub use checking::run_check;
-pub use deciding::run_decide;
+pub use checking::{run_check, run_check_with_counts};
+pub use counts::{AnswerCounts, VerdictCounts};
+pub use deciding::{run_decide, run_decide_with_counts};
 pub use rings::{ring_bench, ring_pair};
 pub use summary::Summary;
 pub use tracing::run_trace;

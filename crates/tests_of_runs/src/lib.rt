@@ -10,6 +10,8 @@ mod confirmed_verdicts;
 #[cfg(test)]
 mod counted_writes;
 #[cfg(test)]
+mod counts;
+#[cfg(test)]
 mod decided_lists;
 #[cfg(test)]
 mod each_plan;
