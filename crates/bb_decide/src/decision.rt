@@ -30,6 +30,7 @@ use bb_tape::{Memory, Tape};
 /// Resets `meter`, decides a machine, and records the cost in `meter`.
 ///
 /// After an error nothing is said of what the tapes hold; the next call resets them.
+#[inline(always)]
 pub fn decide<T: Tape>(
     machine: &Machine,
     limits: &Limits,

@@ -31,6 +31,7 @@ pub fn line_into(machine: &Machine, verdict: &Verdict, out: &mut ArrayVec<u8, LI
 
 /// Appends what the line of a machine and a verdict has after the machine's text, the space between them
 /// included.
+#[inline(always)]
 pub fn verdict_into(verdict: &Verdict, out: &mut ArrayVec<u8, LINE_BUFFER>)
     requires { array_vec_len out.old + length (verdict_text verdict.now) ≤ LINE_BUFFER }
     ensures { out.new.items ≡ out.old.items ++ verdict_text verdict.now }
