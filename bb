@@ -10,77 +10,85 @@ stale() {
         \( -path '*/out' -o -path '*/bb_c' \) -prune -o -type f -newer "$program" -print | head -n 1)" ]
 }
 
-# Begins `rt` with these words in a crate; its process is then `$!`.
+# The crates of this project that a crate stands on.
+needs_of() {
+    sed -n "s/^$1: //p" "$here/crates.txt" | tr ' ' '\n' | grep '^bb_' || true
+}
+
+# Begins `rt` with these words in a crate of this tree; its process is then in `process_CRATE`.
 begin() {
-    echo "bb: proving $1" >&2
-    crate=$1
-    shift
-    (cd "$here/crates/$crate" && exec rt "$@") </dev/null >"$logs/$crate" 2>&1 &
+    tree=$1
+    crate=$2
+    shift 2
+    echo "bb: proving $crate" >&2
+    (cd "$tree/crates/$crate" && exec "$@") </dev/null >"$logs/$crate" 2>&1 &
+    eval "process_$crate=$!"
     begun="$begun $!"
 }
 
-# Waits for the process of a crate.
+# Waits for crates that were begun.
 end() {
-    if ! wait "$2"; then
-        cat "$logs/$1" >&2
-        exit 3
-    fi
-    proved=$((proved + 1))
-    echo "bb: proved $1, $proved of $crates" >&2
-}
-
-# The crates of `left` that stand on `finished` ones alone.
-next_wave() {
-    for crate in $left; do
-        ready=yes
-        for need in $(sed -n "s/^$crate: //p" "$here/crates.txt"); do
-            case " $finished " in
-                *" $need "*) ;;
-                *) case $need in bb_*) ready=no ;; esac ;;
-            esac
-        done
-        if [ $ready = yes ]; then
-            echo "$crate"
+    for ended in "$@"; do
+        eval "process=\$process_$ended; process_$ended="
+        if [ -n "$process" ]; then
+            if ! wait "$process"; then
+                cat "$logs/$ended" >&2
+                exit 3
+            fi
+            proved=$((proved + 1))
+            echo "bb: proved $ended, $proved of $crates" >&2
         fi
     done
 }
 
-# Proves the libraries, those that stand on none of the others side by side, and then the program.
+# Copies a crate and what it stands on into a tree of their own, and back what was made there.
+copy_aside() {
+    mkdir -p "$aside/crates"
+    cp "$here/crates.txt" "$here/HANDLES" "$aside"
+    for copied in $1 $(needs_of "$1"); do
+        cp -R "$here/crates/$copied" "$aside/crates"
+    done
+}
+copy_back() {
+    rm -rf "$here/crates/$1/out"
+    cp -R "$aside/crates/$1/out" "$here/crates/$1"
+}
+
+# Proves the libraries, in the order of `crates.txt`, and then the program. A library begins when what it
+# stands on is proved. Of those that stand on others one is proved at a time, since `rt` keeps others out of a
+# crate's libraries; `bb_command` has copies of them, and so goes beside `bb_run`. `bb_lines`, for which only
+# late ones wait, takes what the others leave.
 build() {
     logs=$(mktemp -d)
+    aside=$logs/aside
     begun=
+    above=
     proved=0
     crates=$(grep -c '^bb[a-z_]*:' "$here/crates.txt")
     trap 'kill $begun 2>/dev/null || true; rm -rf "$logs"' EXIT
     trap 'exit 130' INT
     trap 'exit 143' TERM
     echo 'bb: building, which proves every crate first and takes some minutes' >&2
-    left=$(sed -n 's/^\(bb_[a-z_]*\):.*/\1/p' "$here/crates.txt")
-    finished=
-    while [ -n "$left" ]; do
-        wave=$(next_wave)
-        begun=
-        jobs='--jobs 2'
-        if [ -n "$finished" ]; then
-            # `rt` keeps others out of a crate's libraries, so two crates over one library would wait for
-            # each other.
-            wave=$(echo "$wave" | head -n 1)
-            jobs=
-        fi
-        for crate in $wave; do
-            begin "$crate" lib $jobs
-        done
-        set -- $begun
-        for crate in $wave; do
-            end "$crate" "$1"
-            shift
-            finished="$finished $crate"
-            left=$(echo "$left" | grep -vx "$crate" || true)
-        done
+    for crate in $(sed -n 's/^\(bb_[a-z_]*\):.*/\1/p' "$here/crates.txt"); do
+        end $(needs_of "$crate")
+        case $crate in
+            bb_machine | bb_tape) begin "$here" "$crate" rt lib --jobs 2 ;;
+            bb_lines) begin "$here" "$crate" nice rt lib --jobs 2 ;;
+            bb_command)
+                copy_aside "$crate"
+                begin "$aside" "$crate" rt lib
+                ;;
+            *)
+                end $above
+                begin "$here" "$crate" rt lib
+                above=$crate
+                ;;
+        esac
     done
-    begun=
-    begin bb run -- --help
-    end bb "$!"
+    end $above bb_command
+    copy_back bb_command
+    begin "$here" bb rt run -- --help
+    end bb
     touch "$program"
     rm -rf "$logs"
     trap - EXIT INT TERM

@@ -1,5 +1,5 @@
-/* Times the library's calls: nanoseconds a call for one line, and a line in a list of 10,000; beside them a line
- * of a list for the program, whose path is the argument. All is processor time. */
+/* Times the library's calls: nanoseconds a call for one line, and a line in a list of 10,000; beside them a
+ * line of a list for the program, whose path is the argument. All is processor time. */
 #include <fcntl.h>
 #include <stdio.h>
 #include <stdlib.h>
@@ -47,7 +47,8 @@ static double in_list(const char *line, uint64_t cells) {
     }
     double begin = now();
     for (int at = 0; at < LISTS; at++)
-        if (bb_decide(1000000, cells, 30, 1000, true, true, true, list, length, out, room, &count) > BB_NOT_CLEAN)
+        if (bb_decide(1000000, cells, 30, 1000, true, true, true, list, length, out, room,
+                      &count) > BB_NOT_CLEAN)
             exit(1);
     double spent = now() - begin;
     free(list);
@@ -78,8 +79,8 @@ static double of_program(const char *program, const char *line, uint64_t cells, 
     if (child == 0) {
         if (dup2(fileno(list), 0) < 0 || dup2(open("/dev/null", O_WRONLY), 1) < 0)
             _exit(127);
-        execl(program, "bb", "decide", "--steps", "1000000", "--cells", number, "--depth", "30", "--nodes", "1000",
-              (char *)NULL);
+        execl(program, "bb", "decide", "--steps", "1000000", "--cells", number, "--depth", "30", "--nodes",
+              "1000", (char *)NULL);
         _exit(127);
     }
     int status;
@@ -103,12 +104,14 @@ int main(int count, char **words) {
                 if (steps > 50) {
                     list = least(list, in_list(MACHINES[kind], CELLS[size]));
                     none = least(none, of_program(words[1], MACHINES[kind], CELLS[size], 0));
-                    program = least(program, of_program(words[1], MACHINES[kind], CELLS[size], LISTS * LINES));
+                    program = least(program, of_program(words[1], MACHINES[kind], CELLS[size],
+                                                        LISTS * LINES));
                 }
             }
             printf("%-14s %6d cells: %9.0f ns a call", MACHINES[kind], (int)CELLS[size], line);
             if (steps > 50)
-                printf(", %5.0f ns a line of a list, %5.0f ns in `bb decide`", list, (program - none) / LISTS / LINES);
+                printf(", %5.0f ns a line of a list, %5.0f ns in `bb decide`", list,
+                       (program - none) / LISTS / LINES);
             printf("\n");
         }
     }
