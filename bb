@@ -44,8 +44,9 @@ end() {
 # Copies a crate and what it stands on into a tree of their own, and back what was made there.
 copy_aside() {
     mkdir -p "$aside/crates"
-    cp "$here/crates.txt" "$here/HANDLES" "$aside"
-    for copied in $1 $(needs_of "$1"); do
+    cp "$here/HANDLES" "$aside"
+    for copied in $(needs_of "$1") "$1"; do
+        grep "^$copied:" "$here/crates.txt" >>"$aside/crates.txt"
         cp -R "$here/crates/$copied" "$aside/crates"
     done
 }
