@@ -1,6 +1,7 @@
 use Rattle.std.proofs.Common.{rules, ◌≡◌, arith, length}
 use Rattle.bb_lines.specs.Lines.{lines}
 use Rattle.bb_run.proofs.Facts.{check_reply_short}
+use Rattle.bb_c.proofs.Given.{filled_by, too_short_by}
 use Rattle.bb_c.proofs.Lengths.{replies_fit, room_of_words}
 use Rattle.bb_c.proofs.checking.bb_check.Goals as goal
 
@@ -11,3 +12,18 @@ returns-in-Ok-answers-clause-enough c = λ enough.
     let room = room_of_words (lines c.args.list.now) in
     let same : length c.as_slice.result.now ≡ length c.in-Ok-answers.replies.items = search rules in
     c.give.ensures.enough (omega (arith, enough, fit, room, same))
+
+pub returns-in-Ok-answers-clause-replies : goal.returns-in-Ok-answers-clause-replies
+returns-in-Ok-answers-clause-replies c = λ is.
+    let replies = rw c.in-Ok.ensures.given at c.in-Ok-answers.ensures.replies in
+    filled_by _ _ _ _ _ _ (c.give.ensures.filled is) c.as_slice.ensures.value replies
+
+pub returns-in-Ok-answers-clause-short : goal.returns-in-Ok-answers-clause-short
+returns-in-Ok-answers-clause-short c = λ is.
+    let replies = rw c.in-Ok.ensures.given at c.in-Ok-answers.ensures.replies in
+    too_short_by _ _ _ _ _ _ (c.give.ensures.short is) c.as_slice.ensures.value replies
+
+pub returns-in-Ok-answers-clause-clean : goal.returns-in-Ok-answers-clause-clean
+returns-in-Ok-answers-clause-clean c = λ is.
+    let clean = rw c.in-Ok.ensures.given at c.in-Ok-answers.ensures.clean in
+    clean.0 (c.give.ensures.clean is)

@@ -1,10 +1,17 @@
-use Rattle.std.proofs.Common.{rules, refl, inl, inr, ◌∙◌}
+use Rattle.std.proofs.Common.{rules, refl, inl, inr, ℕ, List, ◌≡◌, ◌⊎◌, ◌∙◌, IsTrue}
+use Rattle.std.proofs.lemmas.Bool.{false≢true}
+use Rattle.bb_machine.specs.Limits.{Bounds}
+use Rattle.bb_machine.specs.Machine.{Table}
 use Rattle.bb_cert.specs.checker.Answer.{answer_text, IsAnswer}
+use Rattle.bb_cert.specs.declared.checker.answer.Answer.{Answer}
+use Rattle.bb_cert.specs.declared.checker.answer.Answer.TheVariants.{Ok, Bad, Over, Open}
 use Rattle.bb_cert.specs.verdict.Line.{IsLineOf}
-use Rattle.bb_cert.specs.declared.verdict.reader.Line.TheVariants.{Claim}
-use Rattle.bb_c.specs.Call.{bounds_of}
-use Rattle.bb_run.specs.CheckReply.{unread_text}
+use Rattle.bb_cert.specs.declared.verdict.reader.Line.TheVariants.{Claim, Refusal}
+use Rattle.bb_cert.specs.declared.verdict.Verdict.{Verdict}
+use Rattle.bb_run.specs.CheckReply.{IsCheckReply, unread_text}
+use Rattle.bb_run.specs.CheckSeen.{is_fine}
 use Rattle.bb_run.proofs.Facts.{fine_by_word, fine_reply, unread_is_apart}
+use Rattle.bb_c.proofs.Given.{filled_by, too_short_by}
 use Rattle.bb_c.proofs.checking.bb_check_line.Goals as goal
 
 pub returns-in-None-clause-not_fine : goal.returns-in-None-clause-not_fine
@@ -12,21 +19,76 @@ returns-in-None-clause-not_fine c = λ is fine.
     let unread = inr (inr (record { no_line = c.in-None.ensures.none; is_reply = refl })) in
     unread_is_apart (fine_reply _ c.args.line.now unread_text unread fine)
 
+-- the words of fine answers
+word_when_fine : (given : Answer) → IsTrue (is_fine given)
+    → (answer_text given ≡ answer_text Ok) ⊎ (answer_text given ≡ answer_text Open)
+word_when_fine Ok fine = inl refl
+word_when_fine Bad fine = absurd (false≢true fine)
+word_when_fine Over fine = absurd (false≢true fine)
+word_when_fine Open fine = inr refl
+
+-- a claim's line gets the word of its answer
+answered : (bounds : Bounds) (line : List ℕ) (table : Table) (verdict : Verdict) (given : Answer)
+    → IsLineOf (Claim table verdict) line → IsAnswer table bounds verdict given
+    → IsCheckReply bounds line (answer_text given)
+answered bounds line table verdict given of is_answer = inl (record {
+  table = table;
+  verdict = verdict;
+  of = of;
+  given = given;
+  is_answer = is_answer;
+  is_reply = refl;
+})
+
+pub returns-in-Ok-answer-clause-reply : goal.returns-in-Ok-answer-clause-reply
+returns-in-Ok-answer-clause-reply c = λ is.
+    let of = rw c.in-Some-Claim.field-0-is at c.in-Some-Claim.ensures.found in
+    let answer = rw c.in-Ok.ensures.given at c.in-Ok-answer.ensures in
+    filled_by _ _ _ _ _ _ (c.give-in-Ok-answer.ensures.filled is) c.word-in-Ok-answer.ensures
+    (answered _ _ _ _ _ of answer)
+
+pub returns-in-Ok-answer-clause-short : goal.returns-in-Ok-answer-clause-short
+returns-in-Ok-answer-clause-short c = λ is.
+    let of = rw c.in-Some-Claim.field-0-is at c.in-Some-Claim.ensures.found in
+    let answer = rw c.in-Ok.ensures.given at c.in-Ok-answer.ensures in
+    too_short_by _ _ _ _ _ _ (c.give-in-Ok-answer.ensures.short is) c.word-in-Ok-answer.ensures
+    (answered _ _ _ _ _ of answer)
+
+pub returns-in-Ok-answer-clause-clean : goal.returns-in-Ok-answer-clause-clean
+returns-in-Ok-answer-clause-clean c = λ is.
+    let of = rw c.in-Some-Claim.field-0-is at c.in-Some-Claim.ensures.found in
+    let answer = rw c.in-Ok.ensures.given at c.in-Ok-answer.ensures in
+    let fine = rw c.leaves_clean.ensures at (c.give-in-Ok-answer.ensures.clean is) in
+    record {
+      reply = answer_text c.in-Ok-answer.answer;
+      is_reply = answered _ _ _ _ _ of answer;
+      is_fine = word_when_fine c.in-Ok-answer.answer fine;
+    }
+
 pub returns-in-Ok-answer-clause-not_fine : goal.returns-in-Ok-answer-clause-not_fine
 returns-in-Ok-answer-clause-not_fine c = λ is fine.
-    let said = Claim c.in-Some-Claim.machine c.in-Some-Claim.verdict in
-    let of : IsLineOf said c.args.line.now = search rules in
-    let bounds = bounds_of c.args.steps c.args.cells c.args.depth c.args.nodes in
-    let is_answer : IsAnswer c.in-Some-Claim.machine bounds c.in-Some-Claim.verdict c.in-Ok-answer.answer =
-    search rules in
-    let replied = inl (record {
-      table = c.in-Some-Claim.machine;
-      verdict = c.in-Some-Claim.verdict;
-      of = of;
-      given = c.in-Ok-answer.answer;
-      is_answer = is_answer;
-      is_reply = refl;
-    }) in
-    let word = fine_reply bounds c.args.line.now (answer_text c.in-Ok-answer.answer) replied fine in
+    let of = rw c.in-Some-Claim.field-0-is at c.in-Some-Claim.ensures.found in
+    let answer = rw c.in-Ok.ensures.given at c.in-Ok-answer.ensures in
+    let word = fine_reply _ _ _ (answered _ _ _ _ _ of answer) fine in
     let fine_too = c.leaves_clean.ensures ∙ fine_by_word c.in-Ok-answer.answer word in
     c.give-in-Ok-answer.ensures.not_clean is fine_too
+
+-- a refusal's line is answered `open`
+opened : (bounds : Bounds) (line : List ℕ) (column : ℕ)
+    → IsLineOf (Refusal column) line → IsCheckReply bounds line (answer_text Open)
+opened bounds line column of = inr (inl (record { column = column; of = of; is_reply = refl }))
+
+pub returns-in-Some-Refusal-clause-reply : goal.returns-in-Some-Refusal-clause-reply
+returns-in-Some-Refusal-clause-reply c = λ is.
+    let of = rw c.in-Some-Refusal.field-0-is at c.in-Some-Refusal.ensures.found in
+    filled_by _ _ _ _ _ _ (c.give-in-Some-Refusal.ensures.filled is) (search rules)
+    (opened _ _ _ of)
+
+pub returns-in-Some-Refusal-clause-short : goal.returns-in-Some-Refusal-clause-short
+returns-in-Some-Refusal-clause-short c = λ is.
+    let of = rw c.in-Some-Refusal.field-0-is at c.in-Some-Refusal.ensures.found in
+    too_short_by _ _ _ _ _ _ (c.give-in-Some-Refusal.ensures.short is) (search rules)
+    (opened _ _ _ of)
+
+pub returns-in-Some-Refusal-clause-not_fine : goal.returns-in-Some-Refusal-clause-not_fine
+returns-in-Some-Refusal-clause-not_fine c = λ is fine. c.give-in-Some-Refusal.ensures.not_clean is refl

@@ -1,6 +1,7 @@
 use Rattle.std.proofs.Common.{rules, ◌≡◌, ◌+◌, arith, length}
 use Rattle.bb_lines.specs.Lines.{lines}
 use Rattle.bb_run.proofs.Facts.{reply_short}
+use Rattle.bb_c.proofs.Given.{filled_by, too_short_by}
 use Rattle.bb_c.proofs.Lengths.{replies_fit, room_in_list}
 use Rattle.bb_c.proofs.deciding.bb_decide.Goals as goal
 
@@ -11,3 +12,13 @@ returns-in-Ok-verdicts-clause-enough c = λ enough.
     let room = room_in_list c.args.list.now in
     let same : length c.as_slice.result.now ≡ length c.in-Ok-verdicts.replies.items = search rules in
     c.give.ensures.enough (omega (arith, enough, fit, room, same))
+
+pub returns-in-Ok-verdicts-clause-replies : goal.returns-in-Ok-verdicts-clause-replies
+returns-in-Ok-verdicts-clause-replies c = λ is.
+    let replies = rw c.in-Ok.ensures.given at c.in-Ok-verdicts.ensures.replies in
+    filled_by _ _ _ _ _ _ (c.give.ensures.filled is) c.as_slice.ensures.value replies
+
+pub returns-in-Ok-verdicts-clause-short : goal.returns-in-Ok-verdicts-clause-short
+returns-in-Ok-verdicts-clause-short c = λ is.
+    let replies = rw c.in-Ok.ensures.given at c.in-Ok-verdicts.ensures.replies in
+    too_short_by _ _ _ _ _ _ (c.give.ensures.short is) c.as_slice.ensures.value replies
