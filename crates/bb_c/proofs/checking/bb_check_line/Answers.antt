@@ -1,15 +1,13 @@
-use Rattle.std.proofs.Common.{rules, refl, inl, inr, ℕ, List, ◌≡◌, ◌⊎◌, ◌∙◌, IsTrue}
-use Rattle.std.proofs.lemmas.Bool.{false≢true}
+use Rattle.std.proofs.Common.{rules, refl, inl, inr, ℕ, List, ◌∙◌}
 use Rattle.bb_machine.specs.Limits.{Bounds}
 use Rattle.bb_machine.specs.Machine.{Table}
 use Rattle.bb_cert.specs.checker.Answer.{answer_text, IsAnswer}
 use Rattle.bb_cert.specs.declared.checker.answer.Answer.{Answer}
-use Rattle.bb_cert.specs.declared.checker.answer.Answer.TheVariants.{Ok, Bad, Over, Open}
+use Rattle.bb_cert.specs.declared.checker.answer.Answer.TheVariants.{Open}
 use Rattle.bb_cert.specs.verdict.Line.{IsLineOf}
 use Rattle.bb_cert.specs.declared.verdict.reader.Line.TheVariants.{Claim, Refusal}
 use Rattle.bb_cert.specs.declared.verdict.Verdict.{Verdict}
 use Rattle.bb_run.specs.CheckReply.{IsCheckReply, unread_text}
-use Rattle.bb_run.specs.CheckSeen.{is_fine}
 use Rattle.bb_run.proofs.Facts.{fine_by_word, fine_reply, unread_is_apart}
 use Rattle.bb_c.proofs.Given.{filled_by, too_short_by}
 use Rattle.bb_c.proofs.checking.bb_check_line.Goals as goal
@@ -18,14 +16,6 @@ pub returns-in-None-clause-not_fine : goal.returns-in-None-clause-not_fine
 returns-in-None-clause-not_fine c = λ is fine.
     let unread = inr (inr (record { no_line = c.in-None.ensures.none; is_reply = refl })) in
     unread_is_apart (fine_reply _ c.args.line.now unread_text unread fine)
-
--- the words of fine answers
-word_when_fine : (given : Answer) → IsTrue (is_fine given)
-    → (answer_text given ≡ answer_text Ok) ⊎ (answer_text given ≡ answer_text Open)
-word_when_fine Ok fine = inl refl
-word_when_fine Bad fine = absurd (false≢true fine)
-word_when_fine Over fine = absurd (false≢true fine)
-word_when_fine Open fine = inr refl
 
 -- a claim's line gets the word of its answer
 answered : (bounds : Bounds) (line : List ℕ) (table : Table) (verdict : Verdict) (given : Answer)
@@ -53,17 +43,6 @@ returns-in-Ok-answer-clause-short c = λ is.
     let answer = rw c.in-Ok.ensures.given at c.in-Ok-answer.ensures in
     too_short_by _ _ _ _ _ _ (c.give-in-Ok-answer.ensures.short is) c.word-in-Ok-answer.ensures
     (answered _ _ _ _ _ of answer)
-
-pub returns-in-Ok-answer-clause-clean : goal.returns-in-Ok-answer-clause-clean
-returns-in-Ok-answer-clause-clean c = λ is.
-    let of = rw c.in-Some-Claim.field-0-is at c.in-Some-Claim.ensures.found in
-    let answer = rw c.in-Ok.ensures.given at c.in-Ok-answer.ensures in
-    let fine = rw c.leaves_clean.ensures at (c.give-in-Ok-answer.ensures.clean is) in
-    record {
-      reply = answer_text c.in-Ok-answer.answer;
-      is_reply = answered _ _ _ _ _ of answer;
-      is_fine = word_when_fine c.in-Ok-answer.answer fine;
-    }
 
 pub returns-in-Ok-answer-clause-not_fine : goal.returns-in-Ok-answer-clause-not_fine
 returns-in-Ok-answer-clause-not_fine c = λ is fine.
