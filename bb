@@ -57,8 +57,8 @@ copy_back() {
 
 # Proves the libraries, in the order of `crates.txt`, and then the program. A library begins when what it
 # stands on is proved. Of those that stand on others one is proved at a time, since `rt` keeps others out of a
-# crate's libraries; `bb_command` has copies of them, and so goes beside `bb_run`. `bb_lines`, for which only
-# late ones wait, takes what the others leave.
+# crate's libraries; `bb_command` has a copy of its own. `bb_lines` and `bb_command`, for which only late ones
+# wait, take what the others leave.
 build() {
     logs=$(mktemp -d)
     aside=$logs/aside
@@ -77,7 +77,7 @@ build() {
             bb_lines) begin "$here" "$crate" nice rt lib --jobs 2 ;;
             bb_command)
                 copy_aside "$crate"
-                begin "$aside" "$crate" rt lib
+                begin "$aside" "$crate" nice rt lib
                 ;;
             *)
                 end $above

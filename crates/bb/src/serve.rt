@@ -1,6 +1,6 @@
 //! Does what was asked for, and says how it ended.
 ghost use Rattle.std.specs.Prelude.{◌≡◌, ◌↔◌, false, true};
-ghost use Rattle.bb_decide.specs.declared.plan.Plan.{Plan};
+ghost use Rattle.bb_machine.specs.declared.plan.Plan.{Plan};
 ghost use Rattle.bb_lines.specs.Watched.{is_marked, watched_inner};
 ghost use Rattle.bb_run.specs.BorneOut.{VerdictsAreBorneOut};
 ghost use Rattle.bb.specs.Ends.{IsNotBegun, ServeEnds, end_status};

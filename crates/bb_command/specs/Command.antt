@@ -11,7 +11,7 @@ use Rattle.clap.specs.ValueTests.{is_unsigned_in}
 use Rattle.clap.specs.declared.error.kind.ErrorKind.{ErrorKind}
 use Rattle.clap.specs.declared.error.kind.ErrorKind.TheVariants.{DisplayHelp, DisplayVersion, OutOfMemory}
 use Rattle.bb_machine.specs.Limits.{Bounds, IsFirstFault}
-use Rattle.bb_decide.specs.declared.plan.Plan.{Plan}
+use Rattle.bb_machine.specs.declared.plan.Plan.{Plan}
 use Rattle.bb_command.specs.declared.command.Asked.{Asked}
 use Rattle.bb_command.specs.declared.command.Numbers.{Numbers}
 use Rattle.bb_command.specs.declared.command.Stop.{Stop}

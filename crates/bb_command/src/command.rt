@@ -38,8 +38,7 @@ ghost use Rattle.bb_command.specs.CommandLine.{
   trace_shape,
 };
 
-use bb_decide::Plan;
-use bb_machine::{LimitFault, Limits};
+use bb_machine::{LimitFault, Limits, Plan};
 use clap::error::ErrorKind;
 use clap::{Arg, ArgAction, ArgMatches, Command, Error, value_parser};
 use std::alloc::{AllocError, Global};

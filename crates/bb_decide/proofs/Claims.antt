@@ -12,7 +12,7 @@ use Rattle.bb_cert.specs.checker.Answer.{undecided, too_much_named, out_of_order
 use Rattle.bb_cert.specs.checker.Answer.{claim_holds}
 use Rattle.bb_cert.specs.checker.Answer.{all_else}
 use Rattle.bb_cert.proofs.Facts.{records_in_order, told_is_said}
-use Rattle.bb_decide.specs.declared.plan.Plan.{Plan}
+use Rattle.bb_machine.specs.declared.plan.Plan.{Plan}
 use Rattle.bb_decide.specs.Laws.{VerdictsAreConfirmed, VerdictsHold}
 use Rattle.bb_decide.specs.Translation.{AgreesWithPartner}
 use Rattle.bb_decide.specs.Verdict.{IsVerdict}

@@ -14,7 +14,7 @@ use Rattle.bb_cert.specs.declared.verdict.Verdict.TheVariants.{Halt, Cycler, Tra
 use Rattle.bb_cert.specs.tree.Tree.{Back}
 use Rattle.bb_cert.specs.tree.WalkMeter.{IsWithinWalk, walked}
 use Rattle.bb_cert.proofs.Facts.{tree_has_one_end}
-use Rattle.bb_decide.specs.declared.plan.Plan.{Plan}
+use Rattle.bb_machine.specs.declared.plan.Plan.{Plan}
 use Rattle.bb_decide.specs.Cycle.{CountsSearch, FindsCycle}
 use Rattle.bb_decide.specs.Translation.{FindsTranslation}
 use Rattle.bb_decide.specs.Backward.{CountsTree, FindsTree, HasNoTree, without_nodes}

@@ -11,7 +11,7 @@ use Rattle.bb_cert.specs.checker.Answer.{IsAnswer, IsUndecided}
 use Rattle.bb_cert.specs.claims.Claim.{Claim}
 use Rattle.bb_cert.specs.records.Record.{IsRecord}
 use Rattle.bb_cert.specs.claims.Repeat.{Same}
-use Rattle.bb_decide.specs.declared.plan.Plan.{Plan}
+use Rattle.bb_machine.specs.declared.plan.Plan.{Plan}
 use Rattle.bb_decide.specs.Cycle.{IsCycle}
 use Rattle.bb_decide.specs.Sure.{IsLeastPower, NoneIsSmaller, StaysAs}
 use Rattle.bb_decide.specs.Translation.{IsTranslation}

@@ -10,7 +10,7 @@ use Rattle.bb_cert.specs.declared.verdict.Verdict.TheVariants.{Halt, Cycler, Tra
 use Rattle.bb_cert.specs.records.Agree.{Agree}
 use Rattle.bb_cert.specs.records.Record.{IsRecord}
 use Rattle.bb_cert.specs.claims.Repeat.{Same}
-use Rattle.bb_decide.specs.declared.plan.Plan.{Plan}
+use Rattle.bb_machine.specs.declared.plan.Plan.{Plan}
 use Rattle.bb_decide.specs.Verdict.{IsVerdict}
 
 -- the least power of two that is not below either of two numbers

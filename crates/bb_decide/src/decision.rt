@@ -19,11 +19,10 @@ ghost use Rattle.bb_decide.specs.Work.{CountsWork, IsWithinWork};
 
 use crate::bench::Bench;
 use crate::cycle::cyclers;
-use crate::plan::Plan;
 use crate::reasoning::backward;
 use crate::translation::translated;
 use bb_cert::{Verdict, Why};
-use bb_machine::{Limits, Machine};
+use bb_machine::{Limits, Machine, Plan};
 use bb_sim::{Meter, Outcome, simulate};
 use bb_tape::{Memory, Tape};
 

@@ -7,7 +7,9 @@ pub mod entry;
 pub mod laws;
 pub mod limits;
 pub mod machine;
+pub mod plan;
 
 pub use entry::{Dir, Entry, Next};
 pub use limits::{LimitFault, Limits};
 pub use machine::{LINE, MAX_STATES, MAX_SYMBOLS, Machine, Refused, Step};
+pub use plan::Plan;

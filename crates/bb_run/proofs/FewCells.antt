@@ -8,7 +8,7 @@ use Rattle.bb_cert.specs.declared.verdict.Why.TheVariants.{Steps}
 use Rattle.bb_cert.specs.declared.verdict.Verdict.TheVariants.{Undecided}
 use Rattle.bb_cert.specs.verdict.Line.{IsLineOf, line_text}
 use Rattle.bb_cert.proofs.Facts.{line_unique}
-use Rattle.bb_decide.specs.declared.plan.Plan.{Plan}
+use Rattle.bb_machine.specs.declared.plan.Plan.{Plan}
 use Rattle.bb_decide.specs.FewCells.{HasStepsForCells}
 use Rattle.bb_decide.proofs.Facts.{few_cells_are_decided}
 use Rattle.bb_run.specs.FewCells.{AllFewCellsAreReplied}

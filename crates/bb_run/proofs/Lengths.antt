@@ -13,7 +13,7 @@ use Rattle.bb_cert.specs.declared.checker.answer.Answer.TheVariants as answer
 use Rattle.bb_cert.specs.checker.Answer.{answer_text}
 use Rattle.bb_cert.specs.verdict.Line.{refusal_text, verdict_text}
 use Rattle.bb_cert.proofs.Facts.{length-verdict_text}
-use Rattle.bb_decide.specs.declared.plan.Plan.{Plan}
+use Rattle.bb_machine.specs.declared.plan.Plan.{Plan}
 use Rattle.bb_run.specs.CheckReply.{IsCheckReply}
 use Rattle.bb_run.specs.Reply.{IsReply}
 

@@ -3,7 +3,7 @@ use Rattle.std.proofs.Common.{◌≡◌, ℕ, List, inl, inr, sym, subst, ap, �
 use Rattle.bb_machine.specs.Limits.{Bounds}
 use Rattle.bb_machine.proofs.Facts.{column_unique, text_unique}
 use Rattle.bb_cert.specs.verdict.Line.{line_text, refusal_text}
-use Rattle.bb_decide.specs.declared.plan.Plan.{Plan}
+use Rattle.bb_machine.specs.declared.plan.Plan.{Plan}
 use Rattle.bb_decide.specs.Verdict.{IsVerdict}
 use Rattle.bb_decide.proofs.Facts.{verdict_is_unique, verdicts_are_confirmed, verdicts_hold, work_is_bounded}
 use Rattle.bb_cert.proofs.Facts.{claims_never_halt}

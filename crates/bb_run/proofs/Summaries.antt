@@ -10,7 +10,7 @@ use Rattle.bb_sim.specs.Span.{span, IsLastInside}
 use Rattle.bb_sim.specs.Meter.{zero_meter}
 use Rattle.bb_sim.proofs.Facts.{last_step_is_unique}
 use Rattle.bb_cert.specs.declared.verdict.Verdict.TheVariants.{Backward}
-use Rattle.bb_decide.specs.declared.plan.Plan.{Plan}
+use Rattle.bb_machine.specs.declared.plan.Plan.{Plan}
 use Rattle.bb_decide.specs.Verdict.{IsVerdict}
 use Rattle.bb_decide.specs.Work.{IsWork}
 use Rattle.bb_decide.proofs.Facts.{work_is_unique}

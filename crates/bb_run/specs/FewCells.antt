@@ -5,7 +5,7 @@ use Rattle.bb_machine.specs.Machine.{Table, IsTextOf}
 use Rattle.bb_cert.specs.declared.verdict.Why.TheVariants.{Steps}
 use Rattle.bb_cert.specs.declared.verdict.Verdict.TheVariants.{Undecided}
 use Rattle.bb_cert.specs.verdict.Line.{line_text}
-use Rattle.bb_decide.specs.declared.plan.Plan.{Plan}
+use Rattle.bb_machine.specs.declared.plan.Plan.{Plan}
 use Rattle.bb_decide.specs.FewCells.{HasStepsForCells}
 use Rattle.bb_run.specs.Reply.{IsReply}
 

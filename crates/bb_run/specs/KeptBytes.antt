@@ -6,7 +6,7 @@ use Rattle.bb_machine.specs.Laws.{PrefixIsEnough}
 use Rattle.bb_machine.specs.Limits.{Bounds}
 use Rattle.bb_machine.specs.Machine.{Table, IsMachineLine, IsTextOf}
 use Rattle.bb_machine.proofs.Facts.{prefix_enough}
-use Rattle.bb_decide.specs.declared.plan.Plan.{Plan}
+use Rattle.bb_machine.specs.declared.plan.Plan.{Plan}
 use Rattle.bb_run.specs.declared.summary.Summary.{Summary}
 use Rattle.bb_run.specs.Reply.{IsReply}
 use Rattle.bb_run.specs.Seen.{Saw}

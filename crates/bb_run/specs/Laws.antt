@@ -1,7 +1,7 @@
 -- Laws of replies.
 use Rattle.std.specs.Prelude.{◌≡◌, ℕ, ◌<◌, List, length}
 use Rattle.bb_machine.specs.Limits.{Bounds}
-use Rattle.bb_decide.specs.declared.plan.Plan.{Plan}
+use Rattle.bb_machine.specs.declared.plan.Plan.{Plan}
 use Rattle.bb_cert.specs.declared.verdict.line.TheConstants.{LINE_BUFFER}
 use Rattle.bb_run.specs.BorneOut.{VerdictsAreBorneOut}
 use Rattle.bb_run.specs.CheckReply.{IsCheckReply, unread_text}

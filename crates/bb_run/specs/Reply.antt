@@ -6,7 +6,7 @@ use Rattle.bb_machine.specs.Machine.{Table, IsMachineLine, IsTextOf}
 use Rattle.bb_cert.specs.declared.verdict.Verdict.{Verdict}
 use Rattle.bb_cert.specs.declared.verdict.reader.Line.TheVariants.{Claim}
 use Rattle.bb_cert.specs.verdict.Line.{IsLineOf, refusal_text}
-use Rattle.bb_decide.specs.declared.plan.Plan.{Plan}
+use Rattle.bb_machine.specs.declared.plan.Plan.{Plan}
 use Rattle.bb_decide.specs.Verdict.{IsVerdict}
 
 -- the line is a machine's text, and the reply is the line of the machine and its verdict; so reading it gives

@@ -5,7 +5,7 @@ use Rattle.bb_machine.specs.Limits.{Bounds}
 use Rattle.bb_machine.specs.Machine.{Table, IsMachineLine, IsTextOf}
 use Rattle.bb_sim.specs.declared.meter.Meter.{Meter}
 use Rattle.bb_sim.specs.Meter.{greatest_of}
-use Rattle.bb_decide.specs.declared.plan.Plan.{Plan}
+use Rattle.bb_machine.specs.declared.plan.Plan.{Plan}
 use Rattle.bb_decide.specs.Work.{CountsWork}
 use Rattle.bb_run.specs.declared.summary.Summary.{Summary}
 
