@@ -1,4 +1,4 @@
-//! Small Turing machines: their texts, their tables, and the limits of a run.
+//! Small Turing machines: their texts, their tables, the limits of a run, and which deciders are on.
 //!
 //! The text is bbchallenge's standard text format for Turing machines, in this project's profile.
 #![tactic(auto)]
