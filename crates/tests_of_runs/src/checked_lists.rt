@@ -6,8 +6,8 @@ use crate::support::streams::{Pieces, Sink};
 use bb_lines::fault::Fault;
 use bb_lines::watched::Watched;
 use bb_machine::Limits;
-use bb_run::{Summary, ring_pair, run_check};
-use std::io::{ErrorKind, Read};
+use bb_run::{ring_pair, run_check};
+use std::io::ErrorKind;
 use std::process::Abort;
 use std::test::Fail;
 
@@ -144,20 +144,32 @@ static EXTENTS_AND_OTHERS: [Row; 6] = [
     ),
 ];
 
-/// Checks what a reader gives, on rings, into a sink.
-fn checked_over<R: Read + Drop>(
+/// Checks what a reader gives, on rings, into a sink, and answers whether it was clean.
+fn checked_over(
     rt: &(impl Abort + AllocGlobal),
-    limits: &Limits,
-    reader: R,
-    mut sink: Sink,
-) -> (Result<Summary, Fault>, Sink) {
-    let (mut pair, mut path) = ring_pair(rt.alloc(), limits).expect(rt, "memory");
+    reader: Pieces,
+    sink: &mut Sink,
+) -> Result<bool, Fault> {
+    let limits = Limits::new(9, 9, 5, 9).expect(rt, "limits");
+    let (mut pair, mut path) = ring_pair(rt.alloc(), &limits).expect(rt, "memory");
     let mut reader = Watched::new(reader);
-    let mut writer = Watched::new(&mut sink);
-    let end = run_check(&mut reader, &mut writer, limits, &mut pair, &mut path);
+    let mut writer = Watched::new(sink);
+    let end = run_check(&mut reader, &mut writer, &limits, &mut pair, &mut path);
     assert_eq!(rt; reader.failed(), end == Err(Fault::Read));
     assert_eq!(rt; writer.failed(), end == Err(Fault::Write));
-    (end, sink)
+    end.map(|summary| summary.clean)
+}
+
+/// Checking over these streams ends so, and the sink has these bytes then.
+fn assert_checked_over(
+    rt: &(impl Abort + AllocGlobal),
+    reader: Pieces,
+    mut sink: Sink,
+    end: Result<bool, Fault>,
+    written: &[u8],
+) {
+    assert_eq!(rt; checked_over(rt, reader, &mut sink), end);
+    assert_eq!(rt; sink.bytes.as_slice(), written);
 }
 
 #[test]
@@ -215,57 +227,51 @@ const LIST: &[u8; 40] = b"------ halt 0 0\nrefused 1\n\n1RZ--- halt 0";
 
 const WORDS: &[u8; 22] = b"ok\nopen\nunread\nunread\n";
 
+/// The list in one piece.
+fn whole() -> Pieces {
+    Pieces::of(LIST, 40, 40)
+}
+
 #[test]
 fn claims_come_in_any_pieces(rt: HostRuntime) {
-    let limits = Limits::new(9, 9, 5, 9).expect(&rt, "limits");
     for most in [1, 40] {
         for first in 1..41 {
             let reader = Pieces::of(LIST, first, most);
-            let (end, sink) = checked_over(&rt, &limits, reader, Sink::of(128, 128));
-            assert!(rt; end.is_ok_and(|summary| !summary.clean));
-            assert_eq!(rt; sink.bytes.as_slice(), WORDS.as_slice(), "{first}");
+            assert_checked_over(&rt, reader, Sink::of(128, 128), Ok(false), WORDS);
         }
     }
 }
 
 #[test]
 fn a_read_fails(rt: HostRuntime) {
-    let limits = Limits::new(9, 9, 5, 9).expect(&rt, "limits");
     for error in [ErrorKind::Interrupted, ErrorKind::BrokenPipe] {
-        for k in 1..42 {
-            let reader = Pieces {
-                before_failure: k - 1,
-                error,
-                ..Pieces::of(LIST, 1, 1)
-            };
-            let (end, sink) = checked_over(&rt, &limits, reader, Sink::of(128, 128));
+        for k in 0..41 {
             let written = match k {
-                1..=16 => 0,
-                17..=26 => 3,
-                27 => 8,
+                0..=15 => 0,
+                16..=25 => 3,
+                26 => 8,
                 _ => 15,
             };
-            assert_eq!(rt; end, Err(Fault::Read), "read {k}");
-            assert_eq!(rt; sink.bytes.as_slice(), &WORDS[..written], "read {k}");
+            let reader = Pieces::failing(LIST, 1, k, error);
+            let sink = Sink::of(128, 128);
+            assert_checked_over(&rt, reader, sink, Err(Fault::Read), &WORDS[..written]);
         }
     }
 }
 
 #[test]
 fn a_write_fails(rt: HostRuntime) {
-    let limits = Limits::new(9, 9, 5, 9).expect(&rt, "limits");
     for room in 0..WORDS.len() {
-        let (end, sink) = checked_over(&rt, &limits, LIST.as_slice(), Sink::of(128, room));
-        assert_eq!(rt; end, Err(Fault::Write), "room {room}");
-        assert_eq!(rt; sink.bytes.as_slice(), &WORDS[..room], "room {room}");
+        let sink = Sink::of(128, room);
+        assert_checked_over(&rt, whole(), sink, Err(Fault::Write), &WORDS[..room]);
     }
-    let (end, sink) = checked_over(&rt, &limits, LIST.as_slice(), Sink::of(0, 128));
-    assert_eq!(rt; end, Err(Fault::Write), "no byte taken");
-    assert!(rt; sink.bytes.is_empty());
-    let (end, sink) = checked_over(&rt, &limits, LIST.as_slice(), Sink::without_flush());
-    assert_eq!(rt; end, Err(Fault::Write), "no flush");
-    assert_eq!(rt; sink.bytes.as_slice(), WORDS.as_slice());
-    let (end, sink) = checked_over(&rt, &limits, LIST.as_slice(), Sink::of(1, 128));
-    assert!(rt; end.is_ok_and(|summary| !summary.clean), "one byte a call");
-    assert_eq!(rt; sink.bytes.as_slice(), WORDS.as_slice());
+    assert_checked_over(&rt, whole(), Sink::of(0, 128), Err(Fault::Write), b"");
+    assert_checked_over(
+        &rt,
+        whole(),
+        Sink::without_flush(),
+        Err(Fault::Write),
+        WORDS,
+    );
+    assert_checked_over(&rt, whole(), Sink::of(1, 128), Ok(false), WORDS);
 }

@@ -24,6 +24,22 @@ impl Pieces {
             error: ErrorKind::Interrupted,
         }
     }
+
+    /// Pieces of at most `most` bytes, and so many calls before one that fails with this error.
+    pub(crate) fn failing(
+        bytes: &'static [u8],
+        most: usize,
+        before_failure: u64,
+        error: ErrorKind,
+    ) -> Pieces {
+        Pieces {
+            bytes,
+            first: most,
+            most,
+            before_failure,
+            error,
+        }
+    }
 }
 
 impl Read for Pieces {
