@@ -180,17 +180,20 @@ module _ {Reply : List ℕ → List ℕ → Type 0} {held held' : Option (List �
 module _ {A : Type 0} {Reply : List ℕ → List ℕ → Type 0} {saw : A → List ℕ → A → Type 0}
     {held held' : Option (List ℕ)} {waiting' : List ℕ} {first now : A} {lines : List (List ℕ)}
     (before : AreAnswered Reply saw held held' [] waiting' first now lines) where
+  -- all that waits is written, so that the replies are
+  pub replies_written : {held'' : Option (List ℕ)} → Appends held' held'' waiting'
+      → AppendsReplies Reply held held'' lines
+  replies_written {held''} written =
+      let all : AreAnswered Reply saw held held'' [] [] first now lines = answered_written before written in
+      record { bytes = all.bytes; are_replies = all.are_replies; appends = Appends-sent all.sends }
+
   -- all lines are answered, and then all that waits was to be written, and may have been
   pub ends_at_last : (held'' : Option (List ℕ)) (r : Result (Unit {0}) Fault)
       → OnOk r (Appends held' held'' waiting') → IsOkUnless r Write
       → OnErr r (AppendsPrefix held' held'' waiting')
       → MatchEnd r (λ _. AppendsReplies Reply held held'' lines × FoldsTo saw first lines now)
       (AppendsSome Reply held held'' lines) ⊥ (AppendsPrefixOfReplies Reply held held'' lines)
-  ends_at_last held'' (Ok u) ok only err =
-      let all : AreAnswered Reply saw held held'' [] [] first now lines = answered_written before ok in (
-        record { bytes = all.bytes; are_replies = all.are_replies; appends = Appends-sent all.sends },
-        before.seen,
-      )
+  ends_at_last held'' (Ok u) ok only err = (replies_written ok, before.seen)
   ends_at_last held'' (Err Write) ok only err = AppendsPrefixOfReplies-writes (prefix_written before err)
   ends_at_last held'' (Err Memory) ok only err = cc
   ends_at_last held'' (Err Read) ok only err = cc

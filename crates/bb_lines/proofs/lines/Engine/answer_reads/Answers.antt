@@ -6,7 +6,7 @@ use Rattle.bb_lines.specs.inside.Progress.{none, prefixes, AreAnswered}
 use Rattle.bb_lines.specs.Watched.{watched_inner}
 use Rattle.bb_lines.proofs.Pieces.{LinesAre-none}
 use Rattle.bb_lines.proofs.Prefixes.{take_none, AfterPiece, after_piece, prefixes-lines}
-use Rattle.bb_lines.proofs.Progress.{answered_none, answered_written, answered_more, prefix_written}
+use Rattle.bb_lines.proofs.Progress.{answered_none, answered_written, answered_more, prefix_written, replies_written}
 use Rattle.bb_lines.proofs.Progress.{prefix_more, fault_after_none, AppendsPrefixOfReplies-writes}
 use Rattle.bb_lines.proofs.lines.Engine.answer_reads.Given.{Over}
 use Rattle.bb_lines.proofs.lines.Engine.answer_reads.Goals as goal
@@ -109,4 +109,26 @@ returns-in_err-answer_lines-clause-ends g c =
       here.past ++ piece,
       rw done.reader (Consumes-trans _ _ _ here.past _ here.consumed c.in-Ok.ensures.bytes.0),
       rw (p.1, p.2) (fault_after_none (answered_now g at) law _ _ _ all _ _ _ _ done.ends),
+    )
+
+pub returns-in-Err-clause-ends : goal.returns-in-Err-clause-ends
+returns-in-Err-clause-ends g c =
+    let here = c.loop-self.invariant in (
+      here.past,
+      search rules,
+      rw c.in-Err.ensures.writer (replies_written here.answered c.in_ok-write_waiting.ensures.ok),
+    )
+
+pub returns-then-n-eq0-clause-ends : goal.returns-then-n-eq0-clause-ends
+returns-then-n-eq0-clause-ends g c =
+    let here = c.loop-self.invariant in
+    let read = c.in-Ok.ensures in (
+      here.past,
+      search rules,
+      (
+        search rules,
+        rw read.writer (replies_written here.answered c.in_ok-write_waiting.ensures.ok),
+        rw read.responder here.answered.seen,
+        rw read.kept here.kept,
+      ),
     )
