@@ -81,6 +81,32 @@ fn letter(state: Option<u8>) -> char {
     }
 }
 
+/// How many cells a runner has seen.
+fn span(runner: &Runner) -> Option<i64> {
+    runner.high().checked_sub(runner.low())?.checked_add(1)
+}
+
+/// Holds a runner against the configuration of a step.
+fn is_seen(rt: &impl Abort, runner: &Runner, step: usize, seen: &Seen) {
+    let (state, position, _ones, cells) = *seen;
+    assert_eq!(rt; runner.steps(), step as u64);
+    assert_eq!(rt; letter(runner.state()), state, "at step {step}");
+    assert_eq!(rt; runner.position(), position, "at step {step}");
+    assert_eq!(rt; span(runner), Some(cells), "at step {step}");
+}
+
+/// Holds the cells of a tape against the positions that have a 1.
+fn has_ones<T: Tape>(rt: &impl Abort, tape: &T, step: usize, ones: &[i64]) {
+    for position in -40..41 {
+        let symbol = u8::from(ones.contains(&position));
+        assert_eq!(rt;
+            tape.read(position),
+            symbol,
+            "at step {step}, cell {position}"
+        );
+    }
+}
+
 /// Holds the run of a machine against what was worked out.
 fn follows<T: Tape>(rt: &impl Abort, mut tape: T, text: &[u8], run: &[Seen])
     requires { (T.view tape).limit ≡ CELLS }
@@ -89,30 +115,15 @@ fn follows<T: Tape>(rt: &impl Abort, mut tape: T, text: &[u8], run: &[Seen])
     let limits = Limits::new(1000, CELLS, 0, 0).expect(rt, "limits");
     let mut meter = Meter::new();
     let mut runner = Runner::start(&machine, &mut tape);
-    for (n, (state, position, ones, span)) in run.iter().enumerate() {
-        assert_eq!(rt; runner.steps(), n as u64);
-        assert_eq!(rt; letter(runner.state()), *state, "at step {n}");
-        assert_eq!(rt; runner.position(), *position, "at step {n}");
-        for position in -40..41 {
-            let one = ones.contains(&position);
-            assert_eq!(rt;
-                tape.read(position),
-                u8::from(one),
-                "at step {n}, cell {position}"
-            );
-        }
-        let width = runner.high().checked_sub(runner.low());
-        assert_eq!(rt;
-            width.and_then(|width| width.checked_add(1)),
-            Some(*span),
-            "at step {n}"
-        );
+    for (n, seen) in run.iter().enumerate() {
+        is_seen(rt, &runner, n, seen);
+        has_ones(rt, &tape, n, seen.2);
         assert!(rt; meter.steps < 1000);
         assert!(rt; runner.steps() <= limits.steps());
         let moved = runner
             .advance(&machine, &mut tape, &limits, &mut meter)
             .expect(rt, "memory");
-        assert_eq!(rt; moved == Moved::Halted, *state == 'Z', "at step {n}");
+        assert_eq!(rt; moved == Moved::Halted, seen.0 == 'Z', "at step {n}");
     }
 }
 
