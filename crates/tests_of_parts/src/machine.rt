@@ -1,5 +1,6 @@
 //! Worked lines, and a comparison with a second reader that only tries each prefix of a line.
-ghost use Rattle.std.specs.Prelude.{◌≤◌};
+ghost use Rattle.std.specs.Prelude.{◌≡◌, ◌≤◌, IfOk, length};
+ghost use Rattle.bb_machine.specs.Machine.{symbols_of};
 
 use arrayvec::ArrayVec;
 use bb_machine::{
@@ -102,18 +103,30 @@ fn begins_text(bytes: &[u8], states: usize, symbols: usize) -> bool
     true
 }
 
+/// Whether a byte is the digit of one of so many symbols.
+fn is_symbol(byte: u8, symbols: usize) -> bool {
+    byte.is_ascii_digit() && (byte.wrapping_sub(b'0') as usize) < symbols
+}
+
+fn is_side(byte: u8) -> bool {
+    byte == b'L' || byte == b'R'
+}
+
+/// Whether a byte is the letter of one of so many states, or of the halting one.
+fn is_next(byte: u8, states: usize) -> bool {
+    byte == b'Z' || byte.is_ascii_uppercase() && (byte.wrapping_sub(b'A') as usize) < states
+}
+
 /// Whether an entry's text that names only so many states and symbols begins with the bytes.
 fn begins_entry(bytes: &[u8], states: usize, symbols: usize) -> bool {
-    let digit = |byte: u8| byte.is_ascii_digit() && ((byte.wrapping_sub(b'0')) as usize) < symbols;
-    let side = |byte: u8| byte == b'L' || byte == b'R';
-    let letter = |byte: u8| byte == b'Z'
-        || byte.is_ascii_uppercase() && (byte.wrapping_sub(b'A') as usize) < states;
     match bytes {
         [] => true,
         [b'-', rest @ ..] => rest.iter().all(|byte| *byte == b'-'),
-        [first] => digit(*first),
-        [first, second] => digit(*first) && side(*second),
-        [first, second, third] => digit(*first) && side(*second) && letter(*third),
+        [first] => is_symbol(*first, symbols),
+        [first, second] => is_symbol(*first, symbols) && is_side(*second),
+        [first, second, third] => {
+            is_symbol(*first, symbols) && is_side(*second) && is_next(*third, states)
+        }
         _ => false,
     }
 }
@@ -153,15 +166,21 @@ fn answer(line: &[u8]) -> usize {
     }
 }
 
+/// Holds a line against the text of the machine that it is read as, and against the machine's size.
+fn is_read_and_written(rt: &impl Abort, line: &[u8]) -> Result<(), Fail> {
+    let machine = Machine::read(line)?;
+    let mut text = ArrayVec::<u8, LINE>::new();
+    machine.text_into(&mut text);
+    assert_eq!(rt; text.as_slice(), line);
+    let width = 3 * machine.symbols() as usize + 1;
+    assert_eq!(rt; machine.states() as usize * width, line.len() + 1);
+    Ok(())
+}
+
 #[test]
 fn machines_are_read_and_written(rt: HostRuntime) -> Result<(), Fail> {
     for line in MACHINES {
-        let machine = Machine::read(line).map_err(|_| "refused")?;
-        let mut text = ArrayVec::<u8, LINE>::new();
-        machine.text_into(&mut text);
-        assert_eq!(rt; text.as_slice(), line);
-        let width = 3 * machine.symbols() as usize + 1;
-        assert_eq!(rt; machine.states() as usize * width, line.len() + 1);
+        is_read_and_written(&rt, line)?;
     }
     Ok(())
 }
@@ -169,7 +188,7 @@ fn machines_are_read_and_written(rt: HostRuntime) -> Result<(), Fail> {
 #[test]
 fn the_longest_machine_is_read_and_written(rt: HostRuntime) -> Result<(), Fail> {
     let line = groups_alike(25, 10)?;
-    let machine = Machine::read(line.as_slice()).map_err(|_| "refused")?;
+    let machine = Machine::read(line.as_slice())?;
     assert!(rt; machine.states() == 25 && machine.symbols() == 10);
     let mut text = ArrayVec::<u8, LINE>::new();
     machine.text_into(&mut text);
@@ -181,10 +200,7 @@ fn the_longest_machine_is_read_and_written(rt: HostRuntime) -> Result<(), Fail> 
 #[test]
 fn other_lines_are_refused_with_their_column(rt: HostRuntime) {
     for (line, column) in REFUSED {
-        match Machine::read(line) {
-            Ok(_machine) => panic!(rt; "{line:?} is no machine"),
-            Err(refused) => assert_eq!(rt; refused.column, column, "{line:?}"),
-        }
+        assert_eq!(rt; answer(line), column as usize, "{line:?}");
     }
 }
 
@@ -201,22 +217,40 @@ fn larger_machines_are_refused(rt: HostRuntime) -> Result<(), Fail> {
     Ok(())
 }
 
+/// The entry that writes a 1 and halts to the right.
+const TO_HALT: Entry = Entry::Go {
+    write: 1,
+    dir: Dir::R,
+    next: Next::Halt,
+};
+
+/// Reads a machine with so many states and symbols.
+fn sized(rt: &impl Abort, line: &[u8], states: u8, symbols: u8) -> Result<Machine, Fail>
+    ensures states { IfOk result (λ machine. length machine ≡ states) }
+    ensures symbols { IfOk result (λ machine. symbols_of machine ≡ symbols) }
+{
+    let machine = Machine::read(line)?;
+    assert!(rt; machine.states() == states);
+    assert!(rt; machine.symbols() == symbols);
+    Ok(machine)
+}
+
 #[test]
 fn entries_are_the_table(rt: HostRuntime) -> Result<(), Fail> {
-    let machine = Machine::read(CHAMPION).map_err(|_| "refused")?;
-    assert!(rt; machine.states() == 5 && machine.symbols() == 2);
+    let machine = sized(&rt, CHAMPION, 5, 2)?;
     let to_c = Entry::Go {
         write: 1,
         dir: Dir::L,
         next: Next::State(2),
     };
-    let to_halt = Entry::Go {
-        write: 1,
-        dir: Dir::R,
-        next: Next::Halt,
-    };
     assert_eq!(rt; machine.entry(0, 1), to_c);
-    assert_eq!(rt; machine.entry(4, 0), to_halt);
+    assert_eq!(rt; machine.entry(4, 0), TO_HALT);
+    Ok(())
+}
+
+#[test]
+fn steps_are_the_table(rt: HostRuntime) -> Result<(), Fail> {
+    let machine = sized(&rt, CHAMPION, 5, 2)?;
     let step = Step {
         write: 1,
         offset: -1,
@@ -224,14 +258,18 @@ fn entries_are_the_table(rt: HostRuntime) -> Result<(), Fail> {
     };
     assert_eq!(rt; machine.step(0, 1), Some(step));
     assert_eq!(rt; machine.step(4, 0), None);
-    let machine = Machine::read(b"1RB2LB1RZ_2LA2RB1LB").map_err(|_| "refused")?;
-    assert!(rt; machine.states() == 2 && machine.symbols() == 3);
+    Ok(())
+}
+
+#[test]
+fn entries_of_three_symbols_are_the_table(rt: HostRuntime) -> Result<(), Fail> {
+    let machine = sized(&rt, b"1RB2LB1RZ_2LA2RB1LB", 2, 3)?;
     let to_b = Entry::Go {
         write: 2,
         dir: Dir::R,
         next: Next::State(1),
     };
-    assert_eq!(rt; machine.entry(0, 2), to_halt);
+    assert_eq!(rt; machine.entry(0, 2), TO_HALT);
     assert_eq!(rt; machine.entry(1, 1), to_b);
     Ok(())
 }
@@ -299,15 +337,17 @@ const FAULTS: [([u64; 4], LimitFault, &str); 6] = [
 ];
 
 #[test]
-fn limits_are_told_and_faults_are_printed(rt: HostRuntime) -> Result<(), Fail> {
-    let limits = Limits::new(1_000_000, 65_536, 300, 1_000_001).map_err(|_| "refused")?;
-    let told = [
-        limits.steps(),
-        limits.cells(),
-        limits.depth(),
-        limits.nodes(),
-    ];
-    assert_eq!(rt; told, [1_000_000, 65_536, 300, 1_000_001]);
+fn limits_are_told(rt: HostRuntime) -> Result<(), Fail> {
+    let limits = Limits::new(1_000_000, 65_536, 300, 1_000_001)?;
+    assert_eq!(rt; limits.steps(), 1_000_000);
+    assert_eq!(rt; limits.cells(), 65_536);
+    assert_eq!(rt; limits.depth(), 300);
+    assert_eq!(rt; limits.nodes(), 1_000_001);
+    Ok(())
+}
+
+#[test]
+fn faults_are_told_and_printed(rt: HostRuntime) -> Result<(), Fail> {
     for ([steps, cells, depth, nodes], fault, text) in FAULTS {
         let refused = Limits::new(steps, cells, depth, nodes)
             .err()
