@@ -1,5 +1,5 @@
 //! Verdicts over both tapes, with answers that were worked out by hand.
-ghost use Rattle.std.specs.Prelude.{◌≡◌};
+ghost use Rattle.std.specs.Prelude.{◌≡◌, IfOk};
 ghost use Rattle.bb_cert.specs.tree.Path.{depth_of};
 ghost use Rattle.bb_decide.specs.Bench.{BenchHasCells};
 
@@ -9,7 +9,8 @@ use bb_cert::{Extent, Side, Verdict, Why};
 use bb_decide::{Bench, Plan, cyclers, decide, translated};
 use bb_machine::{Limits, Machine};
 use bb_sim::Meter;
-use bb_tape::{MapTape, RingTape, Tape};
+use bb_tape::{MapTape, Memory, RingTape, Tape};
+use std::alloc::Global;
 use std::process::Abort;
 use std::test::Fail;
 
@@ -295,6 +296,24 @@ static TRANSLATED_ROWS: [Row; 20] = [
     ),
 ];
 
+/// Decides a machine within so many steps.
+fn decided<T: Tape>(
+    bench: &mut Bench<T>,
+    text: &[u8],
+    most_steps: u64,
+    plan: Plan,
+    meter: &mut Meter,
+) -> Result<Verdict, Fail>
+    requires tapes { BenchHasCells T.view CELLS bench.old }
+    requires path { depth_of bench.old.path ≡ 0 }
+    ensures tapes { BenchHasCells T.view CELLS bench.new }
+    ensures path { depth_of bench.new.path ≡ 0 }
+{
+    let limits = Limits::new(most_steps, CELLS, 0, 0)?;
+    let machine = Machine::read(text)?;
+    Ok(decide(&machine, &limits, plan, bench, meter)?)
+}
+
 /// Decides each machine on three tapes, and holds verdict and steps against what was worked out.
 fn are_decided<T: Tape>(
     rt: &impl Abort,
@@ -313,10 +332,8 @@ fn are_decided<T: Tape>(
         backward: false,
     };
     for (text, most_steps, verdict, steps) in rows {
-        let limits = Limits::new(*most_steps, CELLS, 0, 0)?;
-        let machine = Machine::read(text)?;
         let mut meter = Meter::new();
-        let decided = decide(&machine, &limits, plan, bench, &mut meter)?;
+        let decided = decided(bench, text, *most_steps, plan, &mut meter)?;
         assert_eq!(rt; decided, *verdict, "{most_steps} steps");
         assert_eq!(rt; meter.steps, *steps, "{most_steps} steps");
     }
@@ -376,51 +393,114 @@ static SEARCHES: [Searched; 3] = [
     ),
 ];
 
-/// Searches each machine for a cycle, and then for records that agree, by the searches' own calls.
+/// Searches the first hundred steps of a machine for a cycle.
+fn cycle_of<T: Tape>(
+    bench: &mut Bench<T>,
+    machine: &Machine,
+    meter: &mut Meter,
+) -> Result<Option<Verdict>, Fail>
+    requires tapes { BenchHasCells T.view CELLS bench.old }
+    ensures tapes { BenchHasCells T.view CELLS bench.new }
+    ensures path { bench.new.path ≡ bench.old.path }
+{
+    let limits = Limits::new(100, CELLS, 0, 0)?;
+    *meter = Meter::new();
+    Ok(cyclers(machine, &limits, bench, meter)?)
+}
+
+/// Searches the first hundred steps of a machine for records that agree.
+fn records_of<T: Tape>(
+    bench: &mut Bench<T>,
+    machine: &Machine,
+    meter: &mut Meter,
+) -> Result<Option<Verdict>, Fail>
+    requires tapes { BenchHasCells T.view CELLS bench.old }
+    ensures tapes { BenchHasCells T.view CELLS bench.new }
+    ensures path { bench.new.path ≡ bench.old.path }
+{
+    let limits = Limits::new(100, CELLS, 0, 0)?;
+    *meter = Meter::new();
+    Ok(translated(machine, &limits, bench, meter)?)
+}
+
+/// Searches a machine for a cycle, and then for records that agree, by the searches' own calls.
+fn is_searched<T: Tape>(
+    rt: &impl Abort,
+    bench: &mut Bench<T>,
+    searched: &Searched,
+) -> Result<(), Fail>
+    requires tapes { BenchHasCells T.view CELLS bench.old }
+    ensures tapes { BenchHasCells T.view CELLS bench.new }
+    ensures path { bench.new.path ≡ bench.old.path }
+{
+    let (text, found, steps, most_cells) = searched;
+    let machine = Machine::read(text)?;
+    let mut meter = Meter::new();
+    let cycle = cycle_of(bench, &machine, &mut meter)?;
+    assert_eq!(rt; cycle, found[0], "{text:?}");
+    assert_eq!(rt; meter.steps, steps[0], "{text:?}");
+    assert_eq!(rt; meter.most_cells, *most_cells, "{text:?}");
+    let records = records_of(bench, &machine, &mut meter)?;
+    assert_eq!(rt; records, found[1], "{text:?}");
+    assert_eq!(rt; meter.steps, steps[1], "{text:?}");
+    Ok(())
+}
+
+/// Searches each machine by both searches.
 fn are_searched<T: Tape>(rt: &impl Abort, bench: &mut Bench<T>) -> Result<(), Fail>
     requires tapes { BenchHasCells T.view CELLS bench.old }
     requires path { depth_of bench.old.path ≡ 0 }
     ensures tapes { BenchHasCells T.view CELLS bench.new }
     ensures path { depth_of bench.new.path ≡ 0 }
 {
-    for (text, found, steps, most_cells) in &SEARCHES {
-        let limits = Limits::new(100, CELLS, 0, 0)?;
-        let machine = Machine::read(text)?;
-        let mut meter = Meter::new();
-        let cycle = cyclers(&machine, &limits, bench, &mut meter)?;
-        assert_eq!(rt; cycle, found[0], "{text:?}");
-        assert_eq!(rt; meter.steps, steps[0], "{text:?}");
-        assert_eq!(rt; meter.most_cells, *most_cells, "{text:?}");
-        let mut meter = Meter::new();
-        let records = translated(&machine, &limits, bench, &mut meter)?;
-        assert_eq!(rt; records, found[1], "{text:?}");
-        assert_eq!(rt; meter.steps, steps[1], "{text:?}");
+    for searched in &SEARCHES {
+        is_searched(rt, bench, searched)?;
     }
     Ok(())
 }
 
+/// Three maps of as many cells as the limits allow, and the room for a walk.
+fn bench_on_maps(alloc: Global, limits: &Limits) -> Result<Bench<MapTape>, Memory>
+    ensures tapes { IfOk result (BenchHasCells ⟦<MapTape as Tape>⟧.view limits.now.cells) }
+    ensures path { IfOk result (λ bench. depth_of bench.path ≡ limits.now.depth) }
+{
+    let run = MapTape::new(alloc, limits.cells());
+    let right = MapTape::new(alloc, limits.cells());
+    let left = MapTape::new(alloc, limits.cells());
+    Bench::new(alloc, run, right, left, limits)
+}
+
+/// Three rings of as many cells as the limits allow, and the room for a walk.
+fn bench_on_rings(alloc: Global, limits: &Limits) -> Result<Bench<RingTape>, Memory>
+    ensures tapes { IfOk result (BenchHasCells ⟦<RingTape as Tape>⟧.view limits.now.cells) }
+    ensures path { IfOk result (λ bench. depth_of bench.path ≡ limits.now.depth) }
+{
+    let run = RingTape::new(alloc, limits.cells())?;
+    let right = RingTape::new(alloc, limits.cells())?;
+    let left = RingTape::new(alloc, limits.cells())?;
+    Bench::new(alloc, run, right, left, limits)
+}
+
+/// Searches and decides all machines.
+fn machines_are_decided<T: Tape>(rt: &impl Abort, bench: &mut Bench<T>) -> Result<(), Fail>
+    requires tapes { BenchHasCells T.view CELLS bench.old }
+    requires path { depth_of bench.old.path ≡ 0 }
+{
+    are_searched(rt, bench)?;
+    are_decided(rt, bench, false, &ROWS)?;
+    are_decided(rt, bench, true, &TRANSLATED_ROWS)
+}
+
 #[test]
 fn machines_are_decided_on_maps(rt: HostRuntime) -> Result<(), Fail> {
-    let alloc = rt.alloc();
     let limits = Limits::new(1000, CELLS, 0, 0)?;
-    let run = MapTape::new(alloc, CELLS);
-    let right = MapTape::new(alloc, CELLS);
-    let left = MapTape::new(alloc, CELLS);
-    let mut bench = Bench::new(alloc, run, right, left, &limits)?;
-    are_searched(&rt, &mut bench)?;
-    are_decided(&rt, &mut bench, false, &ROWS)?;
-    are_decided(&rt, &mut bench, true, &TRANSLATED_ROWS)
+    let mut bench = bench_on_maps(rt.alloc(), &limits)?;
+    machines_are_decided(&rt, &mut bench)
 }
 
 #[test]
 fn machines_are_decided_on_rings(rt: HostRuntime) -> Result<(), Fail> {
-    let alloc = rt.alloc();
     let limits = Limits::new(1000, CELLS, 0, 0)?;
-    let run = RingTape::new(alloc, CELLS)?;
-    let right = RingTape::new(alloc, CELLS)?;
-    let left = RingTape::new(alloc, CELLS)?;
-    let mut bench = Bench::new(alloc, run, right, left, &limits)?;
-    are_searched(&rt, &mut bench)?;
-    are_decided(&rt, &mut bench, false, &ROWS)?;
-    are_decided(&rt, &mut bench, true, &TRANSLATED_ROWS)
+    let mut bench = bench_on_rings(rt.alloc(), &limits)?;
+    machines_are_decided(&rt, &mut bench)
 }

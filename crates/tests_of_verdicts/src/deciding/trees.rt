@@ -3,11 +3,12 @@ ghost use Rattle.std.specs.Prelude.{◌≡◌};
 ghost use Rattle.bb_cert.specs.tree.Path.{depth_of};
 ghost use Rattle.bb_decide.specs.Bench.{BenchHasCells};
 
+use super::{bench_on_maps, bench_on_rings};
 use bb_cert::{Verdict, Why};
 use bb_decide::{Bench, Plan, backward, decide};
-use bb_machine::{Limits, Machine};
+use bb_machine::{LimitFault, Limits, Machine};
 use bb_sim::Meter;
-use bb_tape::{MapTape, RingTape, Tape};
+use bb_tape::{Memory, Tape};
 use std::process::Abort;
 use std::test::Fail;
 
@@ -102,14 +103,13 @@ static ROWS: [Row; 9] = [
     ),
 ];
 
-/// Reasons backward, with a meter that others have counted in: their counts stay, and the nodes begin anew.
+/// Reasons backward, with a meter that others have counted in.
 fn found<T: Tape>(
-    rt: &impl Abort,
     bench: &mut Bench<T>,
     limits: &Limits,
     machine: &Machine,
     meter: &mut Meter,
-) -> Result<Option<Verdict>, Fail>
+) -> Result<Option<Verdict>, Memory>
     requires tapes { BenchHasCells T.view limits.now.cells bench.old }
     requires path { depth_of bench.old.path ≡ limits.now.depth }
     ensures tapes { BenchHasCells T.view limits.now.cells bench.new }
@@ -121,13 +121,35 @@ fn found<T: Tape>(
         nodes: 3,
         most_levels: 9,
     };
-    let found = backward(machine, limits, bench, meter)?;
-    assert_eq!(rt; meter.steps, 7);
-    assert_eq!(rt; meter.most_cells, 5);
-    Ok(found)
+    backward(machine, limits, bench, meter)
 }
 
-/// Holds what backward reasoning finds, and the verdict with all it counts, against what was worked out.
+/// Holds what backward reasoning finds against a row. What others counted stays, and the nodes begin anew.
+fn is_found(rt: &impl Abort, row: &Row, found: Option<Verdict>, meter: &Meter) {
+    let (_, _, verdict, _, most_nodes) = row;
+    let expected = match verdict {
+        Verdict::Backward { .. } => Some(*verdict),
+        _ => None,
+    };
+    assert_eq!(rt; found, expected);
+    assert_eq!(rt; meter.steps, 7);
+    assert_eq!(rt; meter.most_cells, 5);
+    assert!(rt; meter.nodes <= *most_nodes);
+}
+
+/// Holds the verdict of all deciders, with all it counts, against a row.
+fn is_decided(rt: &impl Abort, row: &Row, decided: Verdict, meter: &Meter) {
+    let (_, _, verdict, steps, most_nodes) = row;
+    assert_eq!(rt; decided, *verdict);
+    assert_eq!(rt; meter.steps, *steps);
+    assert!(rt; meter.nodes <= *most_nodes);
+    if let Verdict::Backward { levels, nodes } = *verdict {
+        assert_eq!(rt; meter.nodes, nodes);
+        assert_eq!(rt; meter.most_levels, levels);
+    }
+}
+
+/// Holds backward reasoning and the verdict of all deciders against what was worked out.
 fn is_reasoned<T: Tape>(
     rt: &impl Abort,
     bench: &mut Bench<T>,
@@ -137,35 +159,24 @@ fn is_reasoned<T: Tape>(
     requires tapes { BenchHasCells T.view limits.now.cells bench.old }
     requires path { depth_of bench.old.path ≡ limits.now.depth }
 {
-    let (text, _, verdict, steps, most_nodes) = row;
-    let machine = Machine::read(text)?;
+    let machine = Machine::read(row.0)?;
     let mut meter = Meter::new();
-    let found = found(rt, bench, limits, &machine, &mut meter)?;
-    assert!(rt; meter.nodes <= *most_nodes);
+    let found = found(bench, limits, &machine, &mut meter)?;
+    is_found(rt, row, found, &meter);
     let decided = decide(&machine, limits, ALL, bench, &mut meter)?;
-    assert_eq!(rt; decided, *verdict);
-    assert_eq!(rt; meter.steps, *steps);
-    assert!(rt; meter.nodes <= *most_nodes);
-    match *verdict {
-        Verdict::Backward { levels, nodes } => {
-            assert_eq!(rt; found, Some(*verdict));
-            assert_eq!(rt; meter.nodes, nodes);
-            assert_eq!(rt; meter.most_levels, levels);
-        }
-        _ => assert_eq!(rt; found, None),
-    }
+    is_decided(rt, row, decided, &meter);
     Ok(())
+}
+
+fn limits_of(row: &Row) -> Result<Limits, LimitFault> {
+    Limits::new(row.1[0], row.1[1], row.1[2], row.1[3])
 }
 
 #[test]
 fn trees_are_found_on_maps(rt: HostRuntime) -> Result<(), Fail> {
-    let alloc = rt.alloc();
     for row in &ROWS {
-        let limits = Limits::new(row.1[0], row.1[1], row.1[2], row.1[3])?;
-        let run = MapTape::new(alloc, limits.cells());
-        let right = MapTape::new(alloc, limits.cells());
-        let left = MapTape::new(alloc, limits.cells());
-        let mut bench = Bench::new(alloc, run, right, left, &limits)?;
+        let limits = limits_of(row)?;
+        let mut bench = bench_on_maps(rt.alloc(), &limits)?;
         is_reasoned(&rt, &mut bench, &limits, row)?;
     }
     Ok(())
@@ -173,13 +184,9 @@ fn trees_are_found_on_maps(rt: HostRuntime) -> Result<(), Fail> {
 
 #[test]
 fn trees_are_found_on_rings(rt: HostRuntime) -> Result<(), Fail> {
-    let alloc = rt.alloc();
     for row in &ROWS {
-        let limits = Limits::new(row.1[0], row.1[1], row.1[2], row.1[3])?;
-        let run = RingTape::new(alloc, limits.cells())?;
-        let right = RingTape::new(alloc, limits.cells())?;
-        let left = RingTape::new(alloc, limits.cells())?;
-        let mut bench = Bench::new(alloc, run, right, left, &limits)?;
+        let limits = limits_of(row)?;
+        let mut bench = bench_on_rings(rt.alloc(), &limits)?;
         is_reasoned(&rt, &mut bench, &limits, row)?;
     }
     Ok(())
