@@ -423,6 +423,21 @@ fn records_of<T: Tape>(
     Ok(translated(machine, &limits, bench, meter)?)
 }
 
+/// Holds the cycle that was found, and what was counted, against what was worked out.
+fn is_cycle(rt: &impl Abort, searched: &Searched, cycle: Option<Verdict>, meter: &Meter) {
+    let (text, found, steps, most_cells) = searched;
+    assert_eq!(rt; cycle, found[0], "{text:?}");
+    assert_eq!(rt; meter.steps, steps[0], "{text:?}");
+    assert_eq!(rt; meter.most_cells, *most_cells, "{text:?}");
+}
+
+/// Holds the records that were found, and the steps counted, against what was worked out.
+fn are_records(rt: &impl Abort, searched: &Searched, records: Option<Verdict>, meter: &Meter) {
+    let (text, found, steps, _) = searched;
+    assert_eq!(rt; records, found[1], "{text:?}");
+    assert_eq!(rt; meter.steps, steps[1], "{text:?}");
+}
+
 /// Searches a machine for a cycle, and then for records that agree, by the searches' own calls.
 fn is_searched<T: Tape>(
     rt: &impl Abort,
@@ -433,16 +448,12 @@ fn is_searched<T: Tape>(
     ensures tapes { BenchHasCells T.view CELLS bench.new }
     ensures path { bench.new.path ≡ bench.old.path }
 {
-    let (text, found, steps, most_cells) = searched;
-    let machine = Machine::read(text)?;
+    let machine = Machine::read(searched.0)?;
     let mut meter = Meter::new();
     let cycle = cycle_of(bench, &machine, &mut meter)?;
-    assert_eq!(rt; cycle, found[0], "{text:?}");
-    assert_eq!(rt; meter.steps, steps[0], "{text:?}");
-    assert_eq!(rt; meter.most_cells, *most_cells, "{text:?}");
+    is_cycle(rt, searched, cycle, &meter);
     let records = records_of(bench, &machine, &mut meter)?;
-    assert_eq!(rt; records, found[1], "{text:?}");
-    assert_eq!(rt; meter.steps, steps[1], "{text:?}");
+    are_records(rt, searched, records, &meter);
     Ok(())
 }
 
