@@ -1,12 +1,12 @@
 //! Claims that were worked out by hand, and what checking them counts, over both tapes.
-ghost use Rattle.std.specs.Prelude.{◌≡◌};
+ghost use Rattle.std.specs.Prelude.{◌≡◌, ◌≤◌};
 ghost use Rattle.bb_cert.specs.checker.Pair.{PairHasCells};
 ghost use Rattle.bb_cert.specs.tree.Path.{depth_of};
 
 use bb_cert::{Answer, Extent, Line, Pair, Path, Side, Verdict, check, read_line};
 use bb_machine::{LimitFault, Limits, Machine};
 use bb_sim::Meter;
-use bb_tape::{MapTape, RingTape, Tape};
+use bb_tape::{MapTape, Memory, RingTape, Tape};
 use std::process::Abort;
 use std::test::Fail;
 
@@ -481,8 +481,35 @@ static ROWS: [Row; 78] = [
 ];
 
 fn limits_of(row: &Row) -> Result<Limits, LimitFault> {
-    let [steps, cells, depth, nodes] = row.1;
-    Limits::new(steps, cells, depth, nodes)
+    Limits::new(row.1[0], row.1[1], row.1[2], row.1[3])
+}
+
+/// Checks a claim with a fresh meter.
+fn answer_to<T: Tape>(
+    machine: &Machine,
+    verdict: &Verdict,
+    limits: &Limits,
+    pair: &mut Pair<T>,
+    path: &mut Path,
+    meter: &mut Meter,
+) -> Result<Answer, Memory>
+    requires tapes { PairHasCells T.view limits.now.cells pair.old }
+    requires path { limits.now.depth ≤ depth_of path.old }
+    ensures tapes { PairHasCells T.view limits.now.cells pair.new }
+    ensures path { depth_of path.new ≡ depth_of path.old }
+{
+    *meter = Meter::new();
+    check(machine, verdict, limits, pair, path, meter)
+}
+
+/// Holds an answer and what was counted against a row.
+fn is_answer(rt: &impl Abort, row: &Row, limits: &Limits, answer: Answer, meter: &Meter) {
+    let (line, _, expected, counted) = row;
+    assert_eq!(rt; answer, *expected, "{line:?}");
+    assert_eq!(rt; meter.steps, counted[0], "{line:?}");
+    assert_eq!(rt; meter.nodes, counted[1], "{line:?}");
+    assert_eq!(rt; meter.most_levels, counted[2], "{line:?}");
+    assert!(rt; meter.most_cells <= limits.cells(), "{line:?}");
 }
 
 /// Checks what a line claims, and holds the answer and what was counted against what was worked out.
@@ -496,18 +523,14 @@ fn is_answered<T: Tape>(
     requires tapes { PairHasCells T.view limits.now.cells pair.old }
     requires path { depth_of path.old ≡ DEPTH }
 {
-    let (line, _, expected, [steps, nodes, levels]) = *row;
+    let line = row.0;
     let Some(Line::Claim(machine, verdict)) = read_line(line) else {
         panic!(rt; "{line:?} is a claim");
     };
     assert!(rt; limits.depth() <= DEPTH);
     let mut meter = Meter::new();
-    let answer = check(&machine, &verdict, limits, pair, path, &mut meter)?;
-    assert_eq!(rt; answer, expected, "{line:?}");
-    assert_eq!(rt; meter.steps, steps, "{line:?}");
-    assert_eq!(rt; meter.nodes, nodes, "{line:?}");
-    assert_eq!(rt; meter.most_levels, levels, "{line:?}");
-    assert!(rt; meter.most_cells <= limits.cells(), "{line:?}");
+    let answer = answer_to(&machine, &verdict, limits, pair, path, &mut meter)?;
+    is_answer(rt, row, limits, answer, &meter);
     Ok(())
 }
 
@@ -539,9 +562,11 @@ fn claims_are_answered_on_rings(rt: HostRuntime) -> Result<(), Fail> {
     Ok(())
 }
 
-/// Machines, the kind of claim, by its side where it is of records, and how many pairs of steps up to 16 it
+/// A machine, the kind of claim, by its side where it is of records, and how many pairs of steps up to 16 it
 /// is true of.
-static FAMILIES: [(&'static [u8], Option<Side>, u64); 5] = [
+type Family = (&'static [u8], Option<Side>, u64);
+
+static FAMILIES: [Family; 5] = [
     (b"0RB---_0LA---", None, 64),
     (b"1RB0RB_1LA1LA", None, 21),
     (b"1RA1RA", Some(Side::R), 120),
@@ -563,23 +588,9 @@ fn is_right(index: usize, first: u64, second: u64) -> bool {
     }
 }
 
-/// The answer to a pair of steps, of records of a side, or of one configuration.
-fn answer_to_pair<T: Tape>(
-    machine: &Machine,
-    side: Option<Side>,
-    first: u64,
-    second: u64,
-    extent: Option<Extent>,
-    pair: &mut Pair<T>,
-    path: &mut Path,
-) -> Result<Answer, Fail>
-    requires tapes { PairHasCells T.view CELLS pair.old }
-    requires path { depth_of path.old ≡ DEPTH }
-    ensures tapes { PairHasCells T.view CELLS pair.new }
-    ensures path { depth_of path.new ≡ depth_of path.old }
-{
-    let limits = Limits::new(1_000_000, CELLS, DEPTH, 1_000_000)?;
-    let verdict = match side {
+/// The claim of a pair of steps, of records of a side, or of one configuration.
+fn claim_of(side: Option<Side>, first: u64, second: u64, extent: Option<Extent>) -> Verdict {
+    match side {
         None => Verdict::Cycler { first, second },
         Some(side) => Verdict::Translated {
             side,
@@ -587,12 +598,52 @@ fn answer_to_pair<T: Tape>(
             second,
             extent,
         },
-    };
-    let mut meter = Meter::new();
-    Ok(check(machine, &verdict, &limits, pair, path, &mut meter)?)
+    }
 }
 
-/// Checks each pair of steps up to 16, and holds the answers against which are right.
+/// The answer to a claim of a pair of steps.
+fn answer_to_pair<T: Tape>(
+    rt: &impl Abort,
+    machine: &Machine,
+    claim: &Verdict,
+    pair: &mut Pair<T>,
+    path: &mut Path,
+) -> Result<Answer, Fail>
+    ensures tapes { PairHasCells T.view CELLS pair.new }
+    ensures path { depth_of path.new ≡ depth_of path.old }
+{
+    assert!(rt; pair.run.limit() == CELLS);
+    assert!(rt; pair.saved.limit() == CELLS);
+    assert!(rt; path.depth() == DEPTH);
+    let limits = Limits::new(1_000_000, CELLS, DEPTH, 1_000_000)?;
+    let mut meter = Meter::new();
+    Ok(answer_to(machine, claim, &limits, pair, path, &mut meter)?)
+}
+
+/// Checks each pair of steps up to 16, holds the answers against which are right, and counts those.
+fn right_pairs<T: Tape>(
+    rt: &impl Abort,
+    index: usize,
+    family: &Family,
+    pair: &mut Pair<T>,
+    path: &mut Path,
+) -> Result<u64, Fail> {
+    let (text, side, _) = *family;
+    let machine = Machine::read(text)?;
+    let mut right: u64 = 0;
+    for step in 0..289 {
+        let (first, second) = (step / 17, step % 17);
+        let claim = claim_of(side, first, second, None);
+        let answer = answer_to_pair(rt, &machine, &claim, pair, path)?;
+        let holds = is_right(index, first, second);
+        assert_eq!(rt; answer == Answer::Ok, holds, "{first} {second} of {text:?}");
+        assert!(rt; holds || answer == Answer::Bad);
+        right = right.saturating_add(u64::from(holds));
+    }
+    Ok(right)
+}
+
+/// Checks each pair of steps up to 16 of each machine, and holds how many are right against its family.
 fn pairs_are_answered<T: Tape>(
     rt: &impl Abort,
     pair: &mut Pair<T>,
@@ -600,20 +651,31 @@ fn pairs_are_answered<T: Tape>(
 ) -> Result<(), Fail>
     requires tapes { PairHasCells T.view CELLS pair.old }
 {
-    for (index, (text, side, count)) in FAMILIES.iter().enumerate() {
-        let machine = Machine::read(text)?;
-        let mut right: u64 = 0;
-        for step in 0..289 {
-            let (first, second) = (step / 17, step % 17);
-            assert!(rt; pair.run.limit() == CELLS && pair.saved.limit() == CELLS);
-            assert!(rt; path.depth() == DEPTH);
-            let answer = answer_to_pair(&machine, *side, first, second, None, pair, path)?;
-            let holds = is_right(index, first, second);
-            assert_eq!(rt; answer == Answer::Ok, holds, "{first} {second} of {text:?}");
-            assert!(rt; holds || answer == Answer::Bad);
-            right = right.saturating_add(u64::from(holds));
-        }
+    for (index, family) in FAMILIES.iter().enumerate() {
+        let right = right_pairs(rt, index, family, pair, path)?;
+        let (text, _, count) = family;
         assert_eq!(rt; right, *count, "{text:?}");
+    }
+    Ok(())
+}
+
+/// Checks a pair of records with its extent, and with those that are wrong by one.
+fn extents_of_pair_are_answered<T: Tape>(
+    rt: &impl Abort,
+    machine: &Machine,
+    first: u64,
+    second: u64,
+    pair: &mut Pair<T>,
+    path: &mut Path,
+) -> Result<(), Fail> {
+    let right = second.saturating_sub(first);
+    for wrong in 0..9 {
+        let shift = right.saturating_add(wrong / 3).saturating_sub(1);
+        let length = wrong % 3;
+        let claim = claim_of(Some(Side::R), first, second, Some(Extent { shift, length }));
+        let answer = answer_to_pair(rt, machine, &claim, pair, path)?;
+        let holds = 1 <= first && first < second && shift == right && length == 1;
+        assert_eq!(rt; answer == Answer::Ok, holds, "{claim:?}");
     }
     Ok(())
 }
@@ -629,29 +691,7 @@ fn extents_are_answered<T: Tape>(
 {
     let machine = Machine::read(b"1RA1RA")?;
     for step in 0..289 {
-        let (first, second): (u64, u64) = (step / 17, step % 17);
-        let right = second.saturating_sub(first);
-        for wrong in 0..9 {
-            let (shift, length) = ((right + wrong / 3).saturating_sub(1), wrong % 3);
-            assert!(rt; pair.run.limit() == CELLS && pair.saved.limit() == CELLS);
-            assert!(rt; path.depth() == DEPTH);
-            let extent = Some(Extent { shift, length });
-            let answer = answer_to_pair(
-                &machine,
-                Some(Side::R),
-                first,
-                second,
-                extent,
-                pair,
-                path,
-            )?;
-            let holds = 1 <= first && first < second && shift == right && length == 1;
-            assert_eq!(rt;
-                answer == Answer::Ok,
-                holds,
-                "{first} {second} {shift} {length}"
-            );
-        }
+        extents_of_pair_are_answered(rt, &machine, step / 17, step % 17, pair, path)?;
     }
     Ok(())
 }
