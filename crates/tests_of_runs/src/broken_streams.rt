@@ -1,7 +1,7 @@
 //! Lists and traces over broken streams: what is written by then, and which fault it is.
 
 use crate::support::rows::{ALL, DEFAULTS};
-use crate::support::streams::{Pieces, Sink};
+use crate::support::streams::{Pieces, Sink, assert_failed};
 use bb_lines::fault::Fault;
 use bb_lines::watched::Watched;
 use bb_machine::Limits;
@@ -26,9 +26,9 @@ fn decided(
     let mut reader = Watched::new(reader);
     let mut writer = Watched::new(sink);
     let end = run_decide(&mut reader, &mut writer, &limits, ALL, &mut bench);
-    assert_eq!(rt; reader.failed(), end == Err(Fault::Read));
-    assert_eq!(rt; writer.failed(), end == Err(Fault::Write));
-    end.map(|summary| summary.clean)
+    assert_failed(rt, reader.failed(), end, Fault::Read);
+    assert_failed(rt, writer.failed(), end, Fault::Write);
+    Ok(end?.clean)
 }
 
 /// A list over these streams ends so, and the sink has these bytes then.
@@ -106,6 +106,16 @@ const MACHINE: &[u8; 13] = b"1RB1LB_1LA1RZ";
 const TRACE: &[u8; 72] =
     b"0 A 0 0\n1 B 1 10\n2 A 0 11\n3 B -1 011\n4 A -2 0111\n5 B -1 1111\n6 Z 0 1111\n";
 
+/// Traces up to ten steps on an ordered map, and answers whether the trace was clean.
+fn traced(rt: &(impl Abort + AllocGlobal), line: &[u8], sink: &mut Sink) -> Result<bool, Fault> {
+    let limits = Limits::new(10, 9, 0, 0).expect(rt, "limits");
+    let mut tape = MapTape::new(rt.alloc(), limits.cells());
+    let mut writer = Watched::new(sink);
+    let end = run_trace(line, &limits, &mut tape, &mut writer);
+    assert_failed(rt, writer.failed(), end, Fault::Write);
+    Ok(end?.clean)
+}
+
 /// A machine's trace up to ten steps, on an ordered map, ends so, and the sink has these bytes then.
 fn assert_traced(
     rt: &(impl Abort + AllocGlobal),
@@ -114,12 +124,7 @@ fn assert_traced(
     end: Result<bool, Fault>,
     written: &[u8],
 ) {
-    let limits = Limits::new(10, 9, 0, 0).expect(rt, "limits");
-    let mut tape = MapTape::new(rt.alloc(), limits.cells());
-    let mut writer = Watched::new(&mut sink);
-    let traced = run_trace(line, &limits, &mut tape, &mut writer);
-    assert_eq!(rt; writer.failed(), traced == Err(Fault::Write));
-    assert_eq!(rt; traced.map(|summary| summary.clean), end);
+    assert_eq!(rt; traced(rt, line, &mut sink), end);
     assert_eq!(rt; sink.bytes.as_slice(), written);
 }
 

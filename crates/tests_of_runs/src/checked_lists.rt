@@ -2,11 +2,13 @@
 
 use crate::support::checking::{assert_checked, checked_on_rings};
 use crate::support::rows::{DEFAULTS, Row};
-use crate::support::streams::{Pieces, Sink};
+use crate::support::streams::{Pieces, Sink, assert_failed};
 use bb_lines::fault::Fault;
 use bb_lines::watched::Watched;
 use bb_machine::Limits;
-use bb_run::{ring_pair, run_check};
+use bb_run::{Summary, ring_pair, run_check};
+use bb_sim::Meter;
+use std::alloc::AllocError;
 use std::io::ErrorKind;
 use std::process::Abort;
 use std::test::Fail;
@@ -155,9 +157,9 @@ fn checked_over(
     let mut reader = Watched::new(reader);
     let mut writer = Watched::new(sink);
     let end = run_check(&mut reader, &mut writer, &limits, &mut pair, &mut path);
-    assert_eq!(rt; reader.failed(), end == Err(Fault::Read));
-    assert_eq!(rt; writer.failed(), end == Err(Fault::Write));
-    end.map(|summary| summary.clean)
+    assert_failed(rt, reader.failed(), end, Fault::Read);
+    assert_failed(rt, writer.failed(), end, Fault::Write);
+    Ok(end?.clean)
 }
 
 /// Checking over these streams ends so, and the sink has these bytes then.
@@ -186,12 +188,16 @@ fn sums_up_claims(rt: HostRuntime) {
         b"1RB1LB_1LA1RZ halt 6 4\n0RB---_0LA--- backward 2 4\n1RA1RA undecided cells\n".as_slice();
     let (end, written) = checked_on_rings(&rt, &limits, input);
     assert_eq!(rt; written.as_slice(), b"ok\nok\nopen\n".as_slice());
-    let summary = end.expect(&rt, "no fault");
-    assert!(rt; summary.clean);
-    assert_eq!(rt; summary.peak.steps, 6);
-    assert_eq!(rt; summary.peak.most_cells, 4);
-    assert_eq!(rt; summary.peak.nodes, 4);
-    assert_eq!(rt; summary.peak.most_levels, 2);
+    let summary = Summary {
+        clean: true,
+        peak: Meter {
+            steps: 6,
+            most_cells: 4,
+            nodes: 4,
+            most_levels: 2,
+        },
+    };
+    assert_eq!(rt; end, Ok(summary));
 }
 
 /// How a line begins, the byte that follows, and the length of the line.
@@ -208,17 +214,38 @@ static UNREAD: [(&[u8], u8, usize); 10] = [
     (b"1RZ--- halt 1 1", 255, 16),
 ];
 
+/// Such a line, and a claim that is right.
+fn unread_and_ok(
+    rt: &impl AllocGlobal,
+    begin: &[u8],
+    filler: u8,
+    long: usize,
+) -> Result<Vec<u8>, AllocError> {
+    let mut input: Vec<u8> = begin.to_vec(rt.alloc())?;
+    input.resize(long, filler)?;
+    input.extend_from_slice(b"\n------ halt 0 0")?;
+    Ok(input)
+}
+
+/// The first line of this input is unread, and the next line is answered.
+fn assert_unread(rt: &(impl Abort + AllocGlobal), input: &[u8]) {
+    let limits = Limits::new(9, 9, 5, 9).expect(rt, "limits");
+    let (end, written) = checked_on_rings(rt, &limits, input);
+    assert_eq!(rt;
+        written.as_slice(),
+        b"unread\nok\n".as_slice(),
+        "{}",
+        input.len()
+    );
+    assert!(rt; !end.expect(rt, "no fault").clean);
+}
+
 /// Such a line is unread, and the next line is answered.
 #[test]
 fn other_lines_are_unread(rt: HostRuntime) -> Result<(), Fail> {
-    let limits = Limits::new(9, 9, 5, 9).expect(&rt, "limits");
     for (begin, filler, long) in &UNREAD {
-        let mut input: Vec<u8> = begin.to_vec(rt.alloc())?;
-        input.resize(*long, *filler)?;
-        input.extend_from_slice(b"\n------ halt 0 0")?;
-        let (end, written) = checked_on_rings(&rt, &limits, input.as_slice());
-        assert_eq!(rt; written.as_slice(), b"unread\nok\n".as_slice(), "{long}");
-        assert!(rt; !end.expect(&rt, "no fault").clean);
+        let input = unread_and_ok(&rt, begin, *filler, *long)?;
+        assert_unread(&rt, input.as_slice());
     }
     Ok(())
 }

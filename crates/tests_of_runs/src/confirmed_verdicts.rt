@@ -58,31 +58,48 @@ static PLANS: [(bool, bool, bool); 8] = [
     (true, true, true),
 ];
 
+/// The answer to a verdict line of deciding.
+fn answer_to(line: &str) -> &'static str {
+    if line.starts_with("refused ") || line.contains(" undecided ") {
+        "open\n"
+    } else {
+        "ok\n"
+    }
+}
+
 /// The answers to verdict lines of deciding.
 fn expected(rt: &(impl Abort + AllocGlobal), verdicts: &[u8]) -> String {
     let mut answers = String::new(rt.alloc());
     for line in str::from_utf8(verdicts).expect(rt, "text").lines() {
-        let is_claim = !line.starts_with("refused ") && !line.contains(" undecided ");
-        let word = if is_claim { "ok\n" } else { "open\n" };
-        answers.push_str(word).expect(rt, "memory");
+        answers.push_str(answer_to(line)).expect(rt, "memory");
     }
     answers
+}
+
+/// Whether this is a verdict of the line, and no refusal.
+fn is_told(rt: &impl Abort, line: &str, verdict: &str) -> bool {
+    if verdict.starts_with("refused ") {
+        return false;
+    }
+    assert!(rt; verdict.starts_with(line), "{line}: {verdict}");
+    true
 }
 
 /// Whether there is a verdict or a refusal to each of the lines, in their order.
 fn are_verdicts(rt: &(impl Abort + AllocGlobal), verdicts: &[u8]) {
     let lines = str::from_utf8(LINES).expect(rt, "text").lines();
     let verdicts = str::from_utf8(verdicts).expect(rt, "text").lines();
-    let (mut told, mut refused) = (0u8, 0u8);
+    let mut told = 0u8;
+    let mut refused = 0u8;
     for (line, verdict) in lines.zip(verdicts) {
-        if verdict.starts_with("refused ") {
-            refused = refused.saturating_add(1);
-        } else {
-            assert!(rt; verdict.starts_with(line), "{line}: {verdict}");
+        if is_told(rt, line, verdict) {
             told = told.saturating_add(1);
+        } else {
+            refused = refused.saturating_add(1);
         }
     }
-    assert_eq!(rt; (told, refused), (21, 4));
+    assert_eq!(rt; told, 21);
+    assert_eq!(rt; refused, 4);
 }
 
 /// Decides the lines and checks what was written, on both tapes.

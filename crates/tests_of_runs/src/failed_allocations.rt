@@ -5,7 +5,7 @@ ghost use Rattle.bb_cert.specs.tree.Path.{depth_of};
 ghost use Rattle.bb_decide.specs.Bench.{BenchHasCells};
 
 use crate::support::checking::checked;
-use crate::support::counting_tape::{NEVER, counting_tape};
+use crate::support::counting_tape::{CountingTape, NEVER, counting_tape};
 use crate::support::rows::{PAIRS, TREES};
 use crate::support::streams::Sink;
 use crate::support::tracing::{traced, traced_on_a_ring};
@@ -23,6 +23,15 @@ use std::test::Fail;
 /// How many bytes the heap of the tapes has.
 const HEAP: usize = 1 << 13;
 
+/// These are the first lines of an output, and not all.
+fn assert_first_lines(rt: &impl Abort, written: &[u8], output: &[u8]) {
+    assert!(rt; output.starts_with(written));
+    assert!(rt; written.len() < output.len());
+    if !written.is_empty() {
+        assert!(rt; written.ends_with(b"\n"));
+    }
+}
+
 /// Whether a run wanted memory: it then wrote the first lines, not all, and else all.
 fn wanted_memory(
     rt: &(impl Abort + AllocGlobal),
@@ -30,13 +39,13 @@ fn wanted_memory(
     written: &[u8],
     output: &[u8],
 ) -> bool {
-    if *end != Err(Fault::Memory) {
-        assert!(rt; end.is_ok() && written == output);
-        return false;
+    if *end == Err(Fault::Memory) {
+        assert_first_lines(rt, written, output);
+        return true;
     }
-    assert!(rt; output.starts_with(written) && written.len() < output.len());
-    assert!(rt; written.is_empty() || written.ends_with(b"\n"));
-    true
+    assert!(rt; end.is_ok());
+    assert_eq!(rt; written, output);
+    false
 }
 
 const MACHINES: &[u8] = b"1RB1LB_1LA1RZ
@@ -124,6 +133,26 @@ fn deciding_on_heaps_that_are_too_small(rt: HostRuntime) -> Result<(), Fail> {
 /// More calls that may take memory than a run below makes.
 const MOST: u64 = 10_000;
 
+/// A bench of maps that refuse a call, each the one after so many.
+fn refusing_bench(
+    rt: &(impl Abort + AllocGlobal),
+    limits: &Limits,
+    before: [u64; 3],
+) -> Bench<CountingTape<MapTape>>
+    ensures tapes { BenchHasCells ⟦<CountingTape<MapTape> as Tape>⟧.view limits.now.cells result }
+    ensures path { depth_of result.path ≡ limits.now.depth }
+{
+    let run = counting_tape(MapTape::new(rt.alloc(), limits.cells()), before[0]);
+    let right = counting_tape(MapTape::new(rt.alloc(), limits.cells()), before[1]);
+    let left = counting_tape(MapTape::new(rt.alloc(), limits.cells()), before[2]);
+    Bench::new(rt.alloc(), run, right, left, limits).expect(rt, "a bench")
+}
+
+/// Whether one of the tapes is still going to refuse a call.
+fn will_refuse(bench: &Bench<CountingTape<MapTape>>) -> bool {
+    bench.run.will_refuse() || bench.right.will_refuse() || bench.left.will_refuse()
+}
+
 /// Decides a list with a call of a tape refused, and again; whether there was such a call.
 fn deciding_is_refused(
     rt: &(impl Abort + AllocGlobal),
@@ -132,14 +161,10 @@ fn deciding_is_refused(
     before: [u64; 3],
 ) -> bool {
     let limits = Limits::new(1000, 64, 10, 100).expect(rt, "limits");
-    let run = counting_tape(MapTape::new(rt.alloc(), limits.cells()), before[0]);
-    let right = counting_tape(MapTape::new(rt.alloc(), limits.cells()), before[1]);
-    let left = counting_tape(MapTape::new(rt.alloc(), limits.cells()), before[2]);
-    let mut bench = Bench::new(rt.alloc(), run, right, left, &limits).expect(rt, "a bench");
+    let mut bench = refusing_bench(rt, &limits, before);
     let (end, sink) = decided_over_arrays(&mut bench, &limits, plan);
     let refused = wanted_memory(rt, &end, sink.bytes.as_slice(), output);
-    let is_left = bench.run.will_refuse() || bench.right.will_refuse() || bench.left.will_refuse();
-    assert_eq!(rt; refused, !is_left);
+    assert_eq!(rt; refused, !will_refuse(&bench));
     if refused {
         let (end, sink) = decided_over_arrays(&mut bench, &limits, plan);
         assert!(rt;

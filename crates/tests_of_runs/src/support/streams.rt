@@ -1,7 +1,20 @@
 //! Streams that come in pieces, fail or take little.
 
 use arrayvec::ArrayVec;
+use bb_lines::fault::Fault;
+use bb_run::Summary;
 use std::io::{Error, ErrorKind, Read, Result, Write};
+use std::process::Abort;
+
+/// A stream has failed where a run over it ended by its fault, and nowhere else.
+pub(crate) fn assert_failed(
+    rt: &impl Abort,
+    failed: bool,
+    end: std::result::Result<Summary, Fault>,
+    fault: Fault,
+) {
+    assert_eq!(rt; failed, end == Err(fault));
+}
 
 /// Gives its bytes a few at a time, a first piece of its own length, and fails at one call.
 #[derive(Drop)]
