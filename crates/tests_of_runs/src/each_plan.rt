@@ -5,6 +5,8 @@ use crate::support::deciding::{decided_on_maps, decided_on_rings};
 use crate::support::rows::{ALL, CYCLERS, DEFAULTS, Four, NO_CYCLERS, PAIRS, SIMULATION};
 use bb_decide::Plan;
 use bb_machine::Limits;
+use bb_sim::Meter;
+use std::process::Abort;
 
 /// The limits, the plan, the input, the output, and the most steps that a line of it costs.
 type Counted = (Four, Plan, &'static [u8], &'static [u8], u64);
@@ -96,6 +98,14 @@ static STEPS: [Counted; 12] = [
     ),
 ];
 
+/// Where a tree is told of, it has these nodes and levels.
+fn assert_tree_is_counted(rt: &impl Abort, output: &[u8], peak: &Meter) {
+    if output.ends_with(b" backward 2 4\n") {
+        assert_eq!(rt; peak.nodes, 4);
+        assert_eq!(rt; peak.most_levels, 2);
+    }
+}
+
 #[test]
 fn steps_are_counted(rt: HostRuntime) {
     for (four, plan, input, output, steps) in &STEPS {
@@ -107,9 +117,7 @@ fn steps_are_counted(rt: HostRuntime) {
             assert_eq!(rt; written.as_slice(), *output);
             let peak = end.expect(&rt, "no fault").peak;
             assert_eq!(rt; peak.steps, *steps, "{input:?}");
-            if output.ends_with(b" backward 2 4\n") {
-                assert_eq!(rt; (peak.nodes, peak.most_levels), (4, 2));
-            }
+            assert_tree_is_counted(&rt, output, &peak);
         }
     }
 }
@@ -171,6 +179,19 @@ static BY_PLAN: [((bool, bool, bool), &[u8], &[u8]); 8] = [
     ),
 ];
 
+/// The machines are decided so under a plan, on both tapes.
+fn assert_machines_decided(
+    rt: &(impl Abort + AllocGlobal),
+    limits: &Limits,
+    plan: Plan,
+    verdicts: &[u8],
+) {
+    let (_, on_rings) = decided_on_rings(rt, limits, plan, MACHINES);
+    let (_, on_maps) = decided_on_maps(rt, limits, plan, MACHINES);
+    assert_eq!(rt; on_rings.as_slice(), verdicts);
+    assert_eq!(rt; on_maps.as_slice(), verdicts);
+}
+
 /// Each decided line is answered ok at the same limits, and all others are open.
 #[test]
 fn each_plan_says_what_it_finds(rt: HostRuntime) {
@@ -183,10 +204,7 @@ fn each_plan_says_what_it_finds(rt: HostRuntime) {
             translated: *translated,
             backward: *backward,
         };
-        let (_, on_rings) = decided_on_rings(&rt, &limits, plan, MACHINES);
-        let (_, on_maps) = decided_on_maps(&rt, &limits, plan, MACHINES);
-        assert_eq!(rt; on_rings.as_slice(), *verdicts);
-        assert_eq!(rt; on_maps.as_slice(), *verdicts);
+        assert_machines_decided(&rt, &limits, plan, verdicts);
         for (end, answered) in [
             checked_on_rings(&rt, &limits, verdicts),
             checked_on_maps(&rt, &limits, verdicts),
