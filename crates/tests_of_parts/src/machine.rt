@@ -166,21 +166,15 @@ fn answer(line: &[u8]) -> usize {
     }
 }
 
-/// Holds a line against the text of the machine that it is read as, and against the machine's size.
-fn is_read_and_written(rt: &impl Abort, line: &[u8]) -> Result<(), Fail> {
-    let machine = Machine::read(line)?;
-    let mut text = ArrayVec::<u8, LINE>::new();
-    machine.text_into(&mut text);
-    assert_eq!(rt; text.as_slice(), line);
-    let width = 3 * machine.symbols() as usize + 1;
-    assert_eq!(rt; machine.states() as usize * width, line.len() + 1);
-    Ok(())
-}
-
 #[test]
 fn machines_are_read_and_written(rt: HostRuntime) -> Result<(), Fail> {
     for line in MACHINES {
-        is_read_and_written(&rt, line)?;
+        let machine = Machine::read(line)?;
+        let mut text = ArrayVec::<u8, LINE>::new();
+        machine.text_into(&mut text);
+        assert_eq!(rt; text.as_slice(), line);
+        let width = 3 * machine.symbols() as usize + 1;
+        assert_eq!(rt; machine.states() as usize * width, line.len() + 1);
     }
     Ok(())
 }
