@@ -4,15 +4,22 @@ set -eu
 here=$(cd "$(dirname "$0")" && pwd)
 program=$here/crates/bb/out/bb
 
-# The library for other languages, bb_c, is no part of the program.
-stale() {
-    [ ! -x "$program" ] || [ -n "$(find "$here/crates.txt" "$here/crates" \
-        \( -path '*/out' -o -path '*/bb_c' \) -prune -o -type f -newer "$program" -print | head -n 1)" ]
-}
-
 # The crates of this project that a crate stands on.
 needs_of() {
     sed -n "s/^$1: //p" "$here/crates.txt" | tr ' ' '\n' | grep '^bb_' || true
+}
+
+# Whether there is no program, or something that it is made of is newer: the code, the definitions and the
+# proofs of its crates. Edits, tests and other crates are no part of it.
+stale() {
+    [ -x "$program" ] || return 0
+    set -- "$here/crates.txt"
+    for part in bb $(needs_of bb); do
+        for folder in src specs proofs; do
+            [ ! -d "$here/crates/$part/$folder" ] || set -- "$@" "$here/crates/$part/$folder"
+        done
+    done
+    [ -n "$(find "$@" -type f ! -name 'tests*' -newer "$program" -print | head -n 1)" ]
 }
 
 # Begins `rt` with these words in a crate of this tree; its process is then in `process_CRATE`.

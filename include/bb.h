@@ -1,25 +1,29 @@
-/* Verdicts on small Turing machines, and answers to verdicts, as calls.
+/* Verdicts on small Turing machines, answers to verdicts, and traces, as calls.
  *
  * The lines are those of the program `bb`, which README.md describes. docs/library.md says how to build and
  * link this, and what is proved of it.
  *
  * Limits. `steps`: of one simulation, 0 to 1,000,000,000,000. `cells`: of one tape, 1 to 67,108,864; a call
- * that decides makes three tapes of as many bytes, one that checks two. `depth`: levels of the backward tree,
- * 0 to 10,000. `nodes`: of that tree, 0 to 1,000,000,000,000. 2 * depth - 1 must be at most `cells`.
+ * that decides makes three tapes of as many bytes, one that checks two, one that traces one. `depth`: levels
+ * of the backward tree, 0 to 10,000. `nodes`: of that tree, 0 to 1,000,000,000,000. 2 * depth - 1 must be at
+ * most `cells`.
  *
  * Deciders. Each of `cyclers`, `translated` and `backward` is on or off; they are asked in that order.
  *
  * What a caller has to uphold:
  * - No pointer is NULL, also where its length is 0. Each points to as many bytes as its length says.
+ * - No length is above PTRDIFF_MAX.
+ * - `count` is aligned as a `size_t` is.
  * - Input, `out` and `count` don't overlap.
+ * - During a call no other thread changes the input, and none reads or writes `out` or `*count`.
  * - A `bool` is 0 or 1.
- * - `malloc`, `realloc` and `free` come from one allocator.
+ * - `malloc`, `realloc` and `free` come from one allocator, and align as C says: for any object that fits.
  * - No call from a signal handler, or from the forked child of a process that has threads.
  *
- * A call keeps nothing: neither pointers nor memory. So calls in different threads don't meet.
+ * A call keeps nothing: neither pointers nor memory. So calls in different threads don't disturb each other.
  *
  * `*count` is the number of bytes of the reply. Where the status is BB_CLEAN or BB_NOT_CLEAN they stand at
- * the begin of `out`, and the rest of `out` is as it was. Where it is BB_SHORT, `out` is as it was, and
+ * the beginning of `out`, and the rest of `out` is as it was. Where it is BB_SHORT, `out` is as it was, and
  * `*count` is how long it has to be. Else `out` is as it was, and `*count` is 0. No byte 0 is put behind the
  * reply.
  */
@@ -37,11 +41,11 @@
 
 #define BB_VERSION "0.1.0"
 
-/* Each line was a machine; each answer was `ok` or `open`. */
+/* Each line was a machine; each answer was `ok` or `open`; no limit of cells cut the trace off. */
 #define BB_CLEAN 0
-/* A line was refused; an answer was `bad`, `over` or `unread`. */
+/* A line was refused; an answer was `bad`, `over` or `unread`; the limit of cells cut the trace off. */
 #define BB_NOT_CLEAN 1
-/* The limits were refused. */
+/* The limits were refused; `every` was 0. */
 #define BB_LIMITS 2
 /* An allocation failed. */
 #define BB_MEMORY 3
@@ -49,10 +53,11 @@
 #define BB_SHORT 4
 
 /* Bytes of `out` with which BB_SHORT never comes, for a list of so many bytes and lines, and for one line of
- * so many bytes. A list has a line more than newlines, unless it ends in one or is empty. */
-#define BB_DECIDE_ROOM(list_len, lines) ((list_len) + 98 * (lines))
-#define BB_DECIDE_LINE_ROOM(line_len) ((line_len) + 97)
-#define BB_CHECK_ROOM(lines) (7 * (lines))
+ * so many bytes. A list has a line more than newlines, unless it ends in one or is empty. Lengths and lines
+ * may be of any integer type, and aren't negative; the room is a `size_t`. */
+#define BB_DECIDE_ROOM(list_len, lines) ((size_t)(list_len) + (size_t)98 * (size_t)(lines))
+#define BB_DECIDE_LINE_ROOM(line_len) ((size_t)(line_len) + (size_t)97)
+#define BB_CHECK_ROOM(lines) ((size_t)7 * (size_t)(lines))
 #define BB_CHECK_LINE_ROOM 6
 
 #ifdef __cplusplus
@@ -77,6 +82,13 @@ uint32_t bb_check(uint64_t steps, uint64_t cells, uint64_t depth, uint64_t nodes
 /* The answer to one verdict line, without a newline. A line that is `unread` costs no tapes. */
 uint32_t bb_check_line(uint64_t steps, uint64_t cells, uint64_t depth, uint64_t nodes, const uint8_t *line,
                        size_t line_len, uint8_t *out, size_t out_len, size_t *count);
+
+/* Lines of a machine's trace, each with a newline: those of the steps `from`, `from + every` and so on, up to
+ * the last step inside the limits; maybe none. To a line that is no machine, `refused` and the column with a
+ * newline. A step between costs what it costs to simulate it. No room is told that is surely enough: with an
+ * `out_len` of 0, `*count` tells how much is, at the cost of the whole run. */
+uint32_t bb_trace(uint64_t steps, uint64_t cells, uint64_t from, uint64_t every, const uint8_t *line,
+                  size_t line_len, uint8_t *out, size_t out_len, size_t *count);
 
 #ifdef __cplusplus
 }

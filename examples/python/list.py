@@ -1,21 +1,33 @@
 #!/usr/bin/env python3
 """Decides the machines of standard input, a line each, and checks what was said.
 
+    pip install python/dist/budlarem-*.whl
     python3 examples/python/list.py < machines
 
-Prints each verdict line, and the checker's answer before it.
+Prints each verdict line, and the checker's answer before it. It uses all cores, and holds only some lines at
+a time. Without the wheel, after `scripts/library`, the package is found by `PYTHONPATH=python/src`.
 """
 
+import itertools
+import os
 import sys
+from typing import Iterator, Tuple
 
-import bb
+import budlarem
+
+LIMITS = budlarem.Limits(steps=1_000, cells=200, depth=60)
 
 
-def main():
-    machines = sys.stdin.read().splitlines()
-    verdicts = bb.decide(machines, steps=1000, cells=200, depth=60)
-    answers = bb.check(verdicts, steps=1000, cells=200, depth=60)
-    for answer, verdict in zip(answers, verdicts):
+def checked(machines: Iterator[str]) -> Iterator[Tuple[budlarem.Answer, budlarem.Verdict]]:
+    """The checker's answer to each verdict, and the verdict."""
+    verdicts = budlarem.decide(machines, LIMITS, threads=os.cpu_count() or 1)
+    kept, given = itertools.tee(verdicts)
+    return zip(budlarem.check(given, LIMITS), kept)
+
+
+def main() -> None:
+    machines = (line.rstrip("\n") for line in sys.stdin)
+    for answer, verdict in checked(machines):
         print(answer, verdict)
 
 

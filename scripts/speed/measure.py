@@ -1,11 +1,12 @@
 #!/usr/bin/env python3
-"""Measures the built program beside `peer.rs`, a plain Rust program that does the same work.
+"""Measures the built program beside `peer`, a plain Rust program that does the same work.
 
     scripts/speed/measure.py [crates/bb/out/bb] [--runs N] [--seed N]
 
 It builds the peer by `rustc -O`, makes its lists from a seed, checks that both write the same bytes and end
 with the same status, runs both in turn, and prints the least time of each and their ratio. It takes about
-five minutes, with `--runs 1` about two.
+ten minutes, with `--runs 1` about five. Where both searches are on, the peer is run in both of its forms: in
+one run, and in turn.
 A whole run counts, from the list to the verdicts. For the searches it prints the spread of the runs too.
 It also prints the instructions a step, as `valgrind --tool=callgrind` counts them, which other work on the
 machine doesn't change. Nothing here proves anything. The last line counts the lists on which both wrote
@@ -34,6 +35,10 @@ TREES = 4_000
 CHECKED = 2_000
 RANDOM = 10_000
 COUNTED = (1_000_000, 2_000_000)
+LISTER = os.path.join(HERE, "..", "tools", "tree_normal_form.py")
+KINDS = 3_000
+OPEN_LONG = 300
+INTERRUPTED = 130
 
 
 def machine(draw, states):
@@ -124,6 +129,15 @@ def count_instructions(name, program):
     print(f"instructions a step of {name}: {told}", flush=True)
 
 
+def count_watched(name, program, options):
+    """Prints the instructions a step where both searches are on: of one run that is watched for both, if the
+    program decides so."""
+    first, second = [count(program, ["--no-backward", *options], steps) for steps in COUNTED]
+    if None not in (first, second):
+        told = (second - first) / (COUNTED[1] - COUNTED[0])
+        print(f"instructions a step of {name}, both searches on: {told:.1f}", flush=True)
+
+
 class Wrong(Exception):
     """A run that was timed ended with another status, or wrote other bytes, than it must."""
 
@@ -169,6 +183,53 @@ def measure(name, commands, file, runs):
             best[which] = min(best[which], timed(command, file, expected))
     print(f"{name}: {best[0]:.3f} s, the peer {best[1]:.3f} s, ratio {best[0] / best[1]:.2f}", flush=True)
     return True
+
+
+def measure_forms(name, commands, file, runs):
+    """Prints the least times of the program and of both forms of the peer, after it has compared what they
+    write. Tells whether they agree."""
+    expected = ending(commands[1], file)
+    if any(ending(command, file) != expected for command in commands):
+        print(f"failed: {name}: the three don't write the same", flush=True)
+        return False
+    best = [float("inf")] * len(commands)
+    for _ in range(runs):
+        for which, command in enumerate(commands):
+            best[which] = min(best[which], timed(command, file, expected))
+    program, one, turn = best
+    told = f"{program:.3f} s, the peer in one run {one:.3f} s, ratio {program / one:.2f}"
+    print(f"{name}: {told}, in turn {turn:.3f} s, ratio {program / turn:.2f}", flush=True)
+    return True
+
+
+def three_kinds(draw):
+    """Random machines of five states: with one halting entry, uniformly drawn, and with one undefined."""
+    halting = "".join(machine(draw, 5) for _ in range(KINDS))
+    uniform = "".join(any_machine(draw, 5) for _ in range(KINDS))
+    undefined = "".join(machine(draw, 5) for _ in range(KINDS)).replace("1RZ", "---")
+    return [("one halting entry", halting), ("uniformly drawn", uniform), ("one undefined entry", undefined)]
+
+
+def in_one_run(program, draw):
+    """The name, the options and the list of what measures deciding in one run."""
+    listed = subprocess.run([sys.executable, LISTER, "4"], stdout=subprocess.PIPE, check=True)
+    four = listed.stdout.decode()
+    limits = ["--steps", "1000", "--cells", "200", "--depth", "60", "--nodes", "2000"]
+    left = undecided(program, limits, four).splitlines(keepends=True)
+    few = "".join(left[:: max(1, len(left) // OPEN_LONG)])
+    whole = f"all {four.count(chr(10))} machines of four states"
+    kinds = [
+        (f"{KINDS} machines of five states, {name}, default limits", [], text)
+        for name, text in three_kinds(draw)
+    ]
+    few_told = f"{few.count(chr(10))} undecided machines of four states, default limits"
+    return [
+        (whole, limits, four),
+        *kinds,
+        ("the champion, all deciders", ["--steps", "50000000"], CHAMPION),
+        (few_told + ", without the tree", ["--no-backward"], few),
+        (few_told, [], few),
+    ]
 
 
 def undecided(program, options, lines):
@@ -264,7 +325,8 @@ def main():
     program, runs, agreed = asked.program, asked.runs, []
     with tempfile.TemporaryDirectory() as room:
         peer, file = os.path.join(room, "peer"), os.path.join(room, "list")
-        subprocess.run(["rustc", "-O", "-o", peer, os.path.join(HERE, "peer.rs")], check=True)
+        main_file = os.path.join(HERE, "peer", "main.rs")
+        subprocess.run(["rustc", "-O", "-C", "codegen-units=1", "-o", peer, main_file], check=True)
         listed = cases(random.Random(asked.seed))
         alone = [(name, [*SWITCHES, *options], text) for name, options, text in listed]
         whole = trees(random.Random(asked.seed)) + random_machines(random.Random(asked.seed))
@@ -272,8 +334,15 @@ def main():
             put(file, text)
             commands = [[each, "decide", *options] for each in (program, peer)]
             agreed.append(held(measure, name, commands, file, runs))
+        for name, options, text in in_one_run(program, random.Random(asked.seed)):
+            put(file, text)
+            commands = [[each, "decide", *options] for each in (program, peer)]
+            commands = [commands[0], [*commands[1], "--one-run"], commands[1]]
+            agreed.append(held(measure_forms, name, commands, file, runs))
         count_instructions("the program", program)
         count_instructions("plain Rust", peer)
+        count_watched("the program", program, [])
+        count_watched("plain Rust in one run", peer, ["--one-run"])
         for name, options, switch, text in searches(program, random.Random(asked.seed)):
             put(file, text)
             agreed.append(held(measure_search, program, name, options, switch, file, runs))
@@ -285,6 +354,8 @@ def main():
 if __name__ == "__main__":
     try:
         sys.exit(main())
-    except (BrokenPipeError, KeyboardInterrupt):
+    except BrokenPipeError:
         os.dup2(os.open(os.devnull, os.O_WRONLY), sys.stdout.fileno())
         sys.exit(1)
+    except KeyboardInterrupt:
+        sys.exit(INTERRUPTED)

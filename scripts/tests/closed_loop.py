@@ -13,6 +13,7 @@ decided. It takes some seconds. The last line is `N passed, M failed`; the statu
 import random
 import subprocess
 import sys
+from typing import Iterator
 
 from tally import Tally, end_with, words
 
@@ -33,7 +34,7 @@ LIMITS = [
 PLANS = [[], ["--no-backward"], ["--no-cyclers", "--no-translated"]]
 
 
-def entry(source, states, symbols):
+def entry(source: random.Random, states: int, symbols: int) -> str:
     """One entry of a machine: undefined, into the halting state, or into a state."""
     if source.random() < 0.08:
         return "---"
@@ -41,12 +42,12 @@ def entry(source, states, symbols):
     return source.choice("0123456789"[:symbols]) + source.choice("LR") + state
 
 
-def machine(source, states, symbols):
+def machine(source: random.Random, states: int, symbols: int) -> str:
     """A machine's text: a group for each state, with an entry for each symbol."""
     return "_".join("".join(entry(source, states, symbols) for _ in range(symbols)) for _ in range(states))
 
 
-def machines(count, seed):
+def machines(count: int, seed: int) -> Iterator[str]:
     """The texts of so many machines: of each ten, seven of 1 to 7 states and 2 symbols, two of up to 4 states
     and 10 symbols, and one of up to 25 states and 10 symbols."""
     source = random.Random(seed)

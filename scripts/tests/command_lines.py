@@ -52,6 +52,8 @@ def cases(folder):
         ("a number that is none", ["decide", "--steps", "x"], b"", 2, b"", b"--steps"),
         ("an argument that isn't UTF-8", ["decide", b"\xff"], b"", 2, b"", b"not UTF-8"),
         ("no command", [], b"", 2, b"", b"Usage"),
+        ("help of two commands", ["help", "decide", "check"], b"", 2, b"", b"'bb help' takes one command"),
+        ("help of no command", ["help", "x"], b"", 2, b"", b"'x'"),
         ("claims in a file", ["check", claimed], b"------ halt 1 0\n", 0, ANSWERS, b""),
         ("claims", ["check"], CLAIMS, 0, ANSWERS, b""),
         ("no claims", ["check"], b"", 0, b"", b""),
@@ -95,9 +97,7 @@ def helps(program):
 def full_output(program):
     """A write that fails is told on standard error."""
     with open("/dev/full", "wb") as full:
-        ended = subprocess.run(
-            [program, "decide"], input=MACHINES, stdout=full, stderr=subprocess.PIPE
-        )
+        ended = subprocess.run([program, "decide"], input=MACHINES, stdout=full, stderr=subprocess.PIPE)
     return ended.returncode == 3 and ended.stderr == b"bb: write failed\n"
 
 

@@ -44,6 +44,11 @@ static uint32_t check_line(const char *line, uint8_t *out, size_t room, size_t *
     return bb_check_line(1000, 64, 30, 1000, bytes(line), strlen(line), out, room, count);
 }
 
+static uint32_t trace(const char *line, uint64_t from, uint64_t every, uint8_t *out, size_t room,
+                      size_t *count) {
+    return bb_trace(1000, 64, from, every, bytes(line), strlen(line), out, room, count);
+}
+
 /* Whether a buffer of 256 bytes has the text, and behind it only what it was filled with. */
 static bool has(const uint8_t *out, const char *text) {
     size_t length = strlen(text);
@@ -100,6 +105,30 @@ static void hold_lines(void) {
     hold("unread", check_line("", out, BB_CHECK_LINE_ROOM, &count) == BB_NOT_CLEAN && has(out, "unread"));
 }
 
+static void hold_traces(void) {
+    static const char MACHINE[] = "1RB1LB_1LA1RZ", THREE[] = "0 A 0 0\n3 B -1 011\n6 Z 0 1111\n";
+    uint8_t out[256];
+    size_t count = 99, whole = sizeof THREE - 1;
+    memset(out, 0xAA, sizeof out);
+    hold("a trace", trace(MACHINE, 0, 3, out, 256, &count) == BB_CLEAN && count == whole && has(out, THREE));
+    memset(out, 0xAA, sizeof out);
+    hold("an exact fit for it", trace(MACHINE, 0, 3, out, whole, &count) == BB_CLEAN && has(out, THREE));
+    memset(out, 0xAA, sizeof out);
+    hold("a byte short", trace(MACHINE, 0, 3, out, whole - 1, &count) == BB_SHORT && count == whole);
+    hold("no room", trace(MACHINE, 0, 3, out, 0, &count) == BB_SHORT && count == whole && has(out, ""));
+    hold("no step told", trace(MACHINE, 7, 1, out, 256, &count) == BB_CLEAN && count == 0 && has(out, ""));
+    hold("no step, no room", trace(MACHINE, UINT64_MAX, 9, out, 0, &count) == BB_CLEAN && count == 0);
+    hold("one step", trace(MACHINE, 2, UINT64_MAX, out, 256, &count) == BB_CLEAN && has(out, "2 A 0 11\n"));
+    memset(out, 0xAA, sizeof out);
+    hold("no machine", trace("1RZ---\n", 9, 9, out, 256, &count) == BB_NOT_CLEAN && has(out, "refused 7\n"));
+    memset(out, 0xAA, sizeof out);
+    uint32_t told = bb_trace(9, 2, 1, 1, bytes("1RA1RA"), 6, out, 256, &count);
+    hold("cut by the cells", told == BB_NOT_CLEAN && has(out, "1 A 1 10\n"));
+    memset(out, 0xAA, sizeof out);
+    hold("of no step", trace(MACHINE, 0, 0, out, 256, &count) == BB_LIMITS && count == 0 && has(out, ""));
+    hold("of no machine", trace("", 0, 0, out, 256, &count) == BB_LIMITS && count == 0 && has(out, ""));
+}
+
 static void hold_limits(void) {
     static const uint64_t WRONG[5][4] = {
         {1000000000001, 64, 30, 1}, {1, 0, 0, 1}, {1, 67108865, 30, 1}, {1, 4, 3, 1},
@@ -119,6 +148,11 @@ static void hold_limits(void) {
         hold("limits of a claim", bb_check_line(four[0], four[1], four[2], four[3], bytes(LIST), 6, out, 256,
                                                 &counts[3]) == BB_LIMITS);
         hold("nothing counted", counts[0] + counts[1] + counts[2] + counts[3] == 0 && has(out, ""));
+    }
+    for (int at = 0; at < 3; at++) {
+        size_t count = 9;
+        uint32_t told = bb_trace(WRONG[at][0], WRONG[at][1], 0, 1, bytes(LIST), 6, out, 256, &count);
+        hold("limits of a trace", told == BB_LIMITS && count == 0 && has(out, ""));
     }
     size_t count;
     uint32_t told =
@@ -153,6 +187,7 @@ static void hold_threads(void) {
 int main(void) {
     hold_lists();
     hold_lines();
+    hold_traces();
     hold_limits();
     hold_threads();
     printf("%d passed, %d failed\n", passed, failed);

@@ -3,9 +3,11 @@
 
     scripts/tests/library.py crates/bb/out/bb
 
-It runs `scripts/library`, and needs gcc, g++, rustc and valgrind beside. The lists are the first 100,000
-machines of four states in tree normal form, all of two states, and claims that someone made up. It takes two
-minutes, after the proof. The last line is `N passed, M failed`; the status is 1 where any failed.
+It runs `scripts/library`, and gcc, g++, rustc and valgrind beside; what isn't installed is skipped. The lists
+are the first 100,000 machines of four states in tree normal form, all of two states, and claims that someone
+made up; the traces those of a hundred of the machines, at every first step and every distance up to 50. It
+takes two minutes, after the proof. The last line is
+`N passed, M failed, K skipped`; the status is 1 where any failed.
 """
 
 import os
@@ -30,7 +32,7 @@ refused 14
 
 0RB---_0LA--- backward 2 4
 """.splitlines()
-CALLS = ["bb_check", "bb_check_line", "bb_decide", "bb_decide_line"]
+CALLS = ["bb_check", "bb_check_line", "bb_decide", "bb_decide_line", "bb_trace"]
 C_WORDS = ["-Wall", "-Wextra", "-Werror", "-O2", "-pthread", "-I", os.path.join(TOP, "include")]
 VALGRIND = ["valgrind", "-q", "--error-exitcode=9", "--leak-check=full"]
 
@@ -47,12 +49,14 @@ def compiled(tally, command):
 
 def hold_c(tally, program, archive, folder):
     """The C examples and tests, compiled as C and the tests as C++ too."""
+    if not tally.has("C and C++", "gcc", "g++", "valgrind"):
+        return
     tests = os.path.join(TOP, "scripts", "tests", "library.c")
-    made = [os.path.join(folder, name) for name in ("tests", "tests++", "decide", "two_states")]
+    made = [os.path.join(folder, name) for name in ("tests", "tests++", "decide", "two_states", "trace")]
     examples = os.path.join(TOP, "examples", "c")
     compiled(tally, ["gcc", "-std=c99", *C_WORDS, tests, archive, "-o", made[0]])
     compiled(tally, ["g++", "-x", "c++", *C_WORDS, tests, "-x", "none", archive, "-o", made[1]])
-    for name, out in zip(("decide.c", "two_states.c"), made[2:]):
+    for name, out in zip(("decide.c", "two_states.c", "trace.c"), made[2:]):
         compiled(tally, ["gcc", "-std=c99", *C_WORDS, os.path.join(examples, name), archive, "-o", out])
     for command in ([made[0]], [made[1]], [*VALGRIND, made[0]], [*VALGRIND, made[2], *MACHINES]):
         status, told = output(command)
@@ -65,6 +69,10 @@ def hold_c(tally, program, archive, folder):
     wanted = output([program, "decide", *SMALL], given)[1].splitlines()
     tally.hold("28561 machines of two states", len(lines) == 28561 and lines == wanted)
     hold_words(tally, program, made[2])
+    whole = output([program, "trace", "--upto", "5", MACHINES[0]])
+    tally.hold("an example that traces", output([*VALGRIND, made[4], MACHINES[0], "5"]) == whole)
+    tally.hold("and no machine", output([*VALGRIND, made[4], "", "5", "2"]) == (1, b"refused 1\n"))
+    tally.hold("and no step", output([*VALGRIND, made[4], MACHINES[0], "5", "0"]) == (2, b""))
 
 
 def hold_words(tally, program, decide):
@@ -76,6 +84,8 @@ def hold_words(tally, program, decide):
 
 
 def hold_rust(tally, program, archive, folder):
+    if not tally.has("Rust", "rustc"):
+        return
     made = os.path.join(folder, "decide_rust")
     source = os.path.join(TOP, "examples", "rust", "decide.rs")
     compiled(tally, ["rustc", "-O", source, "-L", os.path.dirname(archive), "-l", "static=bb", "-o", made])
@@ -83,32 +93,48 @@ def hold_rust(tally, program, archive, folder):
 
 
 def hold_python(tally, program, shared):
-    """The Python module, its script, its lists beside the program's, and its errors."""
+    """The Python package over this library: lists and traces beside the program's, and its example."""
     os.environ["BB_LIBRARY"] = shared
-    sys.path.insert(0, os.path.join(TOP, "examples", "python"))
-    import bb
+    os.environ["PYTHONPATH"] = os.path.join(TOP, "python", "src")
+    sys.path.insert(0, os.environ["PYTHONPATH"])
+    import budlarem
 
     listing = [sys.executable, os.path.join(TOP, "scripts", "tools", "tree_normal_form.py"), "4"]
     with subprocess.Popen(listing, stdout=subprocess.PIPE, text=True) as lister:
         machines = [line.rstrip("\n") for line, _ in zip(lister.stdout, range(100_000))]
         lister.stdout.close()
+    limits = budlarem.Limits(steps=1000, cells=200, depth=60)
     given = "".join(machine + "\n" for machine in machines).encode()
     verdicts = output([program, "decide", *LIMITS], given)[1].decode().splitlines()
     tally.hold("100000 machines of four states", len(verdicts) == 100_000)
-    told = bb.decide(machines, steps=1000, cells=200, depth=60)
+    told = [str(verdict) for verdict in budlarem.decide(machines, limits)]
     tally.hold("their verdicts", told == verdicts)
     for lines in (verdicts, CLAIMS):
         given = "".join(line + "\n" for line in lines).encode()
         wanted = output([program, "check", *LIMITS], given)[1].decode().splitlines()
-        tally.hold("answers", bb.check(lines, steps=1000, cells=200, depth=60) == wanted)
-    tally.hold("no machines", bb.decide([]) == [] and bb.check([]) == [])
-    tally.hold("an empty text", bb.decide([""]) == ["refused 1"])
-    tally.hold("a decider off", bb.decide(["1RA1RA"], translated=False) == ["1RA1RA backward 0 0"])
-    for wrong in ({"cells": 4}, {"steps": -1}, {"nodes": 2**64}, {"cells": 0, "depth": 0}):
-        tally.hold("limits %s" % wrong, raises(bb.LimitsError, bb.decide, ["1RA1RA"], **wrong))
-    tally.hold("a newline", raises(ValueError, bb.check, ["refused 1\n"]))
+        tally.hold("answers", [str(answer) for answer in budlarem.check(lines, limits)] == wanted)
+    hold_traces(tally, program, budlarem, machines[::1000])
     script = [sys.executable, os.path.join(TOP, "examples", "python", "list.py")]
     tally.hold("the script", output(script, b"1RZ---\nx\n")[1] == b"ok 1RZ--- halt 1 1\nopen refused 1\n")
+
+
+def hold_traces(tally, program, budlarem, machines):
+    """Lines of traces, at every first step and every distance up to 50, are those of the program's traces."""
+    for cells in (200, 5):
+        limits = ["--upto", "120", "--cells", str(cells), "--"]
+        held = 0
+        for machine in machines:
+            whole = output([program, "trace", *limits, machine])[1].decode().splitlines()
+            held += all(
+                [str(now) for now in budlarem.trace(machine, 120, cells, start, every)] == whole[start::every]
+                for start in range(51)
+                for every in range(1, 51)
+            )
+        tally.hold("traces in %d cells of 100 machines" % cells, held == len(machines) == 100)
+    whole = output([program, "trace", "--upto", "3000", MACHINES[1]])[1].decode().splitlines()
+    tally.hold("a long trace", [str(now) for now in budlarem.trace(MACHINES[1], 3000)] == whole)
+    no_machine = raises(budlarem.MachineError, next, budlarem.trace("1RZ", 9, start=2**64 - 1))
+    tally.hold("a trace of no machine", no_machine)
 
 
 def raises(error, call, *given, **more):
@@ -122,6 +148,8 @@ def raises(error, call, *given, **more):
 def main():
     program = words(__doc__).parse_args().program
     tally = Tally()
+    if not tally.has("the library", "rt", "cc", "ar", "ld", "objcopy", "nm"):
+        return tally.end()
     status, told = output([os.path.join(TOP, "scripts", "library")])
     tally.hold("scripts/library: status %d" % status, status == 0)
     if status != 0:

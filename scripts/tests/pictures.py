@@ -12,6 +12,7 @@ import struct
 import subprocess
 import sys
 import zlib
+from typing import Dict, List, Tuple
 
 from tally import TOP, Tally, end_with, words
 
@@ -21,9 +22,10 @@ GOES_RIGHT = "1RA1RA"
 WHITE, BLACK, GREY, RED = (255, 255, 255), (20, 20, 20), (225, 225, 225), (220, 30, 30)
 
 
-def pixels(data):
+def pixels(data: bytes) -> List[List[Tuple[int, ...]]]:
     """The rows of a picture with a palette, each pixel as its colour."""
-    place, chunks = 8, {}
+    place = 8
+    chunks: Dict[bytes, bytes] = {}
     while place < len(data):
         length, kind = struct.unpack(">I4s", data[place : place + 8])
         chunks[kind] = chunks.get(kind, b"") + data[place + 8 : place + 8 + length]
@@ -71,10 +73,18 @@ def sampling(program):
 
 
 def refusals(program):
-    """Sizes below 1 are refused."""
+    """Sizes below 1 are refused, and pictures that are too large, in one line that says what would do."""
     for option in ("--every", "--rows", "--columns", "--scale"):
         rows, said = picture(program, GOES_RIGHT, 3, option, "0")
         yield "%s 0 is refused" % option, rows is None and option in said
+    rows, said = picture(program, GOES_RIGHT, 3, "--scale", "100000")
+    fine = said.count("\n") == 1 and "160,000,000,000 pixels" in said and "--scale to 2500" in said
+    yield "a scale that is too great is refused: %r" % said, rows is None and fine
+    rows, said = picture(program, GOES_RIGHT, 3, "--scale", "2501")
+    yield "one above the greatest scale is refused", rows is None and "--scale to 2500" in said
+    wide = ["--columns", "100000001", "--left", "0", "--right", "100000000"]
+    rows, said = picture(program, GOES_RIGHT, 0, *wide)
+    yield "too many columns are refused: %r" % said, rows is None and "lower --rows or --columns" in said
 
 
 def main():

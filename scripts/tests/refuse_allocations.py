@@ -129,6 +129,8 @@ def judged(ends, fine, made):
 def main():
     program = words(__doc__).parse_args().program
     tally = Tally()
+    if not tally.has("each allocation refused", "cc"):
+        return tally.end()
     with tempfile.TemporaryDirectory() as folder:
         source = os.path.join(folder, "refuser.c")
         library = os.path.join(folder, "refuser.so")

@@ -11,15 +11,24 @@ line is `N passed, M failed`; the status is 1 where any failed. Needs Linux.
 import os
 import pty
 import re
+import select
 import subprocess
 import tempfile
 import threading
+import time
 
 from tally import Tally, end_with, words
 
 LIST = b"1RB1LB_1LA1RZ\n0RB---_0LA---\n1RA1RA\n1rB1LB\n1RB---_1LA---\n"
 SLOW = ["--steps", "300000", "--cells", "4096"]
 KINDS = ["halt", "cycler", "translated", "backward", "undecided", "refused"]
+# How the line of progress names them, and the answers of `check`.
+SHORT = ["halt", "cycler", "transl", "back", "undec", "ref"]
+# For so many seconds a list is fed until what is waited for shows; then it counts as lost.
+PATIENCE = 1_800
+# A list is so many times as long as before where it was decided before two lines of progress were shown.
+LONGER, LONGEST = 4, 4**6
+ANSWERS = ["ok", "bad", "over", "open", "unread"]
 
 
 def on_terminal(command, given, output):
@@ -90,34 +99,136 @@ def kind(reply):
     return fields[0] if fields[0] == "refused" else fields[1]
 
 
-def progress(program, folder):
-    """The line of progress over a list that takes some seconds."""
-    listed, written = os.path.join(folder, "list"), os.path.join(folder, "out")
+def long_list(times=1):
+    """A list that takes a second, or so many, in several reads."""
     undecided = b"1RB0LA_0RC---_1RD0LD_1LA1RZ\n1RB1LC_1RC1RB_1RD0LE_1LA1LD_1RZ0LA\n"
-    with open(listed, "wb") as file:
-        file.write((LIST + undecided) * 200)
-    with open(written, "wb") as output:
-        status, shown = on_terminal([program, "decide", *SLOW, listed], b"", output)
+    return (LIST + undecided) * 200 * times
+
+
+def shown_lines(shown, names):
+    """The lines of progress that a terminal showed: the percent, none where it has none, and each count."""
+    for line in re.findall(r"\r([^\r\x1b]+)\x1b\[K", shown):
+        percent, told = re.fullmatch(r"(?:(\d+)% ?)?(.*)", line).groups()
+        counts = dict.fromkeys(names, 0)
+        for part in told.split(", ") if told else []:
+            count, name = re.fullmatch(r"([1-9]\d*) (\w+)", part).groups()
+            counts[name] += int(count)
+        yield percent and int(percent), list(counts.values())
+
+
+def progress(program, folder):
+    """The line of progress over a list that takes so long that there are two of them."""
+    listed, written = os.path.join(folder, "list"), os.path.join(folder, "out")
+    times, shown = 1, ""
+    while len(list(shown_lines(shown, SHORT))) < 2 and times <= LONGEST:
+        given = long_list(times)
+        with open(listed, "wb") as file:
+            file.write(given)
+        with open(written, "wb") as output:
+            status, shown = on_terminal([program, "decide", *SLOW, listed], b"", output)
+        times *= LONGER
     plain = subprocess.run([program, "decide", *SLOW, listed], capture_output=True)
     with open(written, "rb") as output:
         yield "the same output and status", (status, output.read()) == (plain.returncode, plain.stdout)
     yield "nothing where standard error is no terminal", plain.stderr == b""
-    pattern = (
-        r"\r(\d+) lines, (\d+) halt, (\d+) cycler, (\d+) translated, (\d+) backward, (\d+) undecided, "
-        r"(\d+) refused; (\d+) of %d bytes read\x1b\[K" % os.path.getsize(listed)
-    )
-    lines = [[int(field) for field in found] for found in re.findall(pattern, shown)]
+    lines = list(shown_lines(shown, SHORT))
     yield "a line that is rewritten", len(lines) >= 2
-    yield "lines grow", all(a[0] <= b[0] for a, b in zip(lines, lines[1:]))
+    yield "lines grow", all(sum(a[1]) <= sum(b[1]) for a, b in zip(lines, lines[1:]))
     kinds = [kind(reply) for reply in plain.stdout.decode().splitlines()]
     yield "the kinds are those of the first lines", all(
-        line[1:7] == [kinds[: line[0]].count(name) for name in KINDS] for line in lines
+        counts == [kinds[: sum(counts)].count(name) for name in KINDS] for _, counts in lines
     )
-    yield "it goes at the end", shown.endswith("\r\x1b[K") and re.sub(pattern, "", shown) == "\r\x1b[K"
+    sizes = [len(line) + 1 for line in given.split(b"\n")[:-1]]
+    answered = [100 * sum(sizes[: sum(counts)]) // sum(sizes) for _, counts in lines]
+    holds = all(percent <= most for (percent, _), most in zip(lines, answered))
+    yield "no more is told than was answered: %s of %s" % ([line[0] for line in lines], answered), holds
+    yield "it goes at the end", shown.endswith("\r\x1b[K") and shown.count("\n") == 0
+    yield "within 79 columns", max(len(line) for line in re.split(r"[\r\x1b]", shown)) <= 79
+
+
+def fed(program, words, batch, is_enough):
+    """What a terminal shows of a list that comes by a pipe, a batch after another until that is enough, and
+    how many batches there were. Standard output is the null device."""
+    reader, terminal = pty.openpty()
+    with subprocess.Popen(
+        [program, *words], stdin=subprocess.PIPE, stdout=subprocess.DEVNULL, stderr=terminal
+    ) as process:
+        shown, batches, end = b"", 0, time.monotonic() + PATIENCE
+        while not is_enough(shown) and time.monotonic() < end:
+            process.stdin.write(batch)
+            process.stdin.flush()
+            batches += 1
+            while select.select([reader], [], [], 0)[0]:
+                shown += os.read(reader, 4096)
+        process.stdin.close()
+        while process.poll() is None:
+            while select.select([reader], [], [], 0.01)[0]:
+                shown += os.read(reader, 4096)
+    os.close(terminal)
+    os.close(reader)
+    return shown, batches
+
+
+def told_twice(shown):
+    """Whether two lines with a count of some kind stand there."""
+    return len(re.findall(rb"\r\d[^\r\x1b]*\x1b", shown)) >= 2
+
+
+def piped(program):
+    """The progress of a list that comes by a pipe: its size isn't known."""
+    batch = long_list()
+    shown, batches = fed(program, ["decide", *SLOW], batch, told_twice)
+    lines = list(shown_lines(shown.decode(), SHORT))
+    most = batches * batch.count(b"\n")
+    told = len(lines) >= 2 and 0 < sum(lines[-1][1]) <= most
+    yield "progress into the null device, of %d lines: %s" % (most, lines), told
+    yield "no percent of a pipe", all(percent is None for percent, _ in lines)
+    hard = b"1RB1LC_1RC1RB_1RD0LE_1LA1LD_1RZ0LA "
+    claims = [
+        hard + b"halt 47176870 4098",
+        b"1RZ--- halt 1 1",
+        hard + b"undecided steps",
+        hard + b"halt 100000 1",
+        b"x",
+    ]
+    # The fourth takes 100,000 steps, so that fewer than 100,000 of a kind are answered between two lines.
+    answers = ["over", "ok", "open", "bad", "unread"]
+    shown, batches = fed(program, ["check", "--steps", "100000"], b"\n".join(claims * 40) + b"\n", told_twice)
+    lines = list(shown_lines(shown.decode(), ANSWERS))
+    first = answers * (batches * 40)
+    told = [[first[: sum(counts)].count(answer) for answer in ANSWERS] for _, counts in lines]
+    yield "answers are counted: %s" % lines, len(lines) >= 2 and told == [counts for _, counts in lines]
+
+
+def large_counts(program):
+    """Counts from 100,000 on are in thousands, and from 10,000,000 on in millions."""
+    batch = b"------\n" * 100_000
+    shown, batches = fed(program, ["decide", "--steps", "1"], batch, lambda shown: b"M halt" in shown)
+    counts = re.findall(rb"\r(\d+)([kM]?) halt\x1b", shown)
+    units = {unit: [int(count) for count, other in counts if other == unit] for unit in (b"", b"k", b"M")}
+    yield "thousands: %s" % units, units[b"k"] and 100 <= min(units[b"k"]) and max(units[b"k"]) < 10_000
+    most = batches // 10
+    yield "millions, of at most %d" % most, units[b"M"] and 10 <= min(units[b"M"]) <= most
+    yield "no more than 99,999 is told to the digit", max(units[b""], default=0) < 100_000
+
+
+def elsewhere(program):
+    """No progress where somebody looks on at standard output: a pipe, a terminal, a device."""
+    reader, writer = os.pipe()
+    with open(reader, "rb") as end:
+        listening = threading.Thread(target=end.read)
+        listening.start()
+        _, shown = on_terminal([program, "decide", *SLOW], long_list()[:4000], writer)
+        os.close(writer)
+        listening.join()
+    yield "none into a pipe: %r" % shown, shown == ""
+    with open("/dev/full", "wb") as output:
+        _, shown = on_terminal([program, "decide", *SLOW], long_list()[:4000], output)
+    yield "none into another device: %r" % shown, shown.startswith("bb: write failed\n")
     reader, terminal = pty.openpty()
     subprocess.run([program, "decide", "--steps", "9"], input=LIST, stdout=terminal, stderr=terminal)
     shown = os.read(reader, 65536)
-    yield "none where standard output is a terminal too", b"lines" not in shown and b"\x1b" not in shown
+    yield "none where standard output is a terminal too", b"%" not in shown and b"\x1b" not in shown
 
 
 def main():
@@ -130,6 +241,9 @@ def main():
             told = ended[1].split("\x1b[K")[-1]
             tally.hold("%s: %r" % (name, ended), (ended[0], told) == (status, error))
         for name, holds in progress(program, folder):
+            tally.hold(name, holds)
+    for part in (piped, large_counts, elsewhere):
+        for name, holds in part(program):
             tally.hold(name, holds)
     tally.hold("a broken pipe", broken_pipe(program))
     return tally.end()

@@ -6,110 +6,18 @@
 A row is a step, from the top down; a column is a position, from the left. A colour is a symbol: 0 is white,
 1 black. The head is red. Positions not visited yet are grey. A long trace is sampled and a wide one is cut
 by itself; standard error then says which steps and positions are shown. A row whose head lies outside the
-positions shown has no red. A trace of 60,000 lines takes about a second. Needs nothing but Python.
+positions shown has no red. A picture of more than 100 million pixels is refused. A trace of 60,000 lines
+takes about a second. Needs nothing but Python; it uses the package in `python/src`, without its library.
 """
 
 import argparse
 import os
-import struct
+import pathlib
 import sys
-import zlib
 
-# The colours of the symbols 0 to 9, then of a position not visited yet, then of the head.
-COLOURS = [
-    (255, 255, 255), (20, 20, 20), (60, 110, 200), (240, 180, 40), (60, 150, 80),
-    (150, 80, 170), (80, 190, 200), (150, 110, 70), (240, 140, 170), (170, 200, 90),
-    (225, 225, 225), (220, 30, 30),
-]  # fmt: skip
-UNVISITED, HEAD = 10, 11
+sys.path.insert(0, str(pathlib.Path(__file__).resolve().parents[2] / "python" / "src"))
 
-
-def steps(lines):
-    """For each line of a trace the step, the head's position, the lowest position visited, and the cells."""
-    low = 0
-    for line in lines:
-        fields = line.split()
-        if len(fields) != 4:
-            sys.exit("not a line of a trace: %r" % line)
-        step, state, position, cells = fields
-        if state != "Z":
-            low = min(low, int(position))
-        yield int(step), int(position), low, cells
-
-
-def sampled(lines, rows):
-    """At most so many steps, evenly spaced, and how far apart they are: a power of two."""
-    chosen, every = [], 1
-    for row in steps(lines):
-        if row[0] % every:
-            continue
-        if len(chosen) == rows:
-            every *= 2
-            chosen = [kept for kept in chosen if kept[0] % every == 0]
-            if row[0] % every:
-                continue
-        chosen.append(row)
-    return chosen, every
-
-
-def taken(lines, every, rows):
-    """Each step that `every` divides, but at most so many, and whether more would have followed."""
-    chosen = []
-    for row in steps(lines):
-        if row[0] % every == 0:
-            if len(chosen) == rows:
-                return chosen, True
-            chosen.append(row)
-    return chosen, False
-
-
-def stretch(chosen, asked):
-    """The first and the last position shown: those that were asked for, else all, or `columns` of them
-    about the middle."""
-    low = min(row[2] for row in chosen)
-    high = max(row[2] + len(row[3]) - 1 for row in chosen)
-    left = low if asked.left is None else asked.left
-    right = high if asked.right is None else asked.right
-    if right - left >= asked.columns:
-        if asked.left is None and asked.right is None:
-            left = (low + high - asked.columns) // 2 + 1
-        elif asked.left is None:
-            left = right - asked.columns + 1
-        right = left + asked.columns - 1
-    return left, right, (left, right) != (low, high)
-
-
-def row_of(position, low, cells, left, right):
-    """The places of a row, each as the number of its colour."""
-    row = bytearray([UNVISITED]) * (right - left + 1)
-    for place, digit in enumerate(cells, low):
-        if left <= place <= right:
-            row[place - left] = int(digit)
-    if left <= position <= right:
-        row[position - left] = HEAD
-    return row
-
-
-def chunk(kind, data):
-    """A chunk of a PNG file."""
-    return struct.pack(">I", len(data)) + kind + data + struct.pack(">I", zlib.crc32(kind + data))
-
-
-def png(rows, scale):
-    """A PNG file of these rows, each place so many pixels wide and high."""
-    lines = []
-    for row in rows:
-        wide = b"".join(bytes([place]) * scale for place in row)
-        lines.extend([b"\0" + wide] * scale)
-    header = struct.pack(">IIBBBBB", len(rows[0]) * scale, len(rows) * scale, 8, 3, 0, 0, 0)
-    palette = bytes(part for colour in COLOURS for part in colour)
-    return (
-        b"\x89PNG\r\n\x1a\n"
-        + chunk(b"IHDR", header)
-        + chunk(b"PLTE", palette)
-        + chunk(b"IDAT", zlib.compress(b"".join(lines), 9))
-        + chunk(b"IEND", b"")
-    )
+from budlarem.pictures import PictureError, drawn, rows_of_lines, sampled, taken  # noqa: E402
 
 
 def size(word):
@@ -141,27 +49,36 @@ def words():
     return parser
 
 
-def main():
-    asked = words().parse_args()
+def made(asked):
+    """The picture that is asked for, of the trace in standard input."""
+    rows = rows_of_lines(sys.stdin)
     if asked.every is None:
-        chosen, every = sampled(sys.stdin, asked.rows)
-        cut = False
+        chosen, every = sampled(rows, asked.rows)
+        is_cut = False
     else:
         every = asked.every
-        chosen, cut = taken(sys.stdin, every, asked.rows)
-    if not chosen:
-        sys.exit("no step to show")
-    left, right, part = stretch(chosen, asked)
-    if right < left:
-        sys.exit("no position to show")
-    if every > 1:
-        print("picture: every %d steps" % every, file=sys.stderr)
-    if cut:
-        print("picture: up to step %d; --rows or --every shows more" % chosen[-1][0], file=sys.stderr)
-    if part:
-        print("picture: positions %d to %d" % (left, right), file=sys.stderr)
-    rows = [row_of(position, low, cells, left, right) for _, position, low, cells in chosen]
-    sys.stdout.buffer.write(png(rows, asked.scale))
+        chosen, is_cut = taken(rows, every, asked.rows)
+    shown = {"columns": asked.columns, "left": asked.left, "right": asked.right, "scale": asked.scale}
+    return drawn(chosen, every, is_cut, **shown)
+
+
+def main():
+    try:
+        picture = made(words().parse_args())
+    except PictureError as error:
+        told = (
+            str(error)
+            .replace("lower scale", "lower --scale")
+            .replace("rows or columns", "--rows or --columns")
+        )
+        sys.exit("picture: %s" % told)
+    if picture.every > 1:
+        print("picture: every %d steps" % picture.every, file=sys.stderr)
+    if picture.is_cut:
+        print("picture: up to step %d; --rows or --every shows more" % picture.last, file=sys.stderr)
+    if picture.is_part:
+        print("picture: positions %d to %d" % (picture.left, picture.right), file=sys.stderr)
+    sys.stdout.buffer.write(picture.png)
     sys.stdout.flush()
 
 

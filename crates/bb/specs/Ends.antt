@@ -6,7 +6,7 @@ use Rattle.bb_lines.specs.declared.fault.Fault.{Fault}
 use Rattle.bb_lines.specs.declared.fault.Fault.TheVariants.{Memory}
 use Rattle.bb_run.specs.declared.summary.Summary.{Summary}
 use Rattle.bb_run.specs.CheckEnds.{CheckEnds}
-use Rattle.bb_run.specs.Ends.{DecideEnds, TraceEnds}
+use Rattle.bb_run.specs.Ends.{DecideInOneRunEnds, TraceEnds}
 use Rattle.bb_command.specs.declared.command.Work.{Work}
 use Rattle.bb_command.specs.declared.command.Work.TheVariants.{Decide, Check, Trace}
 
@@ -17,11 +17,11 @@ pub record IsNotBegun (left left_then held held_then : Option (List ℕ)) (end :
   pub unread : left_then ≡ left
   pub unwritten : held_then ≡ held
 
--- how work that was begun ends; for a trace nothing is read
+-- how work that was begun ends: each machine of a list is decided in one run; for a trace nothing is read
 abbrev pub WorkEnds : Work → Bounds → Option (List ℕ) → Option (List ℕ) → Option (List ℕ) → Option (List ℕ)
     → Result Summary Fault → Type 0
 WorkEnds (Decide plan) bounds left left_then held held_then end =
-    DecideEnds bounds plan left left_then held held_then end
+    DecideInOneRunEnds bounds plan left left_then held held_then end
 WorkEnds Check bounds left left_then held held_then end =
     CheckEnds bounds left left_then held held_then end
 WorkEnds (Trace text) bounds left left_then held held_then end =

@@ -5,7 +5,9 @@ use bb_command::Work;
 use bb_run::{AnswerCounts, VerdictCounts};
 use std::cell::Cell;
 use std::fmt::Write;
+use std::fs;
 use std::io::IsTerminal;
+use std::os::unix::fs::{FileTypeExt, MetadataExt};
 use std::time::{Duration, Instant};
 
 /// How long a line stands at least, in milliseconds.
@@ -30,39 +32,43 @@ pub struct Progress<'a> {
     size: Option<u64>,
     /// How many of them were read.
     read: Cell<u64>,
+    /// How many of them were read before the last read: all of their whole lines are answered.
+    answered: Cell<u64>,
     /// When the line was last written.
     shown: Cell<Option<Instant>>,
 }
 
 impl<'a> Progress<'a> {
-    /// The progress of this work over a list of so many bytes. None for a trace, and where standard error is
-    /// no terminal or standard output is one.
+    /// The progress of this work over a list of so many bytes. None for a trace, where standard error is no
+    /// terminal, and where standard output is neither a file nor the null device.
     pub fn of(
         rt: &'a HostRuntime,
         work: &Work,
         size: Option<u64>,
         counts: &'a Counts,
     ) -> Option<Progress<'a>> {
-        if !rt.stderr().is_terminal() || rt.stdout().is_terminal() {
-            return None;
-        }
         let is_check = match work {
             Work::Decide(_) => false,
             Work::Check => true,
             Work::Trace(_) => return None,
         };
+        if !rt.stderr().is_terminal() || !is_output_kept(rt) {
+            return None;
+        }
         Some(Progress {
             rt,
             counts,
             is_check,
             size,
             read: Cell::new(0),
+            answered: Cell::new(0),
             shown: Cell::new(None),
         })
     }
 
-    /// Takes in that so many bytes were read.
+    /// Takes in that so many bytes were read. A list is read on only once all whole lines are answered.
     pub fn add_read(&self, count: usize) {
+        self.answered.set(self.read.get());
         self.read.set(self.read.get().saturating_add(count as u64));
         self.show();
     }
@@ -82,8 +88,12 @@ impl<'a> Progress<'a> {
     }
 
     /// The line, as a terminal takes it: from the left, and nothing after it.
-    fn line(&self) -> ArrayString<400> {
+    fn line(&self) -> ArrayString<100> {
         let mut line = ArrayString::new();
+        let _ = write!(line, "\r");
+        if let Some(percent) = self.percent() {
+            let _ = write!(line, "{percent}% ");
+        }
         if self.is_check {
             let answers = &self.counts.answers;
             add_kinds(
@@ -103,18 +113,22 @@ impl<'a> Progress<'a> {
                 &[
                     ("halt", verdicts.halt.get()),
                     ("cycler", verdicts.cycler.get()),
-                    ("translated", verdicts.translated.get()),
-                    ("backward", verdicts.backward.get()),
-                    ("undecided", verdicts.undecided.get()),
-                    ("refused", verdicts.refused.get()),
+                    ("transl", verdicts.translated.get()),
+                    ("back", verdicts.backward.get()),
+                    ("undec", verdicts.undecided.get()),
+                    ("ref", verdicts.refused.get()),
                 ],
             );
         }
-        if let Some(size) = self.size {
-            let _ = write!(line, "; {} of {} bytes read", self.read.get(), size);
-        }
         let _ = write!(line, "\x1b[K");
         line
+    }
+
+    /// How many of a hundred bytes are of lines that are answered, where the list's bytes are known.
+    fn percent(&self) -> Option<u64> {
+        let size = self.size?;
+        let hundredfold = self.answered.get().saturating_mul(100);
+        Some(hundredfold.checked_div(size)?.min(100))
     }
 
     /// Takes the line away.
@@ -125,13 +139,40 @@ impl<'a> Progress<'a> {
     }
 }
 
-/// Adds how many lines there are in all, and how many of each kind.
-fn add_kinds(line: &mut ArrayString<400>, kinds: &[(&'static str, u64)]) {
-    let lines = kinds
-        .iter()
-        .fold(0u64, |lines, (_, count)| lines.saturating_add(*count));
-    let _ = write!(line, "\r{lines} lines");
+/// Adds how many lines there are of each kind of which there are any.
+fn add_kinds(line: &mut ArrayString<100>, kinds: &[(&'static str, u64)]) {
+    let mut between = "";
     for (name, count) in kinds {
-        let _ = write!(line, ", {count} {name}");
+        if *count > 0 {
+            let (number, unit) = shortened(*count);
+            let _ = write!(line, "{between}{number}{unit} {name}");
+            between = ", ";
+        }
+    }
+}
+
+/// A count in at most five columns, where it has at most ten digits: in thousands or millions, rounded down,
+/// where it has more than five.
+fn shortened(count: u64) -> (u64, &'static str) {
+    if count < 100_000 {
+        (count, "")
+    } else if count < 10_000_000 {
+        (count / 1_000, "k")
+    } else {
+        (count / 1_000_000, "M")
+    }
+}
+
+/// Whether what is written to standard output is kept in a file, or not at all, so that nobody looks on.
+fn is_output_kept(rt: &HostRuntime) -> bool {
+    let Ok(output) = fs::metadata(rt, "/dev/stdout") else {
+        return false;
+    };
+    if output.is_file() {
+        return true;
+    }
+    match fs::metadata(rt, "/dev/null") {
+        Ok(null) => output.file_type().is_char_device() && output.rdev() == null.rdev(),
+        Err(_) => false,
     }
 }

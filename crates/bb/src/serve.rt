@@ -11,7 +11,8 @@ use bb_lines::fault::Fault;
 use bb_lines::watched::Watched;
 use bb_run::laws::verdicts_are_borne_out;
 use bb_run::{
-    Summary, ring_bench, ring_pair, run_check_with_counts, run_decide_with_counts, run_trace,
+    Summary, ring_bench, ring_pair, run_check_with_counts, run_decide_in_one_run_with_counts,
+    run_trace,
 };
 use bb_tape::RingTape;
 use std::alloc::Global;
@@ -50,7 +51,7 @@ pub fn serve<R: Read, W: Write>(
     let limits = asked.limits;
     match &asked.work {
         Work::Decide(plan) => match ring_bench(alloc, &limits) {
-            Ok(mut bench) => run_decide_with_counts(
+            Ok(mut bench) => run_decide_in_one_run_with_counts(
                 reader,
                 writer,
                 &limits,

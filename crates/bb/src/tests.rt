@@ -3,7 +3,7 @@
 use crate::progress::Counts;
 use crate::serve::{serve, status};
 use arrayvec::ArrayString;
-use bb_command::{Asked, Stop, ask};
+use bb_command::{Stop, ask};
 use bb_lines::fault::Fault;
 use bb_lines::watched::Watched;
 use bb_machine::limits::{MAX_CELLS, MAX_LEVELS, MAX_NODES, MAX_STEPS};

@@ -1,5 +1,5 @@
 //! Answers to the verdict lines of a list, and to one.
-ghost use Rattle.std.specs.Prelude.{◌≡◌, ◌≢◌, ◌+◌, ◌*◌, ◌⊎◌, ◌↔◌, ◌≤◌, IfOk, IsTrue, length};
+ghost use Rattle.std.specs.Prelude.{◌≡◌, ◌≢◌, ◌*◌, ◌⊎◌, ◌↔◌, ◌≤◌, IfOk, IsTrue, length};
 ghost use Rattle.std.specs.List.{AllByRecursion};
 ghost use Rattle.bb_lines.specs.Lines.{AreReplies, lines};
 ghost use Rattle.bb_machine.specs.Limits.{IsAccepted};
@@ -45,7 +45,7 @@ pub extern "C" fn bb_check(
         → IsTooShort (AreReplies (IsCheckReply (bounds_of steps cells depth nodes)) (lines list.now))
         out.old out.new count.new }
 
-    // A buffer that is surely long enough.
+    // A buffer that is always long enough.
     ensures enough { 7 * length (lines list.now) ≤ length out.old → result ≢ SHORT }
 
     ensures status { result ≤ SHORT }
@@ -98,7 +98,7 @@ pub extern "C" fn bb_check_line(
     ensures short { result ≡ SHORT
         → IsTooShort (IsCheckReply (bounds_of steps cells depth nodes) line.now) out.old out.new count.new }
 
-    // A buffer that is surely long enough.
+    // A buffer that is always long enough.
     ensures enough { 6 ≤ length out.old → result ≢ SHORT }
 
     ensures status { result ≤ SHORT }

@@ -4,6 +4,9 @@ ghost use Rattle.std.specs.List.{AllByRecursion};
 ghost use Rattle.bb_lines.specs.Lines.{AreReplies, lines};
 ghost use Rattle.bb_machine.specs.Limits.{IsAccepted};
 ghost use Rattle.bb_machine.specs.Machine.{IsMachine, IsMachineLine, text};
+ghost use Rattle.bb_cert.specs.verdict.Verdict.{HasNumbers};
+ghost use Rattle.bb_decide.specs.Sure.{IsFoundByRun, NoneIsSmaller};
+ghost use Rattle.bb_decide.specs.Verdict.{IsVerdict};
 ghost use Rattle.bb_run.specs.BorneOut.{VerdictsAreBorneOut};
 ghost use Rattle.bb_run.specs.Reply.{IsReply};
 ghost use Rattle.bb_c.specs.Buffer.{IsFilled, IsTooShort, IsUntouched};
@@ -12,11 +15,12 @@ ghost use Rattle.bb_c.specs.Call.{bounds_of, plan_of};
 use crate::buffer::{CLEAN, LIMITS, MEMORY, NOT_CLEAN, SHORT, give};
 use arrayvec::ArrayVec;
 use bb_cert::{LINE_BUFFER, Verdict, line_into, lines_are_short, refusal_into};
-use bb_decide::{Plan, decide};
+use bb_decide::laws::small_limits_decide;
+use bb_decide::{Plan, SpreadKeys, decide_in_one_run};
 use bb_lines::watched::Watched;
 use bb_machine::{Limits, Machine};
 use bb_run::laws::verdicts_are_borne_out;
-use bb_run::{ring_bench, run_decide};
+use bb_run::{ring_bench, run_decide_in_one_run};
 use bb_sim::Meter;
 use bb_tape::Memory;
 use std::alloc::Global;
@@ -48,7 +52,7 @@ pub extern "C" fn bb_decide(
         → IsTooShort (AreReplies (IsReply (bounds_of steps cells depth nodes)
         (plan_of cyclers translated backward)) (lines list.now)) out.old out.new count.new }
 
-    // A buffer that is surely long enough.
+    // A buffer that is always long enough.
     ensures enough { length list.now + 98 * length (lines list.now) ≤ length out.old → result ≢ SHORT }
 
     // What stands behind each verdict.
@@ -88,7 +92,7 @@ fn verdicts(
     let mut bench = ring_bench(alloc, limits)?;
     let mut reader = Watched::new(list);
     let mut writer = Watched::new(Vec::new(alloc));
-    match run_decide(&mut reader, &mut writer, limits, plan, &mut bench) {
+    match run_decide_in_one_run(&mut reader, &mut writer, limits, plan, &mut bench) {
         Ok(summary) => Ok((writer.into_inner(), summary.clean)),
         Err(_) => Err(Memory),
     }
@@ -121,7 +125,7 @@ pub extern "C" fn bb_decide_line(
         → IsTooShort (IsReply (bounds_of steps cells depth nodes)
         (plan_of cyclers translated backward) line.now) out.old out.new count.new }
 
-    // A buffer that is surely long enough.
+    // A buffer that is always long enough.
     ensures enough { length line.now + 97 ≤ length out.old → result ≢ SHORT }
 
     // What stands behind each verdict.
@@ -166,10 +170,79 @@ fn verdict_line(
     requires empty { reply.old.items ≡ [] }
     ensures reply { OnOk result (IsReply limits.now plan (text machine.now) reply.new.items) }
 {
-    let mut bench = ring_bench(alloc, limits)?;
-    let mut meter = Meter::new();
-    let verdict = decide(machine, limits, plan, &mut bench, &mut meter)?;
+    let verdict = verdict_on(alloc, limits, plan, machine)?;
     lines_are_short();
     line_into(machine, &verdict, reply);
     Ok(())
+}
+
+/// The most steps of the first try.
+const FEW_STEPS: u64 = 4096;
+
+/// The most cells of the first try.
+const FEW_CELLS: u64 = 1024;
+
+/// The verdict on a machine: on small tapes first, since most machines need no more, and large ones take
+/// longer to make than such a machine takes to be decided.
+fn verdict_on(
+    alloc: Global,
+    limits: &Limits,
+    plan: Plan,
+    machine: &Machine,
+) -> Result<Verdict, Memory>
+    requires machine { IsMachine machine.now }
+    ensures verdict { IfOk result (IsVerdict machine.now limits.now plan) }
+    ensures numbers { IfOk result HasNumbers }
+{
+    if limits.cells() <= FEW_CELLS {
+        return verdict_within(alloc, limits, plan, machine);
+    }
+    let searches = Plan {
+        backward: false,
+        ..plan
+    };
+    let first = verdict_within(alloc, &small_limits(limits), searches, machine)?;
+    small_limits_decide();
+    if is_found_by_run(&first) {
+        return Ok(first);
+    }
+    verdict_within(alloc, limits, plan, machine)
+}
+
+/// Whether a verdict is a halt or a pair.
+fn is_found_by_run(verdict: &Verdict) -> bool
+    ensures { IsTrue result → IsFoundByRun verdict.now }
+{
+    match verdict {
+        Verdict::Halt { .. } | Verdict::Cycler { .. } | Verdict::Translated { .. } => true,
+        Verdict::Backward { .. } | Verdict::Undecided(_) => false,
+    }
+}
+
+/// The limits of the first try: none is greater than its own here.
+fn small_limits(limits: &Limits) -> Limits
+    ensures { NoneIsSmaller result limits.now }
+{
+    let steps = limits.steps().min(FEW_STEPS);
+    let cells = limits.cells().min(FEW_CELLS);
+    match Limits::new(steps, cells, 0, 0) {
+        Ok(small) => small,
+        Err(_) => *limits,
+    }
+}
+
+/// The verdict on a machine, on tapes of its own.
+fn verdict_within(
+    alloc: Global,
+    limits: &Limits,
+    plan: Plan,
+    machine: &Machine,
+) -> Result<Verdict, Memory>
+    requires machine { IsMachine machine.now }
+    ensures verdict { IfOk result (IsVerdict machine.now limits.now plan) }
+    ensures numbers { IfOk result HasNumbers }
+{
+    let mut bench = ring_bench(alloc, limits)?;
+    let mut meter = Meter::new();
+    decide_in_one_run(machine, limits, plan, &SpreadKeys, &mut bench, &mut meter)
 }

@@ -6,3 +6,4 @@
 mod buffer;
 mod checking;
 mod deciding;
+mod tracing;

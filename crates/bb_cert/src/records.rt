@@ -5,7 +5,7 @@ ghost use Rattle.bb_sim.specs.CellsBetween.{cells_between};
 ghost use Rattle.bb_sim.specs.Runner.{position_of, state_of};
 ghost use Rattle.bb_cert.specs.records.Follow.{AgreesWithKept, HasSameCells, IsComparable, IsKeptInStateOf};
 ghost use Rattle.bb_cert.specs.records.Follow.{IsNarrow, IsWidened, LiesAs, TellsWidening};
-ghost use Rattle.bb_cert.specs.records.Follow.{far_of, lesser_of, number_of};
+ghost use Rattle.bb_cert.specs.records.Follow.{nearest_out, number_of};
 ghost use Rattle.bb_cert.specs.records.Follow.{passed, top_of, with_kept};
 
 use crate::verdict::{Extent, Side};
@@ -22,7 +22,7 @@ pub struct Records {
     pub side: Side,
     /// The runner where it made the kept record; at position 0 before there is one.
     pub kept: Runner,
-    /// The position least far out of all that the head had since then.
+    /// The head's least position since then on the right, its greatest on the left.
     pub nearest: i64,
 }
 
@@ -93,7 +93,7 @@ impl Records {
     pub fn extent(&self, runner: &Runner) -> Extent
         requires nearest { IsNarrow self.now.nearest }
         requires kept { IsNarrow (position_of self.now.kept) }
-        requires order { far_of self.now ≤ℤ number_of self.now }
+        requires order { nearest_out self.now ≤ℤ number_of self.now }
         requires later { number_of self.now ≤ℤ top_of self.now runner.now }
         ensures { LiesAs self.now runner.now result }
     {
@@ -103,8 +103,8 @@ impl Records {
         }
     }
 
-    /// Whether the cells from the farthest point out to the kept record are those that lie as far before the
-    /// one that the runner has just made.
+    /// Whether the cells from the nearest position out to the kept record are those that lie as far before
+    /// the one that the runner has just made.
     fn has_same_cells<T: Tape>(&self, runner: &Runner, run: &T, saved: &T) -> bool
         requires comparable { IsComparable self.now runner.now (T.view saved.now) (T.view run.now) }
         requires far { IsInside (T.view saved.now) self.now.nearest }

@@ -25,8 +25,8 @@ pub enum Why {
 pub struct Extent {
     /// How many cells farther out the second one is.
     pub shift: u64,
-    /// How many cells agree: from the first one back to where the head is least far out until the second,
-    /// both counted.
+    /// How many cells agree: from the first one's head back to the least far out that the head is until the
+    /// second, both counted.
     pub length: u64,
 }
 

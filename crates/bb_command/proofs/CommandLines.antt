@@ -20,8 +20,8 @@ use Rattle.clap.specs.declared.parser.matches.ArgMatches.TheViews.{out-ArgMatche
 use Rattle.clap.proofs.OnLiterals.{clap_on_literals}
 use Rattle.bb_command.specs.declared.command.Stop.{Stop}
 use Rattle.bb_command.specs.declared.command.Stop.TheVariants.{Help, Words, Limits, Memory}
-use Rattle.bb_command.specs.Command.{Gives, IsKindStop, IsLimitsStop, IsStopOf, list_bounds, trace_bounds}
-use Rattle.bb_command.specs.Command.{words_meant}
+use Rattle.bb_command.specs.Command.{Gives, IsKindStop, IsLimitsStop, IsNumbersStop, IsStopOf}
+use Rattle.bb_command.specs.Command.{list_bounds, trace_bounds, words_meant}
 use Rattle.bb_command.specs.CommandLine.{check_shape, command_line, decide_shape, trace_shape}
 
 simple_and_free : is_simple_and_free command_line ≡ true
@@ -161,6 +161,17 @@ stops_by_kind app is words error kinds stop kind =
     by_kind (Words text) is_other (inr among) = (kind_of error, among, is_other.0, is_other.1)
     by_kind (Limits fault) never h = absurd never
     by_kind Memory is_memory h = tt
+
+-- an error of a parse, as a stop by which no numbers are given
+pub no_numbers_by_kind : (app : App) → app ≡ command_line → (words : List Text) (error : Error)
+    → (is_simple_and_free app ≡ true → HasKind (fault_of app words) error)
+    → (stop : Stop) → IsKindStop (kind_of error) stop → IsNumbersStop words stop
+no_numbers_by_kind app is words error kinds (Help text) kind =
+    stops_by_kind app is words error kinds (Help text) kind
+no_numbers_by_kind app is words error kinds (Words text) kind =
+    stops_by_kind app is words error kinds (Words text) kind
+no_numbers_by_kind app is words error kinds (Limits fault) kind = absurd kind
+no_numbers_by_kind app is words error kinds Memory kind = tt
 
 -- ---- help that is asked for by a word
 

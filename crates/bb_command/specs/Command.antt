@@ -157,6 +157,14 @@ IsStopOf words (Words text) =
 IsStopOf words (Limits fault) = IsRefused words (Limits fault)
 IsStopOf words Memory = Unit {0}
 
+-- why the words give no numbers: help or the version is asked for, or they are no command line, or an
+-- allocation failed; limits that would be refused are no cause
+abbrev pub IsNumbersStop : List Text → Stop → Type 0
+IsNumbersStop words (Help text) = IsStopOf words (Help text)
+IsNumbersStop words (Words text) = IsStopOf words (Words text)
+IsNumbersStop words (Limits fault) = ⊥
+IsNumbersStop words Memory = Unit {0}
+
 -- the stop that an error of this kind is
 abbrev pub IsKindStop : ErrorKind → Stop → Type 0
 IsKindStop kind (Help text) = (kind ≡ DisplayHelp) ⊎ (kind ≡ DisplayVersion)

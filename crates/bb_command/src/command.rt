@@ -1,5 +1,5 @@
 //! The command line: which work is asked for, under which limits.
-ghost use Rattle.std.specs.Prelude.{◌≡◌, ◌⊎◌, false, true, IfErr, IfOk, List, Some, codes, map, option_map};
+ghost use Rattle.std.specs.Prelude.{◌≡◌, ◌⊎◌, false, true, IfErr, IfOk, Some, codes, map, option_map};
 ghost use Rattle.std.specs.String.{string_bytes};
 ghost use Rattle.clap.specs.declared.builder.command.Command.TheViews.{out-Command as fields_of};
 ghost use Rattle.clap.specs.Words.{app_of, first_of, found_of, kind_of, rows_of, rule_of, shape_of};
@@ -13,9 +13,9 @@ ghost use Rattle.bb_command.specs.Command.{
   IsAskedBy,
   IsKindStop,
   IsLimitsStop,
+  IsNumbersStop,
   IsStopOf,
   bounds_of,
-  decide_plan,
   is_given,
   list_bounds,
   number_of,
@@ -126,7 +126,7 @@ fn read_words(alloc: Global, words: &[&str]) -> Result<Asked, Stop>
 {
     let matches = match program(alloc)?.try_get_matches_from(words) {
         Ok(matches) => matches,
-        Err(error) => return Err(stop_of(alloc, &error)?),
+        Err(error) => return Err(stop_of(alloc, &error, words)?),
     };
     let Some((name, values)) = matches.subcommand() else {
         unreachable!();
@@ -158,10 +158,11 @@ pub struct Numbers {
 /// Reads the numbers that a command line gives for its limits, whether or not they are accepted.
 pub fn numbers_given(alloc: Global, words: &[&str]) -> Result<Numbers, Stop>
     ensures given { IfOk result (AreGivenBy (map (λ word. word.now) words.now)) }
+    ensures stop { IfErr result (IsNumbersStop (map (λ word. word.now) words.now)) }
 {
     let matches = match program(alloc)?.try_get_matches_from(words) {
         Ok(matches) => matches,
-        Err(error) => return Err(stop_of(alloc, &error)?),
+        Err(error) => return Err(stop_of(alloc, &error, words)?),
     };
     let Some((name, values)) = matches.subcommand() else {
         unreachable!();
@@ -228,8 +229,8 @@ Out: for each line, in order, the machine and one of
   undecided steps|cells          a limit came first
 or, where the line is no machine: refused COLUMN.
 
-Each machine is first simulated up to the limit of steps, and only then are the deciders
-asked: begin with small limits. 2 times the depth, less 1, must be at most the cells.
+A decided machine costs about the steps that its verdict names; one that is left undecided
+costs a run to the limit, and the tree. 2 times the depth, less 1, must be at most the cells.
 
 Status: 0 every line was a machine, 1 a line was refused, 2 the command line was refused,
 3 memory, reading or writing failed.
@@ -452,7 +453,15 @@ fn positional<'a>(alloc: Global, name: &'a str, shown: &'a str, help: &'a str) -
     Arg::new(alloc, name).value_name(shown).help(help)
 }
 
-fn stop_of(alloc: Global, error: &Error) -> Result<Stop, AllocError>
+/// What is said where help is asked for by a word, of more than one command.
+const MORE_THAN_ONE: &str = "\
+error: 'bb help' takes one command: decide, check or trace
+
+For more information, try '--help'.
+";
+
+/// What an error of reading these words stops.
+fn stop_of(alloc: Global, error: &Error, words: &[&str]) -> Result<Stop, AllocError>
     ensures { IfOk result (IsKindStop (kind_of error.now)) }
 {
     match error.kind() {
@@ -460,6 +469,9 @@ fn stop_of(alloc: Global, error: &Error) -> Result<Stop, AllocError>
         ErrorKind::DisplayHelp | ErrorKind::DisplayVersion => Ok(Stop::Help(error.to_string(
             alloc,
         )?)),
+        _ if words.len() > 3 && words[1] == "help" => {
+            Ok(Stop::Words(String::from_str(alloc, MORE_THAN_ONE)?))
+        }
         _ => Ok(Stop::Words(error.to_string(alloc)?)),
     }
 }

@@ -36,7 +36,7 @@ module _ {table : Table} {bounds : Bounds} {before after kept : Runner}
   kept_earlier = rw step.next (kept_below (steps_of kept) (steps_of before) here.partner)
 
   -- where it has the configuration of what is kept, that is its partner: it isn't the start
-  kept_partner : Same table (steps_of kept) (steps_of after) → IsPartner (steps_of kept) (steps_of after)
+  pub kept_partner : Same table (steps_of kept) (steps_of after) → IsPartner (steps_of kept) (steps_of after)
   kept_partner same = elim here.partner [
     | inl start ↦
         let zeroth : steps_of kept ≡ steps_of before = omega (arith, start.0, start.1) in
@@ -66,7 +66,7 @@ module _ {table : Table} {bounds : Bounds} {before after kept : Runner}
   apart tells isnt same = let is = tells.1 (alike_of_same step.run.stands here.kept_stands same) in cc
 
   -- no step up to it is one, where it has another configuration
-  none_next : (Same table (steps_of kept) (steps_of after) → ⊥) → (a t : ℕ) → t ≤ steps_of after
+  pub none_next : (Same table (steps_of kept) (steps_of after) → ⊥) → (a t : ℕ) → t ≤ steps_of after
       → IsCycle table bounds a t → ⊥
   none_next differs a t few cycle = elim (cases_lt (steps_of before) t) [
     | inr earlier ↦ here.none a t earlier cycle

@@ -1,4 +1,5 @@
 -- What the proofs of other crates may cite of verdicts.
 pub use Rattle.bb_decide.proofs.Claims.{verdicts_are_confirmed, verdicts_hold}
 pub use Rattle.bb_decide.proofs.FewCells.{few_cells_are_decided}
+pub use Rattle.bb_decide.proofs.SmallLimits.{small_limits_decide}
 pub use Rattle.bb_decide.proofs.Verdicts.{verdict_is_unique, work_is_bounded, work_is_unique}

@@ -71,7 +71,7 @@ power_for (suc k) = let before = power_for k in elim (cases_lt before.0 ((k + 1)
   at_next : (power : ℕ) → IsPowerFor ((k + 1) + 1) power → IsPowerFor (suc k + 1) power
   at_next power is = let e : (k + 1) + 1 ≡ suc k + 1 = omega arith in subst (λ m. IsPowerFor m power) e is
 
--- the least power of two that is not below either of two numbers, the second of which isn't 0, is below the
+-- the least power of two that is at least both of two numbers, the second of which isn't 0, is below the
 -- double of any number that is not below either of them
 record HasLeastPower (first second most : ℕ) : Type 0 where
   power : ℕ

@@ -1,12 +1,17 @@
 pub mod Benches
 pub mod Claims
 pub mod Cycles
+pub mod Endings
 pub mod Facts
 pub mod FewCells
+pub mod Fingerprints
 pub mod Halting
+pub mod OneRun
 pub mod Partners
+pub mod SmallLimits
 pub mod Sure
 pub mod TakingIn
 pub mod Translations
 pub mod Verdicts
+pub mod Watched
 pub mod Works

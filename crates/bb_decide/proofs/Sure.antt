@@ -118,17 +118,17 @@ module _ (table : Table) (lower upper : Bounds) (within : NoneIsSmaller lower up
         within_cells = omega (arith, narrow, cells);
       }
 
-  halts_upper : (n : ℕ) → HaltsInside table lower n → HaltsInside table upper n
+  pub halts_upper : (n : ℕ) → HaltsInside table lower n → HaltsInside table upper n
   halts_upper n halts = record { halts = halts.halts; inside = inside_upper n halts.inside }
 
   nowhere_lower : HaltsNowhere table upper → HaltsNowhere table lower
   nowhere_lower nowhere n halts = nowhere n (halts_upper n halts)
 
-  cycle_upper : (a t : ℕ) → IsCycle table lower a t → IsCycle table upper a t
+  pub cycle_upper : (a t : ℕ) → IsCycle table lower a t → IsCycle table upper a t
   cycle_upper a t cycle =
       record { partner = cycle.partner; inside = inside_upper t cycle.inside; same = cycle.same }
 
-  translation_upper : (side : Side) (a b : ℕ) → IsTranslation table lower side a b
+  pub translation_upper : (side : Side) (a b : ℕ) → IsTranslation table lower side a b
       → IsTranslation table upper side a b
   translation_upper side a b translation =
       record { pair = translation.pair; inside = inside_upper b translation.inside }

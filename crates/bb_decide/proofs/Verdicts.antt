@@ -1,4 +1,4 @@
--- Why a machine has one verdict, and costs as many steps each time.
+-- Why no machine has two verdicts, nor two counts of work.
 use Rattle.std.proofs.Common.{◌≡◌, ℕ, ◌≤◌, ◌<◌, Option, ℤ, pos, neg_ℤ, inl, inr, refl, sym, subst, ◌∙◌, arith}
 use Rattle.std.proofs.lemmas.Int.{ints}
 use Rattle.bb_machine.specs.Limits.{Bounds}

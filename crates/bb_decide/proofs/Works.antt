@@ -338,7 +338,7 @@ module _ (table : Table) (bounds : Bounds) (plan : Plan) (passes : PassesCycles 
   reached : IsTrue plan.backward → ReachesWalk table bounds plan
   reached on = (passes.0, passes.1, on)
 
-  counts_walk : (found : Option Verdict) (old new : Meter) → IsTrue plan.backward
+  pub counts_walk : (found : Option Verdict) (old new : Meter) → IsTrue plan.backward
       → FindsTree table bounds found → CountsTree bounds old new found
       → CountsWalk (ReachesWalk table bounds plan) table bounds new
   counts_walk None old new on finds counts =
@@ -378,7 +378,7 @@ module _ (table : Table) (bounds : Bounds) (plan : Plan) (passes : PassesCycles 
 
 module _ (table : Table) (bounds : Bounds) (plan : Plan) where
   -- where a search has found something, no walk is reached
-  not_reached : (verdict : Verdict) → SearchesFind table bounds plan (Some verdict)
+  pub not_reached : (verdict : Verdict) → SearchesFind table bounds plan (Some verdict)
       → PassesCycles table bounds plan → PassesTranslations table bounds plan → ⊥
   not_reached (Cycler first second) found cycles translations = cycles found.0 first second found.1.cycle
   not_reached (Translated side first second extent) found cycles translations =

@@ -1,5 +1,5 @@
 -- Laws of verdicts.
-use Rattle.std.specs.Prelude.{◌≡◌, ℕ, ◌+◌, ◌*◌, ◌<◌, ◌≤◌}
+use Rattle.std.specs.Prelude.{◌≡◌, ℕ, ◌+◌, ◌*◌, ◌<◌, ◌≤◌, Bool}
 use Rattle.bb_machine.specs.Limits.{Bounds}
 use Rattle.bb_machine.specs.Machine.{Table, IsMachine}
 use Rattle.bb_sim.specs.Span.{Inside}
@@ -13,7 +13,7 @@ use Rattle.bb_cert.specs.records.Record.{IsRecord}
 use Rattle.bb_cert.specs.claims.Repeat.{Same}
 use Rattle.bb_machine.specs.declared.plan.Plan.{Plan}
 use Rattle.bb_decide.specs.Cycle.{IsCycle}
-use Rattle.bb_decide.specs.Sure.{IsLeastPower, NoneIsSmaller, StaysAs}
+use Rattle.bb_decide.specs.Sure.{IsFoundByRun, IsLeastPower, NoneIsSmaller, StaysAs}
 use Rattle.bb_decide.specs.Translation.{IsTranslation}
 use Rattle.bb_decide.specs.Verdict.{IsVerdict}
 use Rattle.bb_decide.specs.Work.{IsWork}
@@ -43,14 +43,14 @@ abbrev pub VerdictsAreConfirmed : Type 0
 VerdictsAreConfirmed = (table : Table) (bounds : Bounds) (plan : Plan) (verdict : Verdict)
     → IsVerdict table bounds plan verdict → (IsUndecided verdict → ⊥) → IsAnswer table bounds verdict Ok
 
--- where the configuration of step a comes again p steps later, that of the least power of two not below a and
--- p does too; so a search that gets p steps past that power finds a pair
+-- where the configuration of step a comes again p steps later, that of the least power of two that is at
+-- least both a and p does too; so a search that gets p steps past that power finds a pair
 abbrev pub RepeatsAreFound : Type 0
 RepeatsAreFound = (table : Table) (bounds : Bounds) (a p power : ℕ) → 0 < p → Same table a (a + p)
     → IsLeastPower power a p → Inside table bounds (power + p) → IsCycle table bounds power (power + p)
 
--- where records i and i + r of a side agree, so do that of the least power of two not below i and r, and the
--- r-th after it; so a search that gets there finds a pair
+-- where records i and i + r of a side agree, so do that of the least power of two that is at least
+-- both i and r, and the r-th after it; so a search that gets there finds a pair
 abbrev pub AgreeingRecordsAreFound : Type 0
 AgreeingRecordsAreFound = (table : Table) (bounds : Bounds) (side : Side) (i r a b power n : ℕ) → 0 < r
     → IsRecord table side i a → IsRecord table side (i + r) b → Agree table side a b → IsLeastPower power i r
@@ -61,3 +61,10 @@ AgreeingRecordsAreFound = (table : Table) (bounds : Bounds) (side : Side) (i r a
 abbrev pub LargerLimitsKeep : Type 0
 LargerLimitsKeep = (table : Table) (lower upper : Bounds) (plan : Plan) (a b : Verdict) → IsMachine table
     → NoneIsSmaller lower upper → IsVerdict table lower plan a → IsVerdict table upper plan b → StaysAs a b
+
+-- what a run finds is the verdict within all limits none of which is smaller, and it is so whether trees are
+-- asked for or not
+abbrev pub SmallLimitsDecide : Type 0
+SmallLimitsDecide = (table : Table) (lower upper : Bounds) (plan : Plan) (trees : Bool) (verdict : Verdict)
+    → NoneIsSmaller lower upper → IsFoundByRun verdict
+    → IsVerdict table lower (record plan { backward = trees }) verdict → IsVerdict table upper plan verdict

@@ -3,6 +3,8 @@ pub mod Backward
 pub mod Bench
 pub mod Cycle
 pub mod FewCells
+pub mod Fingerprint
+pub mod Keys
 pub mod Laws
 pub mod Partner
 pub mod Sure

@@ -1,4 +1,4 @@
--- What is surely found where limits reach it, and what larger limits keep. These promises are this project's
+-- What is always found where limits reach it, and what larger limits keep. These promises are this project's
 -- own.
 use Rattle.std.specs.Prelude.{◌≡◌, ℕ, ◌+◌, ◌^◌, ◌<◌, ◌≤◌, ◌⊎◌, Option, Some, None}
 use Rattle.bb_machine.specs.Limits.{Bounds}
@@ -13,7 +13,7 @@ use Rattle.bb_cert.specs.claims.Repeat.{Same}
 use Rattle.bb_machine.specs.declared.plan.Plan.{Plan}
 use Rattle.bb_decide.specs.Verdict.{IsVerdict}
 
--- the least power of two that is not below either of two numbers
+-- the least power of two that is at least both of two numbers
 pub record IsLeastPower (power first second : ℕ) : Type 0 where
   pub exponent : ℕ
   pub is_power : power ≡ 2 ^ exponent
@@ -71,3 +71,11 @@ StaysAs (Undecided why) later = Unit {0}
 abbrev pub KeepsEarlier : Table → Bounds → Plan → Verdict → Type 0
 KeepsEarlier table bounds plan verdict = (lower : Bounds) (earlier : Verdict) → NoneIsSmaller lower bounds
     → IsVerdict table lower plan earlier → StaysAs earlier verdict
+
+-- a run finds it: a halt or a pair
+abbrev pub IsFoundByRun : Verdict → Type 0
+IsFoundByRun (Halt steps score) = Unit {0}
+IsFoundByRun (Cycler first second) = Unit {0}
+IsFoundByRun (Translated side first second extent) = Unit {0}
+IsFoundByRun (Backward levels nodes) = ⊥
+IsFoundByRun (Undecided why) = ⊥

@@ -1,3 +1,5 @@
 -- What private functions tell one another. No public contract cites it.
 pub mod Follow
 pub mod Search
+pub mod Ending
+pub mod Prints

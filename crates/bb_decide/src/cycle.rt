@@ -9,10 +9,11 @@ ghost use Rattle.bb_cert.specs.verdict.Verdict.{HasNumbers};
 ghost use Rattle.bb_decide.specs.Bench.{BenchHasCells};
 ghost use Rattle.bb_decide.specs.Cycle.{CountsSearch, FindsCycle};
 ghost use Rattle.bb_decide.specs.FewCells.{FindsInFewCells};
-ghost use Rattle.bb_decide.specs.inside.Search.{IsPromised};
+ghost use Rattle.bb_decide.specs.inside.Ending.{EndsPromised, RanAs, found_of};
 ghost use Rattle.bb_decide.specs.Sure.{FindsRepeats};
 
 use crate::bench::Bench;
+use crate::ending::{Ending, outcome_of};
 use bb_cert::{Verdict, is_same};
 use bb_machine::{Limits, Machine};
 use bb_sim::{Meter, Moved, Runner};
@@ -44,28 +45,54 @@ pub fn cyclers<T: Tape>(
     ensures memory { OnErr result (IsTrue T.GROWS) }
 {
     machine.show_machine();
-    let limits = *limits;
-    let mut spent = *meter;
-    let found = run(machine, &limits, bench, &mut spent);
-    *meter = spent;
-    found
+    let ending = seek_cycle(machine, limits, bench, meter)?;
+    Ok(ending.found())
 }
 
-/// `cyclers`, inlined there, so that the limits and the meter, which are its locals, stay in registers.
+/// The same, and how the run ended where there is no such pair.
+#[inline(never)]
+pub(crate) fn seek_cycle<T: Tape>(
+    machine: &Machine,
+    limits: &Limits,
+    bench: &mut Bench<T>,
+    meter: &mut Meter,
+) -> Result<Ending, Memory>
+    requires tapes { BenchHasCells T.view limits.now.cells bench.old }
+    requires room { meter.old.steps ≤ 2 * limits.now.steps }
+    ensures found { IfOk result (λ ending. FindsCycle machine.now limits.now (found_of ending)) }
+    ensures ran { IfOk result (RanAs machine.now limits.now) }
+    ensures counted { IfOk result
+        (λ ending. CountsSearch machine.now limits.now meter.old meter.new (found_of ending)) }
+    ensures within { IsWithinRun limits.now meter.old meter.new }
+    ensures never { IfOk result (λ ending. IfSome (found_of ending) (λ verdict. Never machine.now)) }
+    ensures promised { EndsPromised machine.now T.GROWS result }
+    ensures tapes { BenchHasCells T.view limits.now.cells bench.new }
+    ensures path { bench.new.path ≡ bench.old.path }
+{
+    let limits = *limits;
+    let mut spent = *meter;
+    let ending = run(machine, &limits, bench, &mut spent);
+    *meter = spent;
+    ending
+}
+
+/// `seek_cycle`, inlined there, so that the limits and the meter, which are its locals, stay in registers.
 #[inline(always)]
 fn run<T: Tape>(
     machine: &Machine,
     limits: &Limits,
     bench: &mut Bench<T>,
     meter: &mut Meter,
-) -> Result<Option<Verdict>, Memory>
+) -> Result<Ending, Memory>
     requires tapes { BenchHasCells T.view limits.now.cells bench.old }
     requires room { meter.old.steps ≤ 2 * limits.now.steps }
-    ensures found { IfOk result (FindsCycle machine.now limits.now) }
-    ensures counted { IfOk result (CountsSearch machine.now limits.now meter.old meter.new) }
+    ensures found { IfOk result (λ ending. FindsCycle machine.now limits.now (found_of ending)) }
+    ensures ran { IfOk result (RanAs machine.now limits.now) }
+    ensures counted { IfOk result
+        (λ ending. CountsSearch machine.now limits.now meter.old meter.new (found_of ending)) }
     ensures within { IsWithinRun limits.now meter.old meter.new }
-    ensures never { IfOk result (λ found. IfSome found (λ verdict. Never machine.now)) }
-    ensures promised { IsPromised machine.now T.GROWS result }
+    ensures never { IfOk result (λ ending. IfSome (found_of ending) (λ verdict. Never machine.now)) }
+    ensures promised { EndsPromised machine.now T.GROWS result }
     ensures tapes { BenchHasCells T.view limits.now.cells bench.new }
     ensures path { bench.new.path ≡ bench.old.path }
 {
@@ -77,14 +104,15 @@ fn run<T: Tape>(
     loop {
         match runner.advance(machine, &mut bench.run, limits, meter)? {
             Moved::Stepped => {}
-            _ => return Ok(None),
+            moved => return Ok(Ending::Ran(outcome_of(moved, runner, &bench.run))),
         }
         // In Z the run ends, in a state in which it wasn't before.
         let Some(_) = runner.state() else {
-            return Ok(None);
+            let outcome = outcome_of(Moved::Halted, runner, &bench.run);
+            return Ok(Ending::Ran(outcome));
         };
         if is_same(&runner, &bench.run, &kept, &bench.right) {
-            return Ok(Some(Verdict::Cycler {
+            return Ok(Ending::Found(Verdict::Cycler {
                 first: kept.steps(),
                 second: runner.steps(),
             }));
@@ -99,7 +127,7 @@ fn run<T: Tape>(
     }
 }
 
-/// Takes over the cells and the window of another tape. It is out of line, so that the search keeps its
+/// Takes over the cells and the window of another tape. It is not inlined, so that the search keeps its
 /// registers.
 #[cold]
 #[inline(never)]

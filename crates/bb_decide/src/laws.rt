@@ -2,14 +2,14 @@
 ghost use Rattle.bb_decide.specs.FewCells.{FewCellsAreDecided};
 ghost use Rattle.bb_decide.specs.Laws.{AgreeingRecordsAreFound, LargerLimitsKeep, RepeatsAreFound};
 ghost use Rattle.bb_decide.specs.Laws.{VerdictIsUnique, VerdictsAreConfirmed, VerdictsHold, WorkIsBounded};
-ghost use Rattle.bb_decide.specs.Laws.{WorkIsUnique};
+ghost use Rattle.bb_decide.specs.Laws.{SmallLimitsDecide, WorkIsUnique};
 
-/// A machine has one verdict under one set of limits and one plan.
+/// No machine has two verdicts under one set of limits and one plan.
 pub fn verdict_is_unique()
     ensures { VerdictIsUnique }
 {}
 
-/// Deciding it costs as many steps each time, no more than three times the limit.
+/// Deciding it has no two counts of work, and costs at most three times the limit of steps.
 pub fn work_is_unique()
     ensures unique { WorkIsUnique }
     ensures bounded { WorkIsBounded }
@@ -30,6 +30,12 @@ pub fn patterns_are_found()
 /// Larger limits lose nothing: a halt or a pair stays, and a tree stays or becomes a pair.
 pub fn larger_limits_keep()
     ensures { LargerLimitsKeep }
+{}
+
+/// What a run finds within small limits, a halt or a pair, is the verdict within larger ones, whether trees are
+/// asked for or not.
+pub fn small_limits_decide()
+    ensures { SmallLimitsDecide }
 {}
 
 /// With the cyclers on, and three times as many steps as there are configurations in the cells, no machine is

@@ -10,7 +10,7 @@ use bb_tape::{Memory, Tape};
 
 /// Compares the record that the runner has just made with the kept one. The verdict where they agree; else
 /// the record is kept, if it is its turn. The records and the runner are locals of a loop: they stay in
-/// registers, since what is out of line gets copies of them.
+/// registers, since the call that isn't inlined gets copies of them.
 #[inline(always)]
 pub fn look_at_record<T: Tape>(
     records: &mut Records,
@@ -33,7 +33,7 @@ pub fn look_at_record<T: Tape>(
     Ok(found)
 }
 
-/// `look`, out of line. A record is kept if its number is at least twice that of the kept one.
+/// `look_at_record`, not inlined. A record is kept if its number is at least twice that of the kept one.
 #[cold]
 #[inline(never)]
 fn compare_and_keep<T: Tape>(

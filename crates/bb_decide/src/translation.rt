@@ -7,11 +7,12 @@ ghost use Rattle.bb_cert.specs.verdict.Verdict.{HasNumbers};
 ghost use Rattle.bb_decide.specs.Bench.{BenchHasCells};
 ghost use Rattle.bb_decide.specs.Cycle.{CountsSearch};
 ghost use Rattle.bb_decide.specs.inside.Follow.{IsReady, Looks, on_side};
-ghost use Rattle.bb_decide.specs.inside.Search.{IsPromised};
+ghost use Rattle.bb_decide.specs.inside.Ending.{EndsPromised, RanAs, found_of};
 ghost use Rattle.bb_decide.specs.Sure.{FindsAgreeingRecords};
 ghost use Rattle.bb_decide.specs.Translation.{FindsTranslation};
 
 use crate::bench::Bench;
+use crate::ending::{Ending, outcome_of};
 use crate::record_search::look_at_record;
 use bb_cert::records::{Records, widened_side};
 use bb_cert::{Side, Verdict};
@@ -43,28 +44,54 @@ pub fn translated<T: Tape>(
     ensures path { bench.new.path ≡ bench.old.path }
     ensures memory { OnErr result (IsTrue T.GROWS) }
 {
-    let limits = *limits;
-    let mut spent = *meter;
-    let found = run(machine, &limits, bench, &mut spent);
-    *meter = spent;
-    found
+    let ending = seek_translation(machine, limits, bench, meter)?;
+    Ok(ending.found())
 }
 
-/// `translated`, inlined there, so that the limits and the meter, which are its locals, stay in registers.
+/// The same, and how the run ended where there is no such record.
+#[inline(never)]
+pub(crate) fn seek_translation<T: Tape>(
+    machine: &Machine,
+    limits: &Limits,
+    bench: &mut Bench<T>,
+    meter: &mut Meter,
+) -> Result<Ending, Memory>
+    requires tapes { BenchHasCells T.view limits.now.cells bench.old }
+    requires room { meter.old.steps ≤ 2 * limits.now.steps }
+    ensures found { IfOk result (λ ending. FindsTranslation machine.now limits.now (found_of ending)) }
+    ensures ran { IfOk result (RanAs machine.now limits.now) }
+    ensures counted { IfOk result
+        (λ ending. CountsSearch machine.now limits.now meter.old meter.new (found_of ending)) }
+    ensures within { IsWithinRun limits.now meter.old meter.new }
+    ensures never { IfOk result (λ ending. IfSome (found_of ending) (λ verdict. Never machine.now)) }
+    ensures promised { EndsPromised machine.now T.GROWS result }
+    ensures tapes { BenchHasCells T.view limits.now.cells bench.new }
+    ensures path { bench.new.path ≡ bench.old.path }
+{
+    let limits = *limits;
+    let mut spent = *meter;
+    let ending = run(machine, &limits, bench, &mut spent);
+    *meter = spent;
+    ending
+}
+
+/// `seek_translation`, inlined there, so that the limits and the meter, its locals, stay in registers.
 #[inline(always)]
 fn run<T: Tape>(
     machine: &Machine,
     limits: &Limits,
     bench: &mut Bench<T>,
     meter: &mut Meter,
-) -> Result<Option<Verdict>, Memory>
+) -> Result<Ending, Memory>
     requires tapes { BenchHasCells T.view limits.now.cells bench.old }
     requires room { meter.old.steps ≤ 2 * limits.now.steps }
-    ensures found { IfOk result (FindsTranslation machine.now limits.now) }
-    ensures counted { IfOk result (CountsSearch machine.now limits.now meter.old meter.new) }
+    ensures found { IfOk result (λ ending. FindsTranslation machine.now limits.now (found_of ending)) }
+    ensures ran { IfOk result (RanAs machine.now limits.now) }
+    ensures counted { IfOk result
+        (λ ending. CountsSearch machine.now limits.now meter.old meter.new (found_of ending)) }
     ensures within { IsWithinRun limits.now meter.old meter.new }
-    ensures never { IfOk result (λ found. IfSome found (λ verdict. Never machine.now)) }
-    ensures promised { IsPromised machine.now T.GROWS result }
+    ensures never { IfOk result (λ ending. IfSome (found_of ending) (λ verdict. Never machine.now)) }
+    ensures promised { EndsPromised machine.now T.GROWS result }
     ensures tapes { BenchHasCells T.view limits.now.cells bench.new }
     ensures path { bench.new.path ≡ bench.old.path }
 {
@@ -77,11 +104,12 @@ fn run<T: Tape>(
         let cells = runner.cells();
         match runner.advance(machine, &mut bench.run, limits, meter)? {
             Moved::Stepped => {}
-            _ => return Ok(None),
+            moved => return Ok(Ending::Ran(outcome_of(moved, runner, &bench.run))),
         }
         // In Z the run ends, in a state in which it wasn't before.
         let Some(_) = runner.state() else {
-            return Ok(None);
+            let outcome = outcome_of(Moved::Halted, runner, &bench.run);
+            return Ok(Ending::Ran(outcome));
         };
         right.pass(runner.position());
         left.pass(runner.position());
@@ -98,7 +126,7 @@ fn run<T: Tape>(
             &mut bench.right,
             &mut bench.left,
         )? {
-            Some(verdict) => return Ok(Some(verdict)),
+            Some(verdict) => return Ok(Ending::Found(verdict)),
             None => {}
         }
     }
@@ -106,7 +134,7 @@ fn run<T: Tape>(
 
 /// Looks at the record that the runner has just made on a side.
 #[inline(always)]
-fn look_on<T: Tape>(
+pub(crate) fn look_on<T: Tape>(
     side: Side,
     right: &mut Records,
     left: &mut Records,

@@ -1,11 +1,11 @@
 //! Reads lines, replies to each, and writes the replies.
 ghost use Rattle.std.specs.Prelude.{◌≡◌, ◌≢◌, ◌↔◌, ℕ, ◌+◌, ◌<◌, ◌≤◌, ◌^◌, ◌-◌, ◌||◌, min, List, []};
-ghost use Rattle.std.specs.Prelude.{◌∷◌, ◌++◌, true, false, length, take, IsTrue, OnOk, OnErr, is_err};
+ghost use Rattle.std.specs.Prelude.{◌∷◌, ◌++◌, true, false, length, take, IsTrue, OnOk, is_err};
 ghost use Rattle.std.specs.List.{FoldsTo};
 ghost use Rattle.std.specs.Io.{ReadsAtMost};
 ghost use Rattle.std.specs.Io.KnownBytes.{Consumes, IsAtEnd, ReadConsumes};
 ghost use Rattle.bb_lines.specs.Watched.{watched_inner, is_marked, reads_of};
-ghost use Rattle.bb_lines.specs.Lines.{complete, lines, unfinished, unless_empty};
+ghost use Rattle.bb_lines.specs.Lines.{complete, lines, unfinished};
 ghost use Rattle.bb_lines.specs.Ends.{MatchEnd, AppendsPrefixOfReplies};
 ghost use Rattle.bb_lines.specs.Ends.{AppendsReplies, AppendsSome, ListEnds};
 ghost use Rattle.bb_lines.specs.inside.Progress.{prefixes, HasNoNewline, AreAnswered};

@@ -1,5 +1,5 @@
 //! Bytes that wait to be written together.
-ghost use Rattle.std.specs.Prelude.{◌≡◌, ◌≤◌, List, [], ◌∷◌, ◌++◌, false};
+ghost use Rattle.std.specs.Prelude.{◌≡◌, ◌≤◌, [], ◌∷◌, ◌++◌, false};
 ghost use Rattle.std.specs.Prelude.{length, OnOk, OnErr, IsOkUnless, is_err};
 ghost use Rattle.std.specs.Io.KnownBytes.{Appends};
 ghost use Rattle.bb_lines.specs.Watched.{watched_inner, is_marked};

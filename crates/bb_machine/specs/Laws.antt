@@ -8,7 +8,7 @@ use Rattle.bb_machine.specs.Column.{IsColumn}
 abbrev pub TextsDiffer : Type 0
 TextsDiffer = (a b : Table) → IsMachine a → IsMachine b → text a ≡ text b → a ≡ b
 
--- a line has one column
+-- no line has two columns
 abbrev pub ColumnIsUnique : Type 0
 ColumnIsUnique = (line : List ℕ) (a b : ℕ) → IsColumn line a → IsColumn line b → a ≡ b
 

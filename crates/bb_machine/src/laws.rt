@@ -11,7 +11,7 @@ pub fn texts_differ()
     ensures { TextsDiffer }
 {}
 
-/// A line has one column.
+/// No line has two columns.
 pub fn column_is_unique()
     ensures { ColumnIsUnique }
 {}

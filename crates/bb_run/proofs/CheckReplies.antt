@@ -1,4 +1,4 @@
--- Why a line has one answer.
+-- Why no line has two answers.
 use Rattle.std.proofs.Common.{◌≡◌, ℕ, List, inl, inr, sym, subst, ap, ◌∙◌}
 use Rattle.bb_machine.specs.Limits.{Bounds}
 use Rattle.bb_machine.specs.Machine.{Table}
@@ -29,7 +29,7 @@ module _ (line : List ℕ) (s t : Table) (v w : Verdict) (first : IsLineOf (Clai
   pub one_verdict : v ≡ w
   one_verdict = same_verdict s t v w (line_unique (Claim s v) (Claim t w) line first second)
 
-  -- so it has one answer
+  -- so it has no two answers
   pub one_answer : (bounds : Bounds) (a b : Answer) → IsAnswer s bounds v a → IsAnswer t bounds w b → a ≡ b
   one_answer bounds a b is_a is_b =
       let moved = subst (λ (x : Table). IsAnswer x bounds v a) one_table is_a in

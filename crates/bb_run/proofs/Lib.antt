@@ -7,5 +7,6 @@ pub mod Replies
 pub mod Peaks
 pub mod Summaries
 pub mod Traces
+pub mod SampledRuns
 pub mod TraceEnds
 pub mod TraceSummaries

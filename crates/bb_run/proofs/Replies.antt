@@ -1,4 +1,4 @@
--- Why a line has one reply, and what stands behind it.
+-- Why no line has two replies, and what stands behind it.
 use Rattle.std.proofs.Common.{◌≡◌, ℕ, List, inl, inr, sym, subst, ap, ◌∙◌}
 use Rattle.bb_machine.specs.Limits.{Bounds}
 use Rattle.bb_machine.proofs.Facts.{column_unique, text_unique}

@@ -1,119 +1,166 @@
 -- How a trace ends, by the step at which its runner stands.
-use Rattle.std.proofs.Common.{◌≡◌, ◌≢◌, ℕ, ◌+◌, ◌<◌, ◌≤◌, ◌↔◌, IsTrue, Bool, true, false, List, [], ◌∷◌, ◌++◌}
-use Rattle.std.proofs.Common.{take, drop, sym, ◌∙◌, subst, ap, refl, arith, Option}
+use Rattle.std.proofs.Common.{◌≡◌, ℕ, zero, suc, ◌+◌, ◌*◌, ◌<◌, ◌≤◌, List, [], ◌∷◌, ◌++◌}
+use Rattle.std.proofs.Common.{take, drop, sym, ◌∙◌, subst, ap, arith, Option}
 use Rattle.std.specs.Io.KnownBytes.{Appends}
 use Rattle.std.proofs.lemmas.Grind.{flat_map-append}
 use Rattle.std.proofs.lemmas.List.{append-nil, take-append-drop}
 use Rattle.std.proofs.lemmas.List.FromFn.{map-range_with_len_more, take-map-range_with_len}
-use Rattle.std.proofs.lemmas.List.FromFn.{length-map-range_with_len}
 use Rattle.bb_machine.specs.Limits.{Bounds}
 use Rattle.bb_machine.specs.Machine.{Table}
-use Rattle.bb_sim.specs.Run.{HaltsAt}
-use Rattle.bb_sim.specs.Span.{span, Inside, IsLastInside}
+use Rattle.bb_sim.specs.Span.{Inside, IsLastInside}
 use Rattle.bb_lines.specs.Ends.{AppendsPrefix}
 use Rattle.bb_lines.specs.Output.{Sends}
-use Rattle.bb_sim.proofs.Facts.{halts_last, steps_last, cells_last, next_inside, fits_at_halt, wide_at_end}
-use Rattle.bb_run.specs.Trace.{step_text, step_lines, lines_text, AppendsSomeLines}
-use Rattle.bb_lines.proofs.Facts.{AppendsPrefix-further, AppendsPrefix-more, Sends-trans}
+use Rattle.bb_run.specs.Sample.{IsSampleSize, sampled_lines}
+use Rattle.bb_run.specs.Trace.{step_text, lines_text}
+use Rattle.bb_run.specs.inside.RunningOn.{EndsWithin, IsWantedBefore, StopsBefore}
+use Rattle.bb_run.proofs.SampledRuns.{told_before, told_later, size_is_unique}
+use Rattle.bb_lines.proofs.Facts.{AppendsPrefix-further, AppendsPrefix-more, Sends-none, Sends-trans}
 
--- the lines of one step more
-pub lines-next : (table : Table) (n : ℕ)
-    → lines_text (step_lines table n) ++ (step_text table n ++ 10 ∷ []) ≡ lines_text
-    (step_lines table (n + 1))
-lines-next table n =
-    let f : List ℕ → List ℕ = λ line. line ++ 10 ∷ [] in
-    let more : step_lines table (n + 1) ≡ step_lines table n ++ step_text table n ∷ [] =
-    map-range_with_len_more (step_text table) 0 n n (omega arith) in
-    let one : f (step_text table n) ++ [] ≡ f (step_text table n) = append-nil _ in
-    sym (ap lines_text more ∙ flat_map-append f (step_lines table n) (step_text table n ∷ [])
-    ∙ ap (λ b. lines_text (step_lines table n) ++ b) one)
+module _ (table : Table) (from every : ℕ) where
+  lines_of : ℕ → List ℕ
+  lines_of count = lines_text (sampled_lines table from every count)
 
--- the lines of fewer steps are the first ones
-lines_split : (table : Table) (n m : ℕ) → n ≤ m
-    → lines_text (step_lines table n) ++ lines_text (drop n (step_lines table m)) ≡ lines_text
-    (step_lines table m)
-lines_split table n m h =
-    let f : List ℕ → List ℕ = λ line. line ++ 10 ∷ [] in
-    let all : List (List ℕ) = step_lines table m in
-    let first : take n all ≡ step_lines table n = take-map-range_with_len (step_text table) 0 m n h in
-    ap (λ l. lines_text l ++ lines_text (drop n all)) (sym first)
-    ∙ sym (flat_map-append f (take n all) (drop n all)) ∙ ap lines_text (take-append-drop n all)
+  -- the lines of one told step more
+  lines-next : (n step : ℕ) → step ≡ from + every * n
+      → lines_of n ++ (step_text table step ++ 10 ∷ []) ≡ lines_of (n + 1)
+  unfolding lines_of
+  lines-next n step is =
+      let f : List ℕ → List ℕ = λ line. line ++ 10 ∷ [] in
+      let told : ℕ → List ℕ = λ k. step_text table (from + every * k) in
+      let all : List (List ℕ) = sampled_lines table from every n in
+      let more : sampled_lines table from every (n + 1) ≡ all ++ told n ∷ [] =
+      map-range_with_len_more told 0 n n (omega arith) in
+      let one : f (told n) ++ [] ≡ f (told n) = append-nil _ in
+      let same : step_text table step ≡ told n = ap (step_text table) is in
+      ap (λ line. lines_text all ++ (line ++ 10 ∷ [])) same
+      ∙ sym (ap lines_text more ∙ flat_map-append f all (told n ∷ []) ∙ ap (λ b. lines_text all ++ b) one)
 
--- the lines of fewer steps are some of them
-pub AppendsSomeLines-of : {old new : Option (List ℕ)} (table : Table) (n m : ℕ) → n < m
-    → Appends old new (lines_text (step_lines table n)) → AppendsSomeLines old new (step_lines table m)
-AppendsSomeLines-of {old} {new} table n m h appends = record {
-  count = n;
-  not_all = let e = length-map-range_with_len (step_text table) 0 m in omega (arith, e, h);
-  appends = let first : take n (step_lines table m) ≡ step_lines table n =
-      take-map-range_with_len (step_text table) 0 m n (omega (arith, h)) in
-      subst (λ l. Appends old new (lines_text l)) (sym first) appends;
-}
+  -- the lines of fewer told steps are the first ones
+  lines_split : (n m : ℕ) → n ≤ m
+      → lines_of n ++ lines_text (drop n (sampled_lines table from every m)) ≡ lines_of m
+  unfolding lines_of
+  lines_split n m h =
+      let f : List ℕ → List ℕ = λ line. line ++ 10 ∷ [] in
+      let all : List (List ℕ) = sampled_lines table from every m in
+      let first : take n all ≡ sampled_lines table from every n =
+      take-map-range_with_len (λ k. step_text table (from + every * k)) 0 m n h in
+      ap (λ l. lines_text l ++ lines_text (drop n all)) (sym first)
+      ∙ sym (flat_map-append f (take n all) (drop n all)) ∙ ap lines_text (take-append-drop n all)
 
-module _ {table : Table} {bounds : Bounds} {n last : ℕ} (inside : Inside table bounds n)
-    (is_last : IsLastInside table bounds last) where
-  not_past : n ≤ last
-  not_past = is_last.greatest n inside
+  -- a beginning of the lines of fewer told steps is one of all
+  begun-more : {old new : Option (List ℕ)} (n m : ℕ) → n ≤ m → AppendsPrefix old new (lines_of n)
+      → AppendsPrefix old new (lines_of m)
+  begun-more {old} {new} n m h begun =
+      subst (λ bytes. AppendsPrefix old new bytes) (lines_split n m h) (AppendsPrefix-more _ begun)
 
-  -- where step n is the last one inside, its lines are all
-  all_lines : {old new : Option (List ℕ)} {waiting : List ℕ} → IsLastInside table bounds n
-      → Sends old new [] waiting (lines_text (step_lines table (n + 1)))
-      → Sends old new [] waiting (lines_text (step_lines table (last + 1)))
-  all_lines {old} {new} {waiting} end added =
-      let below = end.greatest last is_last.inside in
-      let same : n ≡ last = omega (arith, below, not_past) in
-      subst (λ k. Sends old new [] waiting (lines_text (step_lines table (k + 1)))) same added
+  -- a runner stands at a step, the next one to be told is known, and the lines of those before were sent
+  pub record Told (here next : ℕ) (old new : Option (List ℕ)) (waiting : List ℕ) : Type 0 where
+    pub count : ℕ
+    pub next_is : next ≡ from + every * count
+    pub past : (k : ℕ) → k < count → from + every * k ≤ here
+    pub sent : Sends old new [] waiting (lines_text (sampled_lines table from every count))
 
-  -- what a run that ended at step n has added
-  abbrev pub Ended : Option (List ℕ) → Option (List ℕ) → List ℕ → Bool → Type 0
-  Ended old new waiting whole = Sends old new [] waiting (lines_text (step_lines table (last + 1)))
-      × (IsTrue whole ↔ (span table bounds.steps ≤ bounds.cells))
+  -- before the first one nothing was sent
+  pub told_none : (held : Option (List ℕ)) {here : ℕ} (waiting : List ℕ) → here ≡ 0 → waiting ≡ []
+      → Told here (here + from) held held waiting
+  told_none held {here} waiting start empty = record {
+    count = 0;
+    next_is = omega (arith, start);
+    past = λ k wrong. absurd (omega (arith, wrong));
+    sent = rw empty Sends-none;
+  }
 
-  module _ {old new : Option (List ℕ)} {waiting : List ℕ}
-      (added : Sends old new [] waiting (lines_text (step_lines table (n + 1)))) where
-    pub ended_by_halt : HaltsAt table n → Ended old new waiting true
-    ended_by_halt halts = (
-      all_lines (halts_last table bounds n inside halts) added,
-      (λ _. fits_at_halt table bounds n inside halts, λ _. refl),
-    )
+  module _ {here next : ℕ} {old new : Option (List ℕ)} {waiting : List ℕ}
+      (told : Told here next old new waiting) where
+    -- between both steps no other one is told
+    told_size : (n : ℕ) → here ≤ n → n < next → IsSampleSize from every n told.count
+    told_size n after before = record {
+      are = λ k. (
+        λ few. let early = told.past k few in omega (arith, early, after),
+        λ early. let next_is = told.next_is in
+            told_before from every k told.count (omega (arith, early, before, next_is)),
+      );
+    }
 
-    pub ended_by_steps : n ≡ bounds.steps → Ended old new waiting true
-    ended_by_steps e = (
-      all_lines (steps_last table bounds n inside e) added,
-      (λ _. rw (← e) inside.within_cells, λ _. refl),
-    )
+    -- where the run ends between both, the lines are all
+    pub told_all : {bounds : Bounds} {left n last total : ℕ} → EndsWithin table bounds here left n
+        → next ≡ here + left → IsLastInside table bounds last → IsSampleSize from every last total
+        → Sends old new [] waiting (lines_text (sampled_lines table from every total))
+    told_all {bounds} {left} {n} {last} {total} end is is_last size =
+        let few = end.few in
+        let below = end.is_last.greatest last is_last.inside in
+        let above = is_last.greatest n end.is_last.inside in
+        let same : n ≡ last = omega (arith, below, above) in
+        let here_size : IsSampleSize from every n told.count =
+        told_size n end.from_old (omega (arith, few, is)) in
+        let last_size : IsSampleSize from every last told.count =
+        subst (λ m. IsSampleSize from every m told.count) same here_size in
+        subst (λ k. Sends old new [] waiting (lines_text (sampled_lines table from every k)))
+        (size_is_unique last_size size) told.sent
 
-    pub ended_by_cells : n ≢ bounds.steps → bounds.cells < span table (n + 1) → Ended old new waiting false
-    ended_by_cells apart wide =
-        let over = wide_at_end table bounds n inside wide apart in (
-          all_lines (cells_last table bounds n inside wide) added,
-          (λ wrong. cc, λ fits. absurd (omega (arith, over, fits))),
-        )
+    -- where a step between both was wanted and not made, the run was left before the last one
+    pub told_early : {bounds : Bounds} {left last : ℕ} {new_then : Option (List ℕ)}
+        → IsWantedBefore table bounds here left
+        → next ≡ here + left → IsLastInside table bounds last
+        → Appends old new_then (lines_text (sampled_lines table from every told.count))
+        → StopsBefore table from every last old new_then
+    told_early {bounds} {left} {last} wanted is is_last appends =
+        let few = wanted.few in
+        let more = is_last.greatest (wanted.at + 1) wanted.next in
+        record {
+          at = wanted.at;
+          before = omega (arith, more);
+          count = told.count;
+          is_size = told_size wanted.at wanted.from_old (omega (arith, few, is));
+          appends = appends;
+        }
 
-  -- a step that was wanted and not made leaves lines to come
-  pub ended_early : {old new : Option (List ℕ)} → (HaltsAt table n → ⊥) → n ≢ bounds.steps
-      → span table (n + 1) ≤ bounds.cells → Appends old new (lines_text (step_lines table (n + 1)))
-      → AppendsSomeLines old new (step_lines table (last + 1))
-  ended_early goes apart fits appends =
-      let more = is_last.greatest (n + 1) (next_inside table bounds n inside goes apart fits) in
-      AppendsSomeLines-of table (n + 1) (last + 1) (omega (arith, more)) appends
+    -- a beginning of the lines so far is one of all
+    pub told_begun : {bounds : Bounds} {last total : ℕ} {new_then : Option (List ℕ)}
+        → Inside table bounds here → IsLastInside table bounds last → IsSampleSize from every last total
+        → AppendsPrefix old new_then (lines_text (sampled_lines table from every told.count))
+        → AppendsPrefix old new_then (lines_text (sampled_lines table from every total))
+    unfolding lines_of
+    told_begun {bounds} {last} {total} inside is_last size begun =
+        let most = is_last.greatest here inside in
+        begun-more told.count total (few_told most told.count (λ k. told.past k)) begun
+      where
+        few_told : here ≤ last → (count : ℕ) → ((k : ℕ) → k < count → from + every * k ≤ here)
+            → count ≤ total
+        few_told most zero past = omega arith
+        few_told most (suc k) past =
+            let early = past k (omega arith) in
+            let less = (size.are k).1 (omega (arith, early, most)) in
+            omega (arith, less)
 
-  -- a beginning of the lines up to step n is one of the trace
-  pub ended_by_write : {old new : Option (List ℕ)}
-      → AppendsPrefix old new (lines_text (step_lines table (n + 1)))
-      → AppendsPrefix old new (lines_text (step_lines table (last + 1)))
-  ended_by_write {old} {new} begun = subst (λ bytes. AppendsPrefix old new bytes)
-      (lines_split table (n + 1) (last + 1) (omega (arith, not_past))) (AppendsPrefix-more _ begun)
+    -- at the next step its line is sent
+    module _ {at : ℕ} (is : at ≡ next) where
+      pub told_next : {new_then : Option (List ℕ)} {waiting_then : List ℕ} → here ≤ at
+          → Sends new new_then waiting waiting_then (step_text table at ++ 10 ∷ [])
+          → Told at (at + every) old new_then waiting_then
+      unfolding lines_of
+      told_next {new_then} {waiting_then} after line =
+          let next_is = told.next_is in
+          record {
+            count = told.count + 1;
+            next_is = omega (arith, next_is, is);
+            past = λ k few.
+                let before = told_later from every k told.count (omega (arith, few)) in
+                omega (arith, before, next_is, is);
+            sent = subst (λ bytes. Sends old new_then [] waiting_then bytes)
+                (lines-next told.count at (is ∙ next_is)) (Sends-trans told.sent line);
+          }
 
--- the line of step n, after the lines before it
-module _ (table : Table) (n : ℕ) {old mid new : Option (List ℕ)} {waiting : List ℕ}
-    (before : Sends old mid [] waiting (lines_text (step_lines table n))) where
-  pub Sends-next : {waiting' : List ℕ} → Sends mid new waiting waiting' (step_text table n ++ 10 ∷ [])
-      → Sends old new [] waiting' (lines_text (step_lines table (n + 1)))
-  Sends-next {waiting'} line =
-      subst (λ bytes. Sends old new [] waiting' bytes) (lines-next table n) (Sends-trans before line)
-
-  pub AppendsPrefix-next : AppendsPrefix mid new (waiting ++ (step_text table n ++ 10 ∷ []))
-      → AppendsPrefix old new (lines_text (step_lines table (n + 1)))
-  AppendsPrefix-next begun =
-      subst (λ bytes. AppendsPrefix old new bytes) (lines-next table n) (AppendsPrefix-further before _ begun)
+      pub told_begun_next : {bounds : Bounds} {last total : ℕ} {new_then : Option (List ℕ)}
+          → Inside table bounds at → IsLastInside table bounds last → IsSampleSize from every last total
+          → AppendsPrefix new new_then (waiting ++ (step_text table at ++ 10 ∷ []))
+          → AppendsPrefix old new_then (lines_text (sampled_lines table from every total))
+      unfolding lines_of
+      told_begun_next {bounds} {last} {total} {new_then} inside is_last size begun =
+          let next_is = told.next_is in
+          let most = is_last.greatest at inside in
+          let less = (size.are told.count).1 (omega (arith, next_is, is, most)) in
+          let longer : AppendsPrefix old new_then (lines_of (told.count + 1)) =
+          subst (λ bytes. AppendsPrefix old new_then bytes) (lines-next told.count at (is ∙ next_is))
+          (AppendsPrefix-further told.sent _ begun) in
+          begun-more (told.count + 1) total (omega (arith, less)) longer

@@ -1,7 +1,11 @@
 -- What a trace comes to, by whether the line is a machine's text.
-use Rattle.std.proofs.Common.{ℕ, ◌+◌, ◌≤◌, ◌↔◌, IsTrue, Bool, false, List, [], ◌∷◌, ◌++◌, sym, ◌∙◌}
-use Rattle.std.proofs.Common.{subst, refl, inl, inr, Option, Result, Ok, Err}
+use Rattle.std.proofs.Common.{◌≡◌, ℕ, zero, suc, ◌+◌, ◌*◌, ◌≤◌, ◌↔◌, IsTrue, Bool, false, List, [], ◌∷◌, ◌++◌}
+use Rattle.std.proofs.Common.{sym, ◌∙◌, subst, ap, arith, length, refl, inl, inr, take, Option, Result}
+use Rattle.std.proofs.Common.{Ok, Err}
+use Rattle.std.specs.Io.KnownBytes.{Appends}
 use Rattle.std.proofs.lemmas.List.{append-nil}
+use Rattle.std.proofs.lemmas.List.FromFn.{length-map-range_with_len, map-range_with_len_more}
+use Rattle.std.proofs.lemmas.List.FromFn.{take-map-range_with_len}
 use Rattle.bb_machine.specs.Laws.{TextsDiffer}
 use Rattle.bb_machine.specs.Limits.{Bounds}
 use Rattle.bb_machine.specs.Machine.{Table, IsMachineLine, IsTextOf}
@@ -12,16 +16,35 @@ use Rattle.bb_lines.specs.declared.fault.Fault.{Fault}
 use Rattle.bb_lines.specs.declared.fault.Fault.TheVariants.{Memory, Read, Write}
 use Rattle.bb_lines.specs.Ends.{AppendsPrefix, MatchEnd}
 use Rattle.bb_lines.specs.Output.{Sends}
-use Rattle.bb_run.specs.Trace.{step_lines, lines_text, AppendsSomeLines, IsTrace, IsUncut}
+use Rattle.bb_run.specs.declared.summary.Summary.{Summary}
+use Rattle.bb_run.specs.Ends.{TraceEnds}
+use Rattle.bb_run.specs.Sample.{AppendsFirstLines, IsSampledRun, IsSampledTrace, IsSampleSize, SampledEnds}
+use Rattle.bb_run.specs.Sample.{sampled_lines}
+use Rattle.bb_run.specs.Trace.{step_lines, step_text, lines_text, AppendsSomeLines, IsRunTrace, IsTrace}
+use Rattle.bb_run.specs.Trace.{IsTraceSummary, IsUncut}
+use Rattle.bb_run.specs.inside.RunningOn.{EndsEarly, StopsBefore}
+use Rattle.bb_run.proofs.SampledRuns.{size_grows, size_is_unique}
 use Rattle.bb_lines.proofs.Facts.{AppendsPrefix-more}
 
 -- how a trace that was added ends
-abbrev pub IsAdded : Bounds → List ℕ → Option (List ℕ) → Option (List ℕ) → List ℕ → Result Bool Fault → Type 0
-IsAdded bounds line old new waiting r = (lines : List (List ℕ)) × IsTrace bounds line lines × MatchEnd r
+abbrev pub IsAdded : Bounds → ℕ → ℕ → List ℕ → Option (List ℕ) → Option (List ℕ) → List ℕ
+    → Result Bool Fault → Type 0
+IsAdded bounds from every line old new waiting r =
+    (lines : List (List ℕ)) × IsSampledTrace bounds from every line lines × MatchEnd r
     (λ whole. Sends old new [] waiting (lines_text lines) × (IsTrue whole ↔ IsUncut bounds line))
-    (AppendsSomeLines old new lines)
+    (EndsEarly bounds from every line old new lines)
     ⊥
     (AppendsPrefix old new (lines_text lines))
+
+-- how one of a machine that was added ends
+abbrev RunEnds : Bounds → ℕ → ℕ → Table → ℕ → ℕ → Option (List ℕ) → Option (List ℕ) → List ℕ
+    → Result Bool Fault → Type 0
+RunEnds bounds from every table last count old new waiting r = MatchEnd r
+    (λ whole. Sends old new [] waiting (lines_text (sampled_lines table from every count))
+    × (IsTrue whole ↔ (span table bounds.steps ≤ bounds.cells)))
+    (StopsBefore table from every last old new)
+    ⊥
+    (AppendsPrefix old new (lines_text (sampled_lines table from every count)))
 
 module _ {bounds : Bounds} {line : List ℕ} where
   -- what is said by the machine's table is said by the line
@@ -33,36 +56,38 @@ module _ {bounds : Bounds} {line : List ℕ} where
         (one is.table table is.of.machine of.machine (is.of.is_text ∙ sym of.is_text)) is.fits),
   )
 
-  pub added_run : TextsDiffer → {table : Table} → IsTextOf table line → {last : ℕ}
-      → IsLastInside table bounds last → (old new : Option (List ℕ)) (waiting : List ℕ)
-      → (r : Result Bool Fault)
-      → MatchEnd r (λ whole. Sends old new [] waiting (lines_text (step_lines table (last + 1)))
-      × (IsTrue whole ↔ (span table bounds.steps ≤ bounds.cells)))
-      (AppendsSomeLines old new (step_lines table (last + 1))) ⊥
-      (AppendsPrefix old new (lines_text (step_lines table (last + 1))))
-      → IsAdded bounds line old new waiting r
-  added_run one {table} of {last} is_last old new waiting r ends = (
-    step_lines table (last + 1),
-    inl (record { table = table; of = of; last = last; is_last = is_last; are_lines = refl }),
-    by_line r ends,
-  )
+module _ {bounds : Bounds} {from every : ℕ} {line : List ℕ} where
+  pub added_run : TextsDiffer → {table : Table} → IsTextOf table line → {last count : ℕ}
+      → IsLastInside table bounds last → IsSampleSize from every last count
+      → (old new : Option (List ℕ)) (waiting : List ℕ) → (r : Result Bool Fault)
+      → RunEnds bounds from every table last count old new waiting r
+      → IsAdded bounds from every line old new waiting r
+  added_run one {table} of {last} {count} is_last size old new waiting r ends =
+      (sampled_lines table from every count, inl run, by_line r ends)
     where
-      by_line : (r : Result Bool Fault)
-          → MatchEnd r (λ whole. Sends old new [] waiting (lines_text (step_lines table (last + 1)))
-          × (IsTrue whole ↔ (span table bounds.steps ≤ bounds.cells)))
-          (AppendsSomeLines old new (step_lines table (last + 1))) ⊥
-          (AppendsPrefix old new (lines_text (step_lines table (last + 1))))
-          → MatchEnd r (λ whole. Sends old new [] waiting (lines_text (step_lines table (last + 1)))
+      run : IsSampledRun bounds from every line (sampled_lines table from every count)
+      run = record {
+        table = table;
+        of = of;
+        last = last;
+        is_last = is_last;
+        count = count;
+        is_size = size;
+        are_lines = refl;
+      }
+
+      by_line : (r : Result Bool Fault) → RunEnds bounds from every table last count old new waiting r
+          → MatchEnd r (λ whole. Sends old new [] waiting (lines_text (sampled_lines table from every count))
           × (IsTrue whole ↔ IsUncut bounds line))
-          (AppendsSomeLines old new (step_lines table (last + 1))) ⊥
-          (AppendsPrefix old new (lines_text (step_lines table (last + 1))))
+          (EndsEarly bounds from every line old new (sampled_lines table from every count)) ⊥
+          (AppendsPrefix old new (lines_text (sampled_lines table from every count)))
       by_line (Ok whole) ends = (ends.0, uncut one of whole ends.1)
-      by_line (Err Memory) ends = ends
+      by_line (Err Memory) ends = record { run = run; stops = ends }
       by_line (Err Read) ends = ends
       by_line (Err Write) ends = ends
 
   module _ {column : ℕ} (no_machine : IsMachineLine line → ⊥) (is_column : IsColumn line column) where
-    refused : IsTrace bounds line (refusal_text column ∷ [])
+    refused : IsSampledTrace bounds from every line (refusal_text column ∷ [])
     refused =
         inr (record {
           no_machine = no_machine;
@@ -73,7 +98,7 @@ module _ {bounds : Bounds} {line : List ℕ} where
 
     pub added_refusal : {old new : Option (List ℕ)} {waiting : List ℕ}
         → Sends old new [] waiting (refusal_text column ++ 10 ∷ [])
-        → IsAdded bounds line old new waiting (Ok false)
+        → IsAdded bounds from every line old new waiting (Ok false)
     added_refusal {old} {new} {waiting} added = (
       refusal_text column ∷ [],
       refused,
@@ -85,9 +110,113 @@ module _ {bounds : Bounds} {line : List ℕ} where
     )
 
     pub failed_refusal : {old new : Option (List ℕ)} (waiting : List ℕ) → AppendsPrefix old new []
-        → IsAdded bounds line old new waiting (Err Write)
+        → IsAdded bounds from every line old new waiting (Err Write)
     failed_refusal waiting front = (
       refusal_text column ∷ [],
       refused,
       AppendsPrefix-more (lines_text (refusal_text column ∷ [])) front,
     )
+
+-- how a written trace ends
+abbrev pub WrittenEnds : Bounds → ℕ → ℕ → List ℕ → Option (List ℕ) → Option (List ℕ) → Result Summary Fault
+    → Type 0
+WrittenEnds bounds from every line old new r =
+    (lines : List (List ℕ)) × IsSampledTrace bounds from every line lines × MatchEnd r
+    (λ summary. Appends old new (lines_text lines) × IsTraceSummary bounds line summary)
+    (EndsEarly bounds from every line old new lines)
+    ⊥
+    (AppendsPrefix old new (lines_text lines))
+
+-- where it stops early, the first of the lines are written
+module _ {bounds : Bounds} {from every : ℕ} {line : List ℕ} {old new : Option (List ℕ)}
+    {lines : List (List ℕ)} (early : EndsEarly bounds from every line old new lines) where
+  few_lines : early.stops.count ≤ early.run.count
+  few_lines =
+      let before = early.stops.before in
+      size_grows (omega (arith, before)) early.stops.is_size early.run.is_size
+
+  long_lines : length lines ≡ early.run.count
+  long_lines =
+      ap length early.run.are_lines
+      ∙ length-map-range_with_len (λ k. step_text early.run.table (from + every * k)) 0 early.run.count
+
+  begun_lines : Appends old new (lines_text (take early.stops.count lines))
+  begun_lines =
+      let told : ℕ → List ℕ = λ k. step_text early.run.table (from + every * k) in
+      let first : take early.stops.count lines ≡ sampled_lines early.run.table from every early.stops.count =
+      ap (take early.stops.count) early.run.are_lines
+      ∙ take-map-range_with_len told 0 early.run.count early.stops.count few_lines in
+      subst (λ l. Appends old new (lines_text l)) (sym first) early.stops.appends
+
+  first_lines : AppendsFirstLines old new lines
+  first_lines =
+      let few = few_lines in
+      let long = long_lines in
+      record {
+        count = early.stops.count;
+        within = omega (arith, few, long);
+        appends = begun_lines;
+      }
+
+pub sampled_ends : {bounds : Bounds} {from every : ℕ} {line : List ℕ} (old new : Option (List ℕ))
+    (r : Result Summary Fault) → WrittenEnds bounds from every line old new r
+    → SampledEnds bounds from every line old new r
+sampled_ends old new (Ok summary) ends = ends
+sampled_ends old new (Err Memory) ends = (ends.0, ends.1, first_lines ends.2)
+sampled_ends old new (Err Read) ends = ends
+sampled_ends old new (Err Write) ends = ends
+
+-- from step 0 on each step is told
+all_told : (table : Table) (count : ℕ) → sampled_lines table 0 1 count ≡ step_lines table count
+all_told table zero = refl
+all_told table (suc n) =
+    let told : ℕ → List ℕ = λ k. step_text table (0 + 1 * k) in
+    let next : suc n ≡ n + 1 = omega arith in
+    let here : told n ≡ step_text table n = ap (step_text table) (omega arith) in
+    ap (sampled_lines table 0 1) next ∙ map-range_with_len_more told 0 n n (omega arith)
+    ∙ ap (λ l. l ++ told n ∷ []) (all_told table n) ∙ ap (λ t. step_lines table n ++ t ∷ []) here
+    ∙ sym (map-range_with_len_more (step_text table) 0 n n (omega arith)) ∙ ap (step_lines table) (sym next)
+
+-- up to a step there is one more
+all_size : {last count : ℕ} → IsSampleSize 0 1 last count → count ≡ last + 1
+all_size {last} {count} size =
+    let all : IsSampleSize 0 1 last (last + 1) = record {
+      are = λ k. (λ few. omega (arith, few), λ early. omega (arith, early));
+    } in
+    size_is_unique size all
+
+all_run : {bounds : Bounds} {line : List ℕ} {lines : List (List ℕ)} → IsSampledRun bounds 0 1 line lines
+    → IsRunTrace bounds line lines
+all_run run = record {
+  table = run.table;
+  of = run.of;
+  last = run.last;
+  is_last = run.is_last;
+  are_lines = run.are_lines ∙ all_told run.table run.count ∙ ap (step_lines run.table) (all_size run.is_size);
+}
+
+all_trace : {bounds : Bounds} {line : List ℕ} {lines : List (List ℕ)} → IsSampledTrace bounds 0 1 line lines
+    → IsTrace bounds line lines
+all_trace (inl run) = inl (all_run run)
+all_trace (inr refused) = inr refused
+
+-- where it stops early, they aren't all
+some_lines : {bounds : Bounds} {line : List ℕ} {old new : Option (List ℕ)} {lines : List (List ℕ)}
+    → EndsEarly bounds 0 1 line old new lines → AppendsSomeLines old new lines
+some_lines early =
+    let before = early.stops.before in
+    let few = all_size early.stops.is_size in
+    let all = all_size early.run.is_size in
+    let long = long_lines early in
+    record {
+      count = early.stops.count;
+      not_all = omega (arith, before, few, all, long);
+      appends = begun_lines early;
+    }
+
+pub trace_ends : {bounds : Bounds} {line : List ℕ} (old new : Option (List ℕ)) (r : Result Summary Fault)
+    → WrittenEnds bounds 0 1 line old new r → TraceEnds bounds line old new r
+trace_ends old new (Ok summary) ends = (ends.0, all_trace ends.1, ends.2)
+trace_ends old new (Err Memory) ends = (ends.0, all_trace ends.1, some_lines ends.2)
+trace_ends old new (Err Read) ends = (ends.0, all_trace ends.1, ends.2)
+trace_ends old new (Err Write) ends = (ends.0, all_trace ends.1, ends.2)

@@ -7,7 +7,7 @@ use Rattle.bb_lines.specs.Ends.{AppendsPrefix, ListEnds, MatchEnd}
 use Rattle.bb_machine.specs.declared.plan.Plan.{Plan}
 use Rattle.bb_run.specs.declared.summary.Summary.{Summary}
 use Rattle.bb_run.specs.Reply.{IsReply}
-use Rattle.bb_run.specs.Summary.{IsSummary}
+use Rattle.bb_run.specs.Summary.{IsOneRunSummary, IsSummary}
 use Rattle.bb_run.specs.Trace.{AppendsSomeLines, IsTrace, IsTraceSummary, lines_text}
 
 -- how deciding a list ends: the replies are the verdicts, and the summary that of the machines read
@@ -15,6 +15,12 @@ abbrev pub DecideEnds : Bounds → Plan → Option (List ℕ) → Option (List �
     → Result Summary Fault → Type 0
 DecideEnds bounds plan left left_then held held_then end =
     ListEnds (IsReply bounds plan) (IsSummary bounds plan) left left_then held held_then end
+
+-- the same where each machine is decided in one run: the summary is that of what was made
+abbrev pub DecideInOneRunEnds : Bounds → Plan → Option (List ℕ) → Option (List ℕ) → Option (List ℕ)
+    → Option (List ℕ) → Result Summary Fault → Type 0
+DecideInOneRunEnds bounds plan left left_then held held_then end =
+    ListEnds (IsReply bounds plan) (IsOneRunSummary bounds plan) left left_then held held_then end
 
 -- how a trace ends: without fault all its lines are written; after an allocation failure the first few, not
 -- all; after a failed write a prefix

@@ -6,10 +6,11 @@ use Rattle.bb_machine.specs.Laws.{PrefixIsEnough}
 use Rattle.bb_machine.specs.Limits.{Bounds}
 use Rattle.bb_machine.specs.Machine.{Table, IsMachineLine, IsTextOf}
 use Rattle.bb_machine.proofs.Facts.{prefix_enough}
+use Rattle.bb_sim.specs.declared.meter.Meter.{Meter}
 use Rattle.bb_machine.specs.declared.plan.Plan.{Plan}
 use Rattle.bb_run.specs.declared.summary.Summary.{Summary}
 use Rattle.bb_run.specs.Reply.{IsReply}
-use Rattle.bb_run.specs.Seen.{Saw}
+use Rattle.bb_run.specs.Seen.{SawBy}
 
 module _ (line : List ℕ) (kept : ℕ) (enough : PrefixIsEnough line kept) where
   text_of_prefix : (table : Table) → IsTextOf table (take kept line) → IsTextOf table line
@@ -43,9 +44,9 @@ module _ (line : List ℕ) (kept : ℕ) (enough : PrefixIsEnough line kept) wher
     })
   ]
 
-  saw_of_prefix : (bounds : Bounds) (plan : Plan) (old new : Summary) (effort : ℕ)
-      → Saw bounds plan old (take kept line) new effort → Saw bounds plan old line new effort
-  saw_of_prefix bounds plan old new effort is = elim is [
+  saw_of_prefix : (Counts : Table → Meter → Type 0) (old new : Summary) (effort : ℕ)
+      → SawBy Counts old (take kept line) new effort → SawBy Counts old line new effort
+  saw_of_prefix Counts old new effort is = elim is [
     | inl m ↦ inl (record {
       table = m.table;
       of = text_of_prefix m.table m.of;
@@ -77,7 +78,7 @@ reply_of_kept bounds plan line reply is =
     reply_of_prefix line (LINE + 1) (prefix_enough line (LINE + 1) (omega arith)) bounds plan reply is
 
 -- what the kept bytes of a line do to the summary, the line does, and it is the same effort
-pub saw_of_kept : (bounds : Bounds) (plan : Plan) (line : List ℕ) (old new : Summary) (effort : ℕ)
-    → Saw bounds plan old (take (LINE + 1) line) new effort → Saw bounds plan old line new effort
-saw_of_kept bounds plan line old new effort saw =
-    saw_of_prefix line (LINE + 1) (prefix_enough line (LINE + 1) (omega arith)) bounds plan old new effort saw
+pub saw_of_kept : (Counts : Table → Meter → Type 0) (line : List ℕ) (old new : Summary) (effort : ℕ)
+    → SawBy Counts old (take (LINE + 1) line) new effort → SawBy Counts old line new effort
+saw_of_kept Counts line old new effort saw =
+    saw_of_prefix line (LINE + 1) (prefix_enough line (LINE + 1) (omega arith)) Counts old new effort saw

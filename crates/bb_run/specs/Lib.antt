@@ -1,3 +1,4 @@
+pub mod inside
 pub mod BorneOut
 pub mod CheckEnds
 pub mod CheckKept
@@ -9,6 +10,7 @@ pub mod FewCells
 pub mod KeptBytes
 pub mod Laws
 pub mod Reply
+pub mod Sample
 pub mod Seen
 pub mod Summary
 pub mod Trace

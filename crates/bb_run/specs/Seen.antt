@@ -6,16 +6,25 @@ use Rattle.bb_machine.specs.Machine.{Table, IsMachineLine, IsTextOf}
 use Rattle.bb_sim.specs.declared.meter.Meter.{Meter}
 use Rattle.bb_sim.specs.Meter.{greatest_of}
 use Rattle.bb_machine.specs.declared.plan.Plan.{Plan}
-use Rattle.bb_decide.specs.Work.{CountsWork}
+use Rattle.bb_decide.specs.Work.{CountsWalk, CountsWork, IsWithinWork, MakesWalk}
 use Rattle.bb_run.specs.declared.summary.Summary.{Summary}
 
+-- deciding a machine has counted exactly its work
+abbrev pub CountsExactly : Bounds → Plan → Table → Meter → Type 0
+CountsExactly bounds plan table meter = CountsWork table bounds plan meter
+
+-- deciding a machine in one run has counted no more than it may, and the nodes and levels of its walk
+pub record CountsInOneRun (bounds : Bounds) (plan : Plan) (table : Table) (meter : Meter) : Type 0 where
+  pub within : IsWithinWork bounds meter
+  pub walk : CountsWalk (MakesWalk table bounds plan) table bounds meter
+
 -- a machine was read: the peak takes in what deciding it counts
-pub record SawMachine (bounds : Bounds) (plan : Plan) (old : Summary) (line : List ℕ) (new : Summary)
+pub record SawMachine (Counts : Table → Meter → Type 0) (old : Summary) (line : List ℕ) (new : Summary)
     (effort : ℕ) : Type 0 where
   pub table : Table
   pub of : IsTextOf table line
   pub cost : Meter
-  pub counts : CountsWork table bounds plan cost
+  pub counts : Counts table cost
   pub clean : new.clean ≡ old.clean
   pub peak : new.peak ≡ greatest_of old.peak cost
   pub is_effort : effort ≡ cost.steps + cost.nodes
@@ -28,6 +37,5 @@ pub record SawRefusal (old : Summary) (line : List ℕ) (new : Summary) (effort 
   pub no_effort : effort ≡ 0
 
 -- one line was answered: a machine's or another
-abbrev pub Saw : Bounds → Plan → Summary → List ℕ → Summary → ℕ → Type 0
-Saw bounds plan old line new effort =
-    SawMachine bounds plan old line new effort ⊎ SawRefusal old line new effort
+abbrev pub SawBy : (Table → Meter → Type 0) → Summary → List ℕ → Summary → ℕ → Type 0
+SawBy Counts old line new effort = SawMachine Counts old line new effort ⊎ SawRefusal old line new effort

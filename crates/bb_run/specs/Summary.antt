@@ -7,7 +7,7 @@ use Rattle.bb_sim.specs.Span.{span, IsLastInside}
 use Rattle.bb_cert.specs.declared.verdict.Verdict.TheVariants.{Backward}
 use Rattle.bb_machine.specs.declared.plan.Plan.{Plan}
 use Rattle.bb_decide.specs.Verdict.{IsVerdict}
-use Rattle.bb_decide.specs.Work.{IsWork}
+use Rattle.bb_decide.specs.Work.{IsWithinWork, IsWork}
 use Rattle.bb_run.specs.declared.summary.Summary.{Summary}
 
 -- the line is the text of a machine that is decided by so many steps
@@ -55,3 +55,12 @@ pub record IsSummary (bounds : Bounds) (plan : Plan) (lines : List (List ℕ)) (
   pub trees : AreTreesWithin bounds plan lines summary.peak.most_levels summary.peak.nodes
   pub within_levels : summary.peak.most_levels ≤ bounds.depth
   pub within_nodes : summary.peak.nodes ≤ bounds.nodes
+
+-- where each machine is decided in one run: `clean` says that each line is a machine's text; the peaks are
+-- what was made, within the bounds, steps within three times theirs; and levels and nodes are no less than
+-- those of each tree that is a verdict
+pub record IsOneRunSummary (bounds : Bounds) (plan : Plan) (lines : List (List ℕ)) (summary : Summary)
+    : Type 0 where
+  pub clean : IsTrue summary.clean ↔ AllByRecursion IsMachineLine lines
+  pub trees : AreTreesWithin bounds plan lines summary.peak.most_levels summary.peak.nodes
+  pub within : IsWithinWork bounds summary.peak

@@ -36,7 +36,7 @@ struct Checker<'a, T> {
 
 impl<T: Tape> Responder for Checker<'_, T> {
     ghost use Rattle.std.specs.Prelude.{◌≡◌, ◌+◌, ◌≤◌};
-    ghost use Rattle.std.proofs.Common.{rules, subst};
+    ghost use Rattle.std.proofs.Common.{rules};
     ghost use Rattle.bb_cert.specs.declared.verdict.line.TheConstants.{LINE_BUFFER};
     ghost use Rattle.bb_cert.specs.checker.Pair.{PairHasCells};
     ghost use Rattle.bb_cert.specs.tree.Path.{depth_of};

@@ -9,15 +9,15 @@ ghost use Rattle.bb_run.specs.FewCells.{FewCellsAreReplied};
 
 use crate::counts::VerdictCounts;
 use crate::summary::Summary;
+use crate::tally::Tally;
 use arrayvec::ArrayVec;
-use bb_cert::{lines_are_short, refusal_into, verdict_into};
 use bb_decide::{Bench, Plan, decide};
 use bb_lines::fault::Fault;
 use bb_lines::lines::run;
 use bb_lines::responder::{REPLY, Responder};
 use bb_lines::watched::Watched;
 use bb_machine::laws::texts_differ;
-use bb_machine::{LINE, Limits, Machine};
+use bb_machine::{LINE, Limits};
 use bb_sim::Meter;
 use bb_tape::Tape;
 use std::alloc::AllocError;
@@ -29,31 +29,26 @@ struct Decider<'a, T> {
     limits: Limits,
     plan: Plan,
     bench: &'a mut Bench<T>,
-    // The machine of the last line that was one. Each is read in its place.
-    machine: Machine,
-    summary: Summary,
-    // The steps and the nodes that the last line cost; 0 where it was refused, and before the first line.
-    last_effort: u64,
-    counts: &'a VerdictCounts,
+    tally: Tally<'a>,
 }
 
 impl<T: Tape> Responder for Decider<'_, T> {
     ghost use Rattle.std.specs.Prelude.{◌≡◌, ◌+◌};
-    ghost use Rattle.std.proofs.Common.{rules, subst};
-    ghost use Rattle.bb_machine.specs.Limits.{Bounds};
+    ghost use Rattle.std.proofs.Common.{rules};
     ghost use Rattle.bb_machine.specs.declared.machine.TheConstants.{LINE};
     ghost use Rattle.bb_cert.specs.tree.Path.{depth_of};
     ghost use Rattle.bb_decide.specs.Bench.{BenchHasCells};
     ghost use Rattle.bb_run.specs.Reply.{IsReply};
-    ghost use Rattle.bb_run.specs.Seen.{Saw};
+    ghost use Rattle.bb_run.specs.Seen.{CountsExactly, SawBy};
     ghost use Rattle.bb_run.specs.KeptBytes.{reply_kept, reply_of_kept, saw_of_kept};
 
     ghost replies_with = { λ d line reply. IsReply d.limits d.plan line reply };
 
     ghost saw = { λ a line b. (b.limits ≡ a.limits) × (b.plan ≡ a.plan)
-        × Saw a.limits a.plan a.summary line b.summary b.last_effort };
+        × SawBy (CountsExactly a.limits a.plan) a.tally.summary line b.tally.summary
+        b.tally.last_effort };
 
-    ghost work = { λ d. d.last_effort };
+    ghost work = { λ d. d.tally.last_effort };
 
     ghost keeps = { λ a b. (b.limits ≡ a.limits) × (b.plan ≡ a.plan)
         × (b.bench.ghost_name ≡ a.bench.ghost_name) };
@@ -78,28 +73,25 @@ impl<T: Tape> Responder for Decider<'_, T> {
 
     ghost reply_by_kept = { λ a line text reply. reply_of_kept a.limits a.plan line text reply };
 
-    ghost saw_by_kept = { λ a line b saw.
-        (saw.0, saw.1, saw_of_kept a.limits a.plan line a.summary b.summary b.last_effort saw.2) };
+    ghost saw_by_kept = { λ a line b saw. (
+      saw.0,
+      saw.1,
+      saw_of_kept (CountsExactly a.limits a.plan) line
+          a.tally.summary b.tally.summary b.tally.last_effort saw.2,
+    ) };
 
     fn bytes_kept(&self) -> usize {
         LINE + 1
     }
 
     fn respond(&mut self, line: &[u8], text: &mut ArrayVec<u8, REPLY>) -> Result<u64, AllocError> {
-        match self.machine.read_in_place(line) {
-            Ok(()) => {}
-            Err(refused) => {
-                self.summary.clean = false;
-                self.last_effort = 0;
-                self.counts.add_refusal();
-                refusal_into(refused.column, text);
-                return Ok(0);
-            }
+        if !self.tally.read(line, text) {
+            return Ok(0);
         }
         self.limits.show_accepted();
         let mut meter = Meter::new();
         let Ok(verdict) = decide(
-            &self.machine,
+            &self.tally.machine,
             &self.limits,
             self.plan,
             self.bench,
@@ -107,14 +99,7 @@ impl<T: Tape> Responder for Decider<'_, T> {
         ) else {
             return Err(AllocError);
         };
-        lines_are_short();
-        // The line is the machine's text, so it isn't written anew.
-        text.try_extend_from_slice(line).unwrap();
-        verdict_into(&verdict, text);
-        self.summary.peak = self.summary.peak.greatest(meter);
-        self.last_effort = meter.steps + meter.nodes;
-        self.counts.add(&verdict);
-        Ok(self.last_effort)
+        Ok(self.tally.reply(line, &verdict, meter, text))
     }
 }
 
@@ -191,15 +176,9 @@ pub fn run_decide_with_counts<R: Read, W: Write, T: Tape>(
         limits: *limits,
         plan,
         bench,
-        machine: Machine::blank(),
-        summary: Summary {
-            clean: true,
-            peak: Meter::new(),
-        },
-        last_effort: 0,
-        counts,
+        tally: Tally::new(counts),
     };
     run(reader, writer, &mut decider)?;
     texts_differ();
-    Ok(decider.summary)
+    Ok(decider.tally.summary)
 }

@@ -7,12 +7,12 @@ ghost use Rattle.bb_run.specs.Laws.{
   ReplyIsUnique,
 };
 
-/// A line has one reply under one set of limits and one plan.
+/// No line has two replies under one set of limits and one plan.
 pub fn reply_is_unique()
     ensures { ReplyIsUnique }
 {}
 
-/// A line has one answer under one set of limits. A line of more than 1,023 bytes is unread.
+/// No line has two answers under one set of limits. A line of more than 1,023 bytes is unread.
 pub fn check_reply_is_unique()
     ensures unique { CheckReplyIsUnique }
     ensures long { LongLinesAreUnread }

@@ -6,13 +6,16 @@ mod checking;
 mod counts;
 mod deciding;
 pub mod laws;
+mod one_run;
 mod rings;
 mod summary;
+mod tally;
 mod tracing;
 
 pub use checking::{run_check, run_check_with_counts};
 pub use counts::{AnswerCounts, VerdictCounts};
 pub use deciding::{run_decide, run_decide_with_counts};
+pub use one_run::{run_decide_in_one_run, run_decide_in_one_run_with_counts};
 pub use rings::{ring_bench, ring_pair};
 pub use summary::Summary;
-pub use tracing::run_trace;
+pub use tracing::{run_sampled_trace, run_trace};

@@ -1,6 +1,7 @@
-//! The first configurations of one machine, a line each.
+//! The configurations of one machine, a line each: the first ones, or some of them.
 ghost use Rattle.std.specs.Prelude.{◌≡◌, ◌≢◌, ◌+◌, ◌+ℤ◌, ◌++◌, ◌∷◌, ◌<◌, ◌≤◌, ◌≤ℤ◌, ◌↔◌, ℕ, [], false};
-ghost use Rattle.std.specs.Prelude.{is_err, length, pos, true, IsOkUnless, IsTrue, List, OnErr, OnOk};
+ghost use Rattle.std.specs.Prelude.{is_err, length, pos, true, IfOk, IsOkUnless, IsTrue, List, OnErr, OnOk};
+ghost use Rattle.std.specs.Io.KnownBytes.{Appends};
 ghost use Rattle.bb_tape.specs.Content.{cell};
 ghost use Rattle.bb_tape.specs.declared.tape.TheConstants.{MAX_CELLS};
 ghost use Rattle.bb_sim.specs.CellsBetween.{cells_between};
@@ -13,8 +14,9 @@ ghost use Rattle.bb_lines.specs.Ends.{AppendsPrefix, MatchEnd};
 ghost use Rattle.bb_lines.specs.Output.{Sends};
 ghost use Rattle.bb_lines.specs.Watched.{is_marked, watched_inner};
 ghost use Rattle.bb_run.specs.Ends.{TraceEnds};
-ghost use Rattle.bb_run.specs.Trace.{AppendsSomeLines, IsTrace, IsUncut, cells_text, head_text, lines_text};
-ghost use Rattle.bb_run.specs.Trace.{step_lines, step_text};
+ghost use Rattle.bb_run.specs.Sample.{IsSampledTrace, IsSampleSize, SampledEnds, sampled_lines};
+ghost use Rattle.bb_run.specs.Trace.{IsTraceSummary, IsUncut, cells_text, head_text, lines_text, step_text};
+ghost use Rattle.bb_run.specs.inside.RunningOn.{EndsEarly, IsWantedBefore, RunsOnTo, StopsBefore};
 
 use crate::summary::Summary;
 use arrayvec::ArrayVec;
@@ -26,7 +28,7 @@ use bb_machine::laws::texts_differ;
 use bb_machine::{Limits, Machine, Next};
 use bb_sim::laws::last_step_exists;
 use bb_sim::{Meter, Moved, Runner};
-use bb_tape::Tape;
+use bb_tape::{Memory, Tape};
 use itoa::Buffer;
 use std::io::Write;
 
@@ -55,8 +57,65 @@ pub fn run_trace<W: Write, T: Tape>(
 
     ensures tape { (T.view tape.new).limit ≡ limits.now.cells }
 {
+    write_trace(line, limits, 0, 1, tape, writer)
+}
+
+/// The same of some of the steps: `from`, `from + every` and so on, up to the last one that `run_trace`
+/// tells. A step that isn't told costs what it costs to simulate it.
+///
+/// After a fault the writer is not to be used again.
+pub fn run_sampled_trace<W: Write, T: Tape>(
+    line: &[u8],
+    limits: &Limits,
+    from: u64,
+    every: u64,
+    tape: &mut T,
+    writer: &mut Watched<W>,
+) -> Result<Summary, Fault>
+    requires every { 0 < every }
+    requires tape { (T.view tape.old).limit ≡ limits.now.cells }
+    requires writer { is_marked writer.old ≡ false }
+
+    // How the trace ends, and what is written then.
+    ensures ends { SampledEnds limits.now from every line.now
+        (W.contents (watched_inner writer.old)) (W.contents (watched_inner writer.new)) result }
+
+    // When each fault comes.
+    ensures memory { result ≡ Err Fault.Memory → IsTrue T.GROWS }
+    ensures read { result ≢ Err Fault.Read }
+    ensures write { (result ≡ Err Fault.Write) ↔ (is_marked writer.new ≡ true) }
+
+    ensures tape { (T.view tape.new).limit ≡ limits.now.cells }
+{
+    write_trace(line, limits, from, every, tape, writer)
+}
+
+/// Writes the trace of a line, and tells of an allocation that failed that it came before the last step.
+fn write_trace<W: Write, T: Tape>(
+    line: &[u8],
+    limits: &Limits,
+    from: u64,
+    every: u64,
+    tape: &mut T,
+    writer: &mut Watched<W>,
+) -> Result<Summary, Fault>
+    requires every { 0 < every }
+    requires tape { (T.view tape.old).limit ≡ limits.now.cells }
+    requires writer { is_marked writer.old ≡ false }
+    ensures ends { let held = W.contents (watched_inner writer.old) in
+        let held_then = W.contents (watched_inner writer.new) in
+        (lines : List (List ℕ)) × IsSampledTrace limits.now from every line.now lines × MatchEnd result
+        (λ summary. Appends held held_then (lines_text lines) × IsTraceSummary limits.now line.now summary)
+        (EndsEarly limits.now from every line.now held held_then lines)
+        ⊥
+        (AppendsPrefix held held_then (lines_text lines)) }
+    ensures memory { result ≡ Err Fault.Memory → IsTrue T.GROWS }
+    ensures read { result ≢ Err Fault.Read }
+    ensures write { (result ≡ Err Fault.Write) ↔ (is_marked writer.new ≡ true) }
+    ensures tape { (T.view tape.new).limit ≡ limits.now.cells }
+{
     let mut waiting = Waiting::new();
-    let clean = add_trace(line, limits, tape, writer, &mut waiting)?;
+    let clean = add_trace(line, limits, from, every, tape, writer, &mut waiting)?;
     write_and_flush(writer, &mut waiting)?;
     Ok(Summary {
         clean,
@@ -68,19 +127,22 @@ pub fn run_trace<W: Write, T: Tape>(
 fn add_trace<W: Write, T: Tape>(
     line: &[u8],
     limits: &Limits,
+    from: u64,
+    every: u64,
     tape: &mut T,
     writer: &mut Watched<W>,
     waiting: &mut Waiting,
 ) -> Result<bool, Fault>
+    requires every { 0 < every }
     requires tape { (T.view tape.old).limit ≡ limits.now.cells }
     requires writer { is_marked writer.old ≡ false }
     requires waiting { waiting.old.items ≡ [] }
     ensures ends { let held = W.contents (watched_inner writer.old) in
         let held_then = W.contents (watched_inner writer.new) in
-        (lines : List (List ℕ)) × IsTrace limits.now line.now lines × MatchEnd result
+        (lines : List (List ℕ)) × IsSampledTrace limits.now from every line.now lines × MatchEnd result
         (λ whole. Sends held held_then [] waiting.new.items (lines_text lines)
         × (IsTrue whole ↔ IsUncut limits.now line.now))
-        (AppendsSomeLines held held_then lines)
+        (EndsEarly limits.now from every line.now held held_then lines)
         ⊥
         (AppendsPrefix held held_then (lines_text lines)) }
     ensures memory { result ≡ Err Fault.Memory → IsTrue T.GROWS }
@@ -92,7 +154,7 @@ fn add_trace<W: Write, T: Tape>(
     texts_differ();
     limits.show_accepted();
     match Machine::read(line) {
-        Ok(machine) => add_run(&machine, limits, tape, writer, waiting),
+        Ok(machine) => add_run(&machine, limits, from, every, tape, writer, waiting),
         Err(refused) => {
             add_refusal(refused.column, writer, waiting)?;
             Ok(false)
@@ -120,46 +182,120 @@ fn add_refusal<W: Write>(
     add_line(writer, waiting, text.as_slice())
 }
 
-/// Lets the lines of a machine's run wait, and answers whether the limit of cells cut off none.
+/// Lets the lines of a machine's run wait, and answers whether the limit of cells cut off nothing of it.
 fn add_run<W: Write, T: Tape>(
     machine: &Machine,
     limits: &Limits,
+    from: u64,
+    every: u64,
     tape: &mut T,
     writer: &mut Watched<W>,
     waiting: &mut Waiting,
 ) -> Result<bool, Fault>
+    requires every { 0 < every }
     requires tape { (T.view tape.old).limit ≡ limits.now.cells }
     requires writer { is_marked writer.old ≡ false }
     requires waiting { waiting.old.items ≡ [] }
     ensures ends { let held = W.contents (watched_inner writer.old) in
         let held_then = W.contents (watched_inner writer.new) in
-        (last : ℕ) → IsLastInside machine.now limits.now last → MatchEnd result
-        (λ whole. Sends held held_then [] waiting.new.items (lines_text (step_lines machine.now (last + 1)))
+        (last count : ℕ) → IsLastInside machine.now limits.now last → IsSampleSize from every last count
+        → MatchEnd result
+        (λ whole. Sends held held_then [] waiting.new.items
+        (lines_text (sampled_lines machine.now from every count))
         × (IsTrue whole ↔ (span machine.now limits.now.steps ≤ limits.now.cells)))
-        (AppendsSomeLines held held_then (step_lines machine.now (last + 1)))
+        (StopsBefore machine.now from every last held held_then)
         ⊥
-        (AppendsPrefix held held_then (lines_text (step_lines machine.now (last + 1)))) }
+        (AppendsPrefix held held_then (lines_text (sampled_lines machine.now from every count))) }
     ensures memory { result ≡ Err Fault.Memory → IsTrue T.GROWS }
     ensures read { result ≢ Err Fault.Read }
     ensures write { (result ≡ Err Fault.Write) ↔ (is_marked writer.new ≡ true) }
     ensures tape { (T.view tape.new).limit ≡ limits.now.cells }
 {
-    limits.show_accepted();
-    let mut meter = Meter::new();
     let mut runner = Runner::start(machine, tape);
+    let mut left = from;
     loop {
-        add_step(machine, &runner, tape, writer, waiting)?;
-        match runner.advance(machine, tape, limits, &mut meter) {
-            Ok(Moved::Stepped) => {}
-            Ok(Moved::Halted) => return Ok(true),
-            Ok(Moved::NoSteps) => return Ok(true),
-            Ok(Moved::NoCells) => return Ok(false),
+        match run_on(machine, &mut runner, tape, limits, left) {
+            Ok(RanOn::Whole) => add_step(machine, &runner, tape, writer, waiting)?,
+            Ok(RanOn::Ended) => return Ok(true),
+            Ok(RanOn::Cut) => return Ok(false),
             Err(_) => {
                 write_waiting(writer, waiting)?;
                 return Err(Fault::Memory);
             }
         }
+        left = every;
     }
+}
+
+/// Whether all the steps were made that a call of `run_on` is asked for.
+#[derive(Clone, Copy, Debug, PartialEq, Eq)]
+pub(crate) enum RanOn {
+    /// They were.
+    Whole,
+    /// The machine halts before, or the limit of steps comes before.
+    Ended,
+    /// The next step would have passed the limit of cells.
+    Cut,
+}
+
+/// Makes so many steps of a run, if there are as many inside the limits; else it makes those.
+///
+/// After an error the runner must be started again.
+#[inline(never)]
+fn run_on<T: Tape>(
+    machine: &Machine,
+    runner: &mut Runner,
+    tape: &mut T,
+    limits: &Limits,
+    count: u64,
+) -> Result<RanOn, Memory>
+    requires stands { Stands machine.now runner.old (T.view tape.old) }
+    requires limit { (T.view tape.old).limit ≡ limits.now.cells }
+    requires steps { steps_of runner.old ≤ limits.now.steps }
+    ensures stands { OnOk result (Stands machine.now runner.new (T.view tape.new)) }
+    ensures ran { IfOk result (RunsOnTo machine.now limits.now (steps_of runner.old) count
+        (steps_of runner.new)) }
+    ensures limit { (T.view tape.new).limit ≡ (T.view tape.old).limit }
+    ensures memory { OnErr result (IsTrue T.GROWS) }
+    ensures wanted { OnErr result (IsWantedBefore machine.now limits.now (steps_of runner.old) count) }
+{
+    let limits = *limits;
+    let mut running = *runner;
+    let ran = make_steps(machine, &mut running, tape, &limits, count);
+    *runner = running;
+    ran
+}
+
+/// `run_on`, inlined there, so that the runner and the limits, which are its locals, stay in registers.
+#[inline(always)]
+fn make_steps<T: Tape>(
+    machine: &Machine,
+    runner: &mut Runner,
+    tape: &mut T,
+    limits: &Limits,
+    count: u64,
+) -> Result<RanOn, Memory>
+    requires stands { Stands machine.now runner.old (T.view tape.old) }
+    requires limit { (T.view tape.old).limit ≡ limits.now.cells }
+    requires steps { steps_of runner.old ≤ limits.now.steps }
+    ensures stands { OnOk result (Stands machine.now runner.new (T.view tape.new)) }
+    ensures ran { IfOk result (RunsOnTo machine.now limits.now (steps_of runner.old) count
+        (steps_of runner.new)) }
+    ensures limit { (T.view tape.new).limit ≡ (T.view tape.old).limit }
+    ensures memory { OnErr result (IsTrue T.GROWS) }
+    ensures wanted { OnErr result (IsWantedBefore machine.now limits.now (steps_of runner.old) count) }
+{
+    limits.show_accepted();
+    let mut meter = Meter::new();
+    for _ in 0..count {
+        match runner.advance(machine, tape, limits, &mut meter)? {
+            Moved::Stepped => {}
+            Moved::Halted => return Ok(RanOn::Ended),
+            Moved::NoSteps => return Ok(RanOn::Ended),
+            Moved::NoCells => return Ok(RanOn::Cut),
+        }
+    }
+    Ok(RanOn::Whole)
 }
 
 /// Lets the line of the configuration at which a runner stands wait.
@@ -237,12 +373,31 @@ fn add_cells<W: Write, T: Tape>(
     ensures mark { is_marked writer.new ≡ is_err result }
 {
     for i in 0..runner.cells() {
-        add(writer, waiting, &[digit(runner, tape, i)])?;
+        add_byte(writer, waiting, digit(runner, tape, i))?;
     }
     Ok(())
 }
 
+/// Lets a byte wait. What waits is written before, if there is no room for it.
+#[inline]
+fn add_byte<W: Write>(writer: &mut Watched<W>, waiting: &mut Waiting, byte: u8) -> Result<(), Fault>
+    requires writer { is_marked writer.old ≡ false }
+    ensures sent { OnOk result (Sends (W.contents (watched_inner writer.old))
+        (W.contents (watched_inner writer.new)) waiting.old.items waiting.new.items (byte ∷ [])) }
+    ensures err { OnErr result (AppendsPrefix (W.contents (watched_inner writer.old))
+        (W.contents (watched_inner writer.new)) waiting.old.items) }
+    ensures only_write { IsOkUnless result Fault.Write }
+    ensures mark { is_marked writer.new ≡ is_err result }
+{
+    if waiting.is_full() {
+        write_waiting(writer, waiting)?;
+    }
+    waiting.push(byte);
+    Ok(())
+}
+
 /// The digit of a cell of a runner's window, counted from the lowest.
+#[inline]
 fn digit<T: Tape>(runner: &Runner, tape: &T, i: u64) -> u8
     requires zero { (low_of runner.now) ≤ℤ pos 0 }
     requires few { i < MAX_CELLS }

@@ -15,7 +15,7 @@ use Rattle.bb_sim.specs.Outcome.{IsOutcome}
 abbrev pub LastStepExists : Type 0
 LastStepExists = (table : Table) (bounds : Bounds) → 0 < bounds.cells → (n : ℕ) × IsLastInside table bounds n
 
--- it has one only
+-- it has no two
 abbrev pub LastStepIsUnique : Type 0
 LastStepIsUnique = (table : Table) (bounds : Bounds) (a b : ℕ)
     → IsLastInside table bounds a → IsLastInside table bounds b → a ≡ b

@@ -9,7 +9,7 @@ pub fn last_step_exists()
     ensures { LastStepExists }
 {}
 
-/// It has one only.
+/// It has no two.
 pub fn last_step_is_unique()
     ensures { LastStepIsUnique }
 {}
@@ -24,17 +24,17 @@ pub fn halt_is_last()
     ensures { HaltIsLast }
 {}
 
-/// A machine halts at one step only.
+/// No machine halts at two steps.
 pub fn halt_is_unique()
     ensures { HaltIsUnique }
 {}
 
-/// A step has one score.
+/// No step has two scores.
 pub fn score_is_unique()
     ensures { ScoreIsUnique }
 {}
 
-/// A simulation finds one thing only.
+/// No simulation finds two things.
 pub fn outcome_is_unique()
     ensures { OutcomeIsUnique }
 {}

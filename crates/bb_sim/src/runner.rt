@@ -1,5 +1,5 @@
 //! One step of a run.
-ghost use Rattle.std.specs.Prelude.{◌≡◌, ◌≢◌, ◌+◌, ◌<◌, ◌≤◌, ◌^◌, ◌↔◌, ◌≤ℤ◌, ◌+ℤ◌};
+ghost use Rattle.std.specs.Prelude.{◌≡◌, ◌+◌, ◌<◌, ◌≤◌, ◌^◌, ◌↔◌, ◌≤ℤ◌, ◌+ℤ◌};
 ghost use Rattle.std.specs.Prelude.{neg_ℤ, pos, IfOk, IsTrue, MatchOption, OnErr, OnOk};
 ghost use Rattle.bb_tape.specs.declared.tape.TheConstants.{MAX_CELLS};
 ghost use Rattle.bb_sim.specs.Configuration as configuration;
@@ -38,7 +38,6 @@ pub struct Runner {
 }
 
 impl Runner {
-    ghost use Rattle.bb_machine.specs.declared.entry.Entry.{Entry};
     ghost use Rattle.bb_machine.specs.Machine.{IsMachine};
     ghost use Rattle.bb_tape.specs.Content.{cell};
     ghost use Rattle.bb_tape.specs.TapeView.{IsBeside, IsInside, written};

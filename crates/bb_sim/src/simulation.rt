@@ -1,5 +1,5 @@
 //! A whole run within limits.
-ghost use Rattle.std.specs.Prelude.{◌≡◌, ◌+◌, ◌<◌, ◌≤◌, ◌^◌, IfOk, IsTrue, OnErr, OnOk};
+ghost use Rattle.std.specs.Prelude.{◌≡◌, ◌+◌, ◌<◌, ◌^◌, IfOk, IsTrue, OnErr, OnOk};
 ghost use Rattle.bb_sim.specs.Meter.{CountsRun, IsWithinRun};
 ghost use Rattle.bb_sim.specs.Outcome.{IsOutcome};
 

@@ -1,7 +1,7 @@
 //! A tape kept as an ordered map of the cells that aren't 0.
 
-ghost use Rattle.std.specs.Prelude.{◌≡◌, ◌↔◌, ◌≤◌, ◌<◌, Bool, true, IsTrue, OnErr, OnOk, pos, ◌+ℤ◌, ◌≤ℤ◌};
-ghost use Rattle.bb_tape.specs.Content.{cell, score};
+ghost use Rattle.std.specs.Prelude.{◌≡◌, ◌≤◌, ◌<◌, true, OnOk, pos, ◌+ℤ◌, ◌≤ℤ◌};
+ghost use Rattle.bb_tape.specs.Content.{cell};
 ghost use Rattle.bb_tape.specs.TapeView.{fresh, IsSound};
 ghost use Rattle.bb_tape.specs.Windowed.{view_of};
 ghost use Rattle.bb_tape.specs.Entries.{content_of};

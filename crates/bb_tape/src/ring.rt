@@ -1,8 +1,8 @@
 //! A tape kept as a ring of exactly as many cells as the window may have.
 
-ghost use Rattle.std.specs.Prelude.{◌≡◌, ◌↔◌, ◌≤◌, ◌<◌, ◌++◌, ℕ, Bool, false, IsTrue, IfOk, OnErr};
-ghost use Rattle.std.specs.Prelude.{OnOk, length, slice_index, pos, ◌+ℤ◌, ◌-ℤ◌, ◌≤ℤ◌, ◌<ℤ◌, ℤ, ◌⊎◌};
-ghost use Rattle.bb_tape.specs.Content.{cell, score};
+ghost use Rattle.std.specs.Prelude.{◌≡◌, ◌↔◌, ◌≤◌, ◌<◌, ◌++◌, ℕ, false, IsTrue, IfOk};
+ghost use Rattle.std.specs.Prelude.{length, slice_index, pos, ◌+ℤ◌, ◌≤ℤ◌, ◌<ℤ◌, ℤ, ◌⊎◌};
+ghost use Rattle.bb_tape.specs.Content.{cell};
 ghost use Rattle.bb_tape.specs.TapeView.{fresh, IsSound, IsStretch};
 ghost use Rattle.bb_tape.specs.Windowed.{view_of};
 ghost use Rattle.bb_tape.specs.Ring.{IsClear, ring_content, symbols};
@@ -14,7 +14,7 @@ use std::alloc::Global;
 
 /// A tape of a fixed number of cells, made once: it takes no memory after that.
 /// Cell p has index p modulo the number of cells, so the cells below 0 are the last of the ring.
-/// What isn't a cell of the window is 0, so that the window may widen with nothing to clear.
+/// Cells outside the window are 0, so the window may widen with nothing to clear.
 #[derive(Drop)]
 pub struct RingTape {
     cells: Vec<u8>,

@@ -20,6 +20,8 @@ mod failed_allocations;
 #[cfg(test)]
 mod forged_claims;
 #[cfg(test)]
+mod in_one_run;
+#[cfg(test)]
 mod larger_limits;
 #[cfg(test)]
 mod line_engine;

@@ -1,5 +1,5 @@
 //! The engine over streams that come in pieces, fail or take little, with a reply that is easy to write down.
-ghost use Rattle.std.specs.Prelude.{◌≡◌, ℕ, ◌+◌, ◌^◌, ◌-◌, List, ◌∷◌, ◌++◌, [], take, min, true};
+ghost use Rattle.std.specs.Prelude.{◌≡◌, ◌+◌, ◌^◌, ◌-◌, ◌∷◌, ◌++◌, [], take, min, true};
 ghost use Rattle.std.proofs.Common.{rules};
 ghost use Rattle.std.proofs.lemmas.Grind.{common_steps};
 

@@ -21,7 +21,7 @@ use Rattle.bb_cert.specs.inside.Checks.{KeepsStep, MakesRecord}
 use Rattle.bb_cert.specs.records.Follow.{AgreesWithKept, IsComparable, IsFollowed, IsKeptInStateOf}
 use Rattle.bb_cert.specs.records.Follow.{IsKeptRecord}
 use Rattle.bb_cert.specs.verdict.Extent.{IsExtent}
-use Rattle.bb_cert.specs.records.Follow.{IsNarrow, IsTop, LiesAs, IsWidened, far_of, number_of, top_of}
+use Rattle.bb_cert.specs.records.Follow.{IsNarrow, IsTop, LiesAs, IsWidened, nearest_out, number_of, top_of}
 use Rattle.bb_cert.specs.records.Follow.{with_kept}
 use Rattle.bb_cert.specs.records.Record.{out, head_at, IsRecord}
 use Rattle.bb_cert.proofs.record_lemmas.Heads.{out-out, runs_before, runs_up_to, head_in_window, far-here}
@@ -151,7 +151,7 @@ module _ (table : Table) (runner : Runner) (run saved : TapeView) (records : Rec
   })
 
   wider_kept : 0 < followed.number → IsInside run records.nearest
-      → IsKeptRecord table records.side followed.number (steps_of runner) records.kept (far_of records)
+      → IsKeptRecord table records.side followed.number (steps_of runner) records.kept (nearest_out records)
       (visited saved records.nearest)
   wider_kept some inside = let old = followed.kept some in record {
     made = old.made;
@@ -166,11 +166,12 @@ module _ (table : Table) (runner : Runner) (run saved : TapeView) (records : Rec
   }
 
   pub kept_wider : (new : TapeView) → IsWidened records run saved new → 0 < followed.number
-      → IsKeptRecord table records.side followed.number (steps_of runner) records.kept (far_of records) new
+      → IsKeptRecord table records.side followed.number (steps_of runner) records.kept (nearest_out records)
+      new
   kept_wider new (inl same) some = subst (IsKeptRecord table records.side followed.number (steps_of runner)
-      records.kept (far_of records)) (sym same) (followed.kept some)
+      records.kept (nearest_out records)) (sym same) (followed.kept some)
   kept_wider new (inr wider) some = subst (IsKeptRecord table records.side followed.number (steps_of runner)
-      records.kept (far_of records)) (sym wider.0) (wider_kept some wider.1)
+      records.kept (nearest_out records)) (sym wider.0) (wider_kept some wider.1)
 
   -- else the kept one stays, in what was saved of it, which may have been widened
   abbrev pub stays : (new : TapeView) → IsWidened records run saved new
@@ -185,7 +186,7 @@ module _ (table : Table) (runner : Runner) (run saved : TapeView) (records : Rec
 
   module _ (some : 0 < followed.number) where
     kept : IsKeptRecord table records.side followed.number (steps_of runner) records.kept
-        (far_of records) saved
+        (nearest_out records) saved
     kept = followed.kept some
 
     kept_is : head_at table (steps_of records.kept) ≡ position_of records.kept
@@ -219,7 +220,7 @@ module _ (table : Table) (runner : Runner) (run saved : TapeView) (records : Rec
     extent_of_records extent lies = record {
       shift = lies.shift ∙ ap (λ t. t -ℤ number_of records) (sym top_out)
           ∙ ap (λ n. out records.side (head_at table (steps_of runner)) -ℤ n) (sym number_out);
-      length = lies.length ∙ ap (λ n. (n -ℤ far_of records) +ℤ pos 1) (sym number_out)
+      length = lies.length ∙ ap (λ n. (n -ℤ nearest_out records) +ℤ pos 1) (sym number_out)
           ∙ ap (λ f. (out records.side (head_at table (steps_of records.kept)) -ℤ f) +ℤ pos 1) kept.far_is;
     }
 

@@ -45,7 +45,7 @@ use Rattle.bb_cert.specs.inside.Checks.{
   MakesRecordOutsideZ,
   Passes,
 }
-use Rattle.bb_cert.specs.records.Follow.{IsFollowed, IsKeptRecord, IsTop, TellsWidening, far_of, nearer}
+use Rattle.bb_cert.specs.records.Follow.{IsFollowed, IsKeptRecord, IsTop, TellsWidening, nearest_out, nearer}
 use Rattle.bb_cert.specs.records.Follow.{passed}
 use Rattle.bb_cert.specs.records.Record.{out, head_at}
 use Rattle.bb_cert.proofs.record_lemmas.Heads.{far-next, window_falls, window_rises}
@@ -108,11 +108,11 @@ module _ (table : Table) (n : ℕ) (records : Records) (saved : TapeView) (there
     (at : position ≡ head_at table (n + 1)) (followed : IsFollowed table n records saved) where
   pub kept_is : 0 < followed.number
       → IsKeptRecord table records.side followed.number (n + 1) records.kept
-      (far_of (passed records position)) saved
+      (nearest_out (passed records position)) saved
   kept_is some = subst (λ f. IsKeptRecord table records.side followed.number (n + 1) records.kept f saved)
       (sym (nearer_out records.side records.nearest position
-      ∙ ap (λ p. int_min (far_of records) (out records.side p)) at))
-      (kept-next table records.side followed.number n records.kept (far_of records) saved
+      ∙ ap (λ p. int_min (nearest_out records) (out records.side p)) at))
+      (kept-next table records.side followed.number n records.kept (nearest_out records) saved
       (followed.kept some))
 
   -- farther out than before there is one record more
@@ -145,7 +145,7 @@ module _ (table : Table) (n : ℕ) (records : Records) (saved : TapeView) (there
     number_is = is.number_is;
     top = subst (λ k. IsTop table records.side k (pos is.count)) (sym next) is.top;
     kept = λ some. subst (λ k. IsKeptRecord table records.side is.number k records.kept
-        (far_of (passed records position)) saved) (sym next) (is.kept some);
+        (nearest_out (passed records position)) saved) (sym next) (is.kept some);
   }
 
   pub followed-next : IsFollowed table (n + 1) (passed records position) saved

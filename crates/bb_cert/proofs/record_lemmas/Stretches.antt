@@ -38,7 +38,7 @@ use Rattle.bb_cert.specs.records.Follow.{
   IsComparable,
   IsNarrow,
   IsWidened,
-  far_of,
+  nearest_out,
   lesser_of,
   number_of,
 }
@@ -209,34 +209,34 @@ pub compared : {records : Records} {runner : Runner} {saved run : TapeView} {fro
     → len ≡ cells_between records.nearest (position_of records.kept)
     → IsCompared records runner saved run from other len
 compared {records} {runner} {saved} {run} {from} {other} {len} comparable seen at other_is len_is = record {
-  here = stretch_inside side saved (far_of records) (number_of records) from len lesser long
+  here = stretch_inside side saved (nearest_out records) (number_of records) from len lesser long
       (turned_back saved records.nearest seen)
       (turned_back saved (position_of records.kept) comparable.number_saved);
   there = stretch_inside side run _ (top_of records runner) other len
       (moved_from side records.nearest (position_of records.kept)
       (position_of runner) from other lesser other_is)
-      (moved_length (far_of records) (number_of records) (top_of records runner) len long)
-      (between_inside side run (far_of records) _ (top_of records runner) order.0 order.1
+      (moved_length (nearest_out records) (number_of records) (top_of records runner) len long)
+      (between_inside side run (nearest_out records) _ (top_of records runner) order.0 order.1
       (turned_back run records.nearest comparable.far_seen)
       (turned_back run (position_of runner) comparable.top_seen))
       (turned_back run (position_of runner) comparable.top_seen);
   same = (
-    told_by_out side (far_of records) (number_of records) _ from other len _ _ lesser long other_is,
-    told_by_offset side (far_of records) (number_of records) _ from other len _ _ lesser long other_is,
+    told_by_out side (nearest_out records) (number_of records) _ from other len _ _ lesser long other_is,
+    told_by_offset side (nearest_out records) (number_of records) _ from other len _ _ lesser long other_is,
   );
 } where
   side : Side
   side = records.side
 
-  lesser : from ≡ lesser_of side (far_of records) (number_of records)
+  lesser : from ≡ lesser_of side (nearest_out records) (number_of records)
   lesser = at ∙ lesser_is side records.nearest (position_of records.kept) comparable.order
 
-  long : pos len ≡ (number_of records -ℤ far_of records) +ℤ pos 1
+  long : pos len ≡ (number_of records -ℤ nearest_out records) +ℤ pos 1
   long = ap pos len_is ∙ length_is side records.nearest (position_of records.kept) comparable.order
 
-  order : (far_of records ≤ℤ (far_of records +ℤ (top_of records runner -ℤ number_of records)))
-      × ((far_of records +ℤ (top_of records runner -ℤ number_of records)) ≤ℤ top_of records runner)
-  order = moved_order (far_of records) (number_of records)
+  order : (nearest_out records ≤ℤ (nearest_out records +ℤ (top_of records runner -ℤ number_of records)))
+      × ((nearest_out records +ℤ (top_of records runner -ℤ number_of records)) ≤ℤ top_of records runner)
+  order = moved_order (nearest_out records) (number_of records)
       (top_of records runner) comparable.order comparable.later
 
   turned_back : (s : TapeView) (p : ℤ) → IsInside s p → IsInside s (out side (out side p))

@@ -139,7 +139,7 @@ ClearTreesNeverHalt = (table : Table) (h k : ℕ) → IsMachine table → Ends t
 abbrev pub TreeHasOneEnd : Type 0
 TreeHasOneEnd = (table : Table) (h k i j : ℕ) → Ends table h k → Ends table i j → (h ≡ i) × (k ≡ j)
 
--- the first rule that applies gives one answer
+-- no verdict has two answers
 abbrev pub AnswerIsUnique : Type 0
 AnswerIsUnique = (table : Table) (bounds : Bounds) (verdict : Verdict) (a b : Answer)
     → IsAnswer table bounds verdict a → IsAnswer table bounds verdict b → a ≡ b

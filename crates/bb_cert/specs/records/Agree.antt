@@ -7,8 +7,8 @@ use Rattle.bb_sim.specs.Run.{conf}
 use Rattle.bb_cert.specs.declared.verdict.Side.{Side}
 use Rattle.bb_cert.specs.records.Record.{out, head_at, IsRecord, far}
 
--- steps a and b agree: they have one state, and the same cells, as the head sees them, from the head at a
--- back to the least far out that the head is from a to b
+-- steps a and b agree: they have the same state, and the same cells, as the head sees them, from the head at
+-- a back to the least of how far out the head is over steps a to b
 pub record Agree (table : Table) (side : Side) (a b : ℕ) : Type 0 where
   pub first : Configuration
   pub second : Configuration
@@ -27,8 +27,9 @@ pub record AgreeingRecords (table : Table) (side : Side) (a b : ℕ) : Type 0 wh
   pub second_record : IsRecord table side second_number b
   pub agree : Agree table side a b
 
--- u steps after each of a and b there is a configuration, of one state; the heads are as far apart as at a
--- and b; and so far apart all cells are the same, from the least far out that the head is from a to b outward
+-- u steps after each of a and b there is a configuration, of the same state; the heads are as far apart as at
+-- a and b; and cells that far apart are the same, from the least of how far out the head is over steps a to b
+-- outward
 pub record GoesAlike (table : Table) (side : Side) (a b u : ℕ) : Type 0 where
   pub first : Configuration
   pub second : Configuration

@@ -32,9 +32,9 @@ top_of records runner = out records.side (position_of runner)
 abbrev pub number_of : Records → ℤ
 number_of records = top_of records records.kept
 
--- how far out the head was at least since it was made
-abbrev pub far_of : Records → ℤ
-far_of records = out records.side records.nearest
+-- the least of how far out the head was since it was made
+abbrev pub nearest_out : Records → ℤ
+nearest_out records = out records.side records.nearest
 
 -- of two positions the one less far out
 abbrev pub nearer : Side → ℤ → ℤ → ℤ
@@ -57,15 +57,15 @@ TellsWidening runner cells (Some L) =
 TellsWidening runner cells (Some R) =
     (cells_between (low_of runner) (high_of runner) ≢ cells) × (position_of runner ≢ low_of runner)
 
--- how far out the head is at most up to step n
+-- the greatest of how far out the head is up to step n
 pub record IsTop (table : Table) (side : Side) (n : ℕ) (top : ℤ) : Type 0 where
   pub step : ℕ
   pub no_later : step ≤ n
   pub reached : out side (head_at table step) ≡ top
   pub bounds : (m : ℕ) → m ≤ n → out side (head_at table m) ≤ℤ top
 
--- the record that is kept, its configuration, and how far out the head is at least from there to step n; what
--- was saved of it lies in the window of the run, and its own head in what was saved
+-- the record that is kept, its configuration, and the least of how far out the head is from there to step n;
+-- what was saved of it lies in the window of the run, and its own head in what was saved
 pub record IsKeptRecord (table : Table) (side : Side) (number n : ℕ) (kept : Runner) (far_out : ℤ)
     (saved : TapeView)
     : Type 0 where
@@ -84,18 +84,18 @@ pub record IsFollowed (table : Table) (n : ℕ) (records : Records) (saved : Tap
   pub number : ℕ
   pub number_is : number_of records ≡ pos number
   pub top : IsTop table records.side n (pos count)
-  pub kept : 0 < number → IsKeptRecord table records.side number n records.kept (far_of records) saved
+  pub kept : 0 < number → IsKeptRecord table records.side number n records.kept (nearest_out records) saved
 
 -- the lesser position of a stretch between two that are so far out
 abbrev pub lesser_of : Side → ℤ → ℤ → ℤ
 lesser_of R near far_out = near
 lesser_of L near far_out = neg_ℤ far_out
 
--- the stretch of the kept record that is compared: from the least far out up to the head
+-- the stretch of the kept record that is compared: from the nearest position up to its head
 pub record IsComparable (records : Records) (runner : Runner) (saved run : TapeView) : Type 0 where
   pub low : run.low ≤ℤ saved.low
   pub high : saved.high ≤ℤ run.high
-  pub order : far_of records ≤ℤ number_of records
+  pub order : nearest_out records ≤ℤ number_of records
   pub later : number_of records ≤ℤ top_of records runner
   pub far_seen : IsInside run records.nearest
   pub top_seen : IsInside run (position_of runner)
@@ -103,7 +103,7 @@ pub record IsComparable (records : Records) (runner : Runner) (saved run : TapeV
 
 -- its cells are those that the record which a runner has just made has as far before its head
 abbrev pub HasSameCells : Records → Runner → Content → Content → Type 0
-HasSameCells records runner saved run = (x : ℤ) → far_of records ≤ℤ out records.side x
+HasSameCells records runner saved run = (x : ℤ) → nearest_out records ≤ℤ out records.side x
     → out records.side x ≤ℤ number_of records
     → cell saved x ≡ cell run (x +ℤ (position_of runner -ℤ position_of records.kept))
 
@@ -118,10 +118,11 @@ abbrev pub AgreesWithKept : Records → Runner → TapeView → TapeView → Typ
 AgreesWithKept records runner saved run =
     IsKeptInStateOf records runner × HasSameCells records runner saved.content run.content
 
--- how far that one is beyond the kept one, and how many positions there are from there back to the nearest
+-- how far that one is beyond the kept one, and how many positions there are from the kept one back to the
+-- nearest, both counted
 pub record LiesAs (records : Records) (runner : Runner) (extent : Extent) : Type 0 where
   pub shift : pos extent.shift ≡ top_of records runner -ℤ number_of records
-  pub length : pos extent.length ≡ (number_of records -ℤ far_of records) +ℤ pos 1
+  pub length : pos extent.length ≡ (number_of records -ℤ nearest_out records) +ℤ pos 1
 
 -- what was saved is at most widened, to the nearest position, which is in the window of the run
 abbrev pub IsWidened : Records → TapeView → TapeView → TapeView → Type 0

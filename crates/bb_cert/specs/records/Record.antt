@@ -30,6 +30,6 @@ pub record IsRecord (table : Table) (side : Side) (j n : ℕ) : Type 0 where
   pub on_position : out side here.head ≡ pos j
   pub is_first : (m : ℕ) → m < n → out side (head_at table m) ≢ pos j
 
--- how far out the head is at least, over the steps from a to b, both counted
+-- the least of how far out the head is over steps a to b, both counted
 abbrev pub far : Table → Side → ℕ → ℕ → ℤ
 far table side a b = least (λ u. out side (head_at table (u + a))) (b - a)

@@ -5,8 +5,8 @@ use Rattle.bb_cert.specs.declared.verdict.Extent.{Extent}
 use Rattle.bb_cert.specs.declared.verdict.Side.{Side}
 use Rattle.bb_cert.specs.records.Record.{out, head_at, far}
 
--- the shift is how much farther out the head is at step b than at step a; the length is how far it is at a
--- from where it is least far out from a to b, plus 1
+-- the shift is how much farther out the head is at step b than at step a; the length is how far out it is at
+-- a, less the least of how far out it is over steps a to b, plus 1
 pub record IsExtent (table : Table) (side : Side) (a b : ℕ) (extent : Extent) : Type 0 where
   pub shift : pos extent.shift ≡ out side (head_at table b) -ℤ out side (head_at table a)
   pub length : pos extent.length ≡ (out side (head_at table a) -ℤ far table side a b) +ℤ pos 1

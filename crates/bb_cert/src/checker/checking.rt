@@ -19,7 +19,7 @@ use crate::tree::path::Path;
 use crate::tree::walk::walk;
 use crate::verdict::{Extent, Side, Verdict};
 use bb_machine::{Limits, Machine};
-use bb_sim::{Meter, Outcome, Runner, simulate};
+use bb_sim::{Meter, Outcome, simulate};
 use bb_tape::{Memory, Tape};
 
 /// The tapes with which a claim is checked. Each call resets what it uses.

@@ -1,16 +1,14 @@
 //! The run of a claim, up to the steps that the claim names.
-ghost use Rattle.std.specs.Prelude.{◌≡◌, ◌<◌, ◌≤◌, ◌↔◌, IfOk, IfSome, IsTrue, MatchBool, MatchOption, OnErr};
-ghost use Rattle.bb_tape.specs.TapeView.{IsBeside};
+ghost use Rattle.std.specs.Prelude.{◌≡◌, ◌<◌, ◌≤◌, IfOk, IsTrue, MatchBool, MatchOption, OnErr};
 ghost use Rattle.bb_sim.specs.Meter.{IsWithinRun, zero_meter};
-ghost use Rattle.bb_sim.specs.Run.{Exists};
-ghost use Rattle.bb_sim.specs.Runner.{position_of, steps_of};
+ghost use Rattle.bb_sim.specs.Runner.{steps_of};
 ghost use Rattle.bb_cert.specs.inside.Checks.{GoesOn, IsAtStep, IsCut, IsOneOn, IsUnderWay, Passes};
 ghost use Rattle.bb_cert.specs.records.Follow.{AgreesWithKept, IsComparable, IsKeptInStateOf, LiesAs};
 ghost use Rattle.bb_cert.specs.records.Follow.{with_kept};
 
 use crate::checker::answer::Answer;
 use crate::records::{Records, widened_side};
-use crate::verdict::{Extent, Side};
+use crate::verdict::Extent;
 use bb_machine::{Limits, Machine};
 use bb_sim::{Meter, Moved, Runner};
 use bb_tape::{Memory, Tape};

@@ -16,7 +16,7 @@ pub fn is_same<T: Tape>(runner: &Runner, tape: &T, other: &Runner, other_tape: &
     runner.is_like(other) && has_same_cells(tape, other_tape)
 }
 
-/// Whether two tapes have the same cells. It is out of line, so that a caller's loop keeps its registers.
+/// Whether two tapes have the same cells. It is not inlined, so that a caller's loop keeps its registers.
 #[cold]
 #[inline(never)]
 fn has_same_cells<T: Tape>(tape: &T, other: &T) -> bool

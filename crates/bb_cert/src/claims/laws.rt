@@ -94,7 +94,7 @@ pub fn levels_come_before_halts()
     ensures one_end { TreeHasOneEnd }
 {}
 
-/// A verdict has one answer.
+/// No verdict has two answers.
 pub fn answer_is_unique()
     ensures { AnswerIsUnique }
 {}

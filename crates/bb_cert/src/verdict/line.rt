@@ -1,5 +1,5 @@
 //! The line of a machine and a verdict, written.
-ghost use Rattle.std.specs.Prelude.{◌≡◌, ℕ, ◌+◌, ◌≤◌, List, [], ◌++◌, length};
+ghost use Rattle.std.specs.Prelude.{◌≡◌, ◌+◌, ◌≤◌, List, [], ◌++◌, length};
 ghost use Rattle.arrayvec.specs.ArrayVec.{array_vec_len};
 ghost use Rattle.bb_machine.specs.declared.entry.Entry.{Entry};
 ghost use Rattle.bb_machine.specs.Machine.{text};

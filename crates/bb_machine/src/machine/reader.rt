@@ -1,5 +1,5 @@
 //! The reader of machine texts.
-ghost use Rattle.std.specs.Prelude.{◌≡◌, ◌≢◌, ℕ, ◌+◌, ◌*◌, ◌≤◌, ◌<◌, ◌↔◌, List, [], ◌∷◌};
+ghost use Rattle.std.specs.Prelude.{◌≡◌, ◌≢◌, ◌+◌, ◌*◌, ◌≤◌, ◌<◌, ◌↔◌, List, [], ◌∷◌};
 ghost use Rattle.std.specs.Prelude.{◌++◌, length, take, drop, IsTrue, IfOk, IfErr, OnOk, OnErr};
 
 use crate::entry::Entry;
@@ -158,7 +158,7 @@ fn read_counts(line: &[u8]) -> Result<(usize, usize), usize>
 
 /// How much was read of the whole line, or how many of its first bytes begin some machine's text.
 ///
-/// It isn't inlined, and neither is `fill`, so that what reads a line stays small and is.
+/// Neither it nor `fill` is inlined, so that the function that reads a line stays small enough to be inlined.
 #[inline(never)]
 fn scan(line: &[u8]) -> Result<Draft, usize>
     ensures text { IfOk result (λ draft. (b : Begun) × IsDraft draft b × (begun_text b ≡ line.now)) }

@@ -8,7 +8,7 @@ use bb_decide::{Bench, Plan};
 use bb_lines::fault::Fault;
 use bb_lines::watched::Watched;
 use bb_machine::Limits;
-use bb_run::{Summary, ring_bench, run_decide};
+use bb_run::{Summary, ring_bench, run_decide, run_decide_in_one_run};
 use bb_tape::{MapTape, Tape};
 use std::process::Abort;
 
@@ -56,7 +56,21 @@ pub(crate) fn decided_on_rings(
     decided(rt, &mut bench, limits, plan, input)
 }
 
-/// Each input is decided to its output, on maps and on rings.
+/// Decides a list on rings, each machine in one run.
+pub(crate) fn decided_in_one_run(
+    rt: &(impl Abort + AllocGlobal),
+    limits: &Limits,
+    plan: Plan,
+    input: &[u8],
+) -> (Result<Summary, Fault>, Vec<u8>) {
+    let mut bench = ring_bench(rt.alloc(), limits).expect(rt, "a bench");
+    let mut reader = Watched::new(input);
+    let mut writer = Watched::new(Vec::new(rt.alloc()));
+    let end = run_decide_in_one_run(&mut reader, &mut writer, limits, plan, &mut bench);
+    (end, writer.into_inner())
+}
+
+/// Each input is decided to its output, on maps and on rings, and in one run.
 pub(crate) fn assert_decided(rt: &(impl Abort + AllocGlobal), plan: Plan, rows: &[Row]) {
     for (four, input, output, clean) in rows {
         let limits = Limits::new(four[0], four[1], four[2], four[3]).expect(rt, "limits");
@@ -66,5 +80,8 @@ pub(crate) fn assert_decided(rt: &(impl Abort + AllocGlobal), plan: Plan, rows: 
         assert_eq!(rt; ring_written.as_slice(), *output);
         assert_eq!(rt; ring_end, end);
         assert_eq!(rt; end.expect(rt, "no fault").clean, *clean);
+        let (one_end, one_written) = decided_in_one_run(rt, &limits, plan, input);
+        assert_eq!(rt; one_written.as_slice(), *output);
+        assert_eq!(rt; one_end.expect(rt, "no fault").clean, *clean);
     }
 }

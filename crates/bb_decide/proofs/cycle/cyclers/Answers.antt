@@ -1,15 +1,13 @@
 use Rattle.bb_decide.proofs.FewCells.{finds_in_few_cells}
 use Rattle.bb_decide.proofs.Sure.{finds_repeats}
-use Rattle.bb_decide.proofs.Works.{if_ok_map}
 use Rattle.bb_decide.proofs.cycle.cyclers.Goals as goal
 
 pub returns-clause-sure : goal.returns-clause-sure
 returns-clause-sure g c =
-    if_ok_map c.run-found.result _ _ (finds_repeats c.args.machine.now c.args.limits.now)
-    c.run-found.ensures.found
+    finds_repeats c.args.machine.now c.args.limits.now c.found.result
+    (rw c.found.ensures c.in_ok-ending.ensures.found)
 
 pub returns-clause-few_cells : goal.returns-clause-few_cells
 returns-clause-few_cells g c =
-    if_ok_map c.run-found.result _ _
-    (finds_in_few_cells c.args.machine.now c.args.limits.now c.show_machine.ensures.machine)
-    c.run-found.ensures.found
+    finds_in_few_cells c.args.machine.now c.args.limits.now c.show_machine.ensures.machine c.found.result
+    (rw c.found.ensures c.in_ok-ending.ensures.found)

@@ -5,8 +5,8 @@ use Rattle.bb_decide.proofs.Cycles.{IsSearching}
 use Rattle.bb_decide.proofs.cycle.run.Given as goal
 
 -- no step up to where the runner stands is a cycle; what is kept stays up to the step that is twice its own
-abbrev pub invariant-loop-runner : goal.invariant-loop-runner
-invariant-loop-runner g l = record {
+abbrev pub invariant-loop-moved : goal.invariant-loop-moved
+invariant-loop-moved g l = record {
   search : IsSearching l.machine l.limits l.runner l.kept (g.T.Tape.view l.bench.run)
       (g.T.Tape.view l.bench.right) l.fn.meter l.meter;
   tapes : BenchHasCells g.T.Tape.view l.limits.cells l.bench;
@@ -14,5 +14,5 @@ invariant-loop-runner g l = record {
   next : l.next_kept ≡ 2 * steps_of l.kept;
 }
 
-abbrev pub decreases-loop-runner : goal.decreases-loop-runner
-decreases-loop-runner g l = l.limits.steps - steps_of l.runner
+abbrev pub decreases-loop-moved : goal.decreases-loop-moved
+decreases-loop-moved g l = l.limits.steps - steps_of l.runner

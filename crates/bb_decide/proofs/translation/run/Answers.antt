@@ -4,6 +4,7 @@ use Rattle.bb_sim.proofs.Facts.{ends_in_Z, ends_stopped, has_stepped}
 use Rattle.bb_cert.specs.declared.records.Records.{Records}
 use Rattle.bb_cert.proofs.Facts.{starts}
 use Rattle.bb_decide.proofs.Benches.{tapes_keep}
+use Rattle.bb_decide.proofs.Endings.{ran_as, ran_into_Z}
 use Rattle.bb_decide.proofs.Halting.{in_no_state, is_none}
 use Rattle.bb_decide.proofs.TakingIn.{searched_at_first}
 use Rattle.bb_decide.proofs.Translations.{IsFound, goes_on_from, goes_past, is_found, is_ready, none_at_first}
@@ -11,8 +12,8 @@ use Rattle.bb_decide.proofs.Translations.{none_in_Z, takes_in}
 use Rattle.bb_decide.proofs.translation.run.Goals as goal
 use Rattle.bb_decide.proofs.translation.run.Given as given
 
-pub loop-runner-init : goal.loop-runner-init
-loop-runner-init g c =
+pub loop-moved-init : goal.loop-moved-init
+loop-moved-init g c =
     let zero = c.start-runner.ensures.steps in
     let start = starts _ _ _ c.start-runner.ensures.stands zero in
     record {
@@ -32,8 +33,8 @@ loop-runner-init g c =
 
 pub returns-in_default : goal.returns-in_default
 returns-in_default g c =
-    let here = c.loop-runner.invariant in
-    let call = c.in_ok-advance.ensures in
+    let here = c.loop-moved.invariant in
+    let call = c.in_ok-moved.ensures in
     let end = ends_stopped here.search.run call.stands _ _ c.in_default.not-Stepped call.reaches call.moves in
     record {
       found = λ side a b translation. here.search.none side a b (end.last.greatest b translation.inside)
@@ -41,6 +42,8 @@ returns-in_default g c =
       counted = end.counted;
       within = end.within;
       never = tt;
+      ran = ran_as here.search.run call.stands _ _ c.in_default.not-Stepped call.answers call.reaches call.moves _
+          c.outcome_of.ensures;
       promised = record { claim = tt; numbers = tt; memory = tt };
       tapes = tapes_keep call.limit refl refl here.tapes;
       path = here.path;
@@ -49,26 +52,33 @@ returns-in_default g c =
 -- a step into Z ends the run
 pub returns-in_default-state-clause-found : goal.returns-in_default-state-clause-found
 returns-in_default-state-clause-found g c =
-    let here = c.loop-runner.invariant.search in
-    let call = c.in_ok-advance.ensures in
+    let here = c.loop-moved.invariant.search in
+    let call = c.in_ok-moved.ensures in
     none_in_Z here (has_stepped here.run call.stands _ call.reaches call.moves c.in-Stepped.is)
     (in_no_state _ _ c.state.ensures c.in_default-state.not-Some)
 
+pub returns-in_default-state-clause-ran : goal.returns-in_default-state-clause-ran
+returns-in_default-state-clause-ran g c =
+    let here = c.loop-moved.invariant.search in
+    let call = c.in_ok-moved.ensures in
+    ran_into_Z (has_stepped here.run call.stands _ call.reaches call.moves c.in-Stepped.is)
+    (in_no_state _ _ c.state.ensures c.in_default-state.not-Some) _ c.outcome_of-outcome.ensures
+
 pub returns-in_default-state-clause-counted : goal.returns-in_default-state-clause-counted
 returns-in_default-state-clause-counted g c =
-    let call = c.in_ok-advance.ensures in
-    (ends_in_Z (has_stepped c.loop-runner.invariant.search.run call.stands _ call.reaches
+    let call = c.in_ok-moved.ensures in
+    (ends_in_Z (has_stepped c.loop-moved.invariant.search.run call.stands _ call.reaches
     call.moves c.in-Stepped.is) (in_no_state _ _ c.state.ensures c.in_default-state.not-Some)).counted
 
 -- a step that widens nothing makes no record
-pub loop-runner-preserved-in_default-widened_side : goal.loop-runner-preserved-in_default-widened_side
-loop-runner-preserved-in_default-widened_side g c =
-    let here = c.loop-runner.invariant in
-    let call = c.in_ok-advance.ensures in
+pub loop-moved-preserved-in_default-widened_side : goal.loop-moved-preserved-in_default-widened_side
+loop-moved-preserved-in_default-widened_side g c =
+    let here = c.loop-moved.invariant in
+    let call = c.in_ok-moved.ensures in
     let step = has_stepped here.search.run call.stands _ call.reaches call.moves c.in-Stepped.is in
     let taken = takes_in here.search step c.in-Some.ensures c.cells-cells.ensures _ c.widened_side.ensures
-    (search rules) c.position.ensures c.pass.ensures (search rules) c.position-in-loop-runner.ensures
-    c.pass-in-loop-runner.ensures in
+    (search rules) c.position.ensures c.pass.ensures (search rules) c.position-in-loop-moved.ensures
+    c.pass-in-loop-moved.ensures in
     record {
       search = goes_past here.search taken (is_none _ c.in_default-widened_side.not-Some);
       tapes = tapes_keep call.limit refl refl here.tapes;
@@ -78,23 +88,23 @@ loop-runner-preserved-in_default-widened_side g c =
 -- else the record that it makes is looked at
 pub look_on-requires-clause-ready : goal.look_on-requires-clause-ready
 look_on-requires-clause-ready g c =
-    let here = c.loop-runner.invariant.search in
-    let call = c.in_ok-advance.ensures in
+    let here = c.loop-moved.invariant.search in
+    let call = c.in_ok-moved.ensures in
     let step = has_stepped here.run call.stands _ call.reaches call.moves c.in-Stepped.is in
     let taken = takes_in here step c.in-Some.ensures c.cells-cells.ensures _ c.widened_side.ensures
-    (search rules) c.position.ensures c.pass.ensures (search rules) c.position-in-loop-runner.ensures
-    c.pass-in-loop-runner.ensures in
+    (search rules) c.position.ensures c.pass.ensures (search rules) c.position-in-loop-moved.ensures
+    c.pass-in-loop-moved.ensures in
     is_ready here taken _ c.in-Some-widened_side.is (g.met.T.Tape.sound c.advance.new.tape)
 
 found_here : (g : given.Over) (c : goal.In-Some-2 g)
     → IsFound c.args.machine.now c.args.limits.now c.args.meter.now c.advance.new.meter c.in-Some-2.verdict
 found_here g c =
-    let here = c.loop-runner.invariant.search in
-    let call = c.in_ok-advance.ensures in
+    let here = c.loop-moved.invariant.search in
+    let call = c.in_ok-moved.ensures in
     let step = has_stepped here.run call.stands _ call.reaches call.moves c.in-Stepped.is in
     let taken = takes_in here step c.in-Some.ensures c.cells-cells.ensures _ c.widened_side.ensures
-    (search rules) c.position.ensures c.pass.ensures (search rules) c.position-in-loop-runner.ensures
-    c.pass-in-loop-runner.ensures in
+    (search rules) c.position.ensures c.pass.ensures (search rules) c.position-in-loop-moved.ensures
+    c.pass-in-loop-moved.ensures in
     is_found here taken _ _ _ _ c.in-Some-widened_side.is _
     (rw c.in-Some-2.is at c.in_ok-verdict.ensures.looks)
 
@@ -114,14 +124,14 @@ returns-in-Some-2-clause-promised g c = record {
   memory = tt;
 }
 
-pub loop-runner-preserved : goal.loop-runner-preserved
-loop-runner-preserved g c =
-    let here = c.loop-runner.invariant in
-    let call = c.in_ok-advance.ensures in
+pub loop-moved-preserved : goal.loop-moved-preserved
+loop-moved-preserved g c =
+    let here = c.loop-moved.invariant in
+    let call = c.in_ok-moved.ensures in
     let step = has_stepped here.search.run call.stands _ call.reaches call.moves c.in-Stepped.is in
     let taken = takes_in here.search step c.in-Some.ensures c.cells-cells.ensures _ c.widened_side.ensures
-    (search rules) c.position.ensures c.pass.ensures (search rules) c.position-in-loop-runner.ensures
-    c.pass-in-loop-runner.ensures in
+    (search rules) c.position.ensures c.pass.ensures (search rules) c.position-in-loop-moved.ensures
+    c.pass-in-loop-moved.ensures in
     let limits = c.in_ok-verdict.ensures in
     record {
       search = goes_on_from here.search taken _ _ _ _ c.in-Some-widened_side.side c.in-Some-widened_side.is

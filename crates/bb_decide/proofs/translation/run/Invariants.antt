@@ -5,13 +5,13 @@ use Rattle.bb_decide.proofs.Translations.{IsSearching}
 use Rattle.bb_decide.proofs.translation.run.Given as goal
 
 -- no record up to where the runner stands agrees with its partner
-abbrev pub invariant-loop-runner : goal.invariant-loop-runner
-invariant-loop-runner g l = record {
+abbrev pub invariant-loop-moved : goal.invariant-loop-moved
+invariant-loop-moved g l = record {
   search : IsSearching l.machine l.limits l.runner (g.T.Tape.view l.bench.run) l.right l.left
       (g.T.Tape.view l.bench.right) (g.T.Tape.view l.bench.left) l.fn.meter l.meter;
   tapes : BenchHasCells g.T.Tape.view l.limits.cells l.bench;
   path : l.bench.path ≡ l.fn.bench.path;
 }
 
-abbrev pub decreases-loop-runner : goal.decreases-loop-runner
-decreases-loop-runner g l = l.limits.steps - steps_of l.runner
+abbrev pub decreases-loop-moved : goal.decreases-loop-moved
+decreases-loop-moved g l = l.limits.steps - steps_of l.runner

@@ -1,6 +1,3 @@
-use Rattle.std.proofs.Common.{true, ap}
-use Rattle.bb_sim.specs.declared.meter.Meter.{Meter}
-use Rattle.bb_run.specs.declared.summary.Summary.{Summary}
 use Rattle.bb_run.proofs.FewCells.{few_cells_are_replied}
 use Rattle.bb_run.proofs.Replies.{verdicts_are_borne_out}
 use Rattle.bb_run.proofs.Summaries.{summed}
@@ -9,9 +6,8 @@ use Rattle.bb_run.proofs.deciding.run_decide_with_counts.Goals as goal
 pub returns-clause-ends : goal.returns-clause-ends
 returns-clause-ends g c =
     let ends = c.in_ok-run.ensures.ends in
-    let begin = ap (λ (m : Meter). let s : Summary = record { clean = true; peak = m } in s) c.new.ensures in
-    let sums = summed (λ d. d.limits) (λ d. d.plan) (λ d. d.summary) (λ d. d.last_effort)
-    c.texts_differ.ensures _ _ _ begin ends.2.2 in
+    let sums = summed (λ d. d.limits) (λ d. d.plan) (λ d. d.tally.summary) (λ d. d.tally.last_effort)
+    c.texts_differ.ensures _ _ _ c.new.ensures ends.2.2 in
     (ends.0, ends.1, (ends.2.0, ends.2.1, sums))
 
 pub returns-clause-borne_out : goal.returns-clause-borne_out

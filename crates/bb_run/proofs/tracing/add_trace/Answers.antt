@@ -1,6 +1,7 @@
 use Rattle.std.proofs.Common.{◌<◌, arith}
 use Rattle.std.proofs.lemmas.Result.{err_from_is_err_and}
 use Rattle.bb_machine.specs.Machine.{IsTextOf}
+use Rattle.bb_run.proofs.SampledRuns.{size_exists}
 use Rattle.bb_run.proofs.TraceSummaries.{added_run, added_refusal, failed_refusal}
 use Rattle.bb_run.proofs.tracing.add_trace.Goals as goal
 
@@ -11,7 +12,9 @@ returns-in-Ok-clause-ends g c =
     let last = c.last_step_exists.ensures c.in-Ok.machine c.args.limits.now some in
     let of : IsTextOf c.in-Ok.machine c.args.line.now =
     record { machine = c.in-Ok.ensures.found.0; is_text = c.in-Ok.ensures.found.1 } in
-    added_run c.texts_differ.ensures of last.1 _ _ _ _ (c.add_run.ensures.ends last.0 last.1)
+    let size = size_exists c.args.from c.args.every last.0 c.requires.every in
+    added_run c.texts_differ.ensures of last.1 size.1 _ _ _ _
+    (c.add_run.ensures.ends last.0 size.0 last.1 size.1)
 
 pub returns-in_err-add_refusal-in-Err-clause-ends : goal.returns-in_err-add_refusal-in-Err-clause-ends
 returns-in_err-add_refusal-in-Err-clause-ends g c =

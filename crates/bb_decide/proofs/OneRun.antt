@@ -1,0 +1,280 @@
+-- What one watched run means for the verdict, and what it costs.
+use Rattle.std.proofs.Common.{◌≡◌, ℕ, ◌+◌, ◌<◌, ◌≤◌, inl, inr, Some, None, IsTrue, true, false, Option, ℤ, ap, arith}
+use Rattle.std.specs.Prelude.{IfOk, Result}
+use Rattle.std.proofs.Common.{Ok, Err}
+use Rattle.std.proofs.lemmas.Bool.{cases_lt}
+use Rattle.bb_machine.specs.Limits.{Bounds}
+use Rattle.bb_machine.specs.Machine.{Table}
+use Rattle.bb_machine.specs.declared.plan.Plan.{Plan}
+use Rattle.bb_sim.specs.declared.meter.Meter.{Meter}
+use Rattle.bb_sim.specs.declared.simulation.Outcome.{Outcome}
+use Rattle.bb_sim.specs.declared.simulation.Outcome.TheVariants as outcomes
+use Rattle.bb_sim.specs.Meter.{CountsRun, CountsTo}
+use Rattle.bb_sim.specs.Outcome.{HaltsInside, HaltsNowhere, IsOutcome}
+use Rattle.bb_sim.specs.Run.{Never}
+use Rattle.bb_sim.specs.Span.{IsLastInside}
+use Rattle.bb_sim.proofs.Facts.{halts_last}
+use Rattle.bb_cert.specs.declared.verdict.Side.{Side}
+use Rattle.bb_cert.specs.declared.verdict.Verdict.{Verdict}
+use Rattle.bb_cert.specs.declared.verdict.Verdict.TheVariants.{Halt, Cycler, Translated, Backward, Undecided}
+use Rattle.bb_cert.proofs.Facts.{agreeing_records_never_halt, agreeing_records_never_repeat, repeats_never_halt}
+use Rattle.bb_decide.specs.declared.ending.Ending.{Ending}
+use Rattle.bb_decide.specs.declared.ending.Ending.TheVariants.{Found, Ran}
+use Rattle.bb_decide.specs.Cycle.{CountsSearch, FindsCycle, HasNoCycle}
+use Rattle.bb_decide.specs.Fingerprint.{AgreesByChance, most_steps, named_step}
+use Rattle.bb_decide.specs.Translation.{FindsTranslation, HasNoTranslation, IsFirstTranslation}
+use Rattle.bb_decide.specs.inside.Ending.{EndingCosts, EndsBoth, EndsSearches, IsSuspected, RanAs, Watches}
+use Rattle.bb_decide.specs.inside.Ending.{found_of, is_settled, verdict_of_outcome}
+use Rattle.bb_decide.specs.Backward.{CountsTree, FindsTree}
+use Rattle.bb_decide.specs.Verdict.{IsVerdict}
+use Rattle.bb_decide.specs.Work.{CountsWalk, MakesWalk}
+use Rattle.bb_decide.specs.inside.Search.{SearchesFind}
+use Rattle.bb_decide.proofs.Translations.{pair_agrees}
+use Rattle.bb_decide.proofs.Works.{counts_walk, no_walk_counted, not_reached}
+
+module _ (table : Table) (bounds : Bounds) where
+  -- where records agree, no configuration comes again
+  no_cycle_beside : (side : Side) (a b : ℕ) → IsFirstTranslation table bounds side a b → HasNoCycle table bounds
+  no_cycle_beside side a b first c d cycle =
+      agreeing_records_never_repeat table side a b c d (pair_agrees table side a b first.translation.pair)
+      cycle.partner.below cycle.same
+
+  -- a halt inside, so no record agrees
+  no_translation_beside : (n : ℕ) → HaltsInside table bounds n → HasNoTranslation table bounds
+  no_translation_beside n halts side a b translation =
+      (agreeing_records_never_halt table side a b (pair_agrees table side a b translation.pair)).never n
+      halts.halts
+
+  -- the last step inside is no later than the step that an outcome names
+  named_by_outcome : (outcome : Outcome) → IsOutcome table bounds outcome → (n : ℕ) → IsLastInside table bounds n
+      → n ≤ most_steps bounds (verdict_of_outcome outcome)
+  named_by_outcome (outcomes.Halt steps score) is n last =
+      (halts_last table bounds steps is.0.inside is.0.halts).greatest n last.inside
+  named_by_outcome outcomes.NoSteps is n last = last.inside.within_steps
+  named_by_outcome outcomes.NoCells is n last = last.inside.within_steps
+
+module _ (table : Table) (bounds : Bounds) (key : ℤ → ℕ) (old new : Meter) (zero : old.steps ≡ 0) where
+  pub run_costs : CountsRun table bounds old new → (outcome : Outcome) → IsOutcome table bounds outcome
+      → EndingCosts key table bounds new.steps (Ran outcome)
+  run_costs counts outcome is none =
+      let steps : new.steps ≡ old.steps + counts.last = ap (λ (m : Meter). m.steps) counts.counts in
+      let named = named_by_outcome table bounds outcome is counts.last counts.is_last in
+      omega (arith, steps, zero, named)
+
+  -- one search alone
+  pub cycle_costs : (ending : Ending) → RanAs table bounds ending
+      → CountsSearch table bounds old new (found_of ending) → EndingCosts key table bounds new.steps ending
+  cycle_costs (Ran outcome) ran counts none = run_costs counts outcome ran none
+  cycle_costs (Found (Cycler first second)) ran counts none =
+      let steps : new.steps ≡ old.steps + second = ap (λ (m : Meter). m.steps) counts in
+      omega (arith, steps, zero)
+  cycle_costs (Found (Translated side first second extent)) ran counts none =
+      let steps : new.steps ≡ old.steps + second = ap (λ (m : Meter). m.steps) counts in
+      omega (arith, steps, zero)
+  cycle_costs (Found (Halt steps score)) ran counts none = absurd counts
+  cycle_costs (Found (Backward levels nodes)) ran counts none = absurd counts
+  cycle_costs (Found (Undecided why)) ran counts none = absurd counts
+
+  -- the watched run
+  pub watched_ends : (ending : Ending) → Watches table bounds key old new (Some ending)
+      → EndsBoth table bounds ending
+  watched_ends (Ran outcome) watched = (watched.2, watched.3, watched.0)
+  watched_ends (Found (Translated side first second extent)) watched =
+      (no_cycle_beside table bounds side first second watched.0.0, watched.0.0, watched.0.1)
+  watched_ends (Found (Cycler first second)) watched = absurd watched.0
+  watched_ends (Found (Halt steps score)) watched = absurd watched.0
+  watched_ends (Found (Backward levels nodes)) watched = absurd watched.0
+  watched_ends (Found (Undecided why)) watched = absurd watched.0
+
+  pub watched_costs : (ending : Ending) → Watches table bounds key old new (Some ending)
+      → EndingCosts key table bounds new.steps ending
+  watched_costs (Ran outcome) watched = run_costs watched.1 outcome watched.2
+  watched_costs (Found (Translated side first second extent)) watched =
+      cycle_costs (Found (Translated side first second extent)) tt watched.1
+  watched_costs (Found (Cycler first second)) watched = absurd watched.0
+  watched_costs (Found (Halt steps score)) watched = absurd watched.0
+  watched_costs (Found (Backward levels nodes)) watched = absurd watched.0
+  watched_costs (Found (Undecided why)) watched = absurd watched.0
+
+-- after a suspicion
+module _ {table : Table} {bounds : Bounds} {key : ℤ → ℕ} {n : ℕ} (here : IsSuspected table bounds key n) where
+  by_chance : HasNoCycle table bounds → (latest : ℕ) → n ≤ latest → AgreesByChance key table latest
+  by_chance none latest late = record {
+    first = here.first;
+    second = n;
+    order = here.order;
+    no_later = late;
+    one = here.one;
+    other = here.other;
+    at_first = here.at_first;
+    at_second = here.at_second;
+    state = here.state;
+    head = here.head;
+    print = here.print;
+    differ = λ same. none here.first n (here.cycle same);
+  }
+
+  not_earlier : (b : ℕ) → (b < n → ⊥) → n ≤ b
+  not_earlier b never = elim (cases_lt b n) [ inl less ↦ absurd (never less) | inr late ↦ late ]
+
+  -- the step that an outcome names is no earlier
+  late_outcome : (outcome : Outcome) → IsOutcome table bounds outcome
+      → n ≤ named_step bounds (verdict_of_outcome outcome)
+  late_outcome (outcomes.Halt steps score) is =
+      (halts_last table bounds steps is.0.inside is.0.halts).greatest n here.inside
+  late_outcome outcomes.NoSteps is = here.inside.within_steps
+  late_outcome outcomes.NoCells is = here.inside.within_steps
+
+  -- what the exact search for cycles finds costs no more than it may
+  pub exact_costs : (old mid new : Meter) → old.steps ≡ 0 → CountsTo table n old mid → (ending : Ending)
+      → FindsCycle table bounds (found_of ending) → RanAs table bounds ending
+      → CountsSearch table bounds mid new (found_of ending) → EndingCosts key table bounds new.steps ending
+  exact_costs old mid new zero counts (Found (Cycler first second)) found ran searched none =
+      let one : mid.steps ≡ old.steps + n = ap (λ (m : Meter). m.steps) counts in
+      let two : new.steps ≡ mid.steps + second = ap (λ (m : Meter). m.steps) searched in
+      let late = not_earlier second (λ less. here.no_cycle first second less found.cycle) in
+      omega (arith, one, two, late, zero)
+  exact_costs old mid new zero counts (Ran outcome) found ran searched none =
+      absurd (none (by_chance found (named_step bounds (verdict_of_outcome outcome)) (late_outcome outcome ran)))
+  exact_costs old mid new zero counts (Found (Halt steps score)) found ran searched none = absurd found
+  exact_costs old mid new zero counts (Found (Translated side first second extent)) found ran searched none = absurd found
+  exact_costs old mid new zero counts (Found (Backward levels nodes)) found ran searched none = absurd found
+  exact_costs old mid new zero counts (Found (Undecided why)) found ran searched none = absurd found
+
+  -- where that finds none, the fingerprints agree by chance
+  pub chance_costs : HasNoCycle table bounds → (steps : ℕ) (ending : Ending)
+      → FindsTranslation table bounds (found_of ending) → RanAs table bounds ending
+      → EndingCosts key table bounds steps ending
+  chance_costs nowhere steps (Found (Translated side first second extent)) found ran none =
+      absurd (none (by_chance nowhere second
+      (not_earlier second (λ less. here.no_translation side first second less found.0.translation))))
+  chance_costs nowhere steps (Ran outcome) found ran none =
+      absurd (none (by_chance nowhere (named_step bounds (verdict_of_outcome outcome)) (late_outcome outcome ran)))
+  chance_costs nowhere steps (Found (Halt s score)) found ran none = absurd found
+  chance_costs nowhere steps (Found (Cycler first second)) found ran none = absurd found
+  chance_costs nowhere steps (Found (Backward levels nodes)) found ran none = absurd found
+  chance_costs nowhere steps (Found (Undecided why)) found ran none = absurd found
+
+module _ (table : Table) (bounds : Bounds) where
+  -- the exact search ended with a pair or a halt
+  pub settled_ends : (ending : Ending) → is_settled ending ≡ true → FindsCycle table bounds (found_of ending)
+      → RanAs table bounds ending → EndsBoth table bounds ending
+  settled_ends (Found (Cycler first second)) settled found ran = found
+  settled_ends (Ran (outcomes.Halt n score)) settled found ran =
+      (ran, found, no_translation_beside table bounds n ran.0)
+  settled_ends (Ran outcomes.NoSteps) settled found ran = absurd cc
+  settled_ends (Ran outcomes.NoCells) settled found ran = absurd cc
+  settled_ends (Found (Halt n score)) settled found ran = absurd found
+  settled_ends (Found (Translated side first second extent)) settled found ran = absurd found
+  settled_ends (Found (Backward levels nodes)) settled found ran = absurd found
+  settled_ends (Found (Undecided why)) settled found ran = absurd found
+
+  -- else it found none
+  pub open_finds_none : (ending : Ending) → is_settled ending ≡ false → FindsCycle table bounds (found_of ending)
+      → HasNoCycle table bounds
+  open_finds_none (Ran outcome) settled found = found
+  open_finds_none (Found verdict) settled found = absurd cc
+
+  -- and then the one for records
+  pub both_end : HasNoCycle table bounds → (ending : Ending) → FindsTranslation table bounds (found_of ending)
+      → RanAs table bounds ending → EndsBoth table bounds ending
+  both_end nowhere (Found (Translated side first second extent)) found ran = (nowhere, found.0, found.1)
+  both_end nowhere (Ran outcome) found ran = (ran, nowhere, found)
+  both_end nowhere (Found (Halt n score)) found ran = absurd found
+  both_end nowhere (Found (Cycler first second)) found ran = absurd found
+  both_end nowhere (Found (Backward levels nodes)) found ran = absurd found
+  both_end nowhere (Found (Undecided why)) found ran = absurd found
+
+  -- by a plan
+  pub both_on : (plan : Plan) → IsTrue plan.cyclers → IsTrue plan.translated → (ending : Ending)
+      → EndsBoth table bounds ending → EndsSearches table bounds plan ending
+  both_on plan cyclers translated (Found (Cycler first second)) ends = (cyclers, ends)
+  both_on plan cyclers translated (Found (Translated side first second extent)) ends =
+      (λ on. ends.0, translated, ends.1, ends.2)
+  both_on plan cyclers translated (Ran outcome) ends = (ends.0, (λ on. ends.1, λ on. ends.2))
+  both_on plan cyclers translated (Found (Halt n score)) ends = absurd ends
+  both_on plan cyclers translated (Found (Backward levels nodes)) ends = absurd ends
+  both_on plan cyclers translated (Found (Undecided why)) ends = absurd ends
+
+  pub cyclers_on : (plan : Plan) → IsTrue plan.cyclers → (IsTrue plan.translated → ⊥) → (ending : Ending)
+      → FindsCycle table bounds (found_of ending) → RanAs table bounds ending
+      → EndsSearches table bounds plan ending
+  cyclers_on plan cyclers off (Found (Cycler first second)) found ran = (cyclers, found)
+  cyclers_on plan cyclers off (Ran outcome) found ran = (ran, (λ on. found, λ on. absurd (off on)))
+  cyclers_on plan cyclers off (Found (Halt n score)) found ran = absurd found
+  cyclers_on plan cyclers off (Found (Translated side first second extent)) found ran = absurd found
+  cyclers_on plan cyclers off (Found (Backward levels nodes)) found ran = absurd found
+  cyclers_on plan cyclers off (Found (Undecided why)) found ran = absurd found
+
+  pub translated_on : (plan : Plan) → (IsTrue plan.cyclers → ⊥) → IsTrue plan.translated → (ending : Ending)
+      → FindsTranslation table bounds (found_of ending) → RanAs table bounds ending
+      → EndsSearches table bounds plan ending
+  translated_on plan off translated (Found (Translated side first second extent)) found ran =
+      (λ on. absurd (off on), translated, found.0, found.1)
+  translated_on plan off translated (Ran outcome) found ran = (ran, (λ on. absurd (off on), λ on. found))
+  translated_on plan off translated (Found (Halt n score)) found ran = absurd found
+  translated_on plan off translated (Found (Cycler first second)) found ran = absurd found
+  translated_on plan off translated (Found (Backward levels nodes)) found ran = absurd found
+  translated_on plan off translated (Found (Undecided why)) found ran = absurd found
+
+-- what holds of an answer, from two things that hold of it
+pub if_ok_both : {A E : Type 0} (r : Result A E) (P Q R : A → Type 0) → ((x : A) → P x → Q x → R x)
+    → IfOk r P → IfOk r Q → IfOk r R
+if_ok_both (Ok x) P Q R f one other = f x one other
+if_ok_both (Err e) P Q R f one other = tt
+
+module _ (table : Table) (bounds : Bounds) (plan : Plan) where
+  nowhere_of_never : Never table → HaltsNowhere table bounds
+  nowhere_of_never never n halts = never.never n halts.halts
+
+  -- what a search finds is the verdict, since such a machine never halts
+  pub found_is_verdict : (verdict : Verdict) → SearchesFind table bounds plan (Some verdict)
+      → IsVerdict table bounds plan verdict
+  found_is_verdict (Cycler first second) found = (
+    nowhere_of_never (repeats_never_halt table first second found.1.cycle.partner.below found.1.cycle.same),
+    found.0,
+    found.1,
+  )
+  found_is_verdict (Translated side first second extent) found = (
+    nowhere_of_never (agreeing_records_never_halt table side first second
+        (pair_agrees table side first second found.2.translation.pair)),
+    found.0,
+    found.1,
+    found.2,
+    found.3,
+  )
+  found_is_verdict (Halt n score) found = absurd found
+  found_is_verdict (Backward levels nodes) found = absurd found
+  found_is_verdict (Undecided why) found = absurd found
+
+  -- no walk is made then, nor where the machine halts
+  pub no_walk_beside : (verdict : Verdict) (meter : Meter) → SearchesFind table bounds plan (Some verdict)
+      → meter.most_levels ≡ 0 → meter.nodes ≡ 0 → CountsWalk (MakesWalk table bounds plan) table bounds meter
+  no_walk_beside verdict meter found levels nodes =
+      no_walk_counted (MakesWalk table bounds plan) table bounds meter levels nodes
+      (λ made. not_reached table bounds plan verdict found made.1 made.2)
+
+  pub no_walk_at_halt : (n : ℕ) (meter : Meter) → HaltsInside table bounds n → meter.most_levels ≡ 0
+      → meter.nodes ≡ 0 → CountsWalk (MakesWalk table bounds plan) table bounds meter
+  no_walk_at_halt n meter halts levels nodes =
+      no_walk_counted (MakesWalk table bounds plan) table bounds meter levels nodes (λ made. made.0 n halts)
+
+  -- where nothing was found and the machine doesn't halt, it is made
+  pub walk_counted : (found : Option Verdict) (old new : Meter) → HaltsNowhere table bounds
+      → SearchesFind table bounds plan None → IsTrue plan.backward → FindsTree table bounds found
+      → CountsTree bounds old new found → CountsWalk (MakesWalk table bounds plan) table bounds new
+  walk_counted found old new nowhere passes on finds counts =
+      let walk = counts_walk table bounds plan passes found old new on finds counts in
+      record {
+        of_tree = λ made levels nodes tree. walk.of_tree (made.1, made.2, made.3) levels nodes tree;
+        within_levels = walk.within_levels;
+        within_nodes = walk.within_nodes;
+        not_made = λ not_made. walk.not_made (λ made. not_made (nowhere, made.0, made.1, made.2));
+      }
+
+-- where the limits end a run, the machine halts nowhere inside
+pub halts_nowhere : (table : Table) (bounds : Bounds) (outcome : Outcome) → IsOutcome table bounds outcome
+    → is_settled (Ran outcome) ≡ false → HaltsNowhere table bounds
+halts_nowhere table bounds outcomes.NoSteps is open_yet = is.0
+halts_nowhere table bounds outcomes.NoCells is open_yet = is.0
+halts_nowhere table bounds (outcomes.Halt n score) is open_yet = absurd cc

@@ -1,0 +1,77 @@
+-- Why what a run finds within small limits is the verdict within larger ones.
+use Rattle.std.proofs.Common.{ℕ, ◌≤◌, inl, inr, arith}
+use Rattle.std.proofs.lemmas.Bool.{cases_lt}
+use Rattle.bb_machine.specs.Limits.{Bounds}
+use Rattle.bb_machine.specs.Machine.{Table}
+use Rattle.bb_sim.proofs.Facts.{earlier_is_inside}
+use Rattle.bb_cert.specs.declared.verdict.Side.{Side}
+use Rattle.bb_cert.specs.declared.verdict.Verdict.TheVariants.{Halt, Cycler, Translated, Backward, Undecided}
+use Rattle.bb_cert.proofs.Facts.{agreeing_records_never_halt, agreeing_records_never_repeat}
+use Rattle.bb_cert.proofs.Facts.{repeats_never_halt}
+use Rattle.bb_decide.specs.Cycle.{IsCycle, IsFirstCycle}
+use Rattle.bb_decide.specs.Laws.{SmallLimitsDecide}
+use Rattle.bb_decide.specs.Sure.{NoneIsSmaller}
+use Rattle.bb_decide.specs.Translation.{IsFirstTranslation, IsTranslation}
+use Rattle.bb_decide.proofs.Claims.{verdicts_hold}
+use Rattle.bb_decide.proofs.Sure.{cycle_upper, halts_upper, translation_upper}
+
+module _ (table : Table) (lower upper : Bounds) (within : NoneIsSmaller lower upper) where
+  -- a cycle no later than one inside the smaller limits is inside them
+  cycle_lower : (a t b u : ℕ) → IsCycle table lower a t → u ≤ t → IsCycle table upper b u
+      → IsCycle table lower b u
+  cycle_lower a t b u one early other = record {
+    partner = other.partner;
+    inside = earlier_is_inside table lower u t early one.inside;
+    same = other.same;
+  }
+
+  translation_lower : (side next : Side) (a b c d : ℕ) → IsTranslation table lower side a b → d ≤ b
+      → IsTranslation table upper next c d → IsTranslation table lower next c d
+  translation_lower side next a b c d one early other = record {
+    pair = other.pair;
+    inside = earlier_is_inside table lower d b early one.inside;
+  }
+
+  -- so the first within the smaller limits is the first within the larger ones
+  first_cycle_upper : (a t : ℕ) → IsFirstCycle table lower a t → IsFirstCycle table upper a t
+  first_cycle_upper a t first = record {
+    cycle = cycle_upper table lower upper within a t first.cycle;
+    first = λ b u other. elim (cases_lt u t) [
+      | inl earlier ↦ first.first b u (cycle_lower a t b u first.cycle (omega (arith, earlier)) other)
+      | inr later ↦ later
+    ];
+  }
+
+  first_translation_upper : (side : Side) (a b : ℕ) → IsFirstTranslation table lower side a b
+      → IsFirstTranslation table upper side a b
+  first_translation_upper side a b first = record {
+    translation = translation_upper table lower upper within side a b first.translation;
+    first = λ next c d other. elim (cases_lt d b) [
+      | inl earlier ↦ first.first next c d
+          (translation_lower side next a b c d first.translation (omega (arith, earlier)) other)
+      | inr later ↦ later
+    ];
+  }
+
+pub small_limits_decide : SmallLimitsDecide
+small_limits_decide table lower upper plan trees (Halt n ones) within found is =
+    (halts_upper table lower upper within n is.0, is.1)
+small_limits_decide table lower upper plan trees (Cycler first second) within found is =
+    let cycle = is.2.cycle in
+    let never = repeats_never_halt table first second cycle.partner.below cycle.same in (
+      λ n halts. never.never n halts.halts,
+      is.1,
+      first_cycle_upper table lower upper within first second is.2,
+    )
+small_limits_decide table lower upper plan trees (Translated side first second extent) within found is =
+    let agree = (verdicts_hold table lower (record plan { backward = trees })
+    (Translated side first second extent) is).0 in (
+      λ n halts. (agreeing_records_never_halt table side first second agree).never n halts.halts,
+      λ on a t cycle. agreeing_records_never_repeat table side first second a t agree cycle.partner.below
+          cycle.same,
+      is.2,
+      first_translation_upper table lower upper within side first second is.3,
+      is.4,
+    )
+small_limits_decide table lower upper plan trees (Backward levels nodes) within found is = absurd found
+small_limits_decide table lower upper plan trees (Undecided why) within found is = absurd found

@@ -1,0 +1,39 @@
+use Rattle.std.proofs.Common.{sym, ◌∙◌}
+use Rattle.bb_decide.proofs.OneRun.{both_end, chance_costs, exact_costs, if_ok_both, open_finds_none}
+use Rattle.bb_decide.proofs.OneRun.{settled_ends, watched_costs, watched_ends}
+use Rattle.bb_decide.proofs.one_run.search_both.Goals as goal
+
+pub returns-in-Some-clause-ended : goal.returns-in-Some-clause-ended
+returns-in-Some-clause-ended g c =
+    watched_ends _ _ (g.K.Keys.key_of c.args.keys.now) _ _ c.requires.steps c.in-Some.ending
+    (rw c.in-Some.is at c.in_ok-ending.ensures.watched)
+
+pub returns-in-Some-clause-costs : goal.returns-in-Some-clause-costs
+returns-in-Some-clause-costs g c =
+    watched_costs _ _ _ _ _ c.requires.steps c.in-Some.ending (rw c.in-Some.is at c.in_ok-ending.ensures.watched)
+
+pub returns-then-is_settled-clause-ended : goal.returns-then-is_settled-clause-ended
+returns-then-is_settled-clause-ended g c =
+    settled_ends _ _ c.in_ok-ending-2.ending (sym c.is_settled.ensures ∙ c.if-is_settled.true)
+    c.in_ok-ending-2.ensures.found c.in_ok-ending-2.ensures.ran
+
+pub returns-then-is_settled-clause-costs : goal.returns-then-is_settled-clause-costs
+returns-then-is_settled-clause-costs g c =
+    let watched = rw c.in-None.is at c.in_ok-ending.ensures.watched in
+    exact_costs watched.1 _ _ _ c.requires.steps watched.2 _ c.in_ok-ending-2.ensures.found
+    c.in_ok-ending-2.ensures.ran c.in_ok-ending-2.ensures.counted
+
+pub returns-clause-ended : goal.returns-clause-ended
+returns-clause-ended g c =
+    let none = open_finds_none _ _ c.in_ok-ending-2.ending (sym c.is_settled.ensures ∙ c.if-is_settled.false)
+    c.in_ok-ending-2.ensures.found in
+    if_ok_both c.seek_translation.result _ _ _ (both_end _ _ none) c.seek_translation.ensures.found
+    c.seek_translation.ensures.ran
+
+pub returns-clause-costs : goal.returns-clause-costs
+returns-clause-costs g c =
+    let watched = rw c.in-None.is at c.in_ok-ending.ensures.watched in
+    let none = open_finds_none _ _ c.in_ok-ending-2.ending (sym c.is_settled.ensures ∙ c.if-is_settled.false)
+    c.in_ok-ending-2.ensures.found in
+    if_ok_both c.seek_translation.result _ _ _ (chance_costs watched.1 none c.seek_translation.new.meter.steps)
+    c.seek_translation.ensures.found c.seek_translation.ensures.ran

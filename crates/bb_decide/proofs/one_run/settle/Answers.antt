@@ -1,0 +1,54 @@
+use Rattle.std.proofs.Common.{Some, None, ap, ◌∙◌}
+use Rattle.bb_sim.specs.declared.meter.Meter.{Meter}
+use Rattle.bb_decide.proofs.OneRun.{found_is_verdict, no_walk_at_halt, no_walk_beside}
+use Rattle.bb_decide.proofs.OneRun.{walk_counted}
+use Rattle.bb_decide.proofs.Works.{on_where_not}
+use Rattle.bb_decide.proofs.one_run.settle.Goals as goal
+use Rattle.bb_decide.proofs.one_run.settle.Goals.{in-NoSteps, in-NoCells}
+
+pub returns-in-Found-clause-verdict : goal.returns-in-Found-clause-verdict
+returns-in-Found-clause-verdict g c =
+    found_is_verdict _ _ _ _ (rw c.in-Found.is at c.in_ok-verdict.ensures.ended)
+
+pub returns-in-Found-clause-walk : goal.returns-in-Found-clause-walk
+returns-in-Found-clause-walk g c =
+    let within = c.in_ok-verdict.ensures.within in
+    no_walk_beside _ _ _ _ _ (rw c.in-Found.is at c.in_ok-verdict.ensures.ended)
+    (within.most_levels ∙ ap (λ (m : Meter). m.most_levels) c.new.ensures)
+    (within.nodes ∙ ap (λ (m : Meter). m.nodes) c.new.ensures)
+
+pub returns-in-Halt-clause-walk : goal.returns-in-Halt-clause-walk
+returns-in-Halt-clause-walk g c =
+    let within = c.in_ok-verdict.ensures.within in
+    let ended = rw (c.in-Ran.is, c.in-Halt.is) at c.in_ok-verdict.ensures.ended in
+    no_walk_at_halt _ _ _ _ _ ended.0.0
+    (within.most_levels ∙ ap (λ (m : Meter). m.most_levels) c.new.ensures)
+    (within.nodes ∙ ap (λ (m : Meter). m.nodes) c.new.ensures)
+
+pub returns-in-Some-clause-walk : goal.returns-in-Some-clause-walk
+returns-in-Some-clause-walk g c =
+    let on = on_where_not _ c.if-not-plan.false in
+    let found = rw c.in-Some.is at c.in_ok-verdict-2.ensures.found in
+    let counted = rw c.in-Some.is at c.in_ok-verdict-2.ensures.counted in
+    elim c.match-outcome.branch [
+      | in-NoSteps w ↦
+          let ended = rw (c.in-Ran.is, w.in-NoSteps.is) at c.in_ok-verdict.ensures.ended in
+          walk_counted _ _ _ (Some c.in-Some.verdict) c.search.new.meter _ ended.0.0 ended.1 on found counted
+      | in-NoCells w ↦
+          let ended = rw (c.in-Ran.is, w.in-NoCells.is) at c.in_ok-verdict.ensures.ended in
+          walk_counted _ _ _ (Some c.in-Some.verdict) c.search.new.meter _ ended.0.0 ended.1 on found counted
+    ]
+
+pub returns-in-None-clause-walk : goal.returns-in-None-clause-walk
+returns-in-None-clause-walk g c =
+    let on = on_where_not _ c.if-not-plan.false in
+    let found = rw c.in-None.is at c.in_ok-verdict-2.ensures.found in
+    let counted = rw c.in-None.is at c.in_ok-verdict-2.ensures.counted in
+    elim c.match-outcome.branch [
+      | in-NoSteps w ↦
+          let ended = rw (c.in-Ran.is, w.in-NoSteps.is) at c.in_ok-verdict.ensures.ended in
+          walk_counted _ _ _ None c.search.new.meter _ ended.0.0 ended.1 on found counted
+      | in-NoCells w ↦
+          let ended = rw (c.in-Ran.is, w.in-NoCells.is) at c.in_ok-verdict.ensures.ended in
+          walk_counted _ _ _ None c.search.new.meter _ ended.0.0 ended.1 on found counted
+    ]

@@ -1,0 +1,65 @@
+-- The fingerprint of a tape: a number that two equal tapes share, and two others hardly ever do
+-- (R. M. Karp and M. O. Rabin, "Efficient randomized pattern-matching algorithms", 1987).
+use Rattle.std.specs.Prelude.{◌≡◌, ℕ, zero, suc, ◌+◌, ◌*◌, ◌<◌, ◌≤◌, ◌%◌, ◌^◌, Some, ℤ, pos, ◌-ℤ◌}
+use Rattle.bb_machine.specs.Limits.{Bounds}
+use Rattle.bb_machine.specs.Machine.{Table}
+use Rattle.bb_tape.specs.declared.tape.TheConstants.{MAX_CELLS}
+use Rattle.bb_tape.specs.Content.{Content, cell}
+use Rattle.bb_sim.specs.Configuration.{Configuration}
+use Rattle.bb_sim.specs.Run.{conf}
+use Rattle.bb_cert.specs.declared.verdict.Verdict.{Verdict}
+use Rattle.bb_cert.specs.declared.verdict.Verdict.TheVariants.{Halt, Cycler, Translated, Backward, Undecided}
+
+-- the sum of the first n of f 0, f 1 and so on
+unfoldable pub sum_to : (ℕ → ℕ) → ℕ → ℕ
+sum_to f zero = 0
+sum_to f (suc n) = sum_to f n + f n
+
+-- the k-th of all positions that a tape may have in its window, the lowest first
+abbrev pub place : ℕ → ℤ
+place k = pos k -ℤ pos MAX_CELLS
+
+-- the sum of key times symbol over all these positions; cells that were never visited are 0 and add nothing
+unfoldable pub total : (ℤ → ℕ) → Content → ℕ
+total key tape = sum_to (λ k. key (place k) * cell tape (place k)) (2 * MAX_CELLS + 1)
+
+-- the same, modulo 2^64
+abbrev pub fingerprint : (ℤ → ℕ) → Content → ℕ
+fingerprint key tape = total key tape % 2 ^ 64
+
+-- two different configurations, the second of them no later than a step, have state, position and
+-- fingerprint in common
+pub record AgreesByChance (key : ℤ → ℕ) (table : Table) (latest : ℕ) : Type 0 where
+  pub first : ℕ
+  pub second : ℕ
+  pub order : first < second
+  pub no_later : second ≤ latest
+  pub one : Configuration
+  pub other : Configuration
+  pub at_first : conf table first ≡ Some one
+  pub at_second : conf table second ≡ Some other
+  pub state : one.state ≡ other.state
+  pub head : one.head ≡ other.head
+  pub print : fingerprint key one.tape ≡ fingerprint key other.tape
+  pub differ : one ≡ other → ⊥
+
+-- the step that a verdict names: that of a halt, the second one of a pair; of others the limit of steps
+abbrev pub named_step : Bounds → Verdict → ℕ
+named_step bounds (Halt steps score) = steps
+named_step bounds (Cycler first second) = second
+named_step bounds (Translated side first second extent) = second
+named_step bounds (Backward levels nodes) = bounds.steps
+named_step bounds (Undecided why) = bounds.steps
+
+-- how many steps it may cost to find: for a cycler twice the step that it names
+abbrev pub most_steps : Bounds → Verdict → ℕ
+most_steps bounds (Halt steps score) = steps
+most_steps bounds (Cycler first second) = 2 * second
+most_steps bounds (Translated side first second extent) = second
+most_steps bounds (Backward levels nodes) = bounds.steps
+most_steps bounds (Undecided why) = bounds.steps
+
+-- a verdict cost no more steps than what it names allows, unless configurations up to there agree by chance
+abbrev pub CostsWhatItNames : (ℤ → ℕ) → Table → Bounds → ℕ → Verdict → Type 0
+CostsWhatItNames key table bounds steps verdict =
+    (AgreesByChance key table (named_step bounds verdict) → ⊥) → steps ≤ most_steps bounds verdict

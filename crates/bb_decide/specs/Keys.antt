@@ -1,0 +1,13 @@
+-- The keys that the program takes for its fingerprints: this project's own.
+use Rattle.std.specs.Prelude.{ℕ, ◌*◌, ◌/◌, ◌%◌, ◌^◌, ℤ}
+use Rattle.std.specs.Int.{cast_unsigned, w64}
+use Rattle.std.specs.Prelude.{bit_xor}
+use Rattle.bb_decide.specs.declared.keys.TheConstants.{MULTIPLIER}
+
+-- the position times an odd number
+abbrev pub product : ℤ → ℕ
+product position = cast_unsigned w64 position * MULTIPLIER % 2 ^ 64
+
+-- with its high half folded onto its low one
+abbrev pub spread : ℤ → ℕ
+spread position = bit_xor (product position) (product position / 2 ^ 29)

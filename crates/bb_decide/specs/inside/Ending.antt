@@ -1,0 +1,135 @@
+-- How a search ends, as the functions of this crate tell one another; no public contract cites it.
+use Rattle.std.specs.Prelude.{◌≡◌, ℕ, ◌+◌, ◌*◌, ◌<◌, ◌≤◌, max, Bool, true, false, IfOk, IfSome, IsTrue, OnErr}
+use Rattle.std.specs.Prelude.{Option, Some, None}
+use Rattle.std.specs.Prelude.{Result, ℤ}
+use Rattle.bb_tape.specs.declared.tape.Memory.{Memory}
+use Rattle.bb_cert.specs.claims.Claim.{Claim}
+use Rattle.bb_cert.specs.declared.verdict.Side.{Side}
+use Rattle.bb_cert.specs.verdict.Extent.{TellsExtent}
+use Rattle.bb_cert.specs.verdict.Verdict.{HasNumbers}
+use Rattle.bb_machine.specs.Limits.{Bounds}
+use Rattle.bb_machine.specs.Machine.{Table}
+use Rattle.bb_machine.specs.declared.plan.Plan.{Plan}
+use Rattle.bb_sim.specs.Configuration.{Configuration}
+use Rattle.bb_sim.specs.declared.meter.Meter.{Meter}
+use Rattle.bb_sim.specs.declared.runner.Moved.{Moved}
+use Rattle.bb_sim.specs.declared.runner.Moved.TheVariants.{Halted, NoSteps, NoCells, Stepped}
+use Rattle.bb_sim.specs.declared.simulation.Outcome.{Outcome}
+use Rattle.bb_sim.specs.declared.simulation.Outcome.TheVariants as outcomes
+use Rattle.bb_sim.specs.Meter.{CountsRun, CountsTo}
+use Rattle.bb_sim.specs.Outcome.{IsOutcome}
+use Rattle.bb_sim.specs.Run.{conf}
+use Rattle.bb_sim.specs.Span.{Inside}
+use Rattle.bb_cert.specs.declared.verdict.Verdict.{Verdict}
+use Rattle.bb_cert.specs.declared.verdict.Verdict.TheVariants.{Halt, Cycler, Translated, Backward, Undecided}
+use Rattle.bb_cert.specs.declared.verdict.Why.TheVariants as why
+use Rattle.bb_decide.specs.declared.ending.Ending.{Ending}
+use Rattle.bb_decide.specs.declared.ending.Ending.TheVariants.{Found, Ran}
+use Rattle.bb_decide.specs.Cycle.{CountsSearch, HasNoCycle, IsCycle, IsFirstCycle}
+use Rattle.bb_decide.specs.Fingerprint.{CostsWhatItNames, fingerprint}
+use Rattle.bb_decide.specs.Translation.{FindsTranslation, HasNoTranslation, IsFirstTranslation, IsTranslation}
+use Rattle.bb_decide.specs.inside.Search.{SearchesFind}
+
+-- what a search has found, if anything
+abbrev pub found_of : Ending → Option Verdict
+found_of (Found verdict) = Some verdict
+found_of (Ran outcome) = None
+
+-- something was found, or the machine halts
+abbrev pub is_settled : Ending → Bool
+is_settled (Found verdict) = true
+is_settled (Ran (outcomes.Halt steps score)) = true
+is_settled (Ran outcomes.NoSteps) = false
+is_settled (Ran outcomes.NoCells) = false
+
+-- what each search promises of its result: what it finds is claimed rightly and has numbers that fit a line,
+-- and it fails only for memory, on tapes that may grow
+pub record EndsPromised (table : Table) (grows : Bool) (result : Result Ending Memory) : Type 0 where
+  pub claim : IfOk result (λ ending. IfSome (found_of ending) (Claim table))
+  pub numbers : IfOk result (λ ending. IfSome (found_of ending) HasNumbers)
+  pub memory : OnErr result (IsTrue grows)
+
+-- what the watched run promises of its result
+pub record WatchPromised (table : Table) (grows : Bool) (result : Result (Option Ending) Memory) : Type 0 where
+  pub claim : IfOk result (λ found. IfSome found (λ ending. IfSome (found_of ending) (Claim table)))
+  pub numbers : IfOk result (λ found. IfSome found (λ ending. IfSome (found_of ending) HasNumbers))
+  pub memory : OnErr result (IsTrue grows)
+
+-- the outcome that is told where a call of `advance` did this, after so many steps with so many cells not 0
+abbrev pub TellsEnd : Moved → ℕ → ℕ → Outcome → Type 0
+TellsEnd NoSteps steps ones outcome = outcome ≡ outcomes.NoSteps
+TellsEnd NoCells steps ones outcome = outcome ≡ outcomes.NoCells
+TellsEnd Halted steps ones outcome = outcome ≡ outcomes.Halt steps ones
+TellsEnd Stepped steps ones outcome = outcome ≡ outcomes.Halt steps ones
+
+-- a search that found nothing has run as a simulation does
+abbrev pub RanAs : Table → Bounds → Ending → Type 0
+RanAs table bounds (Ran outcome) = IsOutcome table bounds outcome
+RanAs table bounds (Found verdict) = Unit {0}
+
+-- a run was stopped at step n: no cycle is before, nor records that agree; configuration n has state, position
+-- and fingerprint of an earlier one, with which it makes a cycle if the tapes are the same
+pub record IsSuspected (table : Table) (bounds : Bounds) (key : ℤ → ℕ) (n : ℕ) : Type 0 where
+  pub inside : Inside table bounds n
+  pub no_cycle : (a t : ℕ) → t < n → IsCycle table bounds a t → ⊥
+  pub no_translation : (side : Side) (a b : ℕ) → b < n → IsTranslation table bounds side a b → ⊥
+  pub first : ℕ
+  pub order : first < n
+  pub one : Configuration
+  pub other : Configuration
+  pub at_first : conf table first ≡ Some one
+  pub at_second : conf table n ≡ Some other
+  pub state : one.state ≡ other.state
+  pub head : one.head ≡ other.head
+  pub print : fingerprint key one.tape ≡ fingerprint key other.tape
+  pub cycle : one ≡ other → IsCycle table bounds first n
+
+-- what the watched run finds and counts; none where it was stopped
+abbrev pub Watches : Table → Bounds → (ℤ → ℕ) → Meter → Meter → Option Ending → Type 0
+Watches table bounds key old new None =
+    (n : ℕ) × IsSuspected table bounds key n × CountsTo table n old new
+Watches table bounds key old new (Some (Found verdict)) =
+    FindsTranslation table bounds (Some verdict) × CountsSearch table bounds old new (Some verdict)
+Watches table bounds key old new (Some (Ran outcome)) =
+    HasNoTranslation table bounds × CountsRun table bounds old new × IsOutcome table bounds outcome
+    × HasNoCycle table bounds
+
+-- what the searches that are on find, and how the last one ended where they find nothing
+abbrev pub EndsSearches : Table → Bounds → Plan → Ending → Type 0
+EndsSearches table bounds plan (Found verdict) = SearchesFind table bounds plan (Some verdict)
+EndsSearches table bounds plan (Ran outcome) =
+    IsOutcome table bounds outcome × SearchesFind table bounds plan None
+
+-- the same where both searches are on
+abbrev pub EndsBoth : Table → Bounds → Ending → Type 0
+EndsBoth table bounds (Found (Cycler first second)) = IsFirstCycle table bounds first second
+EndsBoth table bounds (Found (Translated side first second extent)) =
+    HasNoCycle table bounds × IsFirstTranslation table bounds side first second
+    × TellsExtent table side first second extent
+EndsBoth table bounds (Found (Halt steps score)) = ⊥
+EndsBoth table bounds (Found (Backward levels nodes)) = ⊥
+EndsBoth table bounds (Found (Undecided why)) = ⊥
+EndsBoth table bounds (Ran outcome) =
+    IsOutcome table bounds outcome × HasNoCycle table bounds × HasNoTranslation table bounds
+
+-- no more than three runs within bounds
+pub record IsWithinThreeRuns (bounds : Bounds) (old new : Meter) : Type 0 where
+  pub steps : new.steps ≤ old.steps + 3 * bounds.steps
+  pub most_cells : new.most_cells ≤ max old.most_cells bounds.cells
+  pub nodes : new.nodes ≡ old.nodes
+  pub most_levels : new.most_levels ≡ old.most_levels
+
+-- the verdict that an outcome is, where no decider finds anything
+abbrev pub verdict_of_outcome : Outcome → Verdict
+verdict_of_outcome (outcomes.Halt steps score) = Halt steps score
+verdict_of_outcome outcomes.NoSteps = Undecided why.Steps
+verdict_of_outcome outcomes.NoCells = Undecided why.Cells
+
+-- the verdict that an ending is, trees aside
+abbrev pub verdict_of : Ending → Verdict
+verdict_of (Found verdict) = verdict
+verdict_of (Ran outcome) = verdict_of_outcome outcome
+
+-- the searches cost what their verdict names
+abbrev pub EndingCosts : (ℤ → ℕ) → Table → Bounds → ℕ → Ending → Type 0
+EndingCosts key table bounds steps ending = CostsWhatItNames key table bounds steps (verdict_of ending)

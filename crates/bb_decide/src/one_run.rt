@@ -1,0 +1,177 @@
+//! The verdict on one machine by one run, watched for all that a verdict may be.
+ghost use Rattle.std.specs.Prelude.{◌≡◌, ◌≤◌, ◌*◌, IfOk, IfSome, IsTrue, OnErr, OnOk};
+ghost use Rattle.bb_sim.specs.Run.{Never};
+ghost use Rattle.bb_cert.specs.declared.checker.answer.Answer.{Answer};
+ghost use Rattle.bb_cert.specs.declared.verdict.reader.Line.{Line};
+ghost use Rattle.bb_cert.specs.checker.Answer.{IsAnswer, IsUndecided};
+ghost use Rattle.bb_cert.specs.claims.Claim.{Claim, SaysNever};
+ghost use Rattle.bb_cert.specs.verdict.Line.{IsLineOf, line_text};
+ghost use Rattle.bb_cert.specs.tree.Path.{depth_of};
+ghost use Rattle.bb_cert.specs.verdict.Verdict.{HasNumbers};
+ghost use Rattle.bb_decide.specs.Bench.{BenchHasCells};
+ghost use Rattle.bb_decide.specs.FewCells.{DecidesFewCells};
+ghost use Rattle.bb_decide.specs.Fingerprint.{CostsWhatItNames};
+ghost use Rattle.bb_decide.specs.inside.Ending.{EndingCosts, EndsBoth, EndsPromised, EndsSearches};
+ghost use Rattle.bb_decide.specs.inside.Ending.{IsWithinThreeRuns};
+ghost use Rattle.bb_decide.specs.Sure.{KeepsEarlier};
+ghost use Rattle.bb_decide.specs.Verdict.{IsVerdict};
+ghost use Rattle.bb_decide.specs.Work.{CountsWalk, IsWithinWork, MakesWalk};
+
+use crate::bench::Bench;
+use crate::cycle::seek_cycle;
+use crate::ending::Ending;
+use crate::keys::Keys;
+use crate::reasoning::backward;
+use crate::translation::seek_translation;
+use crate::watching::watch;
+use bb_cert::{Verdict, Why};
+use bb_machine::{Limits, Machine, Plan};
+use bb_sim::{Meter, Outcome, simulate};
+use bb_tape::{Memory, Tape};
+
+/// Resets `meter`, decides a machine as [`decide`](crate::decide) does, and records the cost in `meter`. What
+/// ends the run first is the verdict, since a halt, a cycle and records that agree exclude one another. So a
+/// halt costs the steps that it names, a pair at most twice its second step, and what stays undecided one run
+/// and the tree; more only where the fingerprints of two different configurations agree by chance.
+///
+/// After an error nothing is said of what the tapes hold; the next call resets them.
+#[inline(always)]
+pub fn decide_in_one_run<T: Tape, K: Keys>(
+    machine: &Machine,
+    limits: &Limits,
+    plan: Plan,
+    keys: &K,
+    bench: &mut Bench<T>,
+    meter: &mut Meter,
+) -> Result<Verdict, Memory>
+    requires tapes { BenchHasCells T.view limits.now.cells bench.old }
+    requires path { depth_of bench.old.path ≡ limits.now.depth }
+    ensures verdict { IfOk result (IsVerdict machine.now limits.now plan) }
+    ensures earlier { IfOk result (KeepsEarlier machine.now limits.now plan) }
+    ensures few_cells { IfOk result (DecidesFewCells machine.now limits.now plan) }
+    ensures numbers { IfOk result HasNumbers }
+    ensures claim { IfOk result (Claim machine.now) }
+    ensures never { IfOk result (λ verdict. SaysNever verdict → Never machine.now) }
+    ensures confirmed { IfOk result (λ verdict. (IsUndecided verdict → ⊥)
+        → IsAnswer machine.now limits.now verdict Answer.Ok) }
+    ensures line { IfOk result (λ verdict.
+        IsLineOf (Line.Claim machine.now verdict) (line_text machine.now verdict)) }
+    ensures bound { IfOk result
+        (CostsWhatItNames (K.key_of keys.now) machine.now limits.now meter.new.steps) }
+    ensures walk { OnOk result
+        (CountsWalk (MakesWalk machine.now limits.now plan) machine.now limits.now meter.new) }
+    ensures within { IsWithinWork limits.now meter.new }
+    ensures tapes { BenchHasCells T.view limits.now.cells bench.new }
+    ensures path { depth_of bench.new.path ≡ depth_of bench.old.path }
+    ensures memory { OnErr result (IsTrue T.GROWS) }
+{
+    machine.show_machine();
+    let verdict = settle(machine, limits, plan, keys, bench, meter)?;
+    Ok(verdict)
+}
+
+/// The verdict and its cost. What else its clauses say follows from the definition of a verdict.
+#[inline(always)]
+fn settle<T: Tape, K: Keys>(
+    machine: &Machine,
+    limits: &Limits,
+    plan: Plan,
+    keys: &K,
+    bench: &mut Bench<T>,
+    meter: &mut Meter,
+) -> Result<Verdict, Memory>
+    requires tapes { BenchHasCells T.view limits.now.cells bench.old }
+    requires path { depth_of bench.old.path ≡ limits.now.depth }
+    ensures verdict { IfOk result (IsVerdict machine.now limits.now plan) }
+    ensures numbers { IfOk result HasNumbers }
+    ensures bound { IfOk result
+        (CostsWhatItNames (K.key_of keys.now) machine.now limits.now meter.new.steps) }
+    ensures walk { OnOk result
+        (CountsWalk (MakesWalk machine.now limits.now plan) machine.now limits.now meter.new) }
+    ensures within { IsWithinWork limits.now meter.new }
+    ensures tapes { BenchHasCells T.view limits.now.cells bench.new }
+    ensures path { depth_of bench.new.path ≡ depth_of bench.old.path }
+    ensures memory { OnErr result (IsTrue T.GROWS) }
+{
+    *meter = Meter::new();
+    limits.show_accepted();
+    let outcome = match search(machine, limits, plan, keys, bench, meter)? {
+        Ending::Found(verdict) => return Ok(verdict),
+        Ending::Ran(outcome) => outcome,
+    };
+    let why = match outcome {
+        Outcome::Halt { steps, score } => return Ok(Verdict::Halt { steps, score }),
+        Outcome::NoSteps => Why::Steps,
+        Outcome::NoCells => Why::Cells,
+    };
+    if !plan.backward {
+        return Ok(Verdict::Undecided(why));
+    }
+    match backward(machine, limits, bench, meter)? {
+        Some(verdict) => Ok(verdict),
+        None => Ok(Verdict::Undecided(why)),
+    }
+}
+
+/// What the searches that are on find, in one run where both are, and else how their run ended.
+fn search<T: Tape, K: Keys>(
+    machine: &Machine,
+    limits: &Limits,
+    plan: Plan,
+    keys: &K,
+    bench: &mut Bench<T>,
+    meter: &mut Meter,
+) -> Result<Ending, Memory>
+    requires tapes { BenchHasCells T.view limits.now.cells bench.old }
+    requires steps { meter.old.steps ≡ 0 }
+    ensures ended { IfOk result (EndsSearches machine.now limits.now plan) }
+    ensures costs { IfOk result
+        (EndingCosts (K.key_of keys.now) machine.now limits.now meter.new.steps) }
+    ensures within { IsWithinThreeRuns limits.now meter.old meter.new }
+    ensures promised { EndsPromised machine.now T.GROWS result }
+    ensures tapes { BenchHasCells T.view limits.now.cells bench.new }
+    ensures path { bench.new.path ≡ bench.old.path }
+{
+    limits.show_accepted();
+    if !plan.translated {
+        if !plan.cyclers {
+            let outcome = simulate(machine, &mut bench.run, limits, meter)?;
+            return Ok(Ending::Ran(outcome));
+        }
+        return seek_cycle(machine, limits, bench, meter);
+    }
+    if !plan.cyclers {
+        return seek_translation(machine, limits, bench, meter);
+    }
+    search_both(machine, limits, keys, bench, meter)
+}
+
+/// One run for both searches; where a fingerprint comes again, the exact search for cycles, and where that
+/// finds nothing, the one for records.
+fn search_both<T: Tape, K: Keys>(
+    machine: &Machine,
+    limits: &Limits,
+    keys: &K,
+    bench: &mut Bench<T>,
+    meter: &mut Meter,
+) -> Result<Ending, Memory>
+    requires tapes { BenchHasCells T.view limits.now.cells bench.old }
+    requires steps { meter.old.steps ≡ 0 }
+    ensures ended { IfOk result (EndsBoth machine.now limits.now) }
+    ensures costs { IfOk result
+        (EndingCosts (K.key_of keys.now) machine.now limits.now meter.new.steps) }
+    ensures within { IsWithinThreeRuns limits.now meter.old meter.new }
+    ensures promised { EndsPromised machine.now T.GROWS result }
+    ensures tapes { BenchHasCells T.view limits.now.cells bench.new }
+    ensures path { bench.new.path ≡ bench.old.path }
+{
+    match watch(machine, limits, keys, bench, meter)? {
+        Some(ending) => return Ok(ending),
+        None => {}
+    }
+    let ending = seek_cycle(machine, limits, bench, meter)?;
+    if ending.is_settled() {
+        return Ok(ending);
+    }
+    seek_translation(machine, limits, bench, meter)
+}

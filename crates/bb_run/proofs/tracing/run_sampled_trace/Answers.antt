@@ -1,0 +1,5 @@
+use Rattle.bb_run.proofs.TraceSummaries.{sampled_ends}
+use Rattle.bb_run.proofs.tracing.run_sampled_trace.Goals as goal
+
+pub returns-clause-ends : goal.returns-clause-ends
+returns-clause-ends g c = sampled_ends _ _ _ c.write_trace.ensures.ends

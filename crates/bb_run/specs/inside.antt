@@ -1,0 +1,2 @@
+-- What private functions tell one another. No public contract cites it.
+pub mod RunningOn

@@ -1,0 +1,48 @@
+-- How far a call goes on with a run, and what a sampled trace has sent where it stops early. This project's
+-- own.
+use Rattle.std.specs.Prelude.{◌≡◌, ℕ, ◌+◌, ◌<◌, ◌≤◌, List, Option}
+use Rattle.std.specs.Io.KnownBytes.{Appends}
+use Rattle.bb_machine.specs.Limits.{Bounds}
+use Rattle.bb_machine.specs.Machine.{Table}
+use Rattle.bb_sim.specs.Span.{span, Inside, IsLastInside}
+use Rattle.bb_run.specs.declared.tracing.RanOn.{RanOn}
+use Rattle.bb_run.specs.declared.tracing.RanOn.TheVariants.{Whole, Ended, Cut}
+use Rattle.bb_run.specs.Sample.{IsSampledRun, IsSampleSize, sampled_lines}
+use Rattle.bb_run.specs.Trace.{lines_text}
+
+-- from step `old` on it went to the last step inside, which is less than so many steps away
+pub record EndsWithin (table : Table) (bounds : Bounds) (old count new : ℕ) : Type 0 where
+  pub is_last : IsLastInside table bounds new
+  pub from_old : old ≤ new
+  pub few : new < old + count
+
+-- from step `old` on it went so many steps; else to the last one inside, which the limit of cells made the
+-- last or not
+abbrev pub RunsOnTo : Table → Bounds → ℕ → ℕ → ℕ → RanOn → Type 0
+RunsOnTo table bounds old count new Whole = Inside table bounds new × (new ≡ old + count)
+RunsOnTo table bounds old count new Ended =
+    EndsWithin table bounds old count new × (span table bounds.steps ≤ bounds.cells)
+RunsOnTo table bounds old count new Cut =
+    EndsWithin table bounds old count new × (bounds.cells < span table bounds.steps)
+
+-- so many steps from step `old` on there is one inside, by which the run had not come so far
+pub record IsWantedBefore (table : Table) (bounds : Bounds) (old count : ℕ) : Type 0 where
+  pub at : ℕ
+  pub from_old : old ≤ at
+  pub few : at < old + count
+  pub next : Inside table bounds (at + 1)
+
+-- known bytes grow by the sampled lines up to a step before the last
+pub record StopsBefore (table : Table) (from every last : ℕ) (old new : Option (List ℕ)) : Type 0 where
+  pub at : ℕ
+  pub before : at < last
+  pub count : ℕ
+  pub is_size : IsSampleSize from every at count
+  pub appends : Appends old new (lines_text (sampled_lines table from every count))
+
+-- the line is a machine's text, and known bytes grow by the sampled lines up to a step before the last one
+-- inside
+pub record EndsEarly (bounds : Bounds) (from every : ℕ) (line : List ℕ) (old new : Option (List ℕ))
+    (lines : List (List ℕ)) : Type 0 where
+  pub run : IsSampledRun bounds from every line lines
+  pub stops : StopsBefore run.table from every run.last old new

@@ -1,0 +1,97 @@
+//! What replies to the lines of a list have in common, however its machines are decided.
+ghost use Rattle.std.specs.Prelude.{◌≡◌, ◌+◌, ◌<◌, ◌^◌, [], ◌++◌, IsFalse, IsTrue, true};
+ghost use Rattle.bb_machine.specs.Machine.{IsTextOf};
+ghost use Rattle.bb_sim.specs.Meter.{greatest_of, zero_meter};
+ghost use Rattle.bb_cert.specs.verdict.Line.{verdict_text};
+ghost use Rattle.bb_cert.specs.verdict.Verdict.{HasNumbers};
+ghost use Rattle.bb_run.specs.Reply.{IsRefusal};
+ghost use Rattle.bb_run.specs.Seen.{SawRefusal};
+
+use crate::counts::VerdictCounts;
+use crate::summary::Summary;
+use arrayvec::ArrayVec;
+use bb_cert::{Verdict, lines_are_short, refusal_into, verdict_into};
+use bb_lines::responder::REPLY;
+use bb_machine::Machine;
+use bb_sim::Meter;
+
+/// The machine that was read last, and what the lines came to so far.
+#[derive(Drop)]
+pub(crate) struct Tally<'a> {
+    /// The machine of the last line that was one. Each is read in its place.
+    pub(crate) machine: Machine,
+    pub(crate) summary: Summary,
+    /// The steps and the nodes that the last line cost; 0 where it was refused, and before the first line.
+    pub(crate) last_effort: u64,
+    counts: &'a VerdictCounts,
+}
+
+impl<'a> Tally<'a> {
+    /// No line came yet.
+    pub(crate) fn new(counts: &'a VerdictCounts) -> Tally<'a>
+        ensures { result.summary ≡ record { clean = true; peak = zero_meter } }
+    {
+        Tally {
+            machine: Machine::blank(),
+            summary: Summary {
+                clean: true,
+                peak: Meter::new(),
+            },
+            last_effort: 0,
+            counts,
+        }
+    }
+
+    /// Reads a line's machine. Where it has none, the text, which is empty, becomes the refusal.
+    #[inline(always)]
+    pub(crate) fn read(&mut self, line: &[u8], text: &mut ArrayVec<u8, REPLY>) -> bool
+        requires empty { text.old.items ≡ [] }
+        ensures found { IsTrue result → IsTextOf self.new.machine line.now }
+        ensures untold { IsTrue result → text.new.items ≡ [] }
+        ensures stays { IsTrue result → self.new.summary ≡ self.old.summary }
+        ensures refused { IsFalse result → IsRefusal line.now text.new.items }
+        ensures saw { IsFalse result
+            → SawRefusal self.old.summary line.now self.new.summary self.new.last_effort }
+    {
+        match self.machine.read_in_place(line) {
+            Ok(()) => true,
+            Err(refused) => {
+                self.summary.clean = false;
+                self.last_effort = 0;
+                self.counts.add_refusal();
+                refusal_into(refused.column, text);
+                false
+            }
+        }
+    }
+
+    /// Puts the line of the machine that was read and its verdict into the text, which is empty, counts it,
+    /// and tells its effort.
+    #[inline(always)]
+    pub(crate) fn reply(
+        &mut self,
+        line: &[u8],
+        verdict: &Verdict,
+        cost: Meter,
+        text: &mut ArrayVec<u8, REPLY>,
+    ) -> u64
+        requires of { IsTextOf self.old.machine line.now }
+        requires numbers { HasNumbers verdict.now }
+        requires effort { cost.steps + cost.nodes < 2 ^ 64 }
+        requires empty { text.old.items ≡ [] }
+        ensures line { text.new.items ≡ line.now ++ verdict_text verdict.now }
+        ensures clean { self.new.summary.clean ≡ self.old.summary.clean }
+        ensures peak { self.new.summary.peak ≡ greatest_of self.old.summary.peak cost }
+        ensures effort { self.new.last_effort ≡ cost.steps + cost.nodes }
+        ensures told { result ≡ self.new.last_effort }
+    {
+        lines_are_short();
+        // The line is the machine's text, so it isn't written anew.
+        text.try_extend_from_slice(line).unwrap();
+        verdict_into(verdict, text);
+        self.summary.peak = self.summary.peak.greatest(cost);
+        self.last_effort = cost.steps + cost.nodes;
+        self.counts.add(verdict);
+        self.last_effort
+    }
+}

@@ -1,0 +1,97 @@
+"""Verdicts on small Turing machines, by a library that is proved.
+
+    >>> import budlarem
+    >>> for verdict in budlarem.decide(["1RB1LB_1LA1RZ", "1RA1RA"]):
+    ...     print(verdict)
+    1RB1LB_1LA1RZ halt 6 4
+    1RA1RA translated R 1 2 1 1
+
+The verdicts are those of the library; nothing here decides anything, and nothing proves what is here.
+"""
+
+from ._library import LibraryError
+from ._version import COMMIT
+from ._version import VERSION as __version__
+from .engine import (
+    Configuration,
+    MachineError,
+    Trace,
+    check,
+    check_bytes,
+    decide,
+    decide_bytes,
+    trace,
+)
+from .limits import Limits, LimitsError, Plan
+from .pictures import Picture, PictureError, picture
+from .lists import (
+    Agreement,
+    Carried,
+    Comparison,
+    Growth,
+    Normal,
+    Triage,
+    compare,
+    decide_carried,
+    distinct,
+    normal,
+    triage,
+)
+from .reports import ReportError, report
+from .verdicts import (
+    Answer,
+    Backward,
+    Cycler,
+    Extent,
+    Halt,
+    Refused,
+    Translated,
+    Undecided,
+    Verdict,
+    is_machine,
+    parse,
+)
+
+__all__ = [
+    "Agreement",
+    "Answer",
+    "Backward",
+    "COMMIT",
+    "Carried",
+    "Comparison",
+    "Configuration",
+    "Cycler",
+    "Extent",
+    "Growth",
+    "Halt",
+    "LibraryError",
+    "Limits",
+    "LimitsError",
+    "MachineError",
+    "Normal",
+    "Picture",
+    "PictureError",
+    "Plan",
+    "Refused",
+    "ReportError",
+    "Trace",
+    "Translated",
+    "Triage",
+    "Undecided",
+    "Verdict",
+    "__version__",
+    "check",
+    "check_bytes",
+    "compare",
+    "decide",
+    "decide_bytes",
+    "decide_carried",
+    "distinct",
+    "is_machine",
+    "normal",
+    "parse",
+    "picture",
+    "report",
+    "trace",
+    "triage",
+]

@@ -1,0 +1,132 @@
+"""Lists cut into batches: of bounded bytes, whatever comes."""
+
+from __future__ import annotations
+
+import dataclasses
+from typing import Any, Iterable, Iterator, List, Protocol, Union, runtime_checkable
+
+from ._crew import Pace
+
+# How many lines and bytes a batch has at most. One line may have more bytes.
+MOST_LINES = 8_192
+MOST_BYTES = 1 << 19
+# A line of more bytes is cut to so many: nothing longer is a machine or a verdict line, and each call answers
+# the same to the beginning of a longer line as to the whole.
+LONG = 1_024
+
+
+@runtime_checkable
+class BinaryReader(Protocol):
+    """A file that is open for reading bytes."""
+
+    def read(self, size: int = -1) -> bytes:
+        ...
+
+
+Blocks = Union[bytes, bytearray, memoryview, BinaryReader, Iterable[bytes]]
+
+
+@dataclasses.dataclass
+class Batch:
+    """Some items of a list: how many came before, their texts, and the texts' lines."""
+
+    before: int
+    texts: List[str]
+    lines: bytes
+
+
+def _wrong(name: str, place: int, text: Any) -> Exception:
+    """The error that says what is wrong with an item."""
+    if isinstance(text, str):
+        return ValueError("%s[%d] has a newline in it: %.100r" % (name, place, text))
+    kind = type(text).__name__
+    more = "; %s_bytes takes bytes" % ("decide" if name == "machines" else "check")
+    return TypeError("%s[%d] is of type %s, not str%s" % (name, place, kind, more if kind == "bytes" else ""))
+
+
+def _batch(name: str, before: int, texts: List[str]) -> Batch:
+    """The batch of these texts. Raises TypeError, ValueError."""
+    cut = [text if len(text) <= LONG else text[:LONG] for text in texts]
+    lines = ("\n".join(cut) + "\n").encode("utf-8", "surrogatepass")
+    if lines.count(b"\n") != len(texts):
+        _look(name, before, texts)
+    return Batch(before, texts, lines)
+
+
+def _look(name: str, before: int, texts: List[Any]) -> None:
+    """Raises for the first item that is no text, or has a newline."""
+    for place, text in enumerate(texts, before):
+        if not isinstance(text, str) or "\n" in text:
+            raise _wrong(name, place, text)
+
+
+def of_texts(texts: Iterable[str], name: str, pace: Pace) -> Iterator[Batch]:
+    """The texts in batches. Raises TypeError or ValueError, which say which item is wrong, after those
+    batches that come before it."""
+    before, size = 0, 0
+    held: List[str] = []
+    for text in texts:
+        if not isinstance(text, str) or (len(text) > LONG and "\n" in text):
+            if held:
+                yield _batch(name, before, held)
+            raise _wrong(name, before + len(held), text)
+        held.append(text)
+        size += len(text)
+        if len(held) >= pace.now or size >= MOST_BYTES:
+            yield _batch(name, before, held)
+            before, held, size = before + len(held), [], 0
+    if held:
+        yield _batch(name, before, held)
+
+
+def _read(file: BinaryReader) -> Iterator[bytes]:
+    """The blocks of a file, up to its end."""
+    block = file.read(MOST_BYTES)
+    while block:
+        yield block
+        block = file.read(MOST_BYTES)
+
+
+def _pieces(blocks: Blocks) -> Iterator[bytes]:
+    """The bytes, cut anywhere."""
+    if isinstance(blocks, (bytes, bytearray, memoryview)):
+        view = memoryview(blocks).cast("B")
+        for begin in range(0, len(view), MOST_BYTES):
+            yield bytes(view[begin : begin + MOST_BYTES])
+        return
+    if isinstance(blocks, str):
+        raise TypeError("bytes, a file of bytes or blocks of bytes, not a str")
+    for place, block in enumerate(_read(blocks) if isinstance(blocks, BinaryReader) else blocks):
+        if not isinstance(block, (bytes, bytearray, memoryview)):
+            kind = type(block).__name__
+            raise TypeError("blocks[%d] is of type %s, not bytes" % (place, kind))
+        yield bytes(block)
+
+
+def of_bytes(blocks: Blocks, pace: Pace) -> Iterator[bytes]:
+    """The bytes in batches of whole lines; what is left of a line longer than LONG is its beginning."""
+    rest, is_cut = b"", False
+    for piece in _pieces(blocks):
+        if is_cut:
+            end = piece.find(b"\n")
+            if end < 0:
+                continue
+            piece, is_cut = piece[end:], False
+        rest = rest + piece if rest else piece
+        whole = rest.rfind(b"\n") + 1
+        yield from _sliced(memoryview(rest)[:whole], pace)
+        rest = rest[whole:]
+        if len(rest) > LONG:
+            rest, is_cut = rest[:LONG], True
+    if rest:
+        yield rest
+
+
+def _sliced(lines: memoryview, pace: Pace) -> Iterator[bytes]:
+    """Whole lines in batches of bounded bytes."""
+    held = bytes(lines)
+    begin = 0
+    while begin < len(held):
+        end = held.find(b"\n", min(begin + pace.now, len(held)) - 1) + 1
+        yield held[begin:end]
+        begin = end

@@ -1,0 +1,132 @@
+"""The library `libbb.so`: where it is, its calls, and a call made with a buffer that is used again."""
+
+from __future__ import annotations
+
+import ctypes
+import functools
+import os
+import pathlib
+import threading
+from typing import Any, Callable, List, Sequence, Tuple
+
+VARIABLE = "BB_LIBRARY"
+CLEAN, NOT_CLEAN, LIMITS, MEMORY, SHORT = range(5)
+
+_HERE = pathlib.Path(__file__).resolve().parent
+_NUMBER, _SIZE, _SWITCH = ctypes.c_uint64, ctypes.c_size_t, ctypes.c_bool
+_BUFFERS = (ctypes.c_char_p, _SIZE, ctypes.c_void_p, _SIZE, ctypes.POINTER(_SIZE))
+_CALLS = {
+    "bb_decide": (_NUMBER,) * 4 + (_SWITCH,) * 3 + _BUFFERS,
+    "bb_check": (_NUMBER,) * 4 + _BUFFERS,
+    "bb_trace": (_NUMBER,) * 4 + _BUFFERS,
+}
+
+
+class LibraryError(OSError):
+    """The library `libbb.so` isn't there, or can't be loaded. The text says where it was looked for."""
+
+
+def places() -> List[pathlib.Path]:
+    """Where the library is looked for: where the variable BB_LIBRARY says, and nowhere else; if it isn't
+    set, beside this package, then where `scripts/library` of the repository puts it."""
+    told = os.environ.get(VARIABLE)
+    if told:
+        return [pathlib.Path(told)]
+    found = [_HERE / "libbb.so"]
+    if len(_HERE.parents) > 2:
+        found.append(_HERE.parents[2] / "crates" / "bb_c" / "out" / "libbb.so")
+    return found
+
+
+@functools.lru_cache(maxsize=None)
+def loaded() -> ctypes.CDLL:
+    """The library, loaded at the first call. Raises LibraryError."""
+    looked = places()
+    path = next((place for place in looked if place.is_file()), None)
+    if path is None:
+        raise LibraryError(
+            "libbb.so isn't at %s; a wheel of scripts/wheel has it, scripts/library builds it, and the "
+            "variable %s says where it is" % (" nor at ".join(map(str, looked)), VARIABLE)
+        )
+    try:
+        return ctypes.CDLL(str(path))
+    except OSError as error:
+        raise LibraryError("%s can't be loaded as libbb.so: %s" % (path, error)) from error
+
+
+@functools.lru_cache(maxsize=None)
+def call_named(name: str) -> Callable[..., int]:
+    """A call of the library. Raises LibraryError."""
+    try:
+        call = getattr(loaded(), name)
+    except AttributeError:
+        raise LibraryError("the library has no call %s; it is older than this package" % name) from None
+    call.argtypes, call.restype = _CALLS[name], ctypes.c_uint32
+    made: Callable[..., int] = call
+    return made
+
+
+class Fork:
+    """Whether this process was forked from one that had threads; the library may not be called then."""
+
+    had_threads = False
+    forbidden = False
+
+    @classmethod
+    def before(cls) -> None:
+        cls.had_threads = threading.active_count() > 1
+
+    @classmethod
+    def in_child(cls) -> None:
+        cls.forbidden = cls.forbidden or cls.had_threads
+
+
+os.register_at_fork(before=Fork.before, after_in_child=Fork.in_child)
+
+
+def forbid_fork() -> None:
+    """Raises RuntimeError in a process that was forked from one with threads."""
+    if Fork.forbidden:
+        raise RuntimeError(
+            "the library can't be called in a process that was forked from one with threads;"
+            " start the process by multiprocessing.get_context('spawn')"
+        )
+
+
+class Room:
+    """A buffer for replies, used again by each call of one thread."""
+
+    def __init__(self) -> None:
+        self._bytes = bytearray()
+        self._address: Any = None
+
+    def call(self, name: str, asked: Sequence[int], given: bytes, room: int) -> Tuple[int, bytes]:
+        """The status and the reply of a call with these numbers, over these bytes; `room` is how many bytes
+        a reply may have, and enough. Raises LibraryError, MemoryError."""
+        status, count, reply = self.tried(name, asked, given, room)
+        if status == SHORT:
+            raise AssertionError("%s with %r needs %d bytes, not %d" % (name, asked, count, room))
+        return status, reply
+
+    def tried(self, name: str, asked: Sequence[int], given: bytes, room: int) -> Tuple[int, int, bytes]:
+        """The status, how many bytes the reply has, and the reply; status SHORT and no reply where it has
+        more than `room`. Raises LibraryError, MemoryError."""
+        call = call_named(name)
+        if room > len(self._bytes):
+            size = 1 << max(room - 1, 1).bit_length()
+            self._address = None
+            self._bytes = bytearray(size)
+            self._address = (ctypes.c_char * size).from_buffer(self._bytes)
+        elif self._address is None:
+            self._bytes = bytearray(1)
+            self._address = (ctypes.c_char * 1).from_buffer(self._bytes)
+        count = _SIZE()
+        status = call(*asked, given, len(given), self._address, room, ctypes.byref(count))
+        if status == MEMORY:
+            raise MemoryError(
+                "the library had no memory for its tapes or its reply; lower the limit of cells"
+            )
+        if status == LIMITS:
+            raise AssertionError("%s refused the limits %r" % (name, asked))
+        given_back = 0 if status == SHORT else count.value
+        return status, count.value, bytes(memoryview(self._bytes)[:given_back])

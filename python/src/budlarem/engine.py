@@ -1,0 +1,301 @@
+"""Deciding, checking and tracing by the library."""
+
+from __future__ import annotations
+
+import dataclasses
+from typing import Callable, Iterable, Iterator, List, Optional, Sequence, Tuple, Union
+
+from . import _batches
+from ._batches import MOST_BYTES, MOST_LINES, Batch, Blocks
+from ._crew import Pace, in_order
+from ._library import NOT_CLEAN, SHORT, Room, forbid_fork, loaded
+from .limits import Limits, Plan, in_range, whole
+from .verdicts import STATES, VERDICTS, Answer, Refused, Verdict, verdict_of
+
+__all__ = [
+    "Configuration",
+    "MachineError",
+    "Trace",
+    "check",
+    "check_bytes",
+    "decide",
+    "decide_bytes",
+    "trace",
+]
+
+Call = Callable[[Room, bytes], bytes]
+_ANSWERS = {str(answer): answer for answer in Answer}
+# How many bytes a reply to one line has beyond the line itself, at most, and how many an answer has.
+_BEYOND, _ANSWER = 98, 7
+# How many bytes of a trace are asked for at once, where a line isn't longer; and how many they would have at
+# most if each line were as long as it may be.
+_TRACED, _TRACED_AT_WORST = 1 << 24, 1 << 28
+_LONGEST_REFUSAL = len("refused 775\n")
+# A run of so many steps takes less time than an interruption may wait.
+_SHORT_RUN = 100_000
+
+
+class MachineError(ValueError):
+    """A text is no machine. `machine` is the text, `column` is 1 plus the length of its longest prefix that
+    begins one."""
+
+    def __init__(self, machine: str, column: int) -> None:
+        super().__init__(machine, column)
+        self.machine, self.column = machine, column
+
+    def __str__(self) -> str:
+        return "no machine, from column %d on: %.200r" % (self.column, self.machine)
+
+
+def deciding(limits: Limits, plan: Plan) -> Call:
+    """The call that decides the lines of some bytes."""
+    asked = (*limits.numbers(), *plan.switches())
+
+    def call(room: Room, lines: bytes) -> bytes:
+        count = lines.count(b"\n") + 1
+        return room.call("bb_decide", asked, lines, len(lines) + _BEYOND * count)[1]
+
+    return call
+
+
+def checking(limits: Limits) -> Call:
+    """The call that checks the lines of some bytes."""
+    asked = limits.numbers()
+
+    def call(room: Room, lines: bytes) -> bytes:
+        return room.call("bb_check", asked, lines, _ANSWER * (lines.count(b"\n") + 1))[1]
+
+    return call
+
+
+def _made_ready(limits: Limits, plan: Plan, threads: int) -> int:
+    """Raises what is wrong before anything is read; gives the number of threads."""
+    if not isinstance(limits, Limits):
+        raise TypeError("limits is of type %s, not Limits" % type(limits).__name__)
+    if not isinstance(plan, Plan):
+        raise TypeError("plan is of type %s, not Plan" % type(plan).__name__)
+    number = whole("threads", threads)
+    if number < 1:
+        raise ValueError("threads is %d, but must be 1 or more" % number)
+    forbid_fork()
+    loaded()
+    return number
+
+
+def _listed(name: str, texts: Iterable[object]) -> None:
+    """Raises TypeError for a text or bytes where a list of texts is asked for."""
+    if isinstance(texts, (str, bytes, bytearray)):
+        raise TypeError("%s is one %s; a list of texts is asked for" % (name, type(texts).__name__))
+    iter(texts)
+
+
+def _told(batches: Iterator[Batch], call: Call, threads: int, pace: Pace) -> Iterator[Tuple[str, str]]:
+    """Each text and the line that the library tells of it."""
+
+    def work(room: Room, batch: Batch) -> bytes:
+        return call(room, batch.lines)
+
+    for batch, reply in in_order(work, batches, threads, pace):
+        yield from zip(batch.texts, reply.decode().split("\n"))
+
+
+def _verdict(machine: str, line: str) -> Verdict:
+    """The verdict that the library told of a text."""
+    words = line[len(machine) + 1 :]
+    if line.startswith("refused "):
+        return Refused(int(line[len("refused ") :]), machine)
+    return verdict_of(machine, words)
+
+
+def decide(
+    machines: Iterable[str], limits: Limits = Limits(), plan: Plan = Plan(), *, threads: int = 1
+) -> Iterator[Verdict]:
+    """The verdict of each machine, in order; `Refused` where a text is no machine.
+
+    `machines` is any iterable of texts without newlines. It is read some texts ahead, and never held as a
+    whole. `threads` is how many cores are used at most.
+
+    The call runs beside the caller's thread, which can be interrupted. What it was at then ends by itself, or
+    with the process.
+
+    Raises TypeError where an item is no text and ValueError where it has a newline, both with its place in
+    the list, after the verdicts before it; MemoryError where there is none for the tapes; LibraryError where
+    the library isn't found; RuntimeError in a process that was forked from one with threads.
+
+    >>> [str(verdict) for verdict in decide(["1RB1LB_1LA1RZ", "1RA1RA"])]
+    ['1RB1LB_1LA1RZ halt 6 4', '1RA1RA translated R 1 2 1 1']
+    >>> list(decide(["1rB1LB"]))
+    [Refused(column=2, machine='1rB1LB')]
+    """
+    threads = _made_ready(limits, plan, threads)
+    _listed("machines", machines)
+    pace = Pace(MOST_LINES)
+    told = _told(_batches.of_texts(machines, "machines", pace), deciding(limits, plan), threads, pace)
+    return (_verdict(machine, line) for machine, line in told)
+
+
+def _lines_of(items: Iterable[Union[str, Verdict]]) -> Iterator[str]:
+    """The lines of verdicts and lines; what is neither is left as it is."""
+    return (str(item) if isinstance(item, VERDICTS) else item for item in items)
+
+
+def check(
+    lines: Iterable[Union[str, Verdict]], limits: Limits = Limits(), *, threads: int = 1
+) -> Iterator[Answer]:
+    """The checker's answer to each verdict, in order. `lines` has verdicts, verdict lines, or both.
+
+    Reads and raises as `decide` does.
+
+    >>> [answer.name for answer in check(["1RB1LB_1LA1RZ halt 6 4", "1RB1LB_1LA1RZ halt 6 5", "x"])]
+    ['OK', 'BAD', 'UNREAD']
+    """
+    threads = _made_ready(limits, Plan(), threads)
+    _listed("lines", lines)
+    pace = Pace(MOST_LINES)
+    told = _told(_batches.of_texts(_lines_of(lines), "lines", pace), checking(limits), threads, pace)
+    return (_ANSWERS[answer] for _, answer in told)
+
+
+def _replies(blocks: Blocks, call: Call, threads: int) -> Iterator[bytes]:
+    pace = Pace(MOST_BYTES)
+    return (reply for _, reply in in_order(call, _batches.of_bytes(blocks, pace), threads, pace))
+
+
+def decide_bytes(
+    blocks: Blocks, limits: Limits = Limits(), plan: Plan = Plan(), *, threads: int = 1
+) -> Iterator[bytes]:
+    """The bytes that `bb decide` writes for these bytes, in blocks of whole lines.
+
+    `blocks` is bytes, a file that is open for reading bytes, or an iterable of bytes that are cut anywhere.
+    Raises as `decide` does; TypeError where a block isn't bytes.
+
+    >>> b"".join(decide_bytes(b"1RB1LB_1LA1RZ\\n"))
+    b'1RB1LB_1LA1RZ halt 6 4\\n'
+    """
+    threads = _made_ready(limits, plan, threads)
+    return _replies(blocks, deciding(limits, plan), threads)
+
+
+def check_bytes(blocks: Blocks, limits: Limits = Limits(), *, threads: int = 1) -> Iterator[bytes]:
+    """The bytes that `bb check` writes for these bytes, in blocks of whole lines. Takes and raises what
+    `decide_bytes` does.
+
+    >>> b"".join(check_bytes(b"1RB1LB_1LA1RZ halt 6 4\\n"))
+    b'ok\\n'
+    """
+    threads = _made_ready(limits, Plan(), threads)
+    return _replies(blocks, checking(limits), threads)
+
+
+@dataclasses.dataclass(frozen=True)
+class Configuration:
+    """A machine after `step` steps: its state (`Z` once it halted there), the head's position, and the
+    symbols of the cells visited so far, one digit each, from the lowest position on."""
+
+    step: int
+    state: str
+    position: int
+    cells: str
+
+    def __str__(self) -> str:
+        return "%d %s %d %s" % (self.step, self.state, self.position, self.cells)
+
+
+class Trace(Iterator[Configuration]):
+    """The configurations of a machine, one after another. `cut` is None until the last one was given; then it
+    says whether the limit of cells ended the run before `upto`."""
+
+    def __init__(self, machine: str, upto: int, cells: int, start: int, every: int) -> None:
+        self.cut: Optional[bool] = None
+        self._machine, self._upto, self._cells = machine, upto, cells
+        self._next, self._every = start, every
+        # How many cells were visited at most when the last line was given.
+        self._visited = start + 1
+        self._held: Iterator[bytes] = iter(())
+
+    def __iter__(self) -> Trace:
+        return self
+
+    def __next__(self) -> Configuration:
+        line = next(self._held, None)
+        while line is None:
+            if self.cut is not None:
+                raise StopIteration
+            self._held = iter(self._lines())
+            line = next(self._held, None)
+        step, state, position, cells = line.decode().split(" ")
+        return Configuration(int(step), state, int(position), cells)
+
+    def _longest(self, count: int) -> int:
+        """How many bytes each of the next `count` lines has at most."""
+        visited = min(self._cells, self._visited + self._every * count, self._upto + 1)
+        return len("%d Z -%d \n" % (self._upto, self._cells)) + visited
+
+    def _lines(self) -> List[bytes]:
+        """The next lines, as many as fit into the bytes that are asked for at once. Each call runs the
+        machine from its start."""
+        left = (self._upto - self._next) // self._every + 1 if self._next <= self._upto else 0
+        count = left
+        while count > 1 and count * self._longest(count) > _TRACED_AT_WORST:
+            count //= 2
+        room = min(count * self._longest(count), _TRACED) + _LONGEST_REFUSAL
+        status, length, reply = self._asked(count, left, room)
+        while status == SHORT:
+            if count == 1:
+                room = length
+            count = max(count * room // length, 1)
+            status, length, reply = self._asked(count, left, room)
+        if reply.startswith(b"refused "):
+            raise MachineError(self._machine, int(reply.split()[1]))
+        lines = reply.split(b"\n")[:-1]
+        self._next += self._every * len(lines)
+        if status == NOT_CLEAN or count == left or len(lines) < count:
+            self.cut = status == NOT_CLEAN
+        elif lines:
+            self._visited = len(lines[-1].rpartition(b" ")[2])
+        return lines
+
+    def _asked(self, count: int, left: int, room: int) -> Tuple[int, int, bytes]:
+        """What a call tells of the next `count` lines; where they are all that are `left`, of the last step
+        too."""
+        last = self._upto if count == left else self._next + self._every * (count - 1)
+        return _apart(self._machine, (last, self._cells, self._next, self._every), room)
+
+
+def _apart(machine: str, asked: Sequence[int], room: int) -> Tuple[int, int, bytes]:
+    """What one call that traces tells: its status, the length of its reply, and the reply. It is made beside
+    the caller's thread unless it is short."""
+    line = machine.encode("utf-8", "surrogatepass")[: _batches.LONG]
+    if asked[0] <= _SHORT_RUN:
+        return Room().tried("bb_trace", asked, line, room)
+
+    def work(buffer: Room, line: bytes) -> Tuple[int, int, bytes]:
+        return buffer.tried("bb_trace", asked, line, room)
+
+    ((_, told),) = in_order(work, [line], 1, Pace(1))
+    return told
+
+
+def trace(machine: str, upto: int, cells: int = 65_536, start: int = 0, every: int = 1) -> Trace:
+    """The configurations of a machine after `start` steps, `start + every` and so on, up to `upto` or to the
+    last one that `cells` allow. A step that isn't given costs what simulating it costs.
+
+    Raises LimitsError where a number is out of its range, TypeError where it is no whole number or the
+    machine no text, ValueError where that has a newline, and MachineError, one of them, where it is no
+    machine, at the first configuration.
+
+    >>> [str(now) for now in trace("1RB1LB_1LA1RZ", 6, start=4)]
+    ['4 A -2 0111', '5 B -1 1111', '6 Z 0 1111']
+    """
+    if not isinstance(machine, str):
+        raise TypeError("machine is of type %s, not str" % type(machine).__name__)
+    if "\n" in machine:
+        raise ValueError("the machine has a newline in it: %.100r" % machine)
+    most = Limits.RANGES["steps"][1]
+    upto = in_range("upto", upto, 0, most)
+    cells = in_range("cells", cells, *Limits.RANGES["cells"])
+    start = in_range("start", start, 0, 2**64 - 1)
+    every = in_range("every", every, 1, 2**64 - 1)
+    forbid_fork()
+    loaded()
+    return Trace(machine, upto, cells, start, every)

@@ -1,0 +1,113 @@
+"""The limits of a run and the deciders that are asked."""
+
+from __future__ import annotations
+
+import dataclasses
+import operator
+from typing import Any, ClassVar, Dict, Tuple
+
+__all__ = ["Limits", "LimitsError", "Plan"]
+
+
+class LimitsError(ValueError):
+    """A limit is out of its range.
+
+    `limit` is its name, `lowest` and `highest` are its range, `given` is what was given. What is the highest
+    of `depth` depends on the cells: 2 * depth - 1 may be at most the cells.
+    """
+
+    def __init__(self, limit: str, lowest: int, highest: int, given: int) -> None:
+        super().__init__(limit, lowest, highest, given)
+        self.limit, self.lowest, self.highest, self.given = limit, lowest, highest, given
+
+    def __str__(self) -> str:
+        text = "%s is %s, but may be %s to %s" % (
+            self.limit,
+            "{:,}".format(self.given),
+            "{:,}".format(self.lowest),
+            "{:,}".format(self.highest),
+        )
+        if self.limit == "depth" and self.given <= 10_000 and self.given >= 0:
+            text += " with so few cells: 2 * depth - 1 may be at most the cells"
+        return text
+
+
+def whole(name: str, given: Any) -> int:
+    """A whole number that was given, whatever type of whole numbers it has. Raises TypeError."""
+    if isinstance(given, bool):
+        raise TypeError("%s is %r, but must be a whole number" % (name, given))
+    try:
+        return operator.index(given)
+    except TypeError:
+        kind = type(given).__name__
+        raise TypeError("%s is %.100r of type %s, but must be a whole number" % (name, given, kind)) from None
+
+
+def in_range(name: str, given: Any, lowest: int, highest: int) -> int:
+    """A whole number within a range. Raises TypeError, LimitsError."""
+    number = whole(name, given)
+    if not lowest <= number <= highest:
+        raise LimitsError(name, lowest, highest, number)
+    return number
+
+
+@dataclasses.dataclass(frozen=True)
+class Limits:
+    """What a run may cost.
+
+    `steps`: of one simulation, 0 to 1,000,000,000,000. `cells`: of one tape, 1 to 67,108,864; a thread that
+    decides has three tapes of as many bytes. `depth`: levels of the backward tree, 0 to 10,000. `nodes`: of
+    that tree, 0 to 1,000,000,000,000. 2 * depth - 1 must be at most `cells`. The defaults are the program's.
+
+    Raises LimitsError where one is out of its range, TypeError where one is no whole number.
+
+    >>> Limits(steps=1_000).steps
+    1000
+    >>> Limits(cells=0)
+    Traceback (most recent call last):
+    budlarem.limits.LimitsError: cells is 0, but may be 1 to 67,108,864
+    """
+
+    steps: int = 1_000_000
+    cells: int = 65_536
+    depth: int = 300
+    nodes: int = 1_000_000
+
+    RANGES: ClassVar[Dict[str, Tuple[int, int]]] = {
+        "steps": (0, 1_000_000_000_000),
+        "cells": (1, 67_108_864),
+        "depth": (0, 10_000),
+        "nodes": (0, 1_000_000_000_000),
+    }
+
+    def __post_init__(self) -> None:
+        for name, (lowest, highest) in self.RANGES.items():
+            object.__setattr__(self, name, in_range(name, getattr(self, name), lowest, highest))
+        if 2 * self.depth - 1 > self.cells:
+            raise LimitsError("depth", 0, (self.cells + 1) // 2, self.depth)
+
+    def numbers(self) -> Tuple[int, int, int, int]:
+        """The four limits, in their order."""
+        return self.steps, self.cells, self.depth, self.nodes
+
+
+@dataclasses.dataclass(frozen=True)
+class Plan:
+    """Which deciders are asked, in this order. Raises TypeError where one is neither True nor False."""
+
+    cyclers: bool = True
+    translated: bool = True
+    backward: bool = True
+
+    def __post_init__(self) -> None:
+        for field in dataclasses.fields(self):
+            given = getattr(self, field.name)
+            if not isinstance(given, bool):
+                kind = type(given).__name__
+                raise TypeError(
+                    "%s is %.100r of type %s, but must be True or False" % (field.name, given, kind)
+                )
+
+    def switches(self) -> Tuple[bool, bool, bool]:
+        """The three switches, in their order."""
+        return self.cyclers, self.translated, self.backward

@@ -1,0 +1,361 @@
+"""What people do with lists of machines and of verdicts, as streams."""
+
+from __future__ import annotations
+
+import collections
+import dataclasses
+import enum
+import math
+import re
+from typing import Deque, Dict, Iterable, Iterator, List, Optional, Tuple, Union
+
+from .engine import Trace, decide, trace
+from .limits import Limits, Plan, in_range
+from .verdicts import (
+    STATES,
+    VERDICTS,
+    Cycler,
+    Halt,
+    Refused,
+    Translated,
+    Undecided,
+    Verdict,
+    is_machine,
+    parse,
+)
+
+__all__ = [
+    "Agreement",
+    "Carried",
+    "Comparison",
+    "Growth",
+    "Normal",
+    "Triage",
+    "compare",
+    "decide_carried",
+    "distinct",
+    "normal",
+    "triage",
+]
+
+_FIRST_FIELD = re.compile(r"([^\s,;]*)[\s,;]*(.*)", re.DOTALL)
+
+
+@dataclasses.dataclass(frozen=True)
+class Carried:
+    """A verdict, and what stood behind the machine on its line. As a text: the verdict line, and the other
+    fields behind a tab, where there are some."""
+
+    verdict: Verdict
+    fields: str
+
+    def __str__(self) -> str:
+        return "%s\t%s" % (self.verdict, self.fields) if self.fields else str(self.verdict)
+
+
+def decide_carried(
+    lines: Iterable[str], limits: Limits = Limits(), plan: Plan = Plan(), *, threads: int = 1
+) -> Iterator[Carried]:
+    """Decides the machine that each line begins with, and carries along what stands behind it.
+
+    A machine ends before the first space, tab, comma or semicolon. Raises what `decide` does.
+
+    >>> [str(carried) for carried in decide_carried(["1RB1LB_1LA1RZ, the champion", "1RA1RA"])]
+    ['1RB1LB_1LA1RZ halt 6 4\\tthe champion', '1RA1RA translated R 1 2 1 1']
+    """
+    fields: Deque[str] = collections.deque()
+
+    def machines() -> Iterator[str]:
+        for line in lines:
+            found = _FIRST_FIELD.fullmatch(line) if isinstance(line, str) else None
+            fields.append(found.group(2).rstrip() if found else "")
+            yield found.group(1) if found else line
+
+    verdicts = decide(machines(), limits, plan, threads=threads)
+    return (Carried(verdict, fields.popleft()) for verdict in verdicts)
+
+
+class Agreement(enum.Enum):
+    """How what two lists say of a machine goes together."""
+
+    AGREE = "agree"
+    FIRST_DECIDES = "first-decides"
+    SECOND_DECIDES = "second-decides"
+    CONTRADICT = "contradict"
+    ONLY_FIRST = "only-first"
+    ONLY_SECOND = "only-second"
+
+    def __str__(self) -> str:
+        return self.value
+
+
+@dataclasses.dataclass(frozen=True)
+class Comparison:
+    """What two lists say of a machine, None where one hasn't it, and how that goes together."""
+
+    agreement: Agreement
+    machine: str
+    first: Optional[Verdict]
+    second: Optional[Verdict]
+
+    def __str__(self) -> str:
+        said = " | ".join("-" if verdict is None else str(verdict) for verdict in (self.first, self.second))
+        return "%s\t%s" % (self.agreement, said)
+
+
+def _halts_alike(first: Halt, second: Halt, undefined_steps: bool) -> bool:
+    """Whether two halts are the same; or, where that is asked for, are apart by a step that one counts for an
+    undefined entry."""
+    if (first.steps, first.score) == (second.steps, second.score):
+        return True
+    fewer, more = sorted((first, second), key=lambda halt: halt.steps)
+    counted = more.steps == fewer.steps + 1 and more.score in (fewer.score, fewer.score + 1)
+    return undefined_steps and "---" in first.machine and counted
+
+
+def agreement(first: Verdict, second: Verdict, undefined_steps: bool = False) -> Agreement:
+    """How two verdicts on a machine go together.
+
+    Those contradict each other that can't both be right: a halt and what never halts, two different halts, a
+    cycler and a translated cycler, translated cyclers to both sides.
+    """
+    if isinstance(first, Undecided) or isinstance(second, Undecided):
+        if isinstance(first, Undecided) and isinstance(second, Undecided):
+            return Agreement.AGREE
+        return Agreement.SECOND_DECIDES if isinstance(first, Undecided) else Agreement.FIRST_DECIDES
+    if isinstance(first, Halt) and isinstance(second, Halt):
+        alike = _halts_alike(first, second, undefined_steps)
+    elif isinstance(first, Translated) and isinstance(second, Translated):
+        alike = first.side == second.side
+    else:
+        kinds = {type(first), type(second)}
+        alike = Halt not in kinds and kinds != {Cycler, Translated}
+    return Agreement.AGREE if alike else Agreement.CONTRADICT
+
+
+def _parsed(items: Iterable[Union[str, Verdict]], name: str) -> Iterator[Verdict]:
+    """The verdicts of verdicts and lines, but for refusals, which have no machine."""
+    for place, item in enumerate(items):
+        if not isinstance(item, VERDICTS):
+            try:
+                item = parse(item.rstrip("\r\n").partition("\t")[0] if isinstance(item, str) else item)
+            except (TypeError, ValueError) as error:
+                raise type(error)("%s[%d]: %s" % (name, place, error)) from None
+        if not isinstance(item, Refused):
+            yield item
+
+
+class _Side:
+    """A list of verdicts, read one after another, and those for which the other list had none yet."""
+
+    def __init__(self, items: Iterator[Verdict]) -> None:
+        self.items = items
+        self.waiting: Dict[str, List[Verdict]] = {}
+
+    def taken(self, machine: str) -> Optional[Verdict]:
+        """The first waiting verdict on a machine, which then waits no longer."""
+        found = self.waiting.get(machine)
+        if found is None:
+            return None
+        verdict = found.pop(0)
+        if not found:
+            del self.waiting[machine]
+        return verdict
+
+
+def compare(
+    first: Iterable[Union[str, Verdict]],
+    second: Iterable[Union[str, Verdict]],
+    *,
+    undefined_steps: bool = False,
+) -> Iterator[Comparison]:
+    """Compares two lists of verdicts, or verdict lines, by machine, in whatever order each is.
+
+    Both are read side by side; what is held are the verdicts for which the other list had none yet, so lists
+    in about the same order take little memory. What only one has comes last. Refusals are left out, since
+    they don't tell their machine; fields behind a tab too. `undefined_steps`: one of the lists counts a step
+    for an undefined entry.
+
+    Raises ValueError, with its place, for a text that is no verdict line, TypeError for what is no text.
+
+    >>> for found in compare(["1RB1LB_1LA1RZ halt 6 4"], ["1RA1RA cycler 1 2", "1RB1LB_1LA1RZ halt 5 4"]):
+    ...     print(found.agreement, found.machine)
+    contradict 1RB1LB_1LA1RZ
+    only-second 1RA1RA
+    """
+    sides = (_Side(_parsed(first, "first")), _Side(_parsed(second, "second")))
+    is_open = [True, True]
+    while any(is_open):
+        for here, side in enumerate(sides):
+            verdict = next(side.items, None)
+            if verdict is None or isinstance(verdict, Refused):
+                is_open[here] = False
+                continue
+            other = sides[1 - here].taken(verdict.machine)
+            if other is None:
+                side.waiting.setdefault(verdict.machine, []).append(verdict)
+                continue
+            pair = (verdict, other) if here == 0 else (other, verdict)
+            yield Comparison(agreement(*pair, undefined_steps), verdict.machine, *pair)
+    for machine, verdicts in sides[0].waiting.items():
+        yield from (Comparison(Agreement.ONLY_FIRST, machine, verdict, None) for verdict in verdicts)
+    for machine, verdicts in sides[1].waiting.items():
+        yield from (Comparison(Agreement.ONLY_SECOND, machine, None, verdict) for verdict in verdicts)
+
+
+@dataclasses.dataclass(frozen=True)
+class Normal:
+    """A machine in normal form. `states` has, for each of its states in order, which state of the machine it
+    is; `mirrored` says that left and right were exchanged."""
+
+    machine: str
+    normal: str
+    states: str
+    mirrored: bool
+
+    def __str__(self) -> str:
+        return "%s\t%s\t%s\t%s" % (self.normal, self.machine, self.states, "L" if self.mirrored else "R")
+
+
+def _first_uses(machine: str, count: int, steps: int, cells: int) -> str:
+    """The states in the order in which a run of so many steps comes to them."""
+    found, upto = "A", 64
+    while True:
+        upto = min(upto, steps)
+        rows = trace(machine, upto, cells)
+        states = [now.state for now in rows]
+        found = "".join(dict.fromkeys(state for state in states if state != "Z"))
+        if len(found) == count or upto == steps or len(states) <= upto:
+            return found
+        upto *= 8
+
+
+def normal(machine: str, *, steps: int = 10_000, cells: int = 65_536) -> Normal:
+    """The normal form of a machine: its states in the order of their first use in its run of so many steps,
+    those that aren't reached after them as they stand; mirrored where its first move is to the left.
+
+    Raises what `trace` does.
+
+    >>> print(normal("1LC1RZ_1RB---_1RA1LA").normal)
+    1RB1LZ_1LA1RA_1LC---
+    """
+    if not is_machine(machine):
+        next(trace(machine, 0, cells))
+    groups = machine.split("_")
+    used = _first_uses(machine, len(groups), steps, cells)
+    order = used + "".join(state for state in STATES[: len(groups)] if state not in used)
+    mirrored = machine[1] == "L"
+    names = {old: new for new, old in zip(STATES, order)}
+    names["Z"] = "Z"
+    moves = {"L": "R", "R": "L"} if mirrored else {"L": "L", "R": "R"}
+
+    def entry(text: str) -> str:
+        return text if text == "---" else text[0] + moves[text[1]] + names[text[2]]
+
+    ordered = (groups[STATES.index(old)] for old in order)
+    written = ("".join(entry(group[k : k + 3]) for k in range(0, len(group), 3)) for group in ordered)
+    return Normal(machine, "_".join(written), order, mirrored)
+
+
+def distinct(
+    machines: Iterable[str], *, steps: int = 10_000, cells: int = 65_536
+) -> Iterator[Tuple[Normal, Optional[str]]]:
+    """The normal form of each machine, and the first machine before it that has the same one, or None.
+
+    What is held are the normal forms that were met. Raises what `trace` does.
+
+    >>> [(form.machine, before) for form, before in distinct(["1RA---", "1LA---"])]
+    [('1RA---', None), ('1LA---', '1RA---')]
+    """
+    met: Dict[str, str] = {}
+    for machine in machines:
+        form = normal(machine, steps=steps, cells=cells)
+        before = met.setdefault(form.normal, machine) if form.normal in met else None
+        met.setdefault(form.normal, machine)
+        yield form, before
+
+
+class Growth(enum.Enum):
+    """How the cells that a run visits grow with its steps; `HALTS` where it ended before."""
+
+    STAYS = "stays"
+    LOGARITHM = "logarithm"
+    ROOT = "root"
+    LINE = "line"
+    HALTS = "halts"
+
+    def __str__(self) -> str:
+        return self.value
+
+
+@dataclasses.dataclass(frozen=True)
+class Triage:
+    """How many cells a run has visited after a hundredth of `steps`, a tenth, and all, and how that grows.
+    `steps` are fewer than asked for where the cells ended the run."""
+
+    machine: str
+    steps: int
+    visited: Tuple[int, int, int]
+    growth: Growth
+
+    def __str__(self) -> str:
+        return "%s\t%s\t%d\t%d %d %d" % (self.machine, self.growth, self.steps, *self.visited)
+
+
+# The powers of the steps between which a growth is called a root.
+_ROOT = (0.2, 0.8)
+
+
+def growth(visited: Tuple[int, int, int]) -> Growth:
+    """How these counts grow, each at ten times the steps of the one before."""
+    first, second, third = visited
+    if second == third:
+        return Growth.STAYS
+    power = math.log10(third / first) / 2
+    if power < _ROOT[0]:
+        return Growth.LOGARITHM
+    return Growth.ROOT if power < _ROOT[1] else Growth.LINE
+
+
+def _hundredths(machine: str, steps: int, cells: int) -> Tuple[Trace, List[int]]:
+    """The cells visited after each hundredth of the steps, and the trace that told them."""
+    apart = max(steps // 100, 1)
+    rows = trace(machine, steps, cells, apart, apart)
+    return rows, [len(now.cells) for now in rows]
+
+
+def last_step(machine: str, steps: int, cells: int = 65_536) -> int:
+    """The last step that a run makes within these limits. Raises what `trace` does."""
+    last, apart = 0, max(steps // 100, 1)
+    while True:
+        rows = trace(machine, steps, cells, last, apart)
+        last = max((now.step for now in rows), default=last)
+        if apart == 1:
+            return last
+        apart = max(apart // 100, 1)
+
+
+def triage(machine: str, *, steps: int = 1_000_000, cells: int = 65_536) -> Triage:
+    """How the cells that a machine visits grow, looked at after `steps` / 100, / 10, and all of them.
+
+    Staying: a tenth of the steps and all have the same cells. Else by the power of the steps with which they
+    grow from the first look to the last: below 0.2 it is called a logarithm, below 0.8 a root, else a line.
+    Where the cells end the run, the steps are those that were made. It is a guess from three numbers, and
+    claims nothing.
+
+    Raises what `trace` does; LimitsError where the steps are fewer than 100.
+
+    >>> triage("1RA1RA", steps=10_000).growth
+    <Growth.LINE: 'line'>
+    """
+    in_range("steps", steps, 100, Limits.RANGES["steps"][1])
+    rows, counts = _hundredths(machine, steps, cells)
+    if rows.cut:
+        steps = last_step(machine, steps, cells)
+        rows, counts = _hundredths(machine, steps, cells)
+    if len(counts) < 100:
+        last = counts[-1] if counts else 0
+        ended = Growth.HALTS if rows.cut is False and steps >= 100 else Growth.LINE
+        return Triage(machine, steps, (last, last, last), ended)
+    visited = (counts[0], counts[9], counts[99])
+    return Triage(machine, steps, visited, growth(visited))

@@ -1,0 +1,318 @@
+"""Space-time pictures of runs: a row is a step, a column is a position."""
+
+from __future__ import annotations
+
+import dataclasses
+import math
+import os
+import struct
+import zlib
+from typing import Iterable, Iterator, List, Optional, Sequence, Tuple, Union
+
+from .engine import Configuration, trace
+from .limits import in_range, whole
+from .verdicts import MOST_SYMBOLS, STATES, is_machine, size_of
+
+__all__ = [
+    "Picture",
+    "PictureError",
+    "Row",
+    "drawn",
+    "picture",
+    "rows_of_lines",
+    "sampled",
+    "taken",
+    "traced",
+]
+
+# The colours of the symbols 0 to 9, then of a position not visited yet, then of the head.
+COLOURS = [
+    (255, 255, 255), (20, 20, 20), (60, 110, 200), (240, 180, 40), (60, 150, 80),
+    (150, 80, 170), (80, 190, 200), (150, 110, 70), (240, 140, 170), (170, 200, 90),
+    (225, 225, 225), (220, 30, 30),
+]  # fmt: skip
+UNVISITED, HEAD = 10, 11
+MOST_PIXELS = 100_000_000
+_DIGITS = bytes(max(code - ord("0"), 0) if code < 58 else 0 for code in range(256))
+
+
+class PictureError(ValueError):
+    """There is nothing to draw, or the picture would be too large. The text says what would do."""
+
+
+@dataclasses.dataclass(frozen=True)
+class Row:
+    """A step of a run: the head's position, the lowest position visited, and the symbols from there on."""
+
+    step: int
+    position: int
+    low: int
+    cells: str
+
+
+@dataclasses.dataclass(frozen=True)
+class Picture:
+    """A picture as a PNG file, and what it shows: each of how many steps, up to which, which positions.
+
+    `is_cut` says that steps follow which aren't shown, `is_part` that not all positions are shown. A notebook
+    shows it by itself.
+    """
+
+    png: bytes = dataclasses.field(repr=False)
+    every: int
+    last: int
+    left: int
+    right: int
+    is_cut: bool
+    is_part: bool
+
+    def save(self, path: Union[str, "os.PathLike[str]"]) -> None:
+        """Writes the PNG file. Raises OSError."""
+        with open(path, "wb") as file:
+            file.write(self.png)
+
+    def _repr_png_(self) -> bytes:
+        return self.png
+
+
+def rows_of_lines(lines: Iterable[str]) -> Iterator[Row]:
+    """The rows of a whole trace, as `bb trace` prints it. Raises PictureError."""
+    low = 0
+    for line in lines:
+        fields = line.split()
+        if len(fields) != 4:
+            raise PictureError("not a line of a trace: %.200r" % line)
+        step, state, position, cells = fields
+        if state != "Z":
+            low = min(low, int(position))
+        yield Row(int(step), int(position), low, cells)
+
+
+def _with_origin(machine: str) -> Optional[str]:
+    """A machine that runs as this one does, with its symbols doubled: the position where it begins has the
+    second ones. None where that are more states or symbols than a machine may have."""
+    states, symbols = size_of(machine)
+    if states == len(STATES) or 2 * symbols > MOST_SYMBOLS:
+        return None
+
+    def entry(text: str, more: int) -> str:
+        if text == "---":
+            return text
+        led = "Z" if text[2] == "Z" else STATES[STATES.index(text[2]) + 1]
+        return "%d%s%s" % (int(text[0]) + more, text[1], led)
+
+    groups = [[group[k : k + 3] for k in range(0, len(group), 3)] for group in machine.split("_")]
+    doubled = [[entry(text, more) for more in (0, symbols) for text in group] for group in groups]
+    begin = [entry(groups[0][0], symbols)] + ["---"] * (2 * symbols - 1)
+    return "_".join("".join(group) for group in [begin, *doubled])
+
+
+def _row_with_origin(now: Configuration, symbols: int) -> Row:
+    """A row of the run of such a machine."""
+    plain = str.maketrans({str(symbol + symbols): str(symbol) for symbol in range(symbols)})
+    cells = now.cells.translate(plain)
+    marked = (now.cells.find(str(symbol + symbols)) for symbol in range(symbols))
+    return Row(now.step, now.position, -max(max(marked), 0), cells)
+
+
+def traced(machine: str, upto: int, cells: int = 65_536, every: int = 1) -> Iterator[Row]:
+    """Each step of a run that `every` divides, up to `upto`, or to the last one that the cells allow.
+
+    Raises what `trace` does. A trace of some steps doesn't say where its lowest position is: so the run of a
+    machine that marks where it began is traced, and where there is none, because of its many states or
+    symbols, each step.
+    """
+    with_origin = _with_origin(machine) if is_machine(machine) else None
+    if with_origin is None:
+        lines = (str(now) for now in trace(machine, upto, cells))
+        return (row for row in rows_of_lines(lines) if row.step % every == 0)
+    symbols = size_of(machine)[1]
+    return (_row_with_origin(now, symbols) for now in trace(with_origin, upto, cells, every=every))
+
+
+def sampled(rows: Iterable[Row], most: int) -> Tuple[List[Row], int]:
+    """At most so many of all rows, evenly spaced, and how far apart they are: a power of two."""
+    chosen: List[Row] = []
+    every = 1
+    for row in rows:
+        if row.step % every:
+            continue
+        if len(chosen) == most:
+            every *= 2
+            chosen = [kept for kept in chosen if kept.step % every == 0]
+            if row.step % every:
+                continue
+        chosen.append(row)
+    return chosen, every
+
+
+def taken(rows: Iterable[Row], every: int, most: int) -> Tuple[List[Row], bool]:
+    """Each row that `every` divides, but at most so many, and whether more would have followed."""
+    chosen: List[Row] = []
+    for row in rows:
+        if row.step % every == 0:
+            if len(chosen) == most:
+                return chosen, True
+            chosen.append(row)
+    return chosen, False
+
+
+def _spaced(last: int, most: int) -> int:
+    """The least power of two of which at most so many multiples are up to `last`."""
+    every = 1
+    while last // every + 1 > most:
+        every *= 2
+    return every
+
+
+def spread(machine: str, upto: int, cells: int, most: int) -> Tuple[List[Row], int]:
+    """What `sampled` gives of all rows of a run, found by tracing only some of them."""
+    every = _spaced(upto, most)
+    chosen = list(traced(machine, upto, cells, every))
+    closer = _spaced(min(upto, chosen[-1].step + every - 1), most)
+    if closer < every:
+        chosen, every = list(traced(machine, upto, cells, closer)), closer
+    while every > 1 and 2 * len(chosen) - 1 <= most:
+        closer_rows = list(traced(machine, upto, cells, every // 2))
+        if len(closer_rows) > most:
+            break
+        chosen, every = closer_rows, every // 2
+    return chosen, every
+
+
+def stretch(
+    chosen: Sequence[Row], columns: int, first: Optional[int], last: Optional[int]
+) -> Tuple[int, int, bool]:
+    """The first and the last position shown, and whether those aren't just the ones visited: those that were
+    asked for, else all, or so many `columns` of them about the middle."""
+    low = min(row.low for row in chosen)
+    high = max(row.low + len(row.cells) - 1 for row in chosen)
+    left = low if first is None else first
+    right = high if last is None else last
+    if right - left >= columns:
+        if first is None and last is None:
+            left = (low + high - columns) // 2 + 1
+        elif first is None:
+            left = right - columns + 1
+        right = left + columns - 1
+    return left, right, (left, right) != (low, high)
+
+
+def places(row: Row, left: int, right: int) -> bytes:
+    """The places of a row, each as the number of its colour."""
+    shown = bytearray([UNVISITED]) * (right - left + 1)
+    begin, end = max(left, row.low), min(right + 1, row.low + len(row.cells))
+    if begin < end:
+        cells = row.cells[begin - row.low : end - row.low].encode()
+        shown[begin - left : end - left] = cells.translate(_DIGITS)
+    if left <= row.position <= right:
+        shown[row.position - left] = HEAD
+    return bytes(shown)
+
+
+def _chunk(kind: bytes, data: bytes) -> bytes:
+    """A chunk of a PNG file."""
+    return struct.pack(">I", len(data)) + kind + data + struct.pack(">I", zlib.crc32(kind + data))
+
+
+def _file(wide: int, high: int, kind: int, palette: bytes, lines: bytes) -> bytes:
+    """A PNG file of lines that each begin with a byte 0; kind 3 has a palette, kind 2 a colour a pixel."""
+    header = struct.pack(">IIBBBBB", wide, high, 8, kind, 0, 0, 0)
+    colours = _chunk(b"PLTE", palette) if palette else b""
+    data = _chunk(b"IDAT", zlib.compress(lines, 6))
+    return b"\x89PNG\r\n\x1a\n" + _chunk(b"IHDR", header) + colours + data + _chunk(b"IEND", b"")
+
+
+def png_of_colours(wide: int, high: int, rows: Iterable[bytes]) -> bytes:
+    """A PNG file of rows in which a pixel is three bytes: red, green, blue."""
+    return _file(wide, high, 2, b"", b"".join(b"\0" + row for row in rows))
+
+
+def png(rows: Sequence[bytes], scale: int) -> bytes:
+    """A PNG file of rows in which a place is the number of its colour, each so many pixels wide and high."""
+    lines = []
+    for row in rows:
+        wide = b"".join(bytes([place]) * scale for place in row) if scale > 1 else row
+        lines.extend([b"\0" + wide] * scale)
+    palette = bytes(part for colour in COLOURS for part in colour)
+    return _file(len(rows[0]) * scale, len(rows) * scale, 3, palette, b"".join(lines))
+
+
+def _refuse_large(rows: int, columns: int, scale: int) -> None:
+    """Raises PictureError where a picture of so many places, each of so many pixels a side, is too large."""
+    pixels = rows * columns * scale**2
+    if pixels <= MOST_PIXELS:
+        return
+    told = "{:,} rows and {:,} columns at scale {:,} are {:,} pixels, more than {:,}".format(
+        rows, columns, scale, pixels, MOST_PIXELS
+    )
+    largest = math.isqrt(MOST_PIXELS // (rows * columns))
+    if largest:
+        raise PictureError("%s; lower scale to %d or less, or rows or columns" % (told, largest))
+    raise PictureError("%s; lower rows or columns" % told)
+
+
+def drawn(
+    chosen: Sequence[Row],
+    every: int,
+    is_cut: bool = False,
+    *,
+    columns: int = 2_000,
+    left: Optional[int] = None,
+    right: Optional[int] = None,
+    scale: int = 1,
+) -> Picture:
+    """The picture of these rows. Raises PictureError where there are none, or too many pixels."""
+    if not chosen:
+        raise PictureError("no step to show")
+    first, last, is_part = stretch(chosen, columns, left, right)
+    if last < first:
+        raise PictureError("no position to show")
+    _refuse_large(len(chosen), last - first + 1, scale)
+    data = png([places(row, first, last) for row in chosen], scale)
+    return Picture(data, every, chosen[-1].step, first, last, is_cut, is_part)
+
+
+def picture(
+    machine: str,
+    upto: int,
+    *,
+    cells: int = 65_536,
+    every: Optional[int] = None,
+    rows: int = 2_000,
+    columns: int = 2_000,
+    left: Optional[int] = None,
+    right: Optional[int] = None,
+    scale: int = 1,
+) -> Picture:
+    """The space-time picture of a run of `upto` steps, or of as many as there are, or as the cells allow.
+
+    A row is a step, from the top down, a column a position. 0 is white, 1 black, the head red, a position not
+    visited yet grey. `every`: each of so many steps, else such a power of two that at most `rows` are left.
+    `left`, `right`: the positions shown, else all, or `columns` of them about the middle. `scale`: how many
+    pixels a place is wide and high.
+
+    Raises what `trace` does, and PictureError.
+
+    >>> picture("1RB1LB_1LA1RZ", 100)
+    Picture(every=1, last=6, left=-2, right=1, is_cut=False, is_part=False)
+    """
+    for name, number in (("rows", rows), ("columns", columns), ("scale", scale)):
+        in_range(name, number, 1, 2**64 - 1)
+    shown = {"columns": columns, "left": left, "right": right}
+    positions = {name: number if number is None else whole(name, number) for name, number in shown.items()}
+    if every is None:
+        chosen, apart = spread(machine, upto, cells, rows)
+        is_cut = False
+    else:
+        apart = in_range("every", every, 1, 2**64 - 1)
+        chosen, is_cut = taken(traced(machine, upto, cells, apart), apart, rows)
+    return drawn(
+        chosen,
+        apart,
+        is_cut,
+        columns=columns,
+        left=positions["left"],
+        right=positions["right"],
+        scale=scale,
+    )

@@ -1,0 +1,334 @@
+"""A report on a list of verdicts, as one HTML file."""
+
+from __future__ import annotations
+
+import base64
+import bisect
+import collections
+import concurrent.futures
+import dataclasses
+import heapq
+import html
+import io
+import itertools
+import math
+import os
+import pathlib
+import re
+import string
+from typing import Any, Callable, Counter, Dict, Iterable, Iterator, List, Optional, Sequence, Tuple, Union
+
+from .limits import Limits, in_range
+from .lists import Growth, Triage, triage
+from .pictures import COLOURS, HEAD, UNVISITED, Row, png, png_of_colours, spread
+from .verdicts import (
+    VERDICTS,
+    Backward,
+    Cycler,
+    Halt,
+    Refused,
+    Translated,
+    Undecided,
+    Verdict,
+    parse,
+    size_of,
+)
+
+__all__ = ["ReportError", "report"]
+
+KINDS = ["halt", "cycler", "translated", "backward", "undecided steps", "undecided cells", "refused"]
+# How many pixels a diagram has at most, across and down.
+SIZE = 240
+_PAGE = pathlib.Path(__file__).with_name("report.html")
+# Colours that stand in a plot for those of the page, which differ in light and dark.
+_INK, _BAR = "#010203", "#040506"
+
+
+class ReportError(RuntimeError):
+    """What a report needs isn't installed. The text says what would do."""
+
+
+@dataclasses.dataclass
+class Gathered:
+    """What a list of verdicts has: counts, distributions, longest runs, the smallest undecided machines."""
+
+    most: int
+    kinds: Counter[str] = dataclasses.field(default_factory=collections.Counter)
+    steps: Counter[int] = dataclasses.field(default_factory=collections.Counter)
+    shifts: Counter[int] = dataclasses.field(default_factory=collections.Counter)
+    levels: Counter[int] = dataclasses.field(default_factory=collections.Counter)
+    longest: Dict[str, List[Tuple[int, str]]] = dataclasses.field(default_factory=dict)
+    smallest: List[Tuple[int, str]] = dataclasses.field(default_factory=list)
+
+    def add(self, verdict: Verdict) -> None:
+        """Counts one verdict in."""
+        name = verdict.kind
+        if isinstance(verdict, Undecided):
+            name += " " + verdict.reason
+            self._keep_small(verdict.machine)
+        self.kinds[name] += 1
+        if isinstance(verdict, Halt):
+            self._add_run(verdict, verdict.steps)
+        elif isinstance(verdict, (Cycler, Translated)):
+            self._add_run(verdict, verdict.second)
+        if isinstance(verdict, Translated) and verdict.extent:
+            self.shifts[bin_of(verdict.extent.shift)] += 1
+        if isinstance(verdict, Backward):
+            self.levels[bin_of(verdict.levels)] += 1
+
+    def _add_run(self, verdict: Verdict, steps: int) -> None:
+        self.steps[bin_of(steps)] += 1
+        runs = self.longest.setdefault(verdict.kind, [])
+        if len(runs) < 10:
+            heapq.heappush(runs, (steps, str(verdict)))
+        elif runs[0][0] < steps:
+            heapq.heapreplace(runs, (steps, str(verdict)))
+
+    def _keep_small(self, machine: str) -> None:
+        states, symbols = size_of(machine)
+        item = (states * symbols, machine)
+        if len(self.smallest) == self.most and (not self.most or item >= self.smallest[-1]):
+            return
+        bisect.insort(self.smallest, item)
+        del self.smallest[self.most :]
+
+
+def bin_of(number: int) -> int:
+    """The bar of a distribution that a number belongs to: each number up to 10, then ten for each power of
+    ten."""
+    return number if number <= 10 else math.floor(10 * math.log10(number))
+
+
+def begin_of(place: int) -> float:
+    """Where a bar begins: half a number below the least one, for small ones."""
+    return place - 0.5 if place <= 10 else 10 ** (place / 10)
+
+
+def gathered(verdicts: Iterable[Union[str, Verdict]], most: int) -> Gathered:
+    """What a list has. Raises ValueError, with its place, for a text that is no verdict line."""
+    found = Gathered(most)
+    for place, item in enumerate(verdicts):
+        if not isinstance(item, VERDICTS):
+            try:
+                item = parse(item.rstrip("\r\n").partition("\t")[0] if isinstance(item, str) else item)
+            except (TypeError, ValueError) as error:
+                raise type(error)("verdicts[%d]: %s" % (place, error)) from None
+        found.add(item)
+    return found
+
+
+def _modules() -> Tuple[Any, Any]:
+    """numpy, and the figures of matplotlib. Raises ReportError."""
+    try:
+        import numpy
+        from matplotlib import rc_context
+        from matplotlib.figure import Figure
+    except ImportError as error:
+        raise ReportError(
+            "a report needs numpy and matplotlib (%s): pip install 'budlarem[report]', or on Debian"
+            " apt install python3-matplotlib" % error
+        ) from None
+    return numpy, (rc_context, Figure)
+
+
+def plot(counts: Counter[int], name: str) -> str:
+    """A distribution as an SVG image."""
+    rc_context, figure_of = _modules()[1]
+    with rc_context({"svg.hashsalt": name, "svg.fonttype": "none", "font.size": 9, "text.color": _INK}):
+        figure = figure_of(figsize=(4.6, 2.4), layout="constrained")
+        axes = figure.subplots()
+        begins = [begin_of(place) for place in sorted(counts)]
+        ends = [begin_of(place + 1) for place in sorted(counts)]
+        widths = [0.9 * (end - begin) for begin, end in zip(begins, ends)]
+        axes.bar(begins, [counts[place] for place in sorted(counts)], widths, align="edge", color=_BAR)
+        axes.set_yscale("log")
+        axes.set_ylim(bottom=0.7)
+        if max(counts) > 10:
+            axes.set_xscale("symlog", linthresh=10, linscale=1)
+        else:
+            axes.xaxis.get_major_locator().set_params(integer=True)
+        axes.set_xlim(begins[0] if max(counts) <= 10 else -0.5, ends[-1])
+        axes.set_xlabel(name)
+        axes.set_ylabel("machines")
+        _colour(axes)
+        file = io.StringIO()
+        figure.savefig(file, format="svg", transparent=True, metadata={"Date": None, "Creator": None})
+    text = file.getvalue()
+    text = re.sub("<metadata>.*?</metadata>", "", text[text.index("<svg") :], flags=re.DOTALL)
+    text = text.replace(_INK, "var(--ink)").replace(_BAR, "var(--bar)")
+    return text.replace("<svg ", '<svg role="img" aria-label="Distribution of %s" ' % html.escape(name), 1)
+
+
+def _colour(axes: Any) -> None:
+    """Gives everything but the bars the colour of the page's text."""
+    axes.tick_params(which="both", colors=_INK)
+    axes.xaxis.label.set_color(_INK)
+    axes.yaxis.label.set_color(_INK)
+    for side, spine in axes.spines.items():
+        spine.set_color(_INK)
+        spine.set_visible(side in ("left", "bottom"))
+
+
+def diagram(rows: Sequence[Row]) -> bytes:
+    """A space-time diagram of at most SIZE by SIZE pixels, as a PNG file. Where more positions were visited,
+    a pixel has the mean colour of some."""
+    numpy = _modules()[0]
+    low = min(row.low for row in rows)
+    high = max(row.low + len(row.cells) for row in rows)
+    together = -(-(high - low) // SIZE)
+    wide = -(-(high - low) // together)
+    places = numpy.full((len(rows), wide * together), UNVISITED, numpy.uint8)
+    for place, row in zip(places, rows):
+        cells = numpy.frombuffer(row.cells.encode(), numpy.uint8)
+        place[row.low - low : row.low - low + len(cells)] = cells - ord("0")
+        if together == 1 and row.position < high:
+            place[row.position - low] = HEAD
+    if together == 1:
+        return png([line.tobytes() for line in places], 1)
+    together_places = places.reshape(len(rows), wide, together)
+    palette = numpy.array(COLOURS, numpy.float32)
+    parts = [palette[:, part][together_places].mean(axis=2) for part in range(3)]
+    mean = numpy.stack(parts, axis=2).astype(numpy.uint8)
+    return png_of_colours(wide, len(rows), (line.tobytes() for line in mean))
+
+
+@dataclasses.dataclass(frozen=True)
+class Shown:
+    """An undecided machine as the report shows it."""
+
+    machine: str
+    triage: Triage
+    last: int
+    visited: int
+    png: bytes
+
+
+def shown(machine: str, steps: int, cells: int) -> Shown:
+    """Traces a machine for the report."""
+    rows, _ = spread(machine, steps, cells, SIZE)
+    found = triage(machine, steps=steps, cells=cells)
+    return Shown(machine, found, found.steps, found.visited[-1], diagram(rows))
+
+
+def all_shown(machines: Sequence[str], steps: int, cells: int, threads: int) -> List[Shown]:
+    """The same of all, on so many threads, in order."""
+    pool = concurrent.futures.ThreadPoolExecutor(threads)
+    try:
+        return list(pool.map(lambda machine: shown(machine, steps, cells), machines))
+    finally:
+        pool.shutdown(wait=False, cancel_futures=True)
+
+
+def _number(number: float) -> str:
+    return "{:,}".format(number)
+
+
+def _counts(found: Gathered) -> Iterator[str]:
+    total = sum(found.kinds.values())
+    for name in KINDS:
+        count = found.kinds[name]
+        share = 100 * count / total if total else 0
+        yield (
+            '<tr><th scope="row">%s</th><td>%s</td><td>%.2f %%</td>'
+            '<td class="share"><span style="width:%.2f%%"></span></td></tr>'
+            % (name, _number(count), share, share)
+        )
+    yield '<tr class="all"><th scope="row">all</th><td>%s</td><td></td><td></td></tr>' % _number(total)
+
+
+def _plots(found: Gathered) -> Iterator[str]:
+    told = {
+        "steps": (found.steps, "steps of halts, second steps of pairs"),
+        "shifts": (found.shifts, "shifts of translated cyclers"),
+        "levels": (found.levels, "levels of backward trees"),
+    }
+    for counts, name in told.values():
+        if counts:
+            yield "<figure>%s</figure>" % plot(counts, name)
+
+
+def _longest(found: Gathered) -> Iterator[str]:
+    for kind in ("halt", "cycler", "translated"):
+        runs = sorted(found.longest.get(kind, []), key=lambda run: (-run[0], run[1]))
+        if runs:
+            lines = "\n".join(html.escape(line) for _, line in runs)
+            yield "<h3>%s</h3><pre>%s</pre>" % (kind, lines)
+
+
+def _card(one: Shown) -> str:
+    """A diagram with what stands beside it."""
+    image = base64.b64encode(one.png).decode()
+    said = "%s cells, last step %s" % (_number(one.visited), _number(one.last))
+    machine = html.escape(one.machine)
+    return (
+        '<figure class="card"><img loading="lazy" alt="Space-time diagram of %s" '
+        'src="data:image/png;base64,%s">'
+        "<figcaption><code>%s</code><br>%s</figcaption></figure>" % (machine, image, machine, said)
+    )
+
+
+def _groups(machines: Sequence[Shown]) -> Iterator[str]:
+    """The diagrams by how the cells grow; in each group small machines first, then those of few cells."""
+    for kind in Growth:
+        group = [one for one in machines if one.triage.growth is kind]
+        group.sort(key=lambda one: (math.prod(size_of(one.machine)), one.visited, one.machine))
+        if group:
+            cards = "".join(map(_card, group))
+            yield '<h3>%s: %s</h3><div class="cards">%s</div>' % (_GROWTHS[kind], _number(len(group)), cards)
+
+
+_GROWTHS = {
+    Growth.STAYS: "Cells stay",
+    Growth.LOGARITHM: "Cells grow as a logarithm",
+    Growth.ROOT: "Cells grow as a root",
+    Growth.LINE: "Cells grow as a line",
+    Growth.HALTS: "The run ends",
+}
+
+
+def _page(found: Gathered, machines: Sequence[Shown], title: str) -> str:
+    left = found.kinds["undecided steps"] + found.kinds["undecided cells"]
+    parts = {
+        "title": html.escape(title),
+        "counts": "".join(_counts(found)),
+        "plots": "".join(_plots(found)) or "<p>No verdict has numbers.</p>",
+        "longest": "".join(_longest(found)) or "<p>No run is told.</p>",
+        "left": "%s of %s undecided machines are shown." % (_number(len(machines)), _number(left)),
+        "diagrams": "".join(_groups(machines)),
+    }
+    return string.Template(_PAGE.read_text(encoding="utf-8")).substitute(parts)
+
+
+def report(
+    verdicts: Iterable[Union[str, Verdict]],
+    path: Union[str, "os.PathLike[str]"],
+    *,
+    diagrams: int = 100,
+    steps: int = 1_000_000,
+    cells: int = 65_536,
+    threads: Optional[int] = None,
+    title: str = "Verdicts",
+) -> None:
+    """Writes one HTML file on a list of verdicts or verdict lines: counts, distributions, the longest runs,
+    and a space-time diagram for undecided machines, smallest first, at most so many `diagrams`, grouped by
+    how their cells grow.
+
+    An undecided machine is run again, up to `steps` steps and `cells` cells, on so many `threads` (as many as
+    there are cores where not said). The list is read once and not held. A file at `path` is replaced whole.
+
+    Raises ReportError where numpy or matplotlib is missing, before anything is read; ValueError with its
+    place for a text that is no verdict line; OSError where the file can't be written.
+    """
+    in_range("diagrams", diagrams, 0, 1_000_000)
+    in_range("steps", steps, 100, Limits.RANGES["steps"][1])
+    in_range("cells", cells, *Limits.RANGES["cells"])
+    _modules()
+    found = gathered(verdicts, diagrams)
+    machines = [machine for _, machine in found.smallest]
+    told = all_shown(machines, steps, cells, threads or os.cpu_count() or 1)
+    part = pathlib.Path(path).with_name(pathlib.Path(path).name + ".part")
+    try:
+        part.write_text(_page(found, told, title), encoding="utf-8")
+        os.replace(part, path)
+    finally:
+        part.unlink(missing_ok=True)

@@ -1,0 +1,129 @@
+"""The command `budlarem run`.
+
+Its statuses: 0 where all lines are machines, 1 where a line was refused or the checker doesn't confirm a verdict,
+2 where command, limits or folder were refused, 3 for a fault, 130 after an interruption.
+"""
+
+from __future__ import annotations
+
+import argparse
+import contextlib
+import os
+import signal
+from types import FrameType
+from typing import List, Optional
+
+from ..limits import Limits
+from .cluster import ClusterPlace
+from .cutting import MOST_LINES
+from .errors import CheckError, FolderError, RunError
+from .folder import VERDICTS, Folder, limits_of
+from .passes import Manner
+from .progress import Progress
+from .source import ListFile
+from .tasks import identity
+from .whole import run
+from .workplace import Workplace, threads
+
+_HELP = """Decides a list of any length in pieces, on all cores. FOLDER gets verdicts.txt, with a line for each line
+of LIST in its order, and summary.json. Whatever ended it, the same command goes on after what stands. More passes
+may be added at the end of the command later: they decide what is left."""
+
+# dask's options of TLS, and what its client calls them.
+TLS = {
+    "tls-ca-file": "the certificates of those that are trusted",
+    "tls-cert": "this computer's certificate",
+    "tls-key": "its key",
+}
+_SECURITY = {"tls-ca-file": "tls_ca_file", "tls-cert": "tls_client_cert", "tls-key": "tls_client_key"}
+
+
+def add_command(commands: "argparse._SubParsersAction[argparse.ArgumentParser]") -> None:
+    """Adds the command to a reader of command lines."""
+    parser = commands.add_parser("run", help="decide a list of any length in pieces", description=_HELP)
+    parser.set_defaults(do=do_run)
+    parser.add_argument("list", metavar="LIST", help="a file, also compressed by gzip; - is standard input")
+    parser.add_argument("--out", required=True, metavar="FOLDER", help="where verdicts are written")
+    parser.add_argument(
+        "--pass",
+        action="append",
+        dest="passes",
+        metavar="steps=N,cells=N,depth=N,nodes=N",
+        help="limits of a pass, each of which may be left out; the next pass decides what it leaves"
+        " (default: one pass, at the defaults of bb)",
+    )
+    parser.add_argument("--threads", type=int, metavar="N", help="cores used (default: all)")
+    parser.add_argument("--scheduler", metavar="ADDRESS", help="of dask, whose workers decide the pieces")
+    for name, what in TLS.items():
+        parser.add_argument("--" + name, metavar="FILE", help="dask's option: %s" % what)
+    parser.add_argument("--check", action="store_true", help="have the checker confirm each verdict")
+    parser.add_argument(
+        "--piece",
+        type=int,
+        default=MOST_LINES,
+        metavar="LINES",
+        help="lines of a piece at most (default: {:,})".format(MOST_LINES),
+    )
+
+
+def end_at_interruption(progress: Progress, folder: str) -> None:
+    """Has SIGINT end the process at once, with a sentence: what stands is on the disk."""
+    if signal.getsignal(signal.SIGINT) is signal.SIG_IGN:
+        return
+    text = "%sbudlarem: interrupted; the same command goes on after what stands in %s\n"
+
+    def end(number: int, frame: Optional[FrameType]) -> None:
+        os.write(2, (text % (progress.cleared(), folder)).encode("utf-8", "replace"))
+        os._exit(130)
+
+    signal.signal(signal.SIGINT, end)
+
+
+def _workplace(asked: argparse.Namespace, progress: Progress) -> Workplace:
+    """Where the pieces are decided. Raises ValueError, RunError."""
+    files = {name: getattr(asked, name.replace("-", "_")) for name in TLS}
+    if asked.scheduler is not None:
+        if asked.threads is not None:
+            raise ValueError("--threads is for this computer, --scheduler for others; give one of them")
+        given = {_SECURITY[name]: path for name, path in files.items() if path is not None}
+        return ClusterPlace(asked.scheduler, given, progress.tell)
+    if any(files.values()):
+        raise ValueError("--tls-ca-file, --tls-cert and --tls-key are for --scheduler, which isn't given")
+    count = len(os.sched_getaffinity(0)) if asked.threads is None else asked.threads
+    if count < 1:
+        raise ValueError("--threads is %d, but must be 1 or more" % count)
+    return threads(count)
+
+
+def passes_of(words: Optional[List[str]]) -> List[Limits]:
+    """The limits of each pass. Raises ValueError."""
+    return [limits_of(word) for word in words] if words else [Limits()]
+
+
+def do_run(asked: argparse.Namespace) -> int:
+    """Decides a list; gives the status."""
+    progress = Progress()
+    passes = passes_of(asked.passes)
+    if asked.piece < 1:
+        raise ValueError("--piece is %d, but must be 1 or more" % asked.piece)
+    end_at_interruption(progress, asked.out)
+    try:
+        place = _workplace(asked, progress)
+        with contextlib.closing(ListFile(asked.list)) as source, contextlib.closing(
+            Folder(asked.out)
+        ) as folder:
+            manner = Manner(place, identity(), progress, source.name, asked.piece, asked.check)
+            outcome = run(folder, source, passes, manner)
+        progress.tell("%s; %s" % (outcome, os.path.join(asked.out, VERDICTS)))
+        return 1 if outcome.counts["refused"] else 0
+    except FolderError as error:
+        progress.tell(str(error))
+        return 2
+    except CheckError as error:
+        progress.tell(str(error))
+        return 1
+    except RunError as error:
+        progress.tell("%s; the same command goes on after what stands" % error)
+    except OSError as error:
+        progress.tell("%s; the same command goes on after what stands, once that is mended" % error)
+    return 3

@@ -1,0 +1,115 @@
+"""The pieces of a pass: how its lines are cut, and which of them stand already."""
+
+from __future__ import annotations
+
+import dataclasses
+from typing import Iterator, Optional, Tuple
+
+from .errors import FolderError
+from .folder import PassFolder
+from .journal import Record
+from .look import Counts
+from .source import Lines
+
+# How many lines a piece has at most where nothing is said, and how many bytes: a task of more than a mebibyte is
+# told of by some executors.
+MOST_LINES = 20_000
+MOST_BYTES = 700_000
+# A piece that was cut before is cut so again, whatever it has.
+_ANY_SIZE = 1 << 62
+
+
+class Pace:
+    """How many lines a piece gets, such that it lasts about so many seconds: one at first, and not many more
+    than a piece that was decided had."""
+
+    SECONDS, GROWTH, MEMORY = 2.0, 8, 0.7
+
+    def __init__(self, most: int) -> None:
+        self.now, self._most, self._largest = 1, most, 0
+        self._lines, self._seconds = 0.0, 0.0
+
+    def took(self, lines: int, seconds: float) -> None:
+        """Tells how long a piece took."""
+        self._lines = self.MEMORY * self._lines + lines
+        self._seconds = self.MEMORY * self._seconds + seconds
+        self._largest = max(self._largest, lines)
+        fitting = self._lines * self.SECONDS / max(self._seconds, 1e-9)
+        self.now = max(int(min(fitting, self._most, self.GROWTH * self._largest)), 1)
+
+
+@dataclasses.dataclass
+class Piece:
+    """Lines of a pass: the piece's number and how many lines come before it, both from 0 on; `record` is the
+    journal's, and `written` what was decided, each once there is one."""
+
+    index: int
+    first: int
+    given: bytes
+    lines: int
+    record: Optional[Record] = None
+    written: Optional[bytes] = None
+    seconds: float = 0.0
+    tries: int = 0
+    is_confirmed: bool = False
+    counts: Counts = dataclasses.field(default_factory=dict)
+
+
+class Cutter:
+    """Cuts the lines of a pass: those pieces that the journal has as it has them, the others by the pace.
+    `list_name` is for sentences; `known` is how many lines there are, where that is known."""
+
+    def __init__(self, folder: PassFolder, list_name: str, most_lines: int, known: Optional[int]) -> None:
+        self._folder, self._list_name, self._known = folder, list_name, known
+        self.pace = Pace(most_lines)
+
+    def pieces(self, lines: Lines) -> Iterator[Piece]:
+        """The pieces. Raises FolderError where they aren't those that the journal was written for, RunError,
+        OSError."""
+        index, first = 0, 0
+        while True:
+            record = self._folder.journal.read(index)
+            if record is not None and record.first != first:
+                record = None
+            count, size, is_begun = self._room_of(record, index, first)
+            given = lines.take(count, size)
+            found = given.count(b"\n")
+            if (record is not None and not record.fits(given)) or (is_begun and found != count):
+                raise self._differs(first, count, found)
+            self._hold_length(first, found)
+            if not given:
+                return
+            yield Piece(index, first, given, found, record)
+            index, first = index + 1, first + found
+
+    def _hold_length(self, first: int, found: int) -> None:
+        """Raises FolderError where there are more lines than are known of, or fewer at their end."""
+        known = self._known
+        if known is not None and (first + found > known or (not found and first < known)):
+            raise FolderError(self._other_list() + "that one had %d lines" % known)
+
+    def _room_of(self, record: Optional[Record], index: int, first: int) -> Tuple[int, int, bool]:
+        """How many lines and bytes a piece gets, and whether there must be so many lines."""
+        if record is not None:
+            return record.lines, _ANY_SIZE, True
+        gap = self._folder.journal.gap(index, first)
+        if gap is None:
+            return self.pace.now, MOST_BYTES, False
+        pieces, count = gap
+        return -(-count // pieces), _ANY_SIZE, True
+
+    def _other_list(self) -> str:
+        return "%s isn't the list that this folder was begun with; give that list, or another folder: " % (
+            self._list_name
+        )
+
+    def _differs(self, first: int, count: int, found: int) -> FolderError:
+        """The error that says which lines aren't those that were decided."""
+        if self._folder.number > 1:
+            return FolderError(
+                "%s was decided from other lines than the pass before leaves; remove it, and run again"
+                % self._folder.path
+            )
+        if found < count:
+            return FolderError(self._other_list() + "it ends after line %d" % (first + found))
+        return FolderError(self._other_list() + "lines %d to %d differ" % (first + 1, first + count))

@@ -1,0 +1,191 @@
+"""The folder of a run: its lock, what it was begun with, and files that are written whole or not at all."""
+
+from __future__ import annotations
+
+import contextlib
+import dataclasses
+import fcntl
+import json
+import os
+import re
+from typing import Any, Dict, Iterator, List, Optional, Sequence, Tuple
+
+from ..limits import Limits
+from .errors import FolderError, RunError
+from .journal import Journal, hash_of
+from .tasks import Identity
+
+FORMAT = 1
+PART = ".part"
+LOCK, RUN, VERDICTS, SUMMARY = "lock", "run.json", "verdicts.txt", "summary.json"
+_OURS = re.compile("lock|run.json|verdicts.txt|summary.json|pass-[0-9]+|.*[.]part")
+
+
+def settle_folder(path: str) -> None:
+    """Returns when the names in a folder are on the disk."""
+    number = os.open(path, os.O_RDONLY | os.O_DIRECTORY | os.O_CLOEXEC)
+    try:
+        os.fsync(number)
+    finally:
+        os.close(number)
+
+
+def write_whole(path: str, blocks: Iterator[bytes], settle_name: bool = True) -> None:
+    """Writes a file whole or not at all, whatever ends the process. Raises OSError; nothing is left then."""
+    part = path + PART
+    try:
+        with open(part, "wb") as file:
+            for block in blocks:
+                file.write(block)
+            file.flush()
+            os.fsync(file.fileno())
+        os.replace(part, path)
+    except BaseException:
+        with contextlib.suppress(OSError):
+            os.unlink(part)
+        raise
+    if settle_name:
+        settle_folder(os.path.dirname(path))
+
+
+def words_of(limits: Limits) -> str:
+    """Limits as `--pass` takes them."""
+    return "steps=%d,cells=%d,depth=%d,nodes=%d" % limits.numbers()
+
+
+@dataclasses.dataclass
+class Begun:
+    """What a folder was begun with. Of the list is known how many bytes its file has, where it is an uncompressed
+    one, and when the first pass has seen its end how many lines it has."""
+
+    passes: List[Limits]
+    identity: Identity
+    list_name: str
+    list_bytes: Optional[int] = None
+    list_lines: Optional[int] = None
+
+    def text(self) -> str:
+        """The text of the file that says it."""
+        told = {
+            "format": FORMAT,
+            "passes": [words_of(limits) for limits in self.passes],
+            "list": {"name": self.list_name, "bytes": self.list_bytes, "lines": self.list_lines},
+            **dataclasses.asdict(self.identity),
+        }
+        return json.dumps(told, indent=2) + "\n"
+
+    @classmethod
+    def read(cls, text: str) -> Begun:
+        """What a text says. Raises ValueError, TypeError, KeyError where it can't be."""
+        told: Dict[str, Any] = json.loads(text)
+        if told["format"] != FORMAT:
+            raise FolderError(
+                "it has format %s, which another version of this package writes" % told["format"]
+            )
+        passes = [limits_of(words) for words in told["passes"]]
+        identity = Identity(*(str(told[name]) for name in ("version", "commit", "library")))
+        listed = told["list"]
+        return cls(passes, identity, str(listed["name"]), listed["bytes"], listed["lines"])
+
+
+def limits_of(words: str) -> Limits:
+    """The limits that words as `steps=1000,cells=1024` name; those that aren't named are the program's. Raises
+    ValueError, LimitsError."""
+    found: Dict[str, int] = {}
+    for word in words.split(","):
+        name, equals, number = word.partition("=")
+        if not equals or name not in Limits.RANGES or not re.fullmatch("[0-9]+", number) or name in found:
+            raise ValueError(
+                "--pass %s: %r is no limit; a pass is as steps=1000,cells=1024,depth=40,nodes=10000,"
+                " each at most once" % (words, word)
+            )
+        found[name] = int(number)
+    return Limits(**found)
+
+
+class Folder:
+    """A folder that this process alone works in. Raises FolderError where another does, or where it holds
+    something else; OSError."""
+
+    def __init__(self, path: str) -> None:
+        self.path = path
+        os.makedirs(path, exist_ok=True)
+        foreign = [name for name in sorted(os.listdir(path)) if not _OURS.fullmatch(name)]
+        if foreign and not os.path.exists(self.at(RUN)):
+            raise FolderError("%s has other files in it, as %s; give an empty folder" % (path, foreign[0]))
+        self._lock = os.open(self.at(LOCK), os.O_RDWR | os.O_CREAT | os.O_CLOEXEC, 0o666)
+        try:
+            fcntl.flock(self._lock, fcntl.LOCK_EX | fcntl.LOCK_NB)
+        except BlockingIOError:
+            raise FolderError("another run works in %s; wait for its end, or end it" % path) from None
+
+    def at(self, *names: str) -> str:
+        """The path of a file in it."""
+        return os.path.join(self.path, *names)
+
+    def begun(self) -> Optional[Begun]:
+        """What it was begun with; None where it is new, or what says so was cut or changed. Raises
+        FolderError."""
+        try:
+            with open(self.at(RUN), encoding="utf-8") as file:
+                return Begun.read(file.read())
+        except FileNotFoundError:
+            return None
+        except FolderError as error:
+            raise FolderError("%s: %s" % (self.at(RUN), error)) from None
+        except (ValueError, TypeError, KeyError, AttributeError):
+            return None
+
+    def begin(self, begun: Begun) -> None:
+        """Writes down what it is begun with."""
+        write_whole(self.at(RUN), iter([begun.text().encode()]))
+
+    def open_pass(self, passes: Sequence[Limits], identity: Identity) -> PassFolder:
+        """The folder of the last of these passes."""
+        number = len(passes)
+        path = self.at("pass-%d" % number)
+        os.makedirs(path, exist_ok=True)
+        settle_folder(self.path)
+        key = "%d %s %s" % (FORMAT, " ".join(map(words_of, passes)), identity.library)
+        return PassFolder(path, number, Journal(os.path.join(path, "journal"), hash_of(key.encode())))
+
+    def close(self) -> None:
+        os.close(self._lock)
+
+
+class PassFolder:
+    """The pieces of a pass, and their journal. `pieces` is how many there are, once that is known."""
+
+    def __init__(self, path: str, number: int, journal: Journal) -> None:
+        self.path, self.number, self.journal = path, number, journal
+        self.pieces = 0
+
+    def _at(self, index: int) -> str:
+        return os.path.join(self.path, "%09d.txt" % (index + 1))
+
+    def write(self, index: int, verdicts: bytes) -> None:
+        """Writes the verdicts of a piece; `settle` puts its name onto the disk."""
+        write_whole(self._at(index), iter([verdicts]), settle_name=False)
+
+    def settle(self) -> None:
+        settle_folder(self.path)
+
+    def read(self, index: int) -> Optional[bytes]:
+        """The verdicts of a piece; None where they aren't there."""
+        try:
+            with open(self._at(index), "rb") as file:
+                return file.read()
+        except FileNotFoundError:
+            return None
+
+    def pieces_written(self) -> Iterator[Tuple[int, bytes]]:
+        """Each piece of the whole pass, with how many lines came before it, as the journal has it. Raises
+        RunError where one isn't so."""
+        for index in range(self.pieces):
+            record, verdicts = self.journal.read(index), self.read(index)
+            if record is None or verdicts is None or not record.has(verdicts):
+                raise RunError(
+                    "%s isn't what the journal says: it was cut or changed; run again, and it is decided again"
+                    % self._at(index)
+                )
+            yield record.first, verdicts

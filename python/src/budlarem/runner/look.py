@@ -1,0 +1,114 @@
+"""The look at what comes back: nothing that an executor answers is believed.
+
+A reply has a line for each line of its piece, each of which begins with its machine's text and is a verdict line,
+or is the refusal of that line. That a verdict is right isn't seen here; the checker says that.
+"""
+
+from __future__ import annotations
+
+import math
+import re
+from typing import Dict, List, Tuple
+
+from .._library import Room
+from ..engine import checking, deciding
+from ..limits import Limits, Plan
+from .errors import ReplyError
+from .tasks import Identity
+
+# By these a line costs no step: they are for the form of lines alone.
+_LOWEST = Limits(steps=0, cells=1, depth=0, nodes=0)
+_DECIDE = deciding(_LOWEST, Plan(cyclers=False, translated=False, backward=False))
+_CHECK = checking(_LOWEST)
+# A word of each kind's lines.
+KINDS = {
+    "halt": b" halt ",
+    "cycler": b" cycler ",
+    "translated": b" translated ",
+    "backward": b" backward ",
+    "undecided steps": b" undecided steps\n",
+    "undecided cells": b" undecided cells\n",
+    "refused": b"refused ",
+}
+Counts = Dict[str, int]
+_BEHIND_MACHINE = re.compile(b" [^\\n]*")
+
+
+def counts_of(verdicts: bytes) -> Counts:
+    """How many lines there are of each kind, among lines that were looked at."""
+    left = verdicts.count(b"\n")
+    counts = {}
+    for kind, word in KINDS.items():
+        counts[kind] = verdicts.count(word) if left else 0
+        left -= counts[kind]
+    return counts
+
+
+def shown(line: bytes) -> str:
+    """A line as a sentence has it: cut, and with what isn't printable spelled out."""
+    return ascii(line[:80].decode("latin-1")) + ("..." if len(line) > 80 else "")
+
+
+def _split(lines: bytes, count: int, what: str) -> List[bytes]:
+    """So many whole lines, without their newlines. Raises ReplyError."""
+    parts = lines.split(b"\n")
+    if parts.pop() != b"":
+        raise ReplyError("the last of the %s has no newline" % what)
+    if len(parts) != count:
+        raise ReplyError("%d %s came back for %d lines" % (len(parts), what, count))
+    return parts
+
+
+def look_at_verdicts(given: bytes, verdicts: bytes) -> Counts:
+    """Looks at the verdict lines of a piece; counts their kinds. Raises ReplyError."""
+    counts = counts_of(verdicts)
+    if b" " in given or counts["refused"] or _BEHIND_MACHINE.sub(b"", verdicts) != given:
+        machines = given.split(b"\n")[:-1]
+        _look_at_refusals(machines, _split(verdicts, len(machines), "verdict lines"))
+    answers = _CHECK(Room(), verdicts)
+    if b"unread" in answers or b"bad" in answers:
+        answered = answers.split(b"\n")
+        wrong = next(place for place, answer in enumerate(answered) if answer in (b"unread", b"bad"))
+        raise ReplyError("%s is no verdict line" % shown(verdicts.split(b"\n")[wrong]), wrong)
+    return counts
+
+
+def _look_at_refusals(machines: List[bytes], replies: List[bytes]) -> None:
+    """Each reply that doesn't begin with its line, as a machine's text, or that is a refusal, is that line's
+    refusal. Raises ReplyError."""
+    odd = [
+        place
+        for place, (machine, reply) in enumerate(zip(machines, replies))
+        if b" " in machine or reply.startswith(b"refused ") or not reply.startswith(machine + b" ")
+    ]
+    own = _DECIDE(Room(), b"".join(machines[place] + b"\n" for place in odd)).split(b"\n")
+    for place, line in zip(odd, own):
+        if replies[place] != line or not line.startswith(b"refused "):
+            text = "%s came back for the line %s" % (shown(replies[place]), shown(machines[place]))
+            raise ReplyError(text, place)
+
+
+def look_at_answers(verdicts: bytes, answers: bytes) -> None:
+    """Looks at the checker's answers to the verdict lines of a piece. Raises ReplyError where they are no such
+    answers; its `line` is set where one is an answer that doesn't confirm."""
+    lines = _split(answers, verdicts.count(b"\n"), "answers")
+    if set(lines) <= {b"ok", b"open"}:
+        return
+    place = next(place for place, line in enumerate(lines) if line not in (b"ok", b"open"))
+    if lines[place] not in (b"bad", b"over", b"unread"):
+        raise ReplyError("%s is no answer of the checker" % shown(lines[place]))
+    raise ReplyError(lines[place].decode(), place)
+
+
+def opened(reply: object, ours: Identity) -> Tuple[bytes, float]:
+    """The bytes and seconds of a reply that has its form, from the same package and library as this one.
+    Raises ReplyError."""
+    if not (isinstance(reply, tuple) and len(reply) == 5 and isinstance(reply[0], bytes)):
+        raise ReplyError("what came back is no reply, but of type %s" % type(reply).__name__)
+    written, seconds, version, commit, library = reply
+    theirs = Identity(str(version), str(commit), str(library))
+    if theirs != ours:
+        raise ReplyError("it was decided by %s; here is %s" % (theirs, ours))
+    if not (isinstance(seconds, float) and math.isfinite(seconds) and seconds >= 0):
+        raise ReplyError("%.50r came back as its seconds" % (seconds,))
+    return written, seconds

@@ -1,0 +1,148 @@
+"""What is told while a run goes on: a line on a terminal, or one a minute elsewhere."""
+
+from __future__ import annotations
+
+import os
+import shutil
+import sys
+import time
+from typing import Callable, Optional, TextIO
+
+# Seconds between two lines, on a terminal and elsewhere.
+_OFTEN, _SELDOM = 0.5, 60.0
+# A pass of more seconds than this is told of, once so many pieces or seconds are there to tell it from.
+_LONG, _PIECES, _ENOUGH = 3_600.0, 16, 5.0
+
+
+def duration(seconds: float) -> str:
+    """A time in one unit.
+
+    >>> duration(5), duration(600), duration(8000), duration(3e5)
+    ('5 s', '10 min', '2.2 h', '3.5 days')
+    """
+    if seconds < 120:
+        return "%.0f s" % seconds
+    if seconds < 7_200:
+        return "%.0f min" % (seconds / 60)
+    if seconds < 48 * 3_600:
+        return "%.1f h" % (seconds / 3_600)
+    return "%.1f days" % (seconds / 86_400)
+
+
+def count_of(number: float) -> str:
+    """A count in few characters.
+
+    >>> count_of(9_999), count_of(858_909), count_of(88_664_064)
+    ('9999', '858k', '88M')
+    """
+    if number < 10_000:
+        return "%d" % number
+    return "%dk" % (number // 1_000) if number < 10_000_000 else "%dM" % (number // 1_000_000)
+
+
+class Progress:
+    """Tells of a run on standard error, or on another stream."""
+
+    def __init__(self, stream: Optional[TextIO] = None) -> None:
+        self._stream = sys.stderr if stream is None else stream
+        self._is_terminal = self._stream.isatty()
+        self._is_open = False
+        self._next = 0.0
+        self._pass, self._passes = 0, 0
+        self._total: Callable[[int], Optional[float]] = lambda lines: None
+        self._clear()
+
+    def _clear(self) -> None:
+        self._began = time.monotonic()
+        self._standing, self._decided, self._pieces = 0, 0, 0
+        self._is_long_told = False
+
+    def begin(self, number: int, passes: int, total: Callable[[int], Optional[float]]) -> None:
+        """Begins a pass. `total` gives of how many lines a number of lines is a part, where that is known."""
+        self._clear()
+        self._pass, self._passes, self._total = number, passes, total
+        self._next = self._began + (_OFTEN if self._is_terminal else _SELDOM)
+
+    def stood(self, lines: int) -> None:
+        """Counts a piece that stood."""
+        self._standing += lines
+        if not self._decided:
+            self._began = time.monotonic()
+
+    def decided(self, lines: int) -> None:
+        """Counts a piece that was decided, or checked."""
+        self._decided += lines
+        self._pieces += 1
+
+    def left(self) -> Optional[float]:
+        """How many seconds are left, at the pace so far; None where nothing says."""
+        done = self._standing + self._decided
+        total = self._total(done)
+        if total is None or not self._decided:
+            return None
+        return max(total - done, 0) * (time.monotonic() - self._began) / self._decided
+
+    def text(self) -> str:
+        """The line."""
+        seconds = max(time.monotonic() - self._began, 1e-3)
+        done = self._standing + self._decided
+        parts = ["pass %d of %d" % (self._pass, self._passes), "%d pieces" % self._pieces]
+        total, left = self._total(done), self.left()
+        parts.append("%s lines" % count_of(done))
+        if total:
+            parts.append("%d%%" % min(100 * done / total, 100))
+        parts.append("%s lines/s" % count_of(self._decided / seconds))
+        if left is not None:
+            parts.append("%s left" % duration(left))
+        return ", ".join(parts)
+
+    def tick(self, status: str = "") -> None:
+        """Shows the line where it is time for it, and tells once of a pass that takes long."""
+        now = time.monotonic()
+        if now < self._next:
+            return
+        self._next = now + (_OFTEN if self._is_terminal else _SELDOM)
+        self._tell_long(now)
+        line = self.text() + (", " + status if status else "")
+        if self._is_terminal:
+            width = shutil.get_terminal_size().columns - 1
+            self._write("\r" + line[:width].ljust(width if self._is_open else 0))
+            self._is_open = True
+        else:
+            self._write("budlarem: %s\n" % line)
+
+    def _tell_long(self, now: float) -> None:
+        left = self.left()
+        is_told_from = self._pieces >= _PIECES or (self._pieces and now - self._began > _ENOUGH)
+        if left is None or left < _LONG or self._is_long_told or not is_told_from:
+            return
+        self._is_long_told = True
+        self.tell(
+            "pass %d takes about %s, by the pace of its first %s lines"
+            % (self._pass, duration(left), count_of(self._decided))
+        )
+
+    def tell(self, text: str) -> None:
+        """Tells a sentence, on a line of its own."""
+        self._write(self.cleared() + "budlarem: %s\n" % text)
+        self._is_open = False
+
+    def cleared(self) -> str:
+        """What takes the line off the terminal."""
+        if not self._is_open:
+            return ""
+        return "\r%s\r" % (" " * (shutil.get_terminal_size().columns - 1))
+
+    def end(self) -> None:
+        """Takes the line off the terminal."""
+        self._write(self.cleared())
+        self._is_open = False
+
+    def _write(self, text: str) -> None:
+        """Writes, where there is still somebody who reads."""
+        try:
+            self._stream.write(text)
+            self._stream.flush()
+        except OSError:
+            self._stream = open(os.devnull, "w")
+            self._is_terminal = self._is_open = False

@@ -1,0 +1,157 @@
+"""Reading a list as a stream, and cutting it between lines."""
+
+from __future__ import annotations
+
+import gzip
+import io
+import os
+import stat
+import zlib
+from typing import Iterator, Optional
+
+from .._batches import LONG
+from .errors import RunError
+
+BLOCK = 1 << 19
+_GZIP = b"\x1f\x8b"
+# So few lines are found one by one.
+_FEW = 16
+
+
+class Lines:
+    """The lines of a stream, taken some at a time. A line of more than LONG bytes is cut to so many, which
+    changes no reply; a last line without a newline gets one."""
+
+    def __init__(self, blocks: Iterator[bytes]) -> None:
+        self._batches = _whole_lines(blocks)
+        self._held, self._begin = b"", 0
+        self._ended = False
+        # How many bytes and lines were taken.
+        self.taken, self.taken_lines = 0, 0
+
+    def take(self, lines: int, size: int) -> bytes:
+        """The next lines: so many at most, of so many bytes together, but one at least; no bytes at the end."""
+        while not self._ended:
+            end = _end_of(self._held, self._begin, lines)
+            if end is not None or len(self._held) - self._begin >= size:
+                break
+            batch = next(self._batches, None)
+            if batch is None:
+                self._ended = True
+            else:
+                self._held, self._begin = self._held[self._begin :] + batch, 0
+        return self._cut(_end_of(self._held, self._begin, lines), size)
+
+    def _cut(self, end: Optional[int], size: int) -> bytes:
+        begin = self._begin
+        end = len(self._held) if end is None else end
+        if end - begin > size:
+            last = self._held.rfind(b"\n", begin, begin + size) + 1
+            end = last if last > begin else self._held.find(b"\n", begin) + 1
+        self._begin = end
+        cut = self._held[begin:end]
+        self.taken, self.taken_lines = self.taken + len(cut), self.taken_lines + cut.count(b"\n")
+        return cut
+
+
+def _end_of(held: bytes, begin: int, lines: int) -> Optional[int]:
+    """Where so many lines end; None where there aren't so many. It goes on by jumps, as long as the lines before
+    were, which end before the last of the lines; as many bytes as there are lines left can't pass that."""
+    jump = lines
+    while lines > _FEW:
+        if begin >= len(held):
+            return None
+        found = held.count(b"\n", begin, begin + jump)
+        if found >= lines and jump > lines:
+            jump = max(jump // 2, lines)
+            continue
+        begin, lines = begin + jump, lines - found
+        jump = max(jump * lines // (found + 1) * 15 // 16, lines)
+    for _ in range(lines):
+        begin = held.find(b"\n", begin) + 1
+        if begin == 0:
+            return None
+    return begin if begin <= len(held) else None
+
+
+def _whole_lines(blocks: Iterator[bytes]) -> Iterator[bytes]:
+    """The stream in whole lines, none longer than LONG bytes beside its newline."""
+    rest = b""
+    for block in blocks:
+        whole = block.rfind(b"\n") + 1
+        if whole:
+            yield shortened(rest + block[:whole])
+            rest = block[whole:][:LONG]
+        else:
+            rest = (rest + block)[:LONG]
+    if rest:
+        yield rest + b"\n"
+
+
+def shortened(lines: bytes) -> bytes:
+    """Whole lines, each of more than LONG bytes cut to so many."""
+    begin = 0
+    while len(lines) - begin > LONG:
+        last = lines.rfind(b"\n", begin, begin + LONG + 1)
+        if last < 0:
+            return b"\n".join(line[:LONG] for line in lines.split(b"\n"))
+        begin = last + 1
+    return lines
+
+
+class ListFile:
+    """A list: a file, as it is or compressed by gzip, or standard input. Raises OSError where it can't be
+    opened."""
+
+    def __init__(self, path: str) -> None:
+        self.name = "standard input" if path == "-" else path
+        number = 0 if path == "-" else os.open(path, os.O_RDONLY | os.O_CLOEXEC)
+        self._raw = io.FileIO(number, closefd=path != "-")
+        self._file = io.BufferedReader(self._raw, BLOCK)
+        self._begin = os.fstat(number)
+        self.is_regular = stat.S_ISREG(self._begin.st_mode)
+        self.is_compressed = self._file.peek(2)[:2] == _GZIP
+
+    @property
+    def size(self) -> Optional[int]:
+        """How many bytes the file has on its disk; None where it is no regular file."""
+        return self._begin.st_size if self.is_regular else None
+
+    def part(self, taken: int) -> Optional[float]:
+        """Which part of the file so many bytes of the list are, as far as can be told; None where it can't."""
+        if not self.size:
+            return None
+        return min((self._raw.tell() if self.is_compressed else taken) / self.size, 1.0)
+
+    def blocks(self) -> Iterator[bytes]:
+        """Its bytes, cut anywhere. Raises RunError where it can't be read, or changed meanwhile."""
+        opened: io.BufferedIOBase = self._file
+        if self.is_compressed:
+            opened = gzip.GzipFile(fileobj=self._file)
+        try:
+            yield from _read(opened)
+        except (OSError, EOFError, zlib.error) as error:
+            kind = "as gzip" if self.is_compressed else "to its end"
+            raise RunError("%s can't be read %s: %s" % (self.name, kind, error)) from error
+        self._hold_unchanged()
+
+    def _hold_unchanged(self) -> None:
+        """Raises RunError where the file isn't the one that was opened."""
+        now, then = os.fstat(self._raw.fileno()), self._begin
+        if self.is_regular and (now.st_size, now.st_mtime_ns) != (then.st_size, then.st_mtime_ns):
+            sizes = "from %d to %d bytes" % (then.st_size, now.st_size)
+            raise RunError(
+                "%s changed while it was read (%s); run again with the list as it was,"
+                " or with another folder" % (self.name, sizes)
+            )
+
+    def close(self) -> None:
+        self._file.close()
+
+
+def _read(file: io.BufferedIOBase) -> Iterator[bytes]:
+    """What is there, as it comes, in blocks of at most BLOCK bytes."""
+    block = file.read1(BLOCK)
+    while block:
+        yield block
+        block = file.read1(BLOCK)

@@ -1,0 +1,170 @@
+"""A whole run: its folder, its passes one after another, and what it leaves."""
+
+from __future__ import annotations
+
+import collections
+import dataclasses
+import datetime
+import json
+import time
+from typing import Any, Callable, Counter, Dict, List, Optional, Sequence, Tuple
+
+from ..limits import Limits
+from .errors import FolderError
+from .folder import SUMMARY, VERDICTS, Begun, Folder, PassFolder, words_of, write_whole
+from .joining import joined, left_by, number_in_list
+from .look import KINDS
+from .passes import Manner, PassResult, PassRun
+from .source import Lines, ListFile
+from .tasks import Identity
+
+
+Total = Callable[[int], Optional[float]]
+
+
+@dataclasses.dataclass(frozen=True)
+class Outcome:
+    """What a run came to: how many lines there are, and how many of each kind."""
+
+    lines: int
+    counts: Counter[str]
+
+    def __str__(self) -> str:
+        undecided = self.counts["undecided steps"] + self.counts["undecided cells"]
+        refused = self.counts["refused"]
+        decided = self.lines - undecided - refused
+        return "{:,} lines: {:,} decided, {:,} undecided, {:,} refused".format(
+            self.lines, decided, undecided, refused
+        )
+
+
+def run(folder: Folder, source: ListFile, passes: Sequence[Limits], manner: Manner) -> Outcome:
+    """Decides a list in a folder, and leaves verdicts and summary there. Raises FolderError, CheckError, RunError,
+    OSError."""
+    began = time.time()
+    begun = begin(folder, source, passes, manner)
+    folders: List[PassFolder] = []
+    results: List[PassResult] = []
+    for number, limits in enumerate(passes, 1):
+        opened = folder.open_pass(passes[:number], manner.identity)
+        lines, known = _lines_for(source, folders, results, begun)
+        manner.progress.begin(number, len(passes), _total_of(source, lines, known))
+        before = tuple(folders)
+        pass_run = PassRun(opened, limits, manner, lambda line: number_in_list(before, line), known)
+        results.append(pass_run.run(lines))
+        folders.append(opened)
+        if begun.list_lines is None:
+            begun.list_lines = results[0].lines
+            folder.begin(begun)
+    write_whole(folder.at(VERDICTS), joined(folders))
+    outcome = outcome_of(results)
+    summary = summary_of(source, results, outcome, manner, began)
+    write_whole(folder.at(SUMMARY), iter([(json.dumps(summary, indent=2) + "\n").encode()]))
+    manner.progress.end()
+    return outcome
+
+
+def _lines_for(
+    source: ListFile, folders: Sequence[PassFolder], results: Sequence[PassResult], begun: Begun
+) -> Tuple[Lines, Optional[int]]:
+    """The lines of the next pass, and how many they are where that is known."""
+    if not folders:
+        return Lines(source.blocks()), begun.list_lines
+    counts = results[-1].counts
+    return Lines(left_by(folders[-1])), counts["undecided steps"] + counts["undecided cells"]
+
+
+def _total_of(source: ListFile, lines: Lines, known: Optional[int]) -> Total:
+    """Of how many lines some lines are a part, where that is known."""
+
+    def total(done: int) -> Optional[float]:
+        if known is not None:
+            return known
+        part = source.part(lines.taken)
+        return lines.taken_lines / part if part else None
+
+    return total
+
+
+def begin(folder: Folder, source: ListFile, passes: Sequence[Limits], manner: Manner) -> Begun:
+    """Holds what the folder was begun with against what is asked, and writes down what is new. Raises
+    FolderError, which says what differs."""
+    size = None if source.is_compressed else source.size
+    begun = folder.begun()
+    if begun is None:
+        begun = Begun(list(passes), manner.identity, source.name, size)
+        folder.begin(begun)
+        return begun
+    _hold_library(folder, begun.identity, manner.identity)
+    _hold_passes(folder, begun.passes, passes)
+    if size is not None and begun.list_bytes is not None and size != begun.list_bytes:
+        raise FolderError(
+            "%s isn't the list that %s was begun with; give that list, or another folder:"
+            " it has %d bytes, and that one had %d" % (source.name, folder.path, size, begun.list_bytes)
+        )
+    if list(passes) != begun.passes:
+        begun.passes = list(passes)
+        folder.begin(begun)
+    return begun
+
+
+def _hold_library(folder: Folder, theirs: Identity, ours: Identity) -> None:
+    if theirs.library != ours.library:
+        raise FolderError(
+            "%s was begun with another library: %s; here is %s; install that one, or give another folder"
+            % (folder.path, theirs, ours)
+        )
+
+
+def _hold_passes(folder: Folder, theirs: Sequence[Limits], ours: Sequence[Limits]) -> None:
+    if list(ours[: len(theirs)]) != list(theirs):
+        raise FolderError(
+            "%s was begun with other passes: %s; here are %s; give the same ones, with others behind them or not,"
+            " or another folder" % (folder.path, _passes_text(theirs), _passes_text(ours))
+        )
+
+
+def _passes_text(passes: Sequence[Limits]) -> str:
+    return " ".join("--pass " + words_of(limits) for limits in passes)
+
+
+def outcome_of(results: Sequence[PassResult]) -> Outcome:
+    """What all passes came to."""
+    counts: Counter[str] = collections.Counter()
+    for result in results:
+        for kind in ("undecided steps", "undecided cells"):
+            counts[kind] = 0
+        counts.update(result.counts)
+    return Outcome(results[0].lines, counts)
+
+
+def _in_order(counts: Counter[str]) -> Dict[str, int]:
+    return {kind: counts[kind] for kind in KINDS}
+
+
+def summary_of(
+    source: ListFile, results: Sequence[PassResult], outcome: Outcome, manner: Manner, began: float
+) -> Dict[str, Any]:
+    """What the summary says."""
+    ended = time.time()
+    times = [datetime.datetime.fromtimestamp(when, datetime.timezone.utc) for when in (began, ended)]
+    return {
+        "list": source.name,
+        "lines": outcome.lines,
+        "counts": _in_order(outcome.counts),
+        "passes": [
+            {
+                "limits": dict(zip(Limits.RANGES, result.limits.numbers())),
+                "lines": result.lines,
+                "counts": _in_order(result.counts),
+                "pieces": result.pieces,
+                "checked": result.is_checked,
+                "work_seconds": result.milliseconds / 1_000,
+            }
+            for result in results
+        ],
+        "began": times[0].isoformat(timespec="seconds"),
+        "ended": times[1].isoformat(timespec="seconds"),
+        "seconds": round(ended - began, 3),
+        **dataclasses.asdict(manner.identity),
+    }

@@ -1,0 +1,261 @@
+"""What is said of a machine: verdicts, the answers of the checker, and their lines."""
+
+from __future__ import annotations
+
+import dataclasses
+import enum
+import functools
+import re
+from typing import Callable, ClassVar, Dict, List, Optional, Pattern, Tuple, Union
+
+__all__ = [
+    "Answer",
+    "Backward",
+    "Cycler",
+    "Extent",
+    "Halt",
+    "Refused",
+    "Translated",
+    "Undecided",
+    "Verdict",
+    "is_machine",
+    "parse",
+]
+
+STATES = "ABCDEFGHIJKLMNOPQRSTUVWXY"
+MOST_SYMBOLS = 10
+# How many bytes the longest machine has.
+LONGEST = len(STATES) * (3 * MOST_SYMBOLS + 1) - 1
+_NUMBER = re.compile("0|[1-9][0-9]*")
+_TOO_GREAT = 2**64
+
+
+class Answer(enum.Enum):
+    """What the checker answers to a verdict line: the first of these that applies.
+
+    `UNREAD`: it is no verdict line. `OPEN`: it claims nothing. `OVER`: it names more than the limits have, or
+    its run needs more cells. `OK`: its claim holds. `BAD`: its claim doesn't hold.
+    """
+
+    OK = "ok"
+    BAD = "bad"
+    OVER = "over"
+    OPEN = "open"
+    UNREAD = "unread"
+
+    def __str__(self) -> str:
+        return self.value
+
+
+@dataclasses.dataclass(frozen=True)
+class Halt:
+    """The machine halts after so many steps, with so many cells that aren't 0."""
+
+    machine: str
+    steps: int
+    score: int
+    kind: ClassVar[str] = "halt"
+
+    def __str__(self) -> str:
+        return "%s halt %d %d" % (self.machine, self.steps, self.score)
+
+
+@dataclasses.dataclass(frozen=True)
+class Cycler:
+    """The machine never halts: the configuration at step `first` comes again at step `second`."""
+
+    machine: str
+    first: int
+    second: int
+    kind: ClassVar[str] = "cycler"
+
+    def __str__(self) -> str:
+        return "%s cycler %d %d" % (self.machine, self.first, self.second)
+
+
+@dataclasses.dataclass(frozen=True)
+class Extent:
+    """How two records lie: by how many cells the second is farther out, and how many cells agree."""
+
+    shift: int
+    length: int
+
+
+@dataclasses.dataclass(frozen=True)
+class Translated:
+    """The machine never halts: at steps `first` and `second` its head is farther out on `side` than ever
+    before, and the same pattern lies behind it. A line that somebody else wrote may have no extent."""
+
+    machine: str
+    side: str
+    first: int
+    second: int
+    extent: Optional[Extent] = None
+    kind: ClassVar[str] = "translated"
+
+    def __str__(self) -> str:
+        text = "%s translated %s %d %d" % (self.machine, self.side, self.first, self.second)
+        return text if self.extent is None else "%s %d %d" % (text, self.extent.shift, self.extent.length)
+
+
+@dataclasses.dataclass(frozen=True)
+class Backward:
+    """The machine never halts: what could come before a halt is a tree of so many levels and nodes, and the
+    start fits none of them."""
+
+    machine: str
+    levels: int
+    nodes: int
+    kind: ClassVar[str] = "backward"
+
+    def __str__(self) -> str:
+        return "%s backward %d %d" % (self.machine, self.levels, self.nodes)
+
+
+@dataclasses.dataclass(frozen=True)
+class Undecided:
+    """No decider found anything; `reason` is the limit that ended the run, `steps` or `cells`."""
+
+    machine: str
+    reason: str
+    kind: ClassVar[str] = "undecided"
+
+    def __str__(self) -> str:
+        return "%s undecided %s" % (self.machine, self.reason)
+
+
+@dataclasses.dataclass(frozen=True)
+class Refused:
+    """A line that is no machine. `column` is 1 plus the length, in bytes, of its longest prefix that begins
+    a machine. `machine` is the text that `decide` was given; a verdict line doesn't have it, so it is None
+    after `parse`, and isn't compared."""
+
+    column: int
+    machine: Optional[str] = dataclasses.field(default=None, compare=False)
+    kind: ClassVar[str] = "refused"
+
+    def __str__(self) -> str:
+        return "refused %d" % self.column
+
+
+Verdict = Union[Halt, Cycler, Translated, Backward, Undecided, Refused]
+VERDICTS = (Halt, Cycler, Translated, Backward, Undecided, Refused)
+
+
+@functools.lru_cache(maxsize=None)
+def _shape(states: int, symbols: int) -> Pattern[str]:
+    """What the text of each machine of so many states and symbols has to match."""
+    entry = "(?:[0-%d][LR][%sZ]|---)" % (symbols - 1, STATES[:states])
+    group = entry + "{%d}" % symbols
+    return re.compile("%s(?:_%s){%d}" % (group, group, states - 1))
+
+
+def size_of(machine: str) -> Tuple[int, int]:
+    """How many states and symbols a machine's text has; for other texts any numbers."""
+    states = machine.count("_") + 1
+    return states, ((len(machine) + 1) // states - 1) // 3
+
+
+def is_machine(text: str) -> bool:
+    """Whether a text is a machine of 1 to 25 states and 2 to 10 symbols.
+
+    >>> is_machine("1RB1LB_1LA1RZ"), is_machine("1RB1LC_1LA1RZ")
+    (True, False)
+    """
+    states, symbols = size_of(text)
+    if len(text) > LONGEST or states > len(STATES) or not 2 <= symbols <= MOST_SYMBOLS:
+        return False
+    return _shape(states, symbols).fullmatch(text) is not None
+
+
+def _number(word: str) -> int:
+    """The number below 2^64 that a word is, without sign or leading zeros. Raises ValueError."""
+    if len(word) > 20 or not _NUMBER.fullmatch(word) or int(word) >= _TOO_GREAT:
+        raise ValueError
+    return int(word)
+
+
+Reader = Callable[[str], int]
+
+
+def _halt(machine: str, words: List[str], number: Reader) -> Verdict:
+    steps, score = words
+    return Halt(machine, number(steps), number(score))
+
+
+def _cycler(machine: str, words: List[str], number: Reader) -> Verdict:
+    first, second = words
+    return Cycler(machine, number(first), number(second))
+
+
+def _translated(machine: str, words: List[str], number: Reader) -> Verdict:
+    side, first, second, *extent = words
+    if side not in ("L", "R") or len(extent) not in (0, 2):
+        raise ValueError
+    found = Extent(number(extent[0]), number(extent[1])) if extent else None
+    return Translated(machine, side, number(first), number(second), found)
+
+
+def _backward(machine: str, words: List[str], number: Reader) -> Verdict:
+    levels, nodes = words
+    return Backward(machine, number(levels), number(nodes))
+
+
+def _undecided(machine: str, words: List[str], number: Reader) -> Verdict:
+    (reason,) = words
+    if reason not in ("steps", "cells"):
+        raise ValueError
+    return Undecided(machine, reason)
+
+
+_READERS: Dict[str, Callable[[str, List[str], Reader], Verdict]] = {
+    "halt": _halt,
+    "cycler": _cycler,
+    "translated": _translated,
+    "backward": _backward,
+    "undecided": _undecided,
+}
+
+
+def verdict_of(machine: str, words: str, number: Reader = int) -> Verdict:
+    """The verdict on a machine whose line goes on with these words, of which `number` reads the numbers.
+    Raises ValueError."""
+    kind, *others = words.split(" ")
+    reader = _READERS.get(kind)
+    if reader is None:
+        raise ValueError
+    return reader(machine, others, number)
+
+
+def _refused(words: List[str]) -> Refused:
+    (column,) = words
+    number = _number(column)
+    if not 1 <= number <= LONGEST + 1:
+        raise ValueError
+    return Refused(number)
+
+
+def parse(line: str) -> Verdict:
+    """The verdict of a verdict line, without its newline; `str` of it is the line again.
+
+    Raises ValueError for each text that the checker calls `unread`, TypeError where it isn't a text.
+
+    >>> parse("1RB1LB_1LA1RZ halt 6 4")
+    Halt(machine='1RB1LB_1LA1RZ', steps=6, score=4)
+    >>> str(parse("1RA1RA translated R 1 2 1 1"))
+    '1RA1RA translated R 1 2 1 1'
+    >>> parse("1RB1LB_1LA1RZ halt 06 4")
+    Traceback (most recent call last):
+    ValueError: no verdict line: '1RB1LB_1LA1RZ halt 06 4'
+    """
+    if not isinstance(line, str):
+        raise TypeError("a verdict line is a str, not %s" % type(line).__name__)
+    machine, _, words = line.partition(" ")
+    try:
+        if machine == "refused":
+            return _refused(words.split(" "))
+        if not is_machine(machine):
+            raise ValueError
+        return verdict_of(machine, words, _number)
+    except ValueError:
+        raise ValueError("no verdict line: %.200r" % line) from None

@@ -1,0 +1,222 @@
+"""Deciding, checking and tracing, through the library."""
+
+from __future__ import annotations
+
+import io
+import itertools
+import os
+import subprocess
+import sys
+import threading
+import unittest
+from typing import Any, Iterator, List
+
+import budlarem
+from budlarem import Answer, Limits, Plan
+
+CHAMPION = "1RB1LB_1LA1RZ"
+MACHINES = [CHAMPION, "0RB---_0LA---", "1RA1RA", "1rB1LB", ""]
+LINES = [
+    CHAMPION + " halt 6 4",
+    "0RB---_0LA--- cycler 2 4",
+    "1RA1RA translated R 1 2 1 1",
+    "refused 2",
+    "refused 1",
+]
+# It grows for ever as the square root of its steps, and no decider finds anything.
+COUNTER = "1RB0RA_1LC1LB_1RA0LB"
+
+
+def decided(machines: Any, *given: Any, **more: Any) -> List[str]:
+    return [str(verdict) for verdict in budlarem.decide(machines, *given, **more)]
+
+
+class DecideTest(unittest.TestCase):
+    def test_lists_of_any_kind(self) -> None:
+        for machines in (MACHINES, tuple(MACHINES), iter(MACHINES), dict.fromkeys(MACHINES)):
+            self.assertEqual(decided(machines), LINES)
+        self.assertEqual(decided([]), [])
+
+    def test_what_was_refused_is_told(self) -> None:
+        (verdict,) = budlarem.decide(["x y"])
+        self.assertEqual(verdict, budlarem.Refused(1))
+        self.assertEqual(verdict.machine, "x y")
+
+    def test_limits_and_plans(self) -> None:
+        self.assertEqual(
+            decided(["1RA1RA"], Limits(steps=10), Plan(translated=False)), ["1RA1RA backward 0 0"]
+        )
+        simulation = Plan(cyclers=False, translated=False, backward=False)
+        self.assertEqual(decided(["1RA1RA"], Limits(steps=10), simulation), ["1RA1RA undecided steps"])
+        self.assertEqual(decided([CHAMPION], Limits(steps=5), simulation), [CHAMPION + " undecided steps"])
+
+    def test_order_by_threads(self) -> None:
+        machines = ["1RA1RA", CHAMPION] * 20_000
+        expected = [LINES[2], LINES[0]] * 20_000
+        for threads in (1, 4):
+            self.assertEqual(decided(machines, Limits(steps=10), threads=threads), expected)
+
+    def test_endless_lists(self) -> None:
+        first = itertools.islice(budlarem.decide(itertools.cycle(MACHINES)), 5)
+        self.assertEqual([str(verdict) for verdict in first], LINES)
+
+    def test_an_item_that_is_no_text(self) -> None:
+        for wrong, said in (
+            (b"1RA1RA", r"machines\[2\] is of type bytes, not str; decide_bytes"),
+            (None, r"machines\[2\] is of type NoneType"),
+            (7, r"machines\[2\] is of type int"),
+        ):
+            found = budlarem.decide([CHAMPION, "1RA1RA", wrong])  # type: ignore[list-item]
+            self.assertEqual([str(next(found)), str(next(found))], [LINES[0], LINES[2]])
+            with self.assertRaisesRegex(TypeError, said):
+                next(found)
+
+    def test_an_item_with_a_newline(self) -> None:
+        for wrong in ("1RA1RA\n", "x" * 5_000 + "\n"):
+            with self.assertRaisesRegex(ValueError, r"machines\[1\] has a newline"):
+                decided([CHAMPION, wrong])
+
+    def test_no_list(self) -> None:
+        for wrong in (CHAMPION, b"1RA1RA", None, 7):
+            with self.subTest(wrong), self.assertRaises(TypeError):
+                decided(wrong)
+
+    def test_wrong_limits_and_threads_at_once(self) -> None:
+        wrong: Any = {"steps": 1}
+        with self.assertRaisesRegex(TypeError, "limits is of type dict"):
+            budlarem.decide([], wrong)
+        with self.assertRaisesRegex(TypeError, "plan is of type dict"):
+            budlarem.decide([], Limits(), wrong)
+        with self.assertRaisesRegex(ValueError, "threads is 0"):
+            budlarem.decide([], threads=0)
+
+    def test_texts_of_all_kinds(self) -> None:
+        texts = ["\u00e9", "\ud800", "\0", "1RA1RA\0", "1RA1RA\r", " ", "1RA1RA ", "9" * 3_000_000]
+        columns = [1, 1, 1, 7, 7, 1, 7, 2]
+        self.assertEqual(decided(texts), ["refused %d" % column for column in columns])
+
+    def test_an_error_of_the_list_itself(self) -> None:
+        def broken() -> Iterator[str]:
+            yield CHAMPION
+            raise KeyError("gone")
+
+        found = budlarem.decide(broken())
+        with self.assertRaises(KeyError):
+            list(found)
+
+    def test_threads_end_with_the_list(self) -> None:
+        before = threading.active_count()
+        decided(MACHINES, threads=3)
+        self.assertEqual(threading.active_count(), before)
+
+
+class CheckTest(unittest.TestCase):
+    def test_lines_and_verdicts(self) -> None:
+        given: List[Any] = [LINES[0], budlarem.Halt(CHAMPION, 6, 5), "x", budlarem.Refused(3), LINES[2]]
+        answers = [Answer.OK, Answer.BAD, Answer.UNREAD, Answer.OPEN, Answer.OK]
+        self.assertEqual(list(budlarem.check(given)), answers)
+        self.assertEqual(list(budlarem.check(LINES[:1], Limits(steps=5))), [Answer.OVER])
+        self.assertEqual(str(Answer.OVER), "over")
+
+    def test_an_item_that_is_none(self) -> None:
+        wrong: Any = [LINES[0], 7]
+        with self.assertRaisesRegex(TypeError, r"lines\[1\] is of type int"):
+            list(budlarem.check(wrong))
+
+
+class BytesTest(unittest.TestCase):
+    def test_blocks_of_any_kind(self) -> None:
+        given = "".join(line + "\n" for line in MACHINES).encode()
+        expected = "".join(line + "\n" for line in LINES).encode()
+        cut = [given[k : k + 3] for k in range(0, len(given), 3)]
+        kinds: List[Any] = [given, bytearray(given), memoryview(given), io.BytesIO(given), cut, iter([given])]
+        for blocks in kinds:
+            self.assertEqual(b"".join(budlarem.decide_bytes(blocks)), expected)
+        self.assertEqual(b"".join(budlarem.check_bytes(expected)), b"ok\nok\nok\nopen\nopen\n")
+        self.assertEqual(b"".join(budlarem.decide_bytes(b"")), b"")
+
+    def test_a_last_line_without_its_newline(self) -> None:
+        self.assertEqual(b"".join(budlarem.decide_bytes(b"\n1RZ---")), b"refused 1\n1RZ--- halt 1 1\n")
+
+    def test_lines_without_an_end(self) -> None:
+        noise = (b"1RZ------" * 100_000 for _ in range(20))
+        self.assertEqual(b"".join(budlarem.decide_bytes(noise)), b"refused 31\n")
+        twice = [b"1RZ------" * 100_000, b"\n1RZ---\n"]
+        self.assertEqual(b"".join(budlarem.decide_bytes(twice)), b"refused 31\n1RZ--- halt 1 1\n")
+        self.assertEqual(b"".join(budlarem.check_bytes([b"refused 1", b" " * 5_000, b"\n"])), b"unread\n")
+
+    def test_what_are_no_bytes(self) -> None:
+        for wrong in ("1RZ---", ["1RZ---"], [1], 7, None):
+            given: Any = wrong
+            with self.subTest(wrong), self.assertRaises(TypeError):
+                list(budlarem.decide_bytes(given))
+
+
+class TraceTest(unittest.TestCase):
+    def test_every_step_and_some(self) -> None:
+        whole = [str(now) for now in budlarem.trace(CHAMPION, 100)]
+        self.assertEqual(len(whole), 7)
+        self.assertEqual(whole[6], "6 Z 0 1111")
+        some = [str(now) for now in budlarem.trace(CHAMPION, 100, start=1, every=3)]
+        self.assertEqual(some, whole[1::3])
+        self.assertEqual(list(budlarem.trace(CHAMPION, 100, start=7)), [])
+
+    def test_whether_it_was_cut(self) -> None:
+        for upto, cells, cut in ((6, 4, False), (6, 3, True), (3, 3, False), (4, 3, True)):
+            trace = budlarem.trace(CHAMPION, upto, cells)
+            self.assertIsNone(trace.cut)
+            for _ in trace:
+                pass
+            self.assertEqual(trace.cut, cut, (upto, cells))
+            self.assertRaises(StopIteration, next, trace)
+
+    def test_no_machine(self) -> None:
+        with self.assertRaises(budlarem.MachineError) as told:
+            next(budlarem.trace("1RB1LC_1LA1RZ", 3))
+        self.assertEqual(told.exception.column, 14)
+
+    def test_wrong_numbers(self) -> None:
+        for upto, cells, start, every in ((-1, 1, 0, 1), (1, 0, 0, 1), (1, 1, -1, 1), (1, 1, 0, 0)):
+            with self.assertRaises(budlarem.LimitsError):
+                budlarem.trace(CHAMPION, upto, cells, start, every)
+
+
+class ProcessTest(unittest.TestCase):
+    """What is of a process: its library, and forks."""
+
+    def run_with(self, code: str, **variables: str) -> str:
+        environment = {**os.environ, **variables}
+        command = [sys.executable, "-c", code]
+        ended = subprocess.run(command, env=environment, stdout=subprocess.PIPE, text=True)
+        self.assertEqual(ended.returncode, 0)
+        return ended.stdout
+
+    def test_a_library_that_is_not_there(self) -> None:
+        code = (
+            "import budlarem\ntry: budlarem.decide([])\nexcept budlarem.LibraryError as error: print(error)"
+        )
+        self.assertIn("/nowhere/libbb.so", self.run_with(code, BB_LIBRARY="/nowhere/libbb.so"))
+        self.assertIn("can't be loaded", self.run_with(code, BB_LIBRARY=__file__))
+
+    def test_a_fork_with_threads_is_told(self) -> None:
+        code = """
+import os, sys, threading, warnings, budlarem
+warnings.simplefilter("ignore")
+given = threading.Event()
+with_threads = len(sys.argv) > 0
+def forked():
+    child = os.fork()
+    if child: return os.waitpid(child, 0)
+    try: print(len(list(budlarem.decide(["1RA1RA"]))), flush=True)
+    except RuntimeError as error: print(error, flush=True)
+    os._exit(0)
+forked()
+thread = threading.Thread(target=given.wait)
+thread.start()
+forked()
+given.set()
+thread.join()
+"""
+        first, second = self.run_with(code).splitlines()
+        self.assertEqual(first, "1")
+        self.assertIn("spawn", second)

@@ -1,0 +1,257 @@
+"""Lists, pictures, reports and the command."""
+
+from __future__ import annotations
+
+import importlib.util
+import os
+import pathlib
+import struct
+import subprocess
+import sys
+import tempfile
+import unittest
+from typing import List, Tuple
+
+import budlarem
+from budlarem import Agreement, Growth, lists, pictures, reports
+
+CHAMPION = "1RB1LB_1LA1RZ"
+UNDECIDED = "0RB1LD_0RC1RD_0RD---_1LA0RB"
+HAS_PLOTS = all(importlib.util.find_spec(name) for name in ("numpy", "matplotlib"))
+
+
+def agreement(first: str, second: str, undefined_steps: bool = False) -> Agreement:
+    pair = budlarem.parse(first), budlarem.parse(second)
+    return lists.agreement(*pair, undefined_steps)
+
+
+class CompareTest(unittest.TestCase):
+    def test_what_goes_together(self) -> None:
+        for first, second, found in (
+            ("halt 6 4", "halt 6 4", "agree"),
+            ("halt 6 4", "halt 5 4", "contradict"),
+            ("halt 6 4", "cycler 1 2", "contradict"),
+            ("backward 1 2", "halt 6 4", "contradict"),
+            ("cycler 1 2", "cycler 3 4", "agree"),
+            ("cycler 1 2", "translated R 1 2", "contradict"),
+            ("translated R 1 2", "translated R 2 4 1 1", "agree"),
+            ("translated R 1 2", "translated L 1 2", "contradict"),
+            ("backward 1 2", "translated L 1 2", "agree"),
+            ("undecided steps", "undecided cells", "agree"),
+            ("undecided steps", "halt 6 4", "second-decides"),
+            ("cycler 1 2", "undecided cells", "first-decides"),
+        ):
+            with self.subTest(first=first, second=second):
+                self.assertEqual(
+                    str(agreement("%s %s" % (CHAMPION, first), "%s %s" % (CHAMPION, second))), found
+                )
+
+    def test_steps_counted_for_undefined_entries(self) -> None:
+        for machine, other, asked, found in (
+            ("1RB---_1LA1RZ", "halt 6 4", True, "agree"),
+            ("1RB---_1LA1RZ", "halt 6 5", True, "agree"),
+            ("1RB---_1LA1RZ", "halt 6 3", True, "contradict"),
+            ("1RB---_1LA1RZ", "halt 7 4", True, "contradict"),
+            ("1RB---_1LA1RZ", "halt 6 4", False, "contradict"),
+            (CHAMPION, "halt 6 4", True, "contradict"),
+        ):
+            pair = "%s halt 5 4" % machine, "%s %s" % (machine, other)
+            self.assertEqual(str(agreement(pair[0], pair[1], asked)), found)
+            self.assertEqual(str(agreement(pair[1], pair[0], asked)), found)
+
+    def test_any_order_and_what_one_lacks(self) -> None:
+        first = [
+            "1RA1RA cycler 1 2",
+            "------ halt 0 0",
+            "refused 3",
+            "1RZ--- halt 1 1\tmore",
+            "1RZ--- halt 1 1",
+        ]
+        second = ["1RZ--- halt 1 1", CHAMPION + " halt 6 4", "1RA1RA cycler 1 2"]
+        found = [(str(one.agreement), one.machine) for one in budlarem.compare(first, second)]
+        self.assertEqual(sorted(found[:2]), [("agree", "1RA1RA"), ("agree", "1RZ---")])
+        only = [("only-first", "------"), ("only-first", "1RZ---"), ("only-second", CHAMPION)]
+        self.assertEqual(sorted(found[2:]), only)
+
+    def test_a_line_that_is_none(self) -> None:
+        with self.assertRaisesRegex(ValueError, r"second\[1\]: no verdict line"):
+            list(budlarem.compare([], ["refused 1", "x"]))
+
+
+class NormalTest(unittest.TestCase):
+    def test_states_are_in_the_order_of_their_use(self) -> None:
+        form = budlarem.normal("1LC1RZ_1RB---_1RA1LA")
+        self.assertEqual((form.normal, form.states, form.mirrored), ("1RB1LZ_1LA1RA_1LC---", "ACB", True))
+
+    def test_machines_that_stay(self) -> None:
+        for machine in (CHAMPION, "------", "1RZ---", "---1LA"):
+            form = budlarem.normal(machine)
+            self.assertEqual((form.normal, form.mirrored), (machine, False))
+
+    def test_duplicates(self) -> None:
+        machines = [CHAMPION, "1LB1RB_1RA1LZ", "1RA1RA", CHAMPION]
+        before = [first for _, first in budlarem.distinct(machines)]
+        self.assertEqual(before, [None, CHAMPION, None, CHAMPION])
+
+    def test_no_machine(self) -> None:
+        self.assertRaises(budlarem.MachineError, budlarem.normal, "1RB")
+
+
+class TriageTest(unittest.TestCase):
+    def test_growths(self) -> None:
+        for counts, found in (
+            ((5, 5, 5), Growth.STAYS),
+            ((5, 9, 9), Growth.STAYS),
+            ((10, 13, 16), Growth.LOGARITHM),
+            ((10, 32, 100), Growth.ROOT),
+            ((10, 100, 1_000), Growth.LINE),
+        ):
+            self.assertIs(lists.growth(counts), found)
+
+    def test_runs(self) -> None:
+        self.assertEqual(budlarem.triage("1RA1RA", steps=1_000).visited, (11, 101, 1_001))
+        self.assertIs(budlarem.triage(UNDECIDED, steps=10_000).growth, Growth.ROOT)
+        self.assertIs(budlarem.triage(CHAMPION, steps=100).growth, Growth.HALTS)
+
+    def test_the_cells_end_a_run(self) -> None:
+        found = budlarem.triage("1RA1RA", steps=100_000, cells=1_001)
+        self.assertEqual((found.steps, found.visited), (1_000, (11, 101, 1_001)))
+        self.assertEqual(lists.last_step("1RA1RA", 100_000, 778), 777)
+        self.assertEqual(lists.last_step(CHAMPION, 100_000), 6)
+
+
+class PictureTest(unittest.TestCase):
+    def size(self, picture: budlarem.Picture) -> Tuple[int, ...]:
+        return struct.unpack(">II", picture.png[16:24])
+
+    def test_sizes(self) -> None:
+        self.assertEqual(self.size(budlarem.picture(CHAMPION, 100)), (4, 7))
+        self.assertEqual(self.size(budlarem.picture(CHAMPION, 100, scale=3)), (12, 21))
+        sampled = budlarem.picture("1RA1RA", 100, rows=30)
+        self.assertEqual((sampled.every, self.size(sampled)), (4, (101, 26)))
+        part = budlarem.picture("1RA1RA", 100, every=10, rows=5, left=-1, right=8)
+        self.assertEqual((self.size(part), part.last, part.is_cut, part.is_part), ((10, 5), 40, True, True))
+
+    def test_rows_are_those_of_the_whole_trace(self) -> None:
+        for machine in (
+            CHAMPION,
+            UNDECIDED,
+            "1LB2RA3LA4RB0LA_2LA---4RB1LA0RZ",
+            "1LB5RA3LA4RB0LA1LB_2LA---4RB1LA0RZ5LA",
+            "1RB---" + "_1LA0RB" * 24,
+        ):
+            whole = [str(now) for now in budlarem.trace(machine, 500)]
+            rows = list(pictures.rows_of_lines(whole))
+            for every in (1, 3):
+                self.assertEqual(list(pictures.traced(machine, 500, every=every)), rows[::every])
+            self.assertEqual(pictures.spread(machine, 500, 65_536, 20), pictures.sampled(iter(rows), 20))
+
+    def test_what_cannot_be_drawn(self) -> None:
+        with self.assertRaisesRegex(budlarem.PictureError, "lower scale to 2500"):
+            budlarem.picture("1RA1RA", 3, scale=100_000)
+        with self.assertRaisesRegex(budlarem.PictureError, "no position"):
+            budlarem.picture("1RA1RA", 3, left=5, right=4)
+        self.assertRaises(budlarem.LimitsError, budlarem.picture, "1RA1RA", 3, rows=0)
+        self.assertRaises(budlarem.MachineError, budlarem.picture, "1RA", 3)
+
+    def test_it_is_shown_and_saved(self) -> None:
+        picture = budlarem.picture(CHAMPION, 6)
+        self.assertTrue(picture._repr_png_().startswith(b"\x89PNG"))
+        with tempfile.TemporaryDirectory() as folder:
+            path = pathlib.Path(folder) / "picture.png"
+            picture.save(path)
+            self.assertEqual(path.read_bytes(), picture.png)
+
+
+class ReportTest(unittest.TestCase):
+    LINES = [
+        CHAMPION + " halt 6 4",
+        "1RA1RA translated R 1 2 1 1",
+        UNDECIDED + " undecided steps",
+        "refused 2",
+    ]
+
+    def test_bars(self) -> None:
+        self.assertEqual(
+            [reports.bin_of(number) for number in (0, 1, 10, 12, 13, 100)], [0, 1, 10, 10, 11, 20]
+        )
+
+    def test_the_smallest_are_kept(self) -> None:
+        found = reports.gathered(["%s undecided steps" % one for one in ("1RA1RA", UNDECIDED, "1RA0RA")], 2)
+        self.assertEqual([machine for _, machine in found.smallest], ["1RA0RA", "1RA1RA"])
+        self.assertEqual(reports.gathered(self.LINES, 0).smallest, [])
+
+    @unittest.skipUnless(HAS_PLOTS, "numpy and matplotlib aren't installed")
+    def test_a_page(self) -> None:
+        with tempfile.TemporaryDirectory() as folder:
+            path = pathlib.Path(folder) / "page.html"
+            budlarem.report(self.LINES, path, steps=1_000, title="<lists>")
+            page = path.read_text(encoding="utf-8")
+            self.assertEqual(os.listdir(folder), ["page.html"])
+        self.assertIn("&lt;lists&gt;", page)
+        self.assertIn("1 of 1 undecided machines", page)
+        self.assertEqual(page.count("data:image/png;base64,"), 1)
+        self.assertFalse("http" in page.replace("http://www.w3.org", ""), "an address")
+
+    @unittest.skipUnless(HAS_PLOTS, "numpy and matplotlib aren't installed")
+    def test_lists_that_are_empty_or_wrong(self) -> None:
+        with tempfile.TemporaryDirectory() as folder:
+            path = pathlib.Path(folder) / "page.html"
+            with self.assertRaisesRegex(ValueError, r"verdicts\[1\]: no verdict line"):
+                budlarem.report(["refused 1", "x"], path)
+            self.assertFalse(path.exists())
+            budlarem.report([], path)
+            self.assertIn("No verdict has numbers", path.read_text(encoding="utf-8"))
+
+    @unittest.skipIf(HAS_PLOTS, "numpy and matplotlib are installed")
+    def test_what_is_missing_is_told(self) -> None:
+        self.assertRaisesRegex(budlarem.ReportError, "pip install", budlarem.report, [], "page.html")
+
+
+class CommandTest(unittest.TestCase):
+    def run_with(self, *words: str, given: str = "") -> Tuple[int, List[str], str]:
+        """The status of the command, its lines, and what it says."""
+        command = [sys.executable, "-m", "budlarem", *words]
+        ended = subprocess.run(command, input=given.encode(), capture_output=True)
+        return ended.returncode, ended.stdout.decode().splitlines(), ended.stderr.decode()
+
+    def test_fields_are_carried(self) -> None:
+        status, lines, _ = self.run_with("decide", given="1RZ---, a b\r\n%s\nx;y\n" % CHAMPION)
+        self.assertEqual(
+            (status, lines), (1, ["1RZ--- halt 1 1\ta b", CHAMPION + " halt 6 4", "refused 1\ty"])
+        )
+
+    def test_files_and_statuses(self) -> None:
+        with tempfile.TemporaryDirectory() as folder:
+            path = os.path.join(folder, "verdicts.txt")
+            with open(path, "w", encoding="utf-8") as file:
+                file.write(CHAMPION + " halt 6 4\n")
+            self.assertEqual(self.run_with("compare", path, path)[:2], (0, []))
+            status, lines, said = self.run_with("compare", path, "-", given=CHAMPION + " halt 5 4\n")
+            self.assertEqual((status, lines[0].split("\t")[0]), (1, "contradict"))
+            self.assertIn("contradict 1", said)
+        status, _, said = self.run_with("compare", path, path)
+        self.assertEqual(status, 3)
+        self.assertIn("verdicts.txt", said)
+
+    def test_words_and_limits_that_are_refused(self) -> None:
+        for words in ((), ("decide", "--cells", "4"), ("decide", "--steps", "x"), ("normal", "--nowhere")):
+            self.assertEqual(self.run_with(*words)[0], 2, words)
+        self.assertIn("depth is 300", self.run_with("decide", "--cells", "4")[2])
+
+    def test_normal_forms_and_growths(self) -> None:
+        given = "%s\n1LB1RB_1RA1LZ\n" % CHAMPION
+        self.assertEqual(
+            self.run_with("normal", "--distinct", given=given)[1], ["%s\t%s\tAB\tR" % (CHAMPION, CHAMPION)]
+        )
+        self.assertEqual(
+            self.run_with("triage", "--steps", "1000", given="1RA1RA\n")[1][0].split("\t")[1], "line"
+        )
+
+    def test_a_full_disk(self) -> None:
+        command = [sys.executable, "-m", "budlarem", "decide"]
+        with open("/dev/full", "wb") as full:
+            kept = {"input": b"1RZ---\n", "stdout": full, "stderr": subprocess.PIPE}
+            ended = subprocess.run(command, **kept)  # type: ignore[call-overload]
+        self.assertEqual(ended.returncode, 3)
+        self.assertIn(b"No space left", ended.stderr)

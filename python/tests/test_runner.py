@@ -1,0 +1,639 @@
+"""The runner: cutting, journal, the look at replies, whole runs, and executors that answer wrongly."""
+
+from __future__ import annotations
+
+import contextlib
+import gzip
+import io
+import itertools
+import json
+import os
+import pathlib
+import random
+import tempfile
+import unittest
+import unittest.mock
+from concurrent.futures import Executor, Future
+from typing import Any, Callable, Iterator, List, Sequence, Tuple
+
+import budlarem
+from budlarem import Limits, commands
+from budlarem.runner import cutting
+from budlarem.runner import folder as folders
+from budlarem.runner import joining, journal, look, passes, progress, source, tasks, whole, workplace
+from budlarem.runner.errors import CheckError, FolderError, ReplyError, RunError
+
+# Two that halt, a cycler, two translated cyclers, three that small limits leave, one of which larger ones decide,
+# and two that are no machines.
+KINDS = (
+    b"1RB1LB_1LA1RZ\n------\n0RB---_0LA---\n1RA1RA\n1RB1LC_1RC1RB_1RD0LE_1LA1LD_1RZ0LA\n1rB1LB\n"
+    b"1RB0RA_1LC1LB_1RA0LB\n1RB1LB_1LA1RZ halt 6 4\n0RB1LD_0RC1RD_0RD---_1LA0RB\n1RB0LA_0RC---_1RD0LD_1LA1RB\n"
+)
+LIST = KINDS * 37
+# Files there need no disk, so that the tests take no time for it.
+MEMORY = "/dev/shm"
+SMALL, MIDDLE = Limits(30, 16, 3, 5), Limits(1_000, 128, 20, 100)
+PASSES = (SMALL, MIDDLE)
+
+
+def expected(given: bytes, limits: Sequence[Limits] = PASSES) -> bytes:
+    """The verdict lines of a list, by one call for each pass."""
+    lines = b"".join(budlarem.decide_bytes(given, limits[0])).splitlines(keepends=True)
+    for limit in limits[1:]:
+        left = [place for place, line in enumerate(lines) if b" undecided " in line]
+        machines = b"".join(lines[place].split()[0] + b"\n" for place in left)
+        later = b"".join(budlarem.decide_bytes(machines, limit)).splitlines(keepends=True)
+        for place, line in zip(left, later):
+            lines[place] = line
+    return b"".join(lines)
+
+
+class Answering(Executor):
+    """An executor whose answer to a task a function changes; it is given the reply and how many came before."""
+
+    def __init__(self, change: Callable[[tasks.Reply, int], Any]) -> None:
+        self.change, self.count = change, 0
+
+    def submit(self, function: Any, /, *given: Any, **named: Any) -> Any:
+        future: Future[Any] = Future()
+        self.count += 1
+        try:
+            future.set_result(self.change(function(*given, **named), self.count - 1))
+        except Exception as error:
+            future.set_exception(error)
+        return future
+
+
+class Late(Executor):
+    """An executor that answers when several tasks wait, the last one first."""
+
+    def __init__(self, most: int) -> None:
+        self.most = most
+        self.waiting: List[Callable[[], None]] = []
+
+    def submit(self, function: Any, /, *given: Any, **named: Any) -> Any:
+        future: Future[Any] = Future()
+        self.waiting.append(lambda: future.set_result(function(*given, **named)))
+        if len(self.waiting) == self.most:
+            while self.waiting:
+                self.waiting.pop()()
+        return future
+
+
+class Told(progress.Progress):
+    """Progress that is kept."""
+
+    def __init__(self) -> None:
+        self.kept = io.StringIO()
+        super().__init__(self.kept)
+
+
+class RunnerTest(unittest.TestCase):
+    """A list and a folder, and a run over them."""
+
+    def setUp(self) -> None:
+        kept = tempfile.TemporaryDirectory(dir=MEMORY if os.path.isdir(MEMORY) else None)
+        self.addCleanup(kept.cleanup)
+        self.top = pathlib.Path(kept.name)
+        self.list, self.out = self.top / "list.txt", self.top / "out"
+        self.list.write_bytes(LIST)
+        self.told = Told()
+
+    def run_over(
+        self,
+        executor: Any = None,
+        limits: Sequence[Limits] = PASSES,
+        most: int = 7,
+        check: bool = False,
+        path: str = "",
+    ) -> whole.Outcome:
+        """A run, by an executor or by two threads."""
+        place = workplace.threads(2) if executor is None else workplace.ExecutorPlace(executor, 2)
+        listed = source.ListFile(path or str(self.list))
+        try:
+            opened = folders.Folder(str(self.out))
+            try:
+                manner = passes.Manner(place, tasks.identity(), self.told, listed.name, most, check)
+                return whole.run(opened, listed, limits, manner)
+            finally:
+                opened.close()
+        finally:
+            listed.close()
+
+    def verdicts(self) -> bytes:
+        return (self.out / "verdicts.txt").read_bytes()
+
+    def pieces(self, number: int) -> List[pathlib.Path]:
+        return sorted((self.out / ("pass-%d" % number)).glob("*.txt"))
+
+
+class SourceTest(RunnerTest):
+    def taken(self, blocks: Iterator[bytes], lines: int, size: int) -> List[bytes]:
+        found = source.Lines(blocks)
+        return list(iter(lambda: found.take(lines, size), b""))
+
+    def test_pieces_are_the_same_however_the_bytes_come(self) -> None:
+        chance = random.Random(1)
+        texts = [b"x" * chance.choice((0, 1, 2, 30, 1_023, 1_024, 1_025, 5_000)) for _ in range(60)]
+        given = b"\n".join(texts)
+        for lines, size in itertools.product((1, 3, 17, 50, 1_000), (1, 100, 2_000, 1 << 20)):
+            whole_list = self.taken(iter([given]), lines, size)
+            for cut in (1, 7, 1_000, 1_030):
+                blocks = (given[place : place + cut] for place in range(0, len(given), cut))
+                self.assertEqual(self.taken(blocks, lines, size), whole_list)
+            self.assertEqual(b"".join(whole_list), b"".join(text[:1_024] + b"\n" for text in texts))
+            for piece in whole_list:
+                self.assertLessEqual(piece.count(b"\n"), lines)
+                self.assertTrue(len(piece) <= size or piece.count(b"\n") == 1)
+
+    def test_pieces_are_as_large_as_may_be(self) -> None:
+        given = b"abc\n" * 1_000
+        self.assertEqual(
+            [len(piece) for piece in self.taken(iter([given]), 300, 1 << 20)], [1200] * 3 + [400]
+        )
+        self.assertEqual([len(piece) for piece in self.taken(iter([given]), 300, 1_002)], [1000] * 4)
+
+    def test_gzip_and_empty_lists(self) -> None:
+        for given in (b"", b"\n", b"1RZ---", LIST):
+            path = self.top / "list"
+            for written in (given, gzip.compress(given) + gzip.compress(b"")):
+                path.write_bytes(written)
+                listed = source.ListFile(str(path))
+                self.assertEqual(b"".join(listed.blocks()), given)
+                listed.close()
+
+    def test_a_cut_gzip_file(self) -> None:
+        self.list.write_bytes(gzip.compress(LIST)[:-20])
+        with self.assertRaisesRegex(RunError, "can't be read as gzip"):
+            self.run_over()
+
+    def test_a_list_that_changes(self) -> None:
+        listed = source.ListFile(str(self.list))
+        self.addCleanup(listed.close)
+        blocks = listed.blocks()
+        next(blocks)
+        self.list.write_bytes(LIST + KINDS)
+        with self.assertRaisesRegex(RunError, "changed while it was read"):
+            list(blocks)
+
+
+class JournalTest(RunnerTest):
+    def setUp(self) -> None:
+        super().setUp()
+        self.path = str(self.top / "journal")
+        self.journal = journal.Journal(self.path, "key")
+        self.addCleanup(self.journal.close)
+        self.records = [
+            journal.Record.of(10 * place, KINDS, b"x" * place, place / 3, place % 2 == 1)
+            for place in range(6)
+        ]
+        for place in (0, 1, 4, 5):
+            self.journal.put(place, self.records[place])
+
+    def test_records_come_back(self) -> None:
+        self.assertEqual(os.path.getsize(self.path), 6 * journal.WIDTH)
+        found = [self.journal.read(place) for place in range(8)]
+        self.assertEqual(found, [*self.records[:2], None, None, *self.records[4:], None, None])
+        self.assertTrue(self.records[3].fits(KINDS) and self.records[3].has(b"xxx"))
+        self.assertFalse(self.records[3].fits(KINDS[1:]) or self.records[3].has(b"xx"))
+
+    def test_a_gap(self) -> None:
+        self.assertEqual(self.journal.gap(2, 20), (2, 20))
+        self.assertEqual(self.journal.gap(2, 39), (3, 11))
+        self.assertIsNone(self.journal.gap(6, 60))
+
+    def test_each_changed_byte_is_seen(self) -> None:
+        data = pathlib.Path(self.path).read_bytes()
+        for place in range(journal.WIDTH):
+            changed = bytearray(data)
+            changed[place] ^= 1
+            pathlib.Path(self.path).write_bytes(changed)
+            self.assertIsNone(self.journal.read(0))
+            self.assertEqual(self.journal.read(1), self.records[1])
+
+    def test_cut_moved_and_other_keys(self) -> None:
+        data = pathlib.Path(self.path).read_bytes()
+        pathlib.Path(self.path).write_bytes(data[journal.WIDTH :])
+        self.assertEqual([self.journal.read(place) for place in range(6)], [None] * 6)
+        pathlib.Path(self.path).write_bytes(data[:-1])
+        self.assertIsNone(self.journal.read(5))
+        self.assertEqual(self.journal.read(4), self.records[4])
+        other = journal.Journal(self.path, "other")
+        self.addCleanup(other.close)
+        self.assertIsNone(other.read(4))
+
+
+class LookTest(unittest.TestCase):
+    def test_verdicts_of_a_list(self) -> None:
+        for limits in PASSES:
+            verdicts = expected(LIST, [limits])
+            counts = look.look_at_verdicts(LIST, verdicts)
+            self.assertEqual(sum(counts.values()), LIST.count(b"\n"))
+            for kind in ("halt", "cycler", "translated", "refused"):
+                self.assertGreater(counts[kind], 0)
+
+    def wrong(self, given: bytes, verdicts: bytes) -> None:
+        with self.assertRaises(ReplyError):
+            look.look_at_verdicts(given, verdicts)
+
+    def test_what_is_wrong(self) -> None:
+        good = expected(KINDS)
+        look.look_at_verdicts(KINDS, good)
+        lines = good.splitlines(keepends=True)
+        for changed in (
+            b"",
+            good[:-1],
+            good + lines[0],
+            good[len(lines[0]) :],
+            good + b"x",
+            good[::-1],
+            KINDS,
+        ):
+            self.wrong(KINDS, changed)
+        for place, line in itertools.product(range(len(lines)), lines):
+            if line != lines[place]:
+                self.wrong(KINDS, b"".join([*lines[:place], line, *lines[place + 1 :]]))
+
+    def test_lines_that_are_no_verdict_lines(self) -> None:
+        machine = b"1RB1LB_1LA1RZ"
+        for text in (
+            b"halt 6",
+            b"halt 06 4",
+            b"halt 6 4 ",
+            b" halt 6 4",
+            b"",
+            b"open",
+            b"\x00",
+        ):
+            self.wrong(machine + b"\n", machine + b" " + text + b"\n")
+        for text in (b"refused 3", b"refused 0", b"refused 2 ", b"refused", b"refused 2\n"):
+            self.wrong(b"1rB1LB\n", text + b"\n")
+        self.wrong(b"1RA1RA translated\n", b"1RA1RA translated R 1 2 1 1\n")
+        look.look_at_verdicts(b"1RA1RA translated\n", b"refused 7\n")
+        self.wrong(b"1RZ---\n", b"refused 7\n")
+        self.wrong(b"refused\n", b"refused 5\n")
+        look.look_at_verdicts(b"refused\n", b"refused 1\n")
+
+    def test_answers(self) -> None:
+        verdicts = expected(KINDS)
+        look.look_at_answers(verdicts, b"ok\n" * 9 + b"open\n")
+        for answers in (b"", b"ok\n" * 9, b"ok\n" * 10 + b"\n", b"fine\n" * 10):
+            with self.assertRaises(ReplyError) as raised:
+                look.look_at_answers(verdicts, answers)
+            self.assertIsNone(raised.exception.line)
+        with self.assertRaisesRegex(ReplyError, "bad") as raised:
+            look.look_at_answers(verdicts, b"ok\n" * 4 + b"bad\n" + b"over\n" * 5)
+        self.assertEqual(raised.exception.line, 4)
+
+    def test_replies(self) -> None:
+        ours = tasks.identity()
+        reply = tasks.decide_piece(KINDS, SMALL.numbers())
+        self.assertEqual(look.opened(reply, ours)[0], expected(KINDS, [SMALL]))
+        wrong: List[Any] = [
+            None,
+            b"",
+            [],
+            reply[:4],
+            (reply[0].decode(), *reply[1:]),
+            (reply[0], "1", *reply[2:]),
+            (reply[0], float("nan"), *reply[2:]),
+            (*reply[:2], "0.0", *reply[3:]),
+            (*reply[:4], "0" * 64),
+        ]
+        for changed in wrong:
+            with self.assertRaises(ReplyError):
+                look.opened(changed, ours)
+
+
+class PaceTest(unittest.TestCase):
+    def test_a_piece_lasts_some_seconds(self) -> None:
+        for cost in (1e-6, 1e-3, 0.1, 3.0, 1e4):
+            pace = cutting.Pace(20_000)
+            sizes = []
+            for _ in range(40):
+                sizes.append(pace.now)
+                pace.took(pace.now, pace.now * cost)
+            self.assertEqual(sizes[0], 1)
+            self.assertTrue(all(after <= 8 * before for before, after in zip(sizes, sizes[1:])))
+            self.assertTrue(sizes[-1] in (1, 20_000) or 1.5 <= sizes[-1] * cost <= 2.5, sizes)
+
+
+class WholeTest(RunnerTest):
+    def test_lists_and_passes(self) -> None:
+        lists = (b"", b"\n", KINDS[:-1], LIST, b"1RZ---\n" * 100, b"x" * 5_000 + b"\n" + KINDS)
+        for place, (given, limits) in enumerate(itertools.product(lists, (PASSES, [SMALL], [MIDDLE, SMALL]))):
+            self.list.write_bytes(given)
+            self.out = self.top / str(place)
+            outcome = self.run_over(limits=limits)
+            self.assertEqual(self.verdicts(), expected(given, limits))
+            lines = self.verdicts().count(b"\n")
+            self.assertEqual((outcome.lines, sum(outcome.counts.values())), (lines, lines))
+
+    def test_the_summary(self) -> None:
+        self.run_over(check=True)
+        told = json.loads((self.out / "summary.json").read_text())
+        self.assertEqual(told["lines"], 370)
+        first, second = told["passes"]
+        self.assertEqual(first["limits"], {"steps": 30, "cells": 16, "depth": 3, "nodes": 5})
+        left = first["counts"]["undecided steps"] + first["counts"]["undecided cells"]
+        self.assertEqual((first["lines"], second["lines"]), (370, left))
+        self.assertEqual((sum(first["counts"].values()), sum(second["counts"].values())), (370, left))
+        self.assertEqual(told["counts"], look.counts_of(self.verdicts()))
+        self.assertEqual((first["checked"], told["version"]), (True, budlarem.__version__))
+        self.assertEqual((told["commit"], len(told["library"])), (budlarem.COMMIT, 64))
+
+    def test_lines_keep_their_numbers(self) -> None:
+        self.run_over()
+        opened = folders.Folder(str(self.out))
+        self.addCleanup(opened.close)
+        first, second = (opened.open_pass(PASSES[:count], tasks.identity()) for count in (1, 2))
+        first.pieces, second.pieces = len(self.pieces(1)), len(self.pieces(2))
+        for limits, before in (([SMALL], [first]), (PASSES, [first, second])):
+            left = [
+                place for place, line in enumerate(expected(LIST, limits).splitlines(), 1) if b" und" in line
+            ]
+            found = [joining.number_in_list(before, line) for line in range(len(left))]
+            self.assertEqual(found, left)
+        self.assertEqual(joining.number_in_list([], 7), 8)
+
+    def test_passes_are_added(self) -> None:
+        self.run_over(limits=[SMALL])
+        count = len(self.pieces(1))
+        executor = Answering(lambda reply, before: reply)
+        self.run_over(executor)
+        self.assertEqual(self.verdicts(), expected(LIST))
+        self.assertEqual(len(self.pieces(1)), count)
+        self.assertEqual(executor.count, len(self.pieces(2)))
+
+    def test_what_stands_is_not_decided_again(self) -> None:
+        self.run_over()
+        executor = Answering(lambda reply, before: reply)
+        (self.out / "verdicts.txt").write_bytes(b"changed")
+        self.run_over(executor)
+        self.assertEqual((executor.count, self.verdicts()), (0, expected(LIST)))
+        self.run_over(executor, check=True)
+        self.assertEqual(executor.count, len(self.pieces(1)) + len(self.pieces(2)))
+        self.run_over(executor, check=True)
+        self.assertEqual(executor.count, len(self.pieces(1)) + len(self.pieces(2)))
+
+    def test_the_same_list_compressed(self) -> None:
+        self.run_over(limits=[SMALL])
+        path = self.top / "list.txt.gz"
+        path.write_bytes(gzip.compress(LIST))
+        self.run_over(path=str(path))
+        self.assertEqual(self.verdicts(), expected(LIST))
+
+    def test_another_list(self) -> None:
+        self.run_over()
+        packed = self.top / "list.gz"
+        other = LIST.replace(b"------", b"1RZ---", 1)
+        for given in (other, LIST + KINDS, LIST[: -len(KINDS)], b"", KINDS + LIST):
+            for path, written in ((self.list, given), (packed, gzip.compress(given))):
+                path.write_bytes(written)
+                with self.assertRaisesRegex(FolderError, "isn't the list that"):
+                    self.run_over(path=str(path))
+        self.list.write_bytes(LIST)
+        self.run_over()
+        self.assertEqual(self.verdicts(), expected(LIST))
+
+    def test_changed_passes_and_libraries(self) -> None:
+        self.run_over()
+        for limits in ([SMALL], [MIDDLE, SMALL], [MIDDLE], [SMALL, SMALL, MIDDLE]):
+            with self.assertRaisesRegex(FolderError, "begun with other passes"):
+                self.run_over(limits=limits)
+        path = self.out / "run.json"
+        told = json.loads(path.read_text())
+        path.write_text(json.dumps({**told, "library": "0" * 64}))
+        with self.assertRaisesRegex(FolderError, "another library"):
+            self.run_over()
+        path.write_text(json.dumps({**told, "format": 2}))
+        with self.assertRaisesRegex(FolderError, "format 2"):
+            self.run_over()
+
+    def test_two_runs_in_a_folder(self) -> None:
+        first = folders.Folder(str(self.out))
+        with self.assertRaisesRegex(FolderError, "another run works in"):
+            self.run_over()
+        first.close()
+        self.run_over()
+
+    def test_a_folder_of_something_else(self) -> None:
+        self.out.mkdir()
+        (self.out / "letters").touch()
+        with self.assertRaisesRegex(FolderError, "letters"):
+            self.run_over()
+
+    def test_files_that_were_cut_or_changed(self) -> None:
+        self.run_over(most=60)
+        files = sorted(path for path in self.out.rglob("*") if path.is_file())
+        chance = random.Random(1)
+        for path, how in itertools.product(files, range(4)):
+            data = path.read_bytes()
+            if how == 0:
+                path.unlink()
+            elif how == 1:
+                path.write_bytes(data[: len(data) // 2])
+            elif how == 2 and data:
+                place = chance.randrange(len(data))
+                path.write_bytes(data[:place] + bytes([data[place] ^ 1]) + data[place + 1 :])
+            elif path.name != "run.json":
+                path.write_bytes(data + data)
+            try:
+                self.run_over(most=60)
+            except FolderError:
+                self.assertEqual(path.name, "run.json")
+                path.write_bytes(data)
+                self.run_over(most=60)
+            self.assertEqual(self.verdicts(), expected(LIST), (path, how))
+
+    def test_pieces_that_are_missing_in_the_middle(self) -> None:
+        self.run_over(most=3)
+        for most in (1, 3, 1_000):
+            for number in (1, 2):
+                path = self.out / ("pass-%d" % number) / "journal"
+                data = bytearray(path.read_bytes())
+                count = len(data) // journal.WIDTH
+                for place in (0, count // 3, count // 3 + 1, count // 2, count - 1):
+                    data[place * journal.WIDTH : (place + 1) * journal.WIDTH] = bytes(journal.WIDTH)
+                path.write_bytes(data)
+            self.run_over(most=most)
+            self.assertEqual(self.verdicts(), expected(LIST))
+
+    def test_a_changed_piece_while_passes_are_joined(self) -> None:
+        def change(reply: tasks.Reply, before: int) -> tasks.Reply:
+            self.pieces(1)[2].write_bytes(b"")
+            return reply
+
+        self.run_over(limits=[SMALL])
+        with self.assertRaisesRegex(RunError, "was cut or changed"):
+            self.run_over(Answering(change))
+        self.run_over()
+        self.assertEqual(self.verdicts(), expected(LIST))
+
+
+class ExecutorTest(RunnerTest):
+    def goes_on(self) -> None:
+        """A run again, by threads, has the right bytes."""
+        self.run_over()
+        self.assertEqual(self.verdicts(), expected(LIST))
+
+    def test_wrong_answers_now_and_then(self) -> None:
+        answers: List[Callable[[tasks.Reply], Any]] = [
+            lambda reply: None,
+            lambda reply: (b"", *reply[1:]),
+            lambda reply: (reply[0][:-1], *reply[1:]),
+            lambda reply: (reply[0] + reply[0], *reply[1:]),
+            lambda reply: (reply[0].replace(b"1", b"0"), *reply[1:]),
+            lambda reply: (reply[0].replace(b"halt", b"stop"), *reply[1:]),
+            lambda reply: (*reply[:4], "0" * 64),
+            lambda reply: 1 // 0,
+        ]
+        for place, answer in enumerate(answers):
+            self.out = self.top / str(place)
+            executor = Answering(lambda reply, before: answer(reply) if before in (1, 30) else reply)
+            self.run_over(executor)
+            self.assertEqual(self.verdicts(), expected(LIST))
+            self.assertIn("it is tried again", self.told.kept.getvalue())
+
+    def test_wrong_answers_each_time(self) -> None:
+        for begin in (0, 5, 60):
+            self.out = self.top / str(begin)
+            executor = Answering(lambda reply, before: reply if before < begin else (b"x\n", *reply[1:]))
+            with self.assertRaisesRegex(RunError, "pass [12], lines? .* so it was 3 times"):
+                self.run_over(executor)
+            self.assertFalse((self.out / "verdicts.txt").exists())
+            self.goes_on()
+
+    def test_the_line_is_named(self) -> None:
+        def change(reply: tasks.Reply, before: int) -> tasks.Reply:
+            changed = reply[0].replace(
+                b"0RB1LD_0RC1RD_0RD---_1LA0RB undecided", b"0RB1LD_0RC1RD_0RD---_1LA0RB unknown"
+            )
+            return (changed, *reply[1:])
+
+        with self.assertRaisesRegex(
+            RunError, "pass 1, line [0-9]*9: '0RB1LD_0RC1RD_0RD---_1LA0RB unknown steps'"
+        ):
+            self.run_over(Answering(change))
+        self.goes_on()
+
+    def test_late_answers_in_another_order(self) -> None:
+        given = b"".join(KINDS.splitlines(keepends=True)[:8])
+        self.list.write_bytes(given)
+        self.run_over(Late(4), most=1, limits=[SMALL])
+        self.assertEqual(self.verdicts(), expected(given, [SMALL]))
+        self.assertEqual(len(self.pieces(1)), 8)
+
+    def test_one_answer_for_two_pieces(self) -> None:
+        kept: List[Future[Any]] = []
+
+        class Same(Answering):
+            def submit(self, function: Any, /, *given: Any, **named: Any) -> Any:
+                kept.append(super().submit(function, *given, **named))
+                return kept[0]
+
+        with self.assertRaisesRegex(RunError, "pass 1, lines? .* so it was 3 times|one future"):
+            self.run_over(Same(lambda reply, before: reply))
+        self.goes_on()
+
+    def test_an_executor_that_takes_or_answers_nothing(self) -> None:
+        class Closed(Executor):
+            def submit(self, function: Any, /, *given: Any, **named: Any) -> Any:
+                raise RuntimeError("it was closed")
+
+        class Cancelling(Executor):
+            def submit(self, function: Any, /, *given: Any, **named: Any) -> Any:
+                future: Future[Any] = Future()
+                future.cancel()
+                return future
+
+        with self.assertRaisesRegex(RunError, "it was closed"):
+            self.run_over(Closed())
+        with self.assertRaisesRegex(RunError, "it was cancelled; so it was 3 times"):
+            self.run_over(Cancelling())
+        self.goes_on()
+
+    def test_a_verdict_that_the_checker_refuses(self) -> None:
+        def change(reply: tasks.Reply, before: int) -> tasks.Reply:
+            return (reply[0].replace(b"_1RZ0LA undecided steps", b"_1RZ0LA cycler 5 9"), *reply[1:])
+
+        for limits, numbers in (([SMALL], (5,)), (PASSES, (5, 15))):
+            self.out = self.top / str(len(limits))
+            with self.assertRaises(CheckError) as raised:
+                self.run_over(Answering(change), limits=limits, check=True)
+            self.assertRegex(str(raised.exception), "^line (5|15|25): the checker answers bad: 1RB1LC_1RC1RB")
+        self.goes_on()
+
+
+class CommandTest(RunnerTest):
+    def called(self, *arguments: str) -> Tuple[int, str]:
+        """The status of the command, and what it writes to standard error."""
+        said = io.StringIO()
+        with contextlib.redirect_stderr(said):
+            with unittest.mock.patch("budlarem.runner.command.end_at_interruption"):
+                status = commands.main(["run", str(self.list), "--out", str(self.out), *arguments])
+        return status, said.getvalue()
+
+    def test_statuses(self) -> None:
+        small = "steps=30,cells=16,depth=3,nodes=5"
+        self.assertEqual(self.called("--pass", small)[0], 1)
+        self.assertEqual(self.verdicts(), expected(LIST, [SMALL]))
+        status, said = self.called(
+            "--pass", small, "--pass", "steps=1000,cells=128,depth=20,nodes=100", "--check"
+        )
+        self.assertEqual((status, self.verdicts()), (1, expected(LIST)))
+        self.assertIn("370 lines: ", said)
+        self.list.write_bytes(b"1RZ---\n")
+        status, said = self.called("--pass", small)
+        self.assertEqual(status, 2)
+        self.out = self.top / "other"
+        self.assertEqual(self.called()[0], 0)
+        self.list.unlink()
+        self.assertEqual(self.called()[0], 3)
+
+    def test_what_is_refused(self) -> None:
+        for words in (
+            ["--pass", "steps=1,steps=2"],
+            ["--pass", "step=1"],
+            ["--pass", ""],
+            ["--pass", "steps=-1"],
+            ["--pass", "cells=0"],
+            ["--pass", "depth=300,cells=10"],
+            ["--threads", "0"],
+            ["--piece", "0"],
+        ):
+            status, said = self.called(*words)
+            self.assertEqual((status, self.out.exists()), (2, False), words)
+            self.assertTrue(said.startswith("budlarem: "))
+
+
+class ProgressTest(unittest.TestCase):
+    def test_a_terminal(self) -> None:
+        told = Told()
+        told._is_terminal = True
+        told.begin(1, 2, lambda lines: 88_664_064)
+        told.decided(20_000)
+        told._next = 0.0
+        told.tick("3 workers")
+        text = told.kept.getvalue()
+        self.assertRegex(
+            text, r"^\rpass 1 of 2, 1 pieces, 20k lines, 0%, \d+[kM]? lines/s, [0-9.]+ \w+ left, 3 work"
+        )
+        self.assertLess(len(text), 81)
+        told.tell("a sentence")
+        self.assertTrue(told.kept.getvalue().endswith("\rbudlarem: a sentence\n"))
+
+    def test_a_long_pass_is_told_once(self) -> None:
+        told = Told()
+        told.begin(2, 2, lambda lines: 10**9)
+        told._began -= 10
+        told.decided(5)
+        for _ in range(2):
+            told._next = 0.0
+            told.tick()
+        self.assertEqual(told.kept.getvalue().count("budlarem: pass 2 takes about "), 1)
+        self.assertEqual(told.kept.getvalue().count("\n"), 3)
+
+
+if __name__ == "__main__":
+    unittest.main()

@@ -1,0 +1,413 @@
+#!/usr/bin/python3
+"""Measures what runs outside the program: the module for JavaScript, the page, and the Python package.
+
+    scripts/speed/outside.py [crates/bb/out/bb] [--runs N] [--only PART]
+
+PART is `node`, `trace`, `page` or `python`; all of them where not said. It builds the module, the page and
+the library first, where they aren't up to date, by `scripts/web` and `scripts/library`. A time is the least
+of N runs (3 where not said), in turn with those that it is compared with; `processor` marks processor time,
+other times are by the clock. Run it on a quiet machine with four cores: it takes a quarter of an hour. Each
+figure is a row of a table in Markdown, with its bar where it has one. The last line counts the bars that hold
+as passed; the status is 1 where one doesn't.
+"""
+
+import contextlib
+import itertools
+import os
+import resource
+import subprocess
+import sys
+import tempfile
+import time
+from typing import Any, Callable, Dict, Iterator, List, Optional
+
+TOP = os.path.dirname(os.path.dirname(os.path.dirname(os.path.abspath(__file__))))
+sys.path.insert(0, os.path.join(TOP, "scripts", "tests"))
+sys.path.insert(0, os.path.join(TOP, "python", "src"))
+
+from library_built import LIBRARY, has_library  # noqa: E402
+from tally import Tally, end_with, words  # noqa: E402
+
+os.environ["BB_LIBRARY"] = LIBRARY
+FOUR = {"steps": 200, "cells": 256, "depth": 20, "nodes": 1_000}
+MOST = {"steps": 10**12, "cells": 67_108_864, "depth": 10_000, "nodes": 10**12}
+README = b"1RB1LB_1LA1RZ\n1RA1RA\n1rB1LB\n"
+CHAMPION = "1RB1LC_1RC1RB_1RD0LE_1LA1LD_1RZ0LA"
+CHAMPION_STEPS = 47_176_870
+TOLD = 1_000
+SHORT_LINES = 1_000_000
+REPORTED = 1_000
+LISTS = 1_000
+MEGABYTE = 1_000_000
+
+
+class Figures:
+    """The table of what was measured, a row at a time, and how many bars hold."""
+
+    def __init__(self, tally: Tally, runs: int) -> None:
+        self.tally, self.runs = tally, runs
+
+    def head(self, what: str) -> None:
+        print("\n%s:\n\n| | Figure | Bar |\n|---|---|---|" % what, flush=True)
+
+    def row(self, what: str, figure: str, value: float = 0, bar: Optional[float] = None) -> None:
+        """A figure in words; with a bar, its value must be at most that."""
+        told = "" if bar is None else "{:,g}".format(bar) + ("" if value <= bar else ", **not held**")
+        print("| %s | %s | %s |" % (what, figure, told), flush=True)
+        if bar is not None:
+            self.tally.passed += value <= bar
+            self.tally.failed += value > bar
+
+    def ratio(self, what: str, seconds: float, beside: float, bar: Optional[float] = None) -> None:
+        """A time and how many times another it is."""
+        told = "%.2f s, beside %.2f s: %.2f" % (seconds, beside, seconds / beside)
+        self.row(what, told, seconds / beside, bar)
+
+    def least(self, *measured: Callable[[], float]) -> List[float]:
+        """The least of what each gives, in turn."""
+        rounds = [[one() for one in measured] for _ in range(self.runs)]
+        return [min(column) for column in zip(*rounds)]
+
+
+def clocked(work: Callable[[], object]) -> float:
+    """The seconds that something takes, by the clock."""
+    began = time.monotonic()
+    work()
+    return time.monotonic() - began
+
+
+def processed(work: Callable[[], object]) -> float:
+    """The processor time that something takes in this process, in seconds."""
+    began = time.process_time()
+    work()
+    return time.process_time() - began
+
+
+def spent(command: List[str], path: str) -> float:
+    """The processor time that a command takes over a file, in seconds."""
+    before = resource.getrusage(resource.RUSAGE_CHILDREN)
+    clocked_over(command, path)
+    after = resource.getrusage(resource.RUSAGE_CHILDREN)
+    return after.ru_utime + after.ru_stime - before.ru_utime - before.ru_stime
+
+
+def clocked_over(command: List[str], path: str) -> float:
+    """The seconds that a command takes over a file, by the clock."""
+    with open(path, "rb") as given:
+        began = time.monotonic()
+        subprocess.run(command, stdin=given, stdout=subprocess.DEVNULL)
+        return time.monotonic() - began
+
+
+def options(plan: Dict[str, int]) -> List[str]:
+    return ["--%s=%d" % pair for pair in plan.items()]
+
+
+def four_states(folder: str) -> str:
+    """The path of the list of all machines of four states in tree normal form."""
+    path = os.path.join(folder, "four")
+    if not os.path.exists(path):
+        script = os.path.join(TOP, "scripts", "tools", "tree_normal_form.py")
+        with open(path, "wb") as out:
+            subprocess.run([sys.executable, script, "4"], stdout=out, check=True)
+    return path
+
+
+def measure_node(figures: Figures, program: str, folder: str) -> None:
+    """The module: its size, the list of four states, memory."""
+    from web_engine import MODULE, Engine, built
+
+    tally = figures.tally
+    if not tally.has("the module in Node", "node") or not built():
+        return
+    engine = Engine(folder)
+    if engine.about.get("unsupported"):
+        tally.skip("the module in Node: it has no 64-bit memory")
+        return
+    figures.head("The module `bb.wasm`, in Node")
+    size = os.path.getsize(MODULE)
+    figures.row("bytes of the module", "{:,}".format(size), size, 65_536)
+    path = four_states(folder)
+    with open(path, "rb") as file:
+        given = file.read()
+    command = [program, "decide", *options(FOUR)]
+
+    def in_node() -> float:
+        return float(engine.call("decide", FOUR, given).told["seconds"])
+
+    node, alone = figures.least(in_node, lambda: spent(command, path))
+    figures.ratio("858,909 machines of four states, beside the program; processor", node, alone, 2.5)
+    for name in ("decide", "check"):
+        fresh = Engine(folder)
+        held = fresh.call(name, MOST, b"1RB1LB_1LA1RZ\n1RB1LB_1LA1RZ halt 6 4\n").told["held"]
+        figures.row("memory of `%s` at the greatest limits" % name, "%d MB" % (held / MEGABYTE))
+        fresh.end()
+    held = [fresh_after(folder, times) for times in (1, LISTS)]
+    figures.row(
+        "memory after one list, and after 1,000", "{:,} and {:,} bytes".format(*held), held[1], held[0]
+    )
+    engine.end()
+
+
+def fresh_after(folder: str, times: int) -> int:
+    """The bytes that an engine holds after so many lists."""
+    from web_engine import Engine
+
+    engine = Engine(folder)
+    small = {"steps": 100, "cells": 64, "depth": 20, "nodes": 100}
+    held = int(engine.call("decide", small, README * 1000, times=times).told["held"])
+    engine.end()
+    return held
+
+
+def measure_trace(figures: Figures, program: str, folder: str) -> None:
+    """The champion's run in a thousand lines by `bb_trace`, beside deciding it."""
+    if not has_library(figures.tally, "the champion's trace"):
+        return
+    from budlarem._library import Room
+
+    room, machine = Room(), CHAMPION.encode()
+    steps, cells = 50_000_000, 65_536
+    every = CHAMPION_STEPS // (TOLD - 1)
+    lines: List[int] = []
+
+    def trace() -> None:
+        told = room.tried("bb_trace", (steps, cells, 0, every), machine, 1 << 26)[2]
+        lines.append(told.count(b"\n"))
+
+    def decide(on: bool) -> None:
+        room.call("bb_decide", (steps, cells, 300, 1_000_000, on, on, on), machine + b"\n", 1_000)
+
+    traced, decided, simulated = figures.least(
+        lambda: processed(trace),
+        lambda: processed(lambda: decide(True)),
+        lambda: processed(lambda: decide(False)),
+    )
+    figures.head("The five-state champion in %d lines by `bb_trace`, in one process" % lines[-1])
+    figures.ratio("beside `bb_decide`, all deciders; processor", traced, decided, 1.3)
+    figures.ratio("beside `bb_decide`, simulation alone; processor", traced, simulated)
+
+
+@contextlib.contextmanager
+def page_of(folder: str, cores: Optional[int] = None) -> Iterator[Any]:
+    """The page in a browser of its own."""
+    from browser import Page
+    from web_engine import PAGE
+
+    page = Page(PAGE, folder, cores=cores)
+    try:
+        page.open()
+        yield page
+    finally:
+        page.end()
+
+
+def opened(folder: str) -> float:
+    """After how many seconds a page that is opened shows its first verdict."""
+    with page_of(folder) as page:
+        taken = page.js("return performance.getEntriesByName('first verdict')[0].startTime")
+        return float(taken) / 1_000
+
+
+def in_page(folder: str, path: str, cores: int, longest: List[float]) -> float:
+    """The seconds that the page takes for the list of four states, with so many workers."""
+    with page_of(folder, cores) as page:
+        page.plan(FOUR, "decide")
+        page.js("window.longest = 0")
+        began = time.monotonic()
+        page.choose(path)
+        page.ended()
+        taken = time.monotonic() - began
+        longest.append(page.js("return window.longest"))
+        return taken
+
+
+def measure_page(figures: Figures, program: str, folder: str) -> None:
+    """The page: its size, its first verdict, the list of four states, memory."""
+    from page import has_selenium
+    from web_engine import PAGE, built
+
+    tally = figures.tally
+    if not tally.has("the page", "chromium", "chromedriver") or not has_selenium(tally) or not built():
+        return
+    figures.head("The page `bb.html`, in Chromium, opened from the disk")
+    size = os.path.getsize(PAGE)
+    figures.row("bytes of the page", "{:,}".format(size), size, 200_000)
+    first = figures.least(lambda: opened(folder))[0]
+    figures.row("first verdict after opening, in ms", "%d" % (first * 1000), first * 1000, 300)
+    path = four_states(folder)
+    longest: List[float] = []
+    command = [program, "decide", *options(FOUR)]
+    verdicts = os.path.join(folder, "verdicts")
+    with open(path, "rb") as given, open(verdicts, "wb") as out:
+        subprocess.run(command, stdin=given, stdout=out)
+    alone, checked, one, four = figures.least(
+        lambda: clocked_over(command, path),
+        lambda: clocked_over([program, "check", *options(FOUR)], verdicts),
+        lambda: in_page(folder, path, 1, longest),
+        lambda: in_page(folder, path, 4, longest),
+    )
+    what = "858,909 machines of four states, decided and checked, by %s, beside the program%s"
+    figures.ratio(what % ("one worker", "'s `decide`"), one, alone, 2.5)
+    figures.ratio(what % ("four workers", "'s `decide`"), four, alone, 1.0)
+    figures.ratio(what % ("one worker", "'s `decide` and `check`"), one, alone + checked)
+    figures.ratio(what % ("four workers", "'s `decide` and `check`"), four, alone + checked)
+    figures.row("the longest that it stood still meanwhile, in ms", "%d" % max(longest), max(longest), 100)
+    measure_page_memory(figures, folder)
+
+
+def processes_below(root: int) -> List[int]:
+    """The processes that a process began, and those that they began."""
+    listed = subprocess.run(["ps", "-eo", "pid=,ppid="], stdout=subprocess.PIPE, text=True).stdout
+    parents = {int(pid): int(parent) for pid, parent in map(str.split, listed.splitlines())}
+    found = [root]
+    for pid in found:
+        found.extend(child for child, parent in parents.items() if parent == pid)
+    return found
+
+
+def most_held(root: int) -> int:
+    """The most bytes that one of the processes below held at once; of a browser the one with the page."""
+    found = []
+    for pid in processes_below(root):
+        with contextlib.suppress(OSError), open("/proc/%d/status" % pid) as file:
+            rows = dict(line.split(":", 1) for line in file if ":" in line)
+            if "VmHWM" in rows and "--type=renderer" in command_of(pid):
+                found.append(1024 * int(rows["VmHWM"].split()[0]))
+    return max(found, default=0)
+
+
+def command_of(pid: int) -> str:
+    with open("/proc/%d/cmdline" % pid) as file:
+        return file.read()
+
+
+def heap(page: Any) -> int:
+    """The bytes of the page's own heap, after what isn't used was given up."""
+    driver = page.driver
+    driver.execute_cdp_cmd("HeapProfiler.collectGarbage", {})
+    driver.execute_cdp_cmd("Performance.enable", {})
+    rows = driver.execute_cdp_cmd("Performance.getMetrics", {})["metrics"]
+    return int(next(row["value"] for row in rows if row["name"] == "JSHeapUsedSize"))
+
+
+def measure_page_memory(figures: Figures, folder: str) -> None:
+    """The memory of the page's process: for a short list, at the greatest limits, after a thousand lists."""
+    for what, plan in (("at the default limits", {}), ("at the greatest limits", MOST)):
+        with page_of(folder, 1) as page:
+            page.answered("decide", plan, README)
+            most = most_held(page.driver.service.process.pid) / MEGABYTE
+            figures.row("most memory of the page's process, two machines, %s" % what, "%d MB" % most)
+    with page_of(folder) as page:
+        held = []
+        for times in (1, LISTS - 1):
+            for _ in range(times):
+                page.js("document.getElementById('results').dataset.state = 'asked'")
+                page.run()
+                page.ended()
+            held.append(heap(page) / MEGABYTE)
+        told = "%.1f and %.1f MB" % (held[0], held[1])
+        figures.row("the page's heap after one list, and after 1,000", told, held[1], held[0] + 1)
+
+
+def measure_python(figures: Figures, program: str, folder: str) -> None:
+    """The package: a million short lines, threads, a report, an interruption."""
+    if not has_library(figures.tally, "the Python package"):
+        return
+    import budlarem
+
+    figures.head("The Python package, by Python %d.%d" % sys.version_info[:2])
+    path = os.path.join(folder, "short")
+    with open(path, "wb") as out:
+        out.write(b"1RB1LB_1LA1RZ\n" * SHORT_LINES)
+    with open(path, "rb") as file:
+        given = file.read()
+    texts = given.decode().splitlines()
+
+    def check(
+        what: str, command: List[str], over: str, bar: Optional[float], work: Callable[[], object]
+    ) -> None:
+        taken, alone = figures.least(lambda: clocked(work), lambda: clocked_over([program, *command], over))
+        figures.ratio("%s over 1,000,000 short lines, beside the program" % what, taken, alone, bar)
+
+    check("`decide_bytes`", ["decide"], path, 1.1, lambda: exhausted(budlarem.decide_bytes(given)))
+    check("`decide`", ["decide"], path, None, lambda: exhausted(budlarem.decide(texts)))
+    claims, claimed = given.replace(b"\n", b" halt 6 4\n"), os.path.join(folder, "claims")
+    with open(claimed, "wb") as out:
+        out.write(claims)
+    check("`check_bytes`", ["check"], claimed, 1.1, lambda: exhausted(budlarem.check_bytes(claims)))
+    measure_threads(figures, folder)
+    measure_report(figures, program, folder)
+    measure_interruption(figures)
+
+
+def exhausted(items: Iterator[object]) -> int:
+    return sum(1 for _ in items)
+
+
+def measure_threads(figures: Figures, folder: str) -> None:
+    """The list of four states by one thread and by four."""
+    import budlarem
+
+    limits = budlarem.Limits(**FOUR)
+    with open(four_states(folder), "rb") as file:
+        given = file.read()
+
+    def by(threads: int) -> Callable[[], float]:
+        return lambda: clocked(lambda: exhausted(budlarem.decide_bytes(given, limits, threads=threads)))
+
+    one, four = figures.least(by(1), by(4))
+    figures.ratio("`decide_bytes` of 858,909 machines by four threads, beside one", four, one)
+
+
+def measure_report(figures: Figures, program: str, folder: str) -> None:
+    """A report with a diagram for each of a thousand machines that four states leave undecided."""
+    import budlarem
+
+    with open(four_states(folder), "rb") as given:
+        command = [program, "decide", *options(FOUR)]
+        lines = subprocess.run(command, stdin=given, stdout=subprocess.PIPE, text=True).stdout.splitlines()
+    left = list(itertools.islice((line for line in lines if " undecided " in line), REPORTED))
+    out = os.path.join(folder, "report.html")
+    try:
+        taken = clocked(lambda: budlarem.report(left, out, diagrams=REPORTED, threads=4))
+    except budlarem.ReportError as error:
+        figures.tally.skip("the report: %s" % error)
+        return
+    size = os.path.getsize(out) / MEGABYTE
+    told = "%.1f s, %.1f MB" % (taken, size)
+    figures.row(
+        "a report with %d diagrams of 1,000,000 steps, four threads, in s" % len(left), told, taken, 60
+    )
+
+
+def measure_interruption(figures: Figures) -> None:
+    """After how long SIGINT is heard, and the process has ended by it."""
+    from python import WHERE, interrupted
+
+    for where in WHERE:
+        seconds = figures.least(lambda: interrupted(where)[2])[0]
+        figures.row(
+            "SIGINT in a %s, until the process has ended, in s" % where, "%.3f" % seconds, seconds, 0.2
+        )
+
+
+PARTS = {"node": measure_node, "trace": measure_trace, "page": measure_page, "python": measure_python}
+
+
+def main() -> int:
+    parser = words(__doc__)
+    parser.add_argument("--runs", type=int, default=3, help="of each (default: 3)")
+    parser.add_argument("--only", choices=sorted(PARTS), action="append", help="this part; may be repeated")
+    asked = parser.parse_args()
+    figures = Figures(Tally(), asked.runs)
+    with tempfile.TemporaryDirectory() as folder:
+        for name, measure in PARTS.items():
+            if not asked.only or name in asked.only:
+                measure(figures, asked.program, folder)
+    print()
+    return figures.tally.end()
+
+
+if __name__ == "__main__":
+    end_with(main)

@@ -1,0 +1,169 @@
+"""The built page in a headless Chromium, as the tests use it."""
+
+import json
+import os
+import time
+from typing import Any, Callable, Dict, List, Optional
+
+from selenium import webdriver
+from selenium.webdriver.chrome.service import Service
+from selenium.webdriver.common.by import By
+
+# What tells of tasks that kept the page from answering.
+WATCH = """
+window.longest = 0;
+new PerformanceObserver((list) => list.getEntries().forEach((entry) => {
+  window.longest = Math.max(window.longest, entry.duration);
+})).observe({ entryTypes: ["longtask"] });
+"""
+# What makes the page believe that there are so many cores.
+CORES = "Object.defineProperty(navigator, 'hardwareConcurrency', { get: () => %d });"
+DROP = """
+const moved = new DataTransfer();
+moved.items.add(document.getElementById("file").files[0]);
+dispatchEvent(new DragEvent("drop", { dataTransfer: moved, bubbles: true, cancelable: true }));
+"""
+# After so many seconds something that is waited for counts as lost.
+PATIENCE = 1_800
+LIMITS = ("steps", "cells", "depth", "nodes")
+SWITCHES = ("cyclers", "translated", "backward")
+
+
+def is_whole(path: str) -> bool:
+    """Whether the browser has written a file to its end; before, it may stand there empty."""
+    return os.path.exists(path) and os.path.getsize(path) > 0 and not os.path.exists(path + ".crdownload")
+
+
+class Page:
+    """A page of its own; `folder` is where it saves files. `cores` are those that it believes to have."""
+
+    def __init__(
+        self,
+        path: str,
+        folder: str,
+        width: int = 1280,
+        height: int = 900,
+        is_phone: bool = False,
+        cores: Optional[int] = None,
+    ) -> None:
+        options = webdriver.ChromeOptions()
+        for word in ("--headless=new", "--no-sandbox", "--window-size=%d,%d" % (width, height)):
+            options.add_argument(word)
+        if is_phone:
+            metrics = {"deviceMetrics": {"width": width, "height": height, "pixelRatio": 2.0}}
+            options.add_experimental_option("mobileEmulation", metrics)
+        options.set_capability("goog:loggingPrefs", {"browser": "ALL", "performance": "ALL"})
+        self.driver = webdriver.Chrome(options=options, service=Service("/usr/bin/chromedriver"))
+        self.driver.set_script_timeout(PATIENCE)
+        self.driver.set_page_load_timeout(PATIENCE)
+        self.folder, self.path = folder, path
+        saving = {"behavior": "allow", "downloadPath": folder}
+        self.driver.execute_cdp_cmd("Page.setDownloadBehavior", saving)
+        for source in (WATCH, CORES % cores if cores else ""):
+            self.driver.execute_cdp_cmd("Page.addScriptToEvaluateOnNewDocument", {"source": source})
+
+    def open(self, link: str = "") -> None:
+        """Opens the page from the disk, and waits for what it decides first."""
+        self.driver.get("about:blank")
+        self.driver.get("file://" + self.path + link)
+        self.ended()
+
+    def js(self, script: str, *words: Any) -> Any:
+        """What a script in the page gives."""
+        return self.driver.execute_script(script, *words)
+
+    def text(self, name: str) -> str:
+        """The text of an element."""
+        return str(self.js("return document.getElementById(arguments[0]).textContent", name))
+
+    def until(self, what: Callable[[], Any]) -> Any:
+        """Waits until something is so, and gives it."""
+        end = time.monotonic() + PATIENCE
+        while not (found := what()):
+            if time.monotonic() > end:
+                raise AssertionError("it didn't come: %s" % self.text("status"))
+            time.sleep(0.01)
+        return found
+
+    def state(self) -> Optional[str]:
+        """Whether the work is over: done, stopped, ended."""
+        return self.js("return document.getElementById('results').dataset.state")
+
+    def ended(self) -> str:
+        """Waits until the work is over."""
+        self.until(lambda: self.state() in ("done", "stopped", "ended"))
+        return str(self.state())
+
+    def drawn(self) -> Dict[str, Any]:
+        """Waits until the diagram is drawn, and gives where it stands."""
+        script = "return {...document.getElementById('diagram').dataset}"
+        return self.until(lambda: (found := self.js(script)).get("state") == "drawn" and found)
+
+    def plan(self, plan: Dict[str, Any], mode: str, clean: bool = False) -> None:
+        """Sets the fields; those that aren't named get their defaults."""
+        self.js("document.getElementById('defaults').click()")
+        for name in LIMITS:
+            if name in plan:
+                self.js("document.getElementById(arguments[0]).value = arguments[1]", name, str(plan[name]))
+        checked = {name: plan.get(name, True) for name in SWITCHES}
+        for name, value in {**checked, "clean": clean}.items():
+            self.js("document.getElementById(arguments[0]).checked = arguments[1]", name, value)
+        self.js("document.getElementById('mode').value = arguments[0]", mode)
+
+    def run(self) -> None:
+        """Asks for the list, without waiting for it."""
+        self.js("document.getElementById('run').click()")
+
+    def file(self, given: bytes, drop: bool = False) -> None:
+        """Chooses a file with these bytes, or drops it; the page begins at once."""
+        path = os.path.join(self.folder, "list")
+        with open(path, "wb") as out:
+            out.write(given)
+        self.choose(path, drop)
+
+    def choose(self, path: str, drop: bool = False) -> None:
+        """Chooses a file, or drops it; the page begins at once."""
+        self.js("document.getElementById('results').dataset.state = 'asked'")
+        self.js("document.getElementById('file').value = ''")
+        script = (
+            "document.getElementById('file').addEventListener('change', (e) => e.stopImmediatePropagation(), "
+        )
+        if drop:
+            self.js(script + "{ capture: true, once: true })")
+        self.driver.find_element(By.ID, "file").send_keys(path)
+        if drop:
+            self.js(DROP)
+
+    def saved(self) -> bytes:
+        """The bytes that the page saves."""
+        self.js("document.getElementById('save').click()")
+        names = [os.path.join(self.folder, name) for name in ("verdicts.txt", "answers.txt")]
+        path = self.until(lambda: next(filter(is_whole, names), None))
+        with open(path, "rb") as file:
+            given = file.read()
+        os.remove(path)
+        return given
+
+    def answered(self, name: str, plan: Dict[str, Any], given: bytes, drop: bool = False) -> bytes:
+        """What the page writes of a list."""
+        self.plan(plan, name)
+        self.file(given, drop)
+        self.ended()
+        return self.saved()
+
+    def requests(self) -> List[str]:
+        """The addresses that were asked for, but of the page itself and of what it made."""
+        found = []
+        for entry in self.driver.get_log("performance"):
+            message = json.loads(entry["message"])["message"]
+            if message["method"] == "Network.requestWillBeSent":
+                found.append(message["params"]["request"]["url"])
+        own = ("file://" + self.path, "blob:", "data:", "about:")
+        return [url for url in found if not url.startswith(own)]
+
+    def errors(self) -> List[str]:
+        """What the console has of errors."""
+        return [entry["message"] for entry in self.driver.get_log("browser") if entry["level"] == "SEVERE"]
+
+    def end(self) -> None:
+        self.driver.quit()

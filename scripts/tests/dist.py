@@ -1,0 +1,74 @@
+#!/usr/bin/python3
+"""Builds what is passed on twice, in two folders of different names, and compares the bytes.
+
+    scripts/tests/dist.py
+
+Each is a clone of this repository's commit, in which `scripts/dist` builds from nothing; what was proved on
+this machine isn't proved again. It takes ten minutes, on a busy machine twenty. The last line is `N passed,
+M failed`; the status is 1 where any failed.
+"""
+
+import hashlib
+import pathlib
+import subprocess
+import tempfile
+
+from tally import TOP, Tally, end_with, words
+
+ALWAYS = ["CONTENTS", "bb", "bb.1", "bb.h", "libbb.a", "libbb.so", "bb.wasm", "bb.html", "bb.mjs"]
+
+
+def built(tally: Tally, commit: str, folder: pathlib.Path) -> pathlib.Path:
+    """A clone at a commit in which everything is built; gives the folder of what is passed on."""
+    subprocess.run(["git", "clone", "--quiet", TOP, str(folder)], check=True)
+    subprocess.run(["git", "checkout", "--quiet", "--detach", commit], cwd=folder, check=True)
+    pipe = subprocess.PIPE
+    ended = subprocess.run([folder / "scripts" / "dist"], stdout=pipe, stderr=pipe, text=True)
+    said = ended.stderr if ended.returncode else ""
+    tally.hold("scripts/dist: status %d %s" % (ended.returncode, said), ended.returncode == 0)
+    return folder / "dist"
+
+
+def without_date(text: str) -> str:
+    return "\n".join(line for line in text.splitlines() if not line.startswith("date "))
+
+
+def hold_contents(tally: Tally, folder: pathlib.Path) -> None:
+    """Each file is there, with the sha256 that CONTENTS says."""
+    text = (folder / "CONTENTS").read_text(encoding="utf-8")
+    told = dict(reversed(line.split("  ")) for line in text.splitlines() if line.count("  ") == 1)
+    files = {path.name: path for path in folder.iterdir() if path.name != "CONTENTS"}
+    tally.hold("CONTENTS names %s of %s" % (sorted(told), sorted(files)), sorted(told) == sorted(files))
+    for name, path in files.items():
+        tally.hold("the sha256 of %s" % name, told.get(name) == hashlib.sha256(path.read_bytes()).hexdigest())
+    tally.hold("CONTENTS names the kit and the commit", "\nkit " in text and text.startswith("commit "))
+    tally.hold("a wheel", len(list(folder.glob("budlarem-*.whl"))) == 1)
+
+
+def main() -> int:
+    words(__doc__).parse_args()
+    tally = Tally()
+    asked = ["git", "rev-parse", "HEAD"]
+    commit = subprocess.run(asked, cwd=TOP, stdout=subprocess.PIPE, text=True, check=True).stdout.strip()
+    with tempfile.TemporaryDirectory() as name:
+        one = built(tally, commit, pathlib.Path(name) / "one")
+        other = built(tally, commit, pathlib.Path(name) / "another folder")
+        if not tally.failed:
+            hold_contents(tally, one)
+            hold_same(tally, one, other)
+    return tally.end()
+
+
+def hold_same(tally: Tally, one: pathlib.Path, other: pathlib.Path) -> None:
+    """Both folders have the same files with the same bytes, but for the date."""
+    names, others = ({path.name for path in folder.iterdir()} for folder in (one, other))
+    tally.hold("the same files: %s, %s" % (names - others, others - names), names == others)
+    tally.hold("all of %s" % ALWAYS, set(ALWAYS) <= names)
+    for name in sorted((names & others) - {"CONTENTS"}):
+        tally.hold("the bytes of %s" % name, (one / name).read_bytes() == (other / name).read_bytes())
+    texts = [(folder / "CONTENTS").read_text(encoding="utf-8") for folder in (one, other)]
+    tally.hold("CONTENTS but for the date", without_date(texts[0]) == without_date(texts[1]))
+
+
+if __name__ == "__main__":
+    end_with(main)

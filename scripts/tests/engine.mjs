@@ -1,0 +1,68 @@
+/**
+ * Answers jobs by the module of `web/`, for `engine.py`: one in a line of standard input, as JSON, and a line
+ * back of what came of it. Bytes go through files.
+ */
+import { readFileSync, writeFileSync } from "node:fs";
+import { createInterface } from "node:readline";
+import { isSupported, load } from "../../web/bb.mjs";
+
+/** @typedef {{call: string, given: string, out: string, plan: any, memory?: number, times?: number}} Job */
+
+const bytes = readFileSync(process.argv[2]);
+
+/** @param {import("../../web/bb.mjs").Engine} engine @param {Job} job */
+function answered(engine, job) {
+  const given = new Uint8Array(readFileSync(job.given));
+  if (job.call === "decide") {
+    return engine.decideBytes(given, job.plan);
+  }
+  if (job.call === "check") {
+    return engine.checkBytes(given, job.plan);
+  }
+  return job.call === "trace" ? engine.traceBytes(given, job.plan) : samples(engine, given, job.plan);
+}
+
+/** All traces from each step up to one, by each interval up to another, one behind the other. */
+function samples(engine, line, { from, every, ...limits }) {
+  const parts = [];
+  for (let first = 0; first <= from; first += 1) {
+    for (let interval = 1; interval <= every; interval += 1) {
+      parts.push(Buffer.from(engine.traceBytes(line, { ...limits, from: first, every: interval }).bytes));
+    }
+  }
+  return { bytes: Buffer.concat(parts), clean: true };
+}
+
+/** What came of a job. @param {import("../../web/bb.mjs").Engine} engine @param {Job} job */
+function done(engine, job) {
+  const begun = process.cpuUsage();
+  try {
+    let reply = answered(engine, job);
+    for (let k = 1; k < (job.times ?? 1); k += 1) {
+      reply = answered(engine, job);
+    }
+    const { user, system } = process.cpuUsage(begun);
+    writeFileSync(job.out, reply.bytes);
+    return { clean: reply.clean, seconds: (user + system) / 1e6, held: engine.held };
+  } catch (error) {
+    const { name, limit, message } = /** @type {any} */ (error);
+    return { error: name, limit, message, held: engine.held };
+  }
+}
+
+/** Answers each job in turn. */
+async function main() {
+  if (!isSupported()) {
+    console.log(JSON.stringify({ unsupported: true }));
+    return;
+  }
+  const engine = await load(bytes);
+  console.log(JSON.stringify({ traces: engine.traces }));
+  for await (const line of createInterface({ input: process.stdin })) {
+    const job = JSON.parse(line);
+    const asked = job.memory === undefined ? engine : await load(bytes, { memory: job.memory });
+    console.log(JSON.stringify(done(asked, job)));
+  }
+}
+
+await main();

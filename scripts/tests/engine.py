@@ -1,0 +1,317 @@
+#!/usr/bin/env python3
+"""Holds the engine as WebAssembly, in Node, against the program, byte for byte.
+
+    scripts/tests/engine.py crates/bb/out/bb [--quick] [--seed S]
+
+First it runs `scripts/web`, which builds the module where it isn't up to date, in about two minutes, after
+`./bb`. It then decides, checks and traces by the module: the first run of the README, the examples, all
+plans at some limits, random machines and claims at random limits, all machines of four states, long lines
+and noise, refused limits, and memory that can't be had. It takes two minutes, `--quick` some seconds. It
+needs `node` with 64-bit memory (20 or later) and checks types by `tsc`; what is missing is told and
+skipped. The last line is `N passed, M failed`, with `, K skipped` where some were; the status is 1 where
+any failed.
+"""
+
+import itertools
+import os
+import random
+import resource
+import shutil
+import subprocess
+import sys
+import tempfile
+from typing import Any, Dict, Iterator, List, Tuple
+
+from closed_loop import LIMITS, machines
+from tally import TOP, Tally, end_with, words
+from web_engine import MODULE, SWITCHES, Engine, Reply, built, documented, plan_of, words_of
+
+FOUR = {"steps": 200, "cells": 256, "depth": 20, "nodes": 1_000}
+SMALL = {"steps": 100, "cells": 64, "depth": 20, "nodes": 100}
+MOST = {"steps": 1_000_000_000_000, "cells": 67_108_864, "depth": 10_000, "nodes": 1_000_000_000_000}
+README = b"1RB1LB_1LA1RZ\n1RA1RA\n1rB1LB\n"
+SIMULATION = {name: False for name in SWITCHES}
+REFUSED = [
+    {"steps": 10**12 + 1},
+    {"cells": 0},
+    {"cells": 67_108_865},
+    {"depth": 10_001},
+    {"nodes": 10**12 + 1},
+    {"cells": 598},
+    {"cells": 0, "steps": 10**13},
+    {"depth": 10_001, "nodes": 10**13},
+]
+TOTAL_BYTES = 65_536
+
+
+class Held:
+    """The program and the engine, and how often they wrote the same."""
+
+    def __init__(self, program: str, engine: Engine, tally: Tally) -> None:
+        self.program, self.engine, self.tally = program, engine, tally
+
+    def written(self, name: str, plan: Dict[str, Any], given: bytes) -> Tuple[int, bytes]:
+        """The status of the program and what it writes."""
+        command = [self.program, name, *words_of(plan)]
+        ended = subprocess.run(command, input=given, stdout=subprocess.PIPE, stderr=subprocess.DEVNULL)
+        return ended.returncode, ended.stdout
+
+    def same(self, what: str, name: str, plan: Dict[str, Any], given: bytes) -> Reply:
+        """Holds that a call's reply is the program's."""
+        reply = self.engine.call(name, plan, given)
+        same = (reply.status, reply.reply) == self.written(name, plan, given)
+        self.tally.hold("%s: %s %s" % (what, name, plan), same)
+        return reply
+
+
+def content(folder: str, name: str) -> bytes:
+    """What a file of an example has; nothing where there is none."""
+    path = os.path.join(folder, name)
+    if not os.path.exists(path):
+        return b""
+    with open(path, "rb") as file:
+        return file.read()
+
+
+def examples() -> Iterator[Tuple[str, str, Dict[str, Any], bytes]]:
+    """Each example that decides or checks: its name, command, plan and input."""
+    top = os.path.join(TOP, "examples")
+    for name in sorted(os.listdir(top)):
+        asked = content(os.path.join(top, name), "command").decode().split()
+        if asked and asked[0] in ("decide", "check"):
+            files = [word for word in asked if word.startswith("examples/")]
+            given = content(TOP, files[0]) if files else content(os.path.join(top, name), "lines.txt")
+            yield name, asked[0], plan_of([word for word in asked[1:] if word not in files]), given
+
+
+def plans() -> Iterator[Dict[str, Any]]:
+    """Every plan at every row of limits."""
+    for numbers, switches in itertools.product(LIMITS, itertools.product([True, False], repeat=3)):
+        plan: Dict[str, Any] = dict(zip(("steps", "cells", "depth", "nodes"), numbers))
+        yield {**plan, **dict(zip(SWITCHES, switches))}
+
+
+def random_plan(source: random.Random) -> Dict[str, Any]:
+    """Limits that are accepted, small ones more often, and switches."""
+    cells = int(2 ** source.uniform(0, 13))
+    return {
+        "steps": int(10 ** source.uniform(0, 4)),
+        "cells": cells,
+        "depth": source.randint(0, min(300, (cells + 1) // 2)),
+        "nodes": int(10 ** source.uniform(0, 4)),
+        **{name: source.random() < 0.7 for name in SWITCHES},
+    }
+
+
+def random_machines(count: int, source: random.Random) -> List[str]:
+    """Machines of 1 to 25 states and 2 to 10 symbols."""
+    return list(machines(count, source.randrange(2**32)))
+
+
+def forged(line: str, source: random.Random) -> str:
+    """A verdict line with one number changed."""
+    fields = line.split(" ")
+    numbers = [k for k, field in enumerate(fields) if k and field.isdigit()]
+    if numbers:
+        at = source.choice(numbers)
+        fields[at] = str(max(0, int(fields[at]) + source.choice([-2, -1, 1, 2, 1000])))
+    return " ".join(fields)
+
+
+def hold_examples(held: Held) -> None:
+    """The README's first run, the examples, and all plans at the rows of limits."""
+    held.same("README", "decide", {}, README)
+    held.same("README", "decide", SIMULATION, README)
+    given = b""
+    for name, command, plan, lines in examples():
+        held.same(name, command, plan, lines)
+        if name in ("verdicts", "small_limits"):
+            given += lines
+    for plan in plans():
+        held.same("plans", "decide", plan, given)
+
+
+def hold_random(held: Held, count: int, seed: int) -> None:
+    """Random machines at random limits, and claims of which half are forged."""
+    source = random.Random(seed)
+    listed = random_machines(count, source)
+    for k in range(0, count, 100):
+        plan = random_plan(source)
+        given = "".join(line + "\n" for line in listed[k : k + 100]).encode()
+        decided = held.same("random machines", "decide", plan, given).reply.decode().splitlines()
+        claims = [forged(line, source) if source.random() < 0.5 else line for line in decided]
+        limits = {name: value for name, value in random_plan(source).items() if name not in SWITCHES}
+        held.same("claims", "check", limits, "".join(line + "\n" for line in claims).encode())
+
+
+def hold_four_states(held: Held) -> None:
+    """All machines of four states in tree normal form, decided and checked; their times."""
+    script = os.path.join(TOP, "scripts", "tools", "tree_normal_form.py")
+    given = subprocess.run([sys.executable, script, "4"], stdout=subprocess.PIPE).stdout
+    held.tally.hold("858909 machines of four states", given.count(b"\n") == 858_909)
+    before = resource.getrusage(resource.RUSAGE_CHILDREN)
+    wanted = held.written("decide", FOUR, given)
+    after = resource.getrusage(resource.RUSAGE_CHILDREN)
+    taken = after.ru_utime + after.ru_stime - before.ru_utime - before.ru_stime
+    reply = held.engine.call("decide", FOUR, given)
+    held.tally.hold("machines of four states", (reply.status, reply.reply) == wanted)
+    seconds = reply.told.get("seconds", 0)
+    print("four states: %.2f s, the program %.2f s, %.2f times" % (seconds, taken, seconds / taken))
+    held.same("verdicts of four states", "check", FOUR, reply.reply)
+
+
+def hold_noise(held: Held, source: random.Random) -> None:
+    """Bytes that are no list, lines without an end, and a line of 10 MB."""
+    for length in (0, 1, 2, 100, 10_000, 100_000):
+        noise = bytes(source.randrange(256) for _ in range(length))
+        for name in ("decide", "check"):
+            held.same("noise", name, {}, noise)
+            held.same("noise", name, {}, noise + b"\n\n1RZ---")
+    for line in (b"1RB1LB_" * 1_500_000, b"\xff" * 10_000_000, b"1RZ--- halt 1 1" + b" " * 10_000_000):
+        for name in ("decide", "check"):
+            held.same("a line of 10 MB", name, {}, line)
+
+
+def hold_limits(held: Held) -> None:
+    """Refused limits, whose error has the program's words and names the limit; the greatest accepted ones."""
+    for plan in REFUSED:
+        reply = held.engine.call("decide", plan, b"1RA1RA\n")
+        command = [held.program, "decide", *words_of(plan)]
+        said = subprocess.run(command, input=b"", stderr=subprocess.PIPE).stderr.decode()
+        named = reply.told.get("error") == "LimitsError" and reply.told.get("limit") == said[4:].split(" ")[0]
+        held.tally.hold(
+            "%s: %s" % (plan, reply.told), named and said == "bb: %s\n" % reply.told.get("message")
+        )
+    for plan, error in (
+        ({"cells": 2.5}, "LimitsError"),
+        ({"cell": 5}, "TypeError"),
+        ({"backward": 1}, "TypeError"),
+    ):
+        told = held.engine.call("decide", plan, b"1RA1RA\n").told
+        held.tally.hold("%s: %s" % (plan, told), told.get("error") == error)
+    for name in ("decide", "check"):
+        reply = held.same("the greatest limits", name, MOST, b"1RB1LB_1LA1RZ\n1RB1LB_1LA1RZ halt 6 4\n")
+        print("memory of %s at the greatest limits: %d MB" % (name, reply.told.get("held", 0) // 10**6))
+
+
+def hold_document(held: Held, folder: str) -> None:
+    """The script of docs/web.md decides a list and checks what it said, as it stands there."""
+    script = os.path.join(folder, "decide.mjs")
+    os.symlink(os.path.join(TOP, "web"), os.path.join(folder, "web"))
+    with open(script, "w", encoding="utf-8") as file:
+        file.write(documented("A script"))
+    command = ["node", "--no-warnings", "--experimental-wasm-memory64", script]
+    ended = subprocess.run(command, input=README, stdout=subprocess.PIPE, cwd=folder)
+    limits = {"steps": 100_000, "cells": 4096}
+    decided = held.written("decide", limits, README)[1]
+    wanted = decided + held.written("check", limits, decided)[1]
+    held.tally.hold("the script of docs/web.md: %r" % ended.stdout, ended.stdout == wanted)
+
+
+def hold_memory(held: Held) -> None:
+    """Memory that can't be had is told; it doesn't grow from call to call."""
+    some = 64 * TOTAL_BYTES
+    for name, plan in (("decide", {"cells": 10**7}), ("check", {"cells": 10**7})):
+        told = held.engine.call(name, plan, b"1RA1RA translated R 1 2\n", memory=some).told
+        held.tally.hold("%s without memory: %s" % (name, told), told.get("error") == "MemoryError")
+    told = held.engine.call("decide", {}, b"1RA1RA\n" * 10**6, memory=some).told
+    held.tally.hold("a list without memory: %s" % told, told.get("error") == "MemoryError")
+    reply = held.engine.call("decide", {"cells": 64, "depth": 9}, b"1RZ---\n", memory=some)
+    held.tally.hold("enough memory", reply.reply == b"1RZ--- halt 1 1\n")
+
+
+def hold_calls(folder: str, tally: Tally) -> None:
+    """An engine of its own holds after a thousand lists what it holds after one."""
+    engine = Engine(folder)
+    once = engine.call("decide", SMALL, README * 1000).told.get("held")
+    often = engine.call("decide", SMALL, README * 1000, times=1000).told.get("held")
+    tally.hold("memory after 1 list %s, after 1000 %s" % (once, often), once and once == often)
+    engine.end()
+
+
+def sampled(lines: List[bytes], most: int) -> bytes:
+    """All traces from each step up to one, by each interval up to the same."""
+    pairs = itertools.product(range(most + 1), range(1, most + 1))
+    return b"".join(line + b"\n" for first, every in pairs for line in lines[first::every])
+
+
+def hold_traces(held: Held, count: int, source: random.Random) -> None:
+    """Traces of random machines from each step by each interval, and at the greatest limits."""
+    for machine in random_machines(count, source):
+        plan = {"steps": source.randint(0, 200), "cells": source.randint(1, 60)}
+        command = [
+            held.program,
+            "trace",
+            "--upto=%(steps)d" % plan,
+            "--cells=%(cells)d" % plan,
+            "--",
+            machine,
+        ]
+        lines = subprocess.run(command, stdout=subprocess.PIPE).stdout.splitlines()
+        reply = held.engine.call("samples", {**plan, "from": 50, "every": 50}, machine.encode())
+        held.tally.hold("traces of %s at %s" % (machine, plan), reply.reply == sampled(lines, 50))
+    most = {"steps": 10**12, "cells": 67_108_864, "from": 0, "every": 1}
+    reply = held.engine.call("trace", most, b"1RB1LB_1LA1RZ")
+    command = [held.program, "trace", "--upto=%d" % 10**12, "--cells=67108864", "1RB1LB_1LA1RZ"]
+    wanted = subprocess.run(command, stdout=subprocess.PIPE).stdout
+    held.tally.hold("a trace at the greatest limits", (reply.status, reply.reply) == (0, wanted))
+    for plan in ({"every": 0}, {"cells": 0}, {"steps": 10**12 + 1}):
+        told = held.engine.call("trace", {**most, **plan}, b"1RB1LB_1LA1RZ").told
+        held.tally.hold("%s: %s" % (plan, told), told.get("limit") == next(iter(plan)))
+    reply = held.engine.call("trace", {"steps": 5}, b"1rB")
+    held.tally.hold("a trace of no machine", (reply.status, reply.reply) == (1, b"refused 2\n"))
+
+
+def hold_types(tally: Tally) -> None:
+    """The modules of `web/` pass the checks of types."""
+    if not tally.has("types of web/", "tsc"):
+        return
+    ended = subprocess.run(["tsc", "-p", os.path.join(TOP, "web")], stdout=subprocess.PIPE, text=True)
+    tally.hold("types of web/:\n" + ended.stdout, ended.returncode == 0)
+
+
+def hold_all(program: str, tally: Tally, quick: bool, seed: int) -> None:
+    """All that Node is needed for."""
+    with tempfile.TemporaryDirectory() as folder:
+        engine = Engine(folder)
+        if engine.about.get("unsupported"):
+            tally.skip("the engine in Node: it has no 64-bit memory; Node 20 or later has (package nodejs)")
+            return
+        held = Held(program, engine, tally)
+        hold_examples(held)
+        hold_random(held, 1_000 if quick else 20_000, seed)
+        hold_limits(held)
+        hold_document(held, folder)
+        hold_memory(held)
+        if engine.about.get("traces"):
+            hold_traces(held, 5 if quick else 100, random.Random(seed))
+        else:
+            tally.skip("traces: this module has no bb_trace")
+        if not quick:
+            hold_noise(held, random.Random(seed))
+            hold_four_states(held)
+            hold_calls(folder, tally)
+        engine.end()
+
+
+def main() -> int:
+    parser = words(__doc__)
+    parser.add_argument("--quick", action="store_true", help="leave out what takes more than some seconds")
+    parser.add_argument("--seed", type=int, default=1, help="of the random machines (default: 1)")
+    asked = parser.parse_args()
+    tally = Tally()
+    hold_types(tally)
+    if tally.has("the engine in Node", "node"):
+        if shutil.which("rt") is None and not os.path.exists(MODULE):
+            tally.skip("the engine in Node: web/out/bb.wasm isn't built, and there is no kit to build it")
+        elif built():
+            size = os.path.getsize(MODULE)
+            tally.hold("the module has %d bytes" % size, size <= 65_536)
+            hold_all(asked.program, tally, asked.quick, asked.seed)
+        else:
+            tally.hold("scripts/web builds", False)
+    return tally.end()
+
+
+if __name__ == "__main__":
+    end_with(main)

@@ -1,0 +1,342 @@
+#!/usr/bin/python3
+"""Holds the Python package against the built program, byte for byte where there are bytes.
+
+    scripts/tests/python.py crates/bb/out/bb [--quick] [--seed S]
+
+All rows of plans and limits; random machines of 1 to 25 states and 2 to 10 symbols at random limits; claims
+of which half are forged; machines of four states by 1 and 4 threads; lines of noise; that `parse` takes just
+what the checker reads; traces and pictures; comparisons; memory over a long list; SIGINT in a list and in one
+long machine. First it runs `scripts/library`, which builds the library. It takes some minutes; `--quick`,
+with fewer machines, half a minute. The last line is `N passed, M failed`; the status is 1 where any failed.
+"""
+
+import itertools
+import os
+import random
+import signal
+import subprocess
+import sys
+import time
+from typing import Iterator, List, Sequence, Tuple
+
+from closed_loop import LIMITS, PLANS, machines, options
+from library_built import LIBRARY, has_library
+from tally import TOP, Tally, end_with, heed_interruption, words
+
+SOURCE = os.path.join(TOP, "python", "src")
+sys.path.insert(0, SOURCE)
+
+import budlarem  # noqa: E402
+from budlarem import Limits, Plan  # noqa: E402
+
+Row = Tuple[int, int, int, int]
+SWITCHES = ("--no-cyclers", "--no-translated", "--no-backward")
+# In so many seconds an interruption is heard, on a quiet machine; after so many the process counts as hung.
+HEARD, PATIENCE = 0.2, 600
+WHERE = ("list", "machine", "trace")
+# It grows as the root of its steps, and no decider finds anything.
+LONG_MACHINE = "0RB1LD_0RC1RD_0RD---_1LA0RB"
+WAITS = """
+import sys, budlarem
+def machines():
+    while True: yield "1RB1LC_1RC1RB_1RD0LE_1LA1LD_1RZ0LA"
+print("begun", flush=True)
+if sys.argv[1] == "list":
+    for verdict in budlarem.decide(machines(), threads=2): print("decided", flush=True)
+elif sys.argv[1] == "machine":
+    print(list(budlarem.decide([sys.argv[2]], budlarem.Limits(steps=10**12, cells=67108864))))
+else:
+    list(budlarem.trace(sys.argv[2], 10**12, 67108864, start=10**12))
+"""
+MEMORY = """
+import itertools, resource, sys, budlarem
+count = int(sys.argv[1])
+lines = itertools.repeat("1RB1LB_1LA1RZ", count)
+limits = budlarem.Limits(100, 64, 5, 100)
+found = sum(1 for _ in budlarem.decide(lines, limits)) if sys.argv[2] == "decide" else sum(
+    block.count(10) for block in budlarem.decide_bytes((b"1RB1LB_1LA1RZ\\n" for _ in range(count)), limits))
+assert found == count
+print(resource.getrusage(resource.RUSAGE_SELF).ru_maxrss)
+"""
+
+
+def told(program: str, asked: Sequence[str], given: bytes) -> bytes:
+    """What the program writes."""
+    return subprocess.run([program, *asked], input=given, stdout=subprocess.PIPE).stdout
+
+
+def joined(lines: Sequence[str]) -> bytes:
+    return "".join(line + "\n" for line in lines).encode("utf-8", "surrogatepass")
+
+
+def plan_of(switches: Sequence[str]) -> Plan:
+    return Plan(*(switch not in switches for switch in SWITCHES))
+
+
+def random_row(source: random.Random) -> Row:
+    """Limits that are accepted, most of them small."""
+    cells = source.choice((1, 2, 7, 64, 599, 4_096))
+    depth = source.randint(0, min((cells + 1) // 2, 60))
+    return source.choice((0, 1, 17, 300, 5_000)), cells, depth, source.choice((0, 3, 100, 2_000))
+
+
+def hold_deciding(
+    tally: Tally, program: str, row: Row, switches: Sequence[str], lines: List[str], threads: int
+) -> List[str]:
+    """The package's verdicts, as objects and as bytes, are the program's; gives their lines."""
+    expected = told(program, ["decide", *options(row), *switches], joined(lines))
+    limits, plan = Limits(*row), plan_of(switches)
+    what = "%s %s, %d lines, %d threads" % (row, switches, len(lines), threads)
+    found = b"".join(budlarem.decide_bytes(joined(lines), limits, plan, threads=threads))
+    tally.hold("decide_bytes at %s" % what, found == expected)
+    verdicts = list(budlarem.decide(lines, limits, plan, threads=threads))
+    tally.hold("decide at %s" % what, joined([str(verdict) for verdict in verdicts]) == expected)
+    read = [budlarem.parse(line) for line in expected.decode().splitlines()]
+    tally.hold("parse at %s" % what, read == verdicts)
+    return expected.decode().splitlines()
+
+
+def hold_rows(tally: Tally, program: str, lists: List[str]) -> None:
+    for row, switches in itertools.product(LIMITS, itertools.product((0, 1), repeat=3)):
+        hold_deciding(
+            tally, program, row, [name for name, on in zip(SWITCHES, switches) if on], lists[:300], 1
+        )
+
+
+def forged(source: random.Random, line: str) -> str:
+    """A line in which a number, or another part, is another."""
+    fields = line.split(" ")
+    place = source.randrange(1, len(fields)) if len(fields) > 1 else 0
+    if fields[place].isdigit():
+        fields[place] = str(max(int(fields[place]) + source.choice((-1, 1, 2, 10**19)), 0))
+    else:
+        fields[place] = source.choice(("halt", "cycler", "translated", "L", "R", "cells", ""))
+    return " ".join(fields)
+
+
+def hold_claims(tally: Tally, program: str, lines: List[str], row: Row, seed: int) -> None:
+    """The answers to claims of which half are forged, and what `parse` takes of them."""
+    source = random.Random(seed)
+    claims = [forged(source, line) if k % 2 else line for k, line in enumerate(lines)]
+    expected = told(program, ["check", *options(row)], joined(claims))
+    answers = expected.decode().splitlines()
+    found = b"".join(budlarem.check_bytes(joined(claims), Limits(*row)))
+    tally.hold("check_bytes of %d claims at %s" % (len(claims), row), found == expected)
+    as_objects = [str(answer) for answer in budlarem.check(claims, Limits(*row), threads=2)]
+    tally.hold("check of %d claims at %s" % (len(claims), row), as_objects == answers)
+    hold_parse(tally, claims, answers)
+
+
+def hold_parse(tally: Tally, lines: Sequence[str], answers: Sequence[str]) -> None:
+    """`parse` refuses just what the checker calls unread, and `str` gives back what it takes."""
+    wrong = [line for line, answer in zip(lines, answers) if (parsed(line) is None) != (answer == "unread")]
+    tally.hold("parse and the checker differ on %r" % wrong[:3], not wrong and len(lines) == len(answers))
+    changed = [line for line in lines if parsed(line) not in (None, line)]
+    tally.hold("str gives another line than %r" % changed[:3], not changed)
+
+
+def parsed(line: str) -> object:
+    """The line of what a line is parsed to; None where it isn't."""
+    try:
+        return str(budlarem.parse(line))
+    except ValueError:
+        return None
+
+
+def hold_random(tally: Tally, program: str, lists: List[str], seed: int) -> None:
+    """Random machines at random limits, a thousand at each, and claims made of their verdicts."""
+    source = random.Random(seed)
+    for begin in range(0, len(lists), 1_000):
+        row = random_row(source)
+        switches = source.choice(PLANS)
+        lines = hold_deciding(
+            tally, program, row, switches, lists[begin : begin + 1_000], source.choice((1, 4))
+        )
+        hold_claims(tally, program, lines, row, seed + begin)
+
+
+def noise(source: random.Random, count: int) -> Iterator[str]:
+    """Lines that look like machines and verdicts in some places, and like nothing in others."""
+    parts = [
+        "1RB",
+        "0LA",
+        "---",
+        "_",
+        " ",
+        "halt",
+        "refused",
+        "9",
+        "0",
+        "1",
+        "Z",
+        "\r",
+        "\t",
+        "\x00",
+        "é",
+        "\ud800",
+    ]
+    for _ in range(count):
+        yield "".join(source.choices(parts, k=source.choice((0, 1, 2, 5, 30, 600))))
+
+
+def hold_noise(tally: Tally, program: str, count: int, seed: int) -> None:
+    lines = [*noise(random.Random(seed), count), "1RA1RA" * 200_000, "x" * 3_000_000]
+    hold_deciding_noise(tally, program, lines)
+    answers = told(program, ["check"], joined(lines)).decode().splitlines()
+    tally.hold("check of noise", [str(answer) for answer in budlarem.check(lines)] == answers)
+    hold_parse(tally, lines, answers)
+    blob = random.Random(seed).randbytes(1_000_000)
+    tally.hold("bytes of noise", b"".join(budlarem.decide_bytes(blob)) == told(program, ["decide"], blob))
+    tally.hold(
+        "bytes of noise checked", b"".join(budlarem.check_bytes(blob)) == told(program, ["check"], blob)
+    )
+
+
+def hold_deciding_noise(tally: Tally, program: str, lines: List[str]) -> None:
+    expected = told(program, ["decide"], joined(lines)).decode().splitlines()
+    found = list(budlarem.decide(lines))
+    tally.hold("decide of noise", [str(verdict) for verdict in found] == expected)
+    tally.hold("what was refused is told", all(one.machine == line for one, line in zip(found, lines)))
+
+
+def hold_four_states(tally: Tally, program: str, count: int) -> None:
+    listing = [sys.executable, os.path.join(TOP, "scripts", "tools", "tree_normal_form.py"), "4"]
+    with subprocess.Popen(listing, stdout=subprocess.PIPE, text=True) as lister:
+        lists = [line.rstrip("\n") for line in itertools.islice(lister.stdout, count)]
+        lister.stdout.close()
+    for threads in (1, 4):
+        hold_deciding(tally, program, (200, 256, 20, 1_000), [], lists, threads)
+
+
+def hold_traces(tally: Tally, program: str, lists: List[str]) -> None:
+    """Traces whole and of some steps, and pictures beside those that the script makes of whole traces."""
+    script = [sys.executable, os.path.join(TOP, "scripts", "tools", "picture.py"), "--columns", "50"]
+    for place, machine in enumerate(lists):
+        source = random.Random(place)
+        upto, cells = source.choice((0, 1, 50, 300, 2_000)), source.choice((1, 5, 64, 65_536))
+        asked = ["trace", "--upto", str(upto), "--cells", str(cells), "--", machine]
+        ended = subprocess.run([program, *asked], stdout=subprocess.PIPE)
+        lines = ended.stdout.decode().splitlines()
+        start, every = source.choice((0, 0, 3, 40)), source.choice((1, 2, 7))
+        what = "%s upto %d, cells %d, from %d by %d" % (machine, upto, cells, start, every)
+        trace = budlarem.trace(machine, upto, cells, start, every)
+        tally.hold("trace of %s" % what, [str(now) for now in trace] == lines[start::every])
+        tally.hold("the end of the trace of %s" % what, trace.cut is (ended.returncode == 1))
+        rows = source.choice((1, 2, 30, 300))
+        drawn = subprocess.run([*script, "--rows", str(rows)], input=ended.stdout, capture_output=True).stdout
+        picture = budlarem.picture(machine, upto, cells=cells, rows=rows, columns=50)
+        tally.hold("picture of %s in %d rows" % (what, rows), picture.png == drawn)
+
+
+def hold_lists(tally: Tally, program: str, lists: List[str], seed: int) -> None:
+    """Verdicts at two limits, in two orders, don't contradict each other; normal forms have the same fate."""
+    lists = list(dict.fromkeys(lists))
+    small, large = ([*budlarem.decide(lists, Limits(*row))] for row in ((20, 9, 5, 10), (1_000, 64, 20, 100)))
+    mixed = random.Random(seed).sample(large, len(large))
+    found = list(budlarem.compare(small, mixed))
+    words = {str(one.agreement) for one in found}
+    tally.hold("a comparison of two limits: %s" % words, words == {"agree", "second-decides"})
+    tally.hold("each machine is compared once", sorted(one.machine for one in found) == sorted(lists))
+    simulation = Plan(cyclers=False, translated=False, backward=False)
+    forms = [budlarem.normal(machine, steps=1_000) for machine in lists]
+    before = budlarem.decide(lists, Limits(steps=1_000), simulation)
+    after = budlarem.decide([form.normal for form in forms], Limits(steps=1_000), simulation)
+    fates = (str(verdict).partition(" ")[2] for verdict in before), (
+        str(one).partition(" ")[2] for one in after
+    )
+    tally.hold("a normal form ends as its machine does", list(fates[0]) == list(fates[1]))
+    again = [budlarem.normal(form.normal, steps=1_000).normal == form.normal for form in forms]
+    tally.hold("a normal form is its own", all(again))
+    right = [form.normal.startswith("---") or form.normal[1] == "R" for form in forms]
+    tally.hold("a normal form begins to the right", all(right))
+
+
+def environment() -> dict:
+    return {**os.environ, "PYTHONPATH": SOURCE, "BB_LIBRARY": LIBRARY}
+
+
+def hold_memory(tally: Tally, count: int) -> None:
+    """The most memory that a long list takes is that of a short one."""
+    for how in ("decide", "bytes"):
+        peaks = []
+        for lines in (100_000, count):
+            command = [sys.executable, "-c", MEMORY, str(lines), how]
+            ended = subprocess.run(command, stdout=subprocess.PIPE, env=environment())
+            peaks.append(int(ended.stdout or 0))
+        what = "%s: %d KB for 100,000 lines, %d KB for %d" % (how, *peaks, count)
+        tally.hold(what, 0 < peaks[1] < 1.1 * peaks[0] + 2_000)
+
+
+def interrupted(where: str) -> Tuple[int, bytes, float]:
+    """How a process ends that is interrupted in a list, in one long machine or in a trace: its status, what
+    it said, and after how many seconds."""
+    command = [sys.executable, "-c", WAITS, where, LONG_MACHINE]
+    pipes = {"stdout": subprocess.PIPE, "stderr": subprocess.PIPE, "env": environment()}
+    with subprocess.Popen(command, preexec_fn=heed_interruption, **pipes) as process:
+        process.stdout.readline()
+        if where == "list":
+            process.stdout.readline()
+        else:
+            wait_for_work(process)
+        began = time.monotonic()
+        process.send_signal(signal.SIGINT)
+        try:
+            said = process.communicate(timeout=PATIENCE)[1]
+        except subprocess.TimeoutExpired:
+            process.kill()
+            said = process.communicate()[1]
+        return process.returncode, said, time.monotonic() - began
+
+
+def hold_interruption(tally: Tally) -> None:
+    """SIGINT is heard at once, in a list and in one long machine; the process ends by it."""
+    for where in WHERE:
+        status, said, seconds = interrupted(where)
+        heard = status == -signal.SIGINT and b"KeyboardInterrupt" in said
+        tally.hold("SIGINT in a %s: status %d, %s" % (where, status, said.decode()[-300:]), heard)
+        tally.within("SIGINT in a %s was heard, and the process ended" % where, seconds, HEARD)
+
+
+def wait_for_work(process: "subprocess.Popen[bytes]") -> None:
+    """Waits until a process has made a second of work in another thread than its first, or has ended."""
+    ticks, tasks = os.sysconf("SC_CLK_TCK"), "/proc/%d/task" % process.pid
+    while process.poll() is None:
+        for task in os.listdir(tasks):
+            if int(task) != process.pid and work_of("%s/%s/stat" % (tasks, task)) > ticks:
+                return
+        time.sleep(0.01)
+
+
+def work_of(path: str) -> int:
+    """The processor time of a thread, in ticks; 0 where it has ended."""
+    try:
+        with open(path) as file:
+            fields = file.read().rpartition(")")[2].split()
+    except OSError:
+        return 0
+    return int(fields[11]) + int(fields[12])
+
+
+def main() -> int:
+    parser = words(__doc__)
+    parser.add_argument("--quick", action="store_true", help="fewer machines")
+    parser.add_argument("--seed", type=int, default=1, help="of what is random (default: 1)")
+    asked = parser.parse_args()
+    tally = Tally()
+    if not has_library(tally, "the Python package"):
+        return tally.end()
+    os.environ["BB_LIBRARY"] = LIBRARY
+    lists = list(machines(2_000 if asked.quick else 20_000, asked.seed))
+    hold_rows(tally, asked.program, lists)
+    hold_random(tally, asked.program, lists, asked.seed)
+    hold_noise(tally, asked.program, 2_000 if asked.quick else 20_000, asked.seed)
+    hold_four_states(tally, asked.program, 20_000 if asked.quick else 1_000_000)
+    hold_traces(tally, asked.program, lists[: 30 if asked.quick else 300])
+    hold_lists(tally, asked.program, lists[:1_000], asked.seed)
+    hold_memory(tally, 500_000 if asked.quick else 10_000_000)
+    hold_interruption(tally)
+    return tally.end()
+
+
+if __name__ == "__main__":
+    end_with(main)

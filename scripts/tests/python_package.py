@@ -1,0 +1,183 @@
+#!/usr/bin/python3
+"""Holds the Python package by itself: its unit tests, types, formatting and doctests, and its wheel.
+
+    scripts/tests/python_package.py crates/bb/out/bb [--quick]
+
+It runs `scripts/library`, which proves and builds the library first; that takes a minute or two where it
+wasn't done before, and some seconds where it was. The unit tests run under each Python from 3.9 on that is
+found, once over the sources and once from the wheel of `scripts/wheel` alone, in an empty virtual
+environment. It takes a minute beside the library. With `--quick` there is no wheel, and the unit tests run
+once, over the sources. The program isn't used. The last line is `N passed, M failed`, with `, K skipped`
+where something isn't installed; the status is 1 where any failed.
+"""
+
+import os
+import pathlib
+import re
+import shutil
+import subprocess
+import sys
+import tempfile
+from typing import Dict, List, Tuple
+
+from library_built import LIBRARY, has_library
+from tally import TOP, Tally, end_with, words
+
+PACKAGE = pathlib.Path(TOP) / "python"
+WHEEL = re.compile(
+    r"budlarem-[0-9.]+\+g[0-9a-f]{12}(\.changed\.[0-9a-f]{8})?-py3-none-manylinux_2_17_x86_64\.whl"
+)
+MODULES = (
+    "budlarem",
+    "engine",
+    "limits",
+    "verdicts",
+    "lists",
+    "pictures",
+    "reports",
+    "commands",
+    "runner.progress",
+)
+DOCTESTS = """
+import doctest, importlib, sys
+names = ["budlarem" if name == "budlarem" else "budlarem." + name for name in sys.argv[1:]]
+found = [doctest.testmod(importlib.import_module(name)) for name in names]
+print(sum(one.attempted for one in found), sum(one.failed for one in found))
+"""
+FIRST_RUN = """
+import budlarem
+print(budlarem.__version__, budlarem.COMMIT)
+for verdict in budlarem.decide(["1RB1LB_1LA1RZ", "1RA1RA", "1rB1LB"]): print(verdict)
+"""
+EXPECTED = ["1RB1LB_1LA1RZ halt 6 4", "1RA1RA translated R 1 2 1 1", "refused 2"]
+
+
+def bare(**more: str) -> Dict[str, str]:
+    """The environment, without what says where the package or the library is."""
+    hidden = ("PYTHONPATH", "BB_LIBRARY", "PYTHONHOME", "VIRTUAL_ENV")
+    return {**{name: value for name, value in os.environ.items() if name not in hidden}, **more}
+
+
+def run(command: List[str], **more: str) -> Tuple[int, str]:
+    """The status of a command and all that it writes."""
+    kept = {"stdout": subprocess.PIPE, "stderr": subprocess.STDOUT, "text": True}
+    ended = subprocess.run(command, cwd=PACKAGE, env=bare(**more), **kept)
+    return ended.returncode, ended.stdout
+
+
+def pythons() -> List[str]:
+    """A command for each version of Python from 3.9 on that starts."""
+    asked = ["/usr/bin/python3", *("python3.%d" % minor for minor in range(9, 20))]
+    folders = sorted(pathlib.Path.home().glob(".pyenv/versions/3.*/bin/python3"))
+    found = {}
+    for command in [*asked, *map(str, folders)]:
+        if shutil.which(command) is None:
+            continue
+        status, told = run([command, "-c", "import sys; print(sys.executable, *sys.version_info[:2])"])
+        parts = told.split()
+        if status == 0 and len(parts) == 3 and (int(parts[1]), int(parts[2])) >= (3, 9):
+            found.setdefault((int(parts[1]), int(parts[2])), parts[0])
+    return [found[version] for version in sorted(found)]
+
+
+def hold_sources(tally: Tally, found: List[str]) -> None:
+    """Types, formatting, doctests, and the unit tests by these Pythons, over the sources."""
+    if tally.has("types", "mypy"):
+        status, told = run(["mypy", "--strict", "src", "tests"])
+        tally.hold("mypy --strict: %s" % told, status == 0)
+    if tally.has("formatting", "black"):
+        status, told = run(["black", "--check", "--quiet", "src", "tests", "setup.py"])
+        tally.hold("black --check: %s" % told, status == 0)
+    sources = {"PYTHONPATH": str(PACKAGE / "src"), "BB_LIBRARY": LIBRARY}
+    status, told = run(["/usr/bin/python3", "-c", DOCTESTS, *MODULES], **sources)
+    counts = re.search(r"(\d+) 0\n$", told)
+    tally.hold("doctests: %s" % told, status == 0 and counts and int(counts.group(1)) > 15)
+    for python in found:
+        hold_units(tally, python, sources)
+
+
+def hold_units(tally: Tally, python: str, variables: Dict[str, str]) -> None:
+    """The unit tests, by one Python."""
+    status, told = run([python, "-m", "unittest", "-q"], **variables)
+    counts = re.search(r"Ran (\d+) tests", told)
+    tally.hold("unit tests by %s:\n%s" % (python, told), status == 0 and counts and int(counts.group(1)) > 30)
+
+
+def hold_symbols(tally: Tally) -> None:
+    """The library asks for no newer glibc than the wheel's tag says."""
+    if not tally.has("the library's symbols", "readelf"):
+        return
+    told = run(["readelf", "--version-info", "--wide", LIBRARY])[1]
+    asked = {tuple(map(int, name.split("."))) for name in re.findall(r"GLIBC_([0-9.]+)", told)}
+    tally.hold("the library asks for glibc %s" % sorted(asked), asked and max(asked) <= (2, 17))
+
+
+def hold_wheel(tally: Tally, wheel: pathlib.Path, python: str, folder: pathlib.Path) -> None:
+    """The wheel alone, in an empty environment: the first run, the command, the unit tests."""
+    status, told = run([python, "-m", "venv", str(folder)])
+    if status != 0:
+        tally.skip("an environment of %s: no venv (package python3-venv)" % python)
+        return
+    inside, command = str(folder / "bin" / "python"), str(folder / "bin" / "budlarem")
+    status, told = run([inside, "-m", "pip", "install", "--quiet", "--no-index", str(wheel)])
+    tally.hold("pip install by %s: %s" % (python, told), status == 0)
+    status, told = run([inside, "-I", "-c", FIRST_RUN])
+    version, commit = told.splitlines()[0].split(maxsplit=1) if status == 0 else ("", "")
+    tally.hold("the first run by %s: %s" % (python, told), told.splitlines()[1:] == EXPECTED)
+    tally.hold("the version %s names the commit %s" % (version, commit), "+g" + commit[:12] in version)
+    shutil.copytree(PACKAGE / "tests", folder / "tests")
+    kept = {"stdout": subprocess.PIPE, "stderr": subprocess.STDOUT, "text": True, "cwd": folder}
+    ended = subprocess.run([inside, "-m", "unittest", "-q"], env=bare(), **kept)
+    tally.hold("the wheel's unit tests by %s:\n%s" % (python, ended.stdout), ended.returncode == 0)
+    ended = subprocess.run([command, "decide"], input="1RZ---, x\n", env=bare(), **kept)
+    tally.hold("the command: %s" % ended.stdout, ended.stdout == "1RZ--- halt 1 1\tx\n")
+    hold_runner(tally, command, folder)
+
+
+def hold_runner(tally: Tally, command: str, folder: pathlib.Path) -> None:
+    """The command `run` of the wheel, begun, gone on with a pass, and begun with another list."""
+    (folder / "list.txt").write_text("1RB1LB_1LA1RZ\n1RA1RA\n1rB1LB\n")
+    words = [command, "run", "list.txt", "--out", "out", "--check", "--pass", "steps=0,depth=0"]
+    kept = {"stderr": subprocess.PIPE, "text": True, "cwd": folder, "env": bare()}
+    for more in ([], ["--pass", "steps=1000"]):
+        ended = subprocess.run([*words, *more], **kept)
+        tally.hold("the runner, status %d: %s" % (ended.returncode, ended.stderr), ended.returncode == 1)
+    found = (folder / "out" / "verdicts.txt").read_text().splitlines()
+    tally.hold("the runner's verdicts: %s" % found, found == EXPECTED)
+
+
+def hold_wheels(tally: Tally, found: List[str], folder: pathlib.Path) -> None:
+    """The wheel: twice the same bytes, and what it does by the oldest and the newest of these Pythons."""
+    script = [os.path.join(TOP, "scripts", "wheel"), "--library", LIBRARY, "--out"]
+    ended = subprocess.run([*script, str(folder / "first")], stdout=subprocess.PIPE, text=True)
+    wheel = pathlib.Path(ended.stdout.strip() or folder)
+    named = ended.returncode == 0 and WHEEL.fullmatch(wheel.name) is not None
+    tally.hold("scripts/wheel: status %d, %s" % (ended.returncode, wheel.name), named)
+    if not named:
+        return
+    again = subprocess.run([*script, str(folder / "again")], stdout=subprocess.DEVNULL)
+    second = folder / "again" / wheel.name
+    same = again.returncode == 0 and second.read_bytes() == wheel.read_bytes()
+    tally.hold("the same bytes again", same)
+    for place, python in enumerate(dict.fromkeys([found[0], "/usr/bin/python3", found[-1]])):
+        hold_wheel(tally, wheel, python, folder / ("environment%d" % place))
+
+
+def main() -> int:
+    parser = words(__doc__)
+    parser.add_argument("--quick", action="store_true", help="the sources alone, by one Python")
+    asked = parser.parse_args()
+    tally = Tally()
+    if not has_library(tally, "the Python package"):
+        return tally.end()
+    found = ["/usr/bin/python3"] if asked.quick else pythons()
+    hold_sources(tally, found)
+    hold_symbols(tally)
+    if not asked.quick:
+        with tempfile.TemporaryDirectory() as name:
+            hold_wheels(tally, found, pathlib.Path(name))
+    return tally.end()
+
+
+if __name__ == "__main__":
+    end_with(main)

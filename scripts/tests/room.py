@@ -1,0 +1,47 @@
+#!/usr/bin/env python3
+"""Holds the room that the macros of `include/bb.h` give for a reply, as C and as C++.
+
+    scripts/tests/room.py
+
+It compiles `room.c` with the compiler's checks for undefined behaviour, and needs no library and no program.
+It takes a second. The last line is `N passed, M failed`; the status is 1 where any failed. What needs a
+compiler that isn't installed is skipped.
+"""
+
+import os
+import re
+import subprocess
+import tempfile
+
+from tally import TOP, Tally, end_with, words
+
+SOURCE = os.path.join(TOP, "scripts", "tests", "room.c")
+CHECKED = ["-Wall", "-Wextra", "-Werror", "-fsanitize=undefined", "-fno-sanitize-recover=undefined"]
+COMPILERS = {"C": ["gcc", "-std=c99"], "C++": ["g++", "-x", "c++"]}
+
+
+def held(compiler, made):
+    """What must hold of the test, compiled so, and whether it does."""
+    include = os.path.join(TOP, "include")
+    compiled = subprocess.run([*compiler, *CHECKED, "-I", include, SOURCE, "-o", made])
+    yield "%s compiles it" % compiler[0], compiled.returncode == 0
+    if compiled.returncode == 0:
+        ended = subprocess.run([made], capture_output=True, text=True)
+        told = ended.stdout + ended.stderr
+        fine = re.fullmatch(r"[1-9]\d* passed, 0 failed\n", told) and ended.returncode == 0
+        yield "compiled by %s, it ends with status %d and %r" % (compiler[0], ended.returncode, told), fine
+
+
+def main():
+    words(__doc__).parse_args()
+    tally = Tally()
+    with tempfile.TemporaryDirectory() as folder:
+        for name, compiler in COMPILERS.items():
+            if tally.has("the room of the macros in %s" % name, compiler[0]):
+                for what, holds in held(compiler, os.path.join(folder, "room")):
+                    tally.hold(what, holds)
+    return tally.end()
+
+
+if __name__ == "__main__":
+    end_with(main)

@@ -1,0 +1,223 @@
+#!/usr/bin/python3
+"""Holds `budlarem run` as a process against the built program, byte for byte, whatever ends it meanwhile.
+
+    scripts/tests/runner.py crates/bb/out/bb [--quick] [--seed S]
+
+The runner is killed by SIGKILL at twenty random moments, and run again after each; interrupted in the middle of
+1,000,000,000,000 steps; its disk is full, by a limit of a file's size and by a small file system (which takes
+root); its list grows while it is read; its files are cut and changed; another run is in its folder. Lists come as
+a file, compressed, and by standard input; ten times the list takes the same memory. Executors that answer wrongly
+are in the unit tests. It uses `crates/bb_c/out/libbb.so`, and runs `scripts/library` where that isn't there. It
+takes a minute; `--quick`, with one kill, some seconds. The last line is `N passed, M failed`, with `, K skipped` where something
+can't be tried here; the status is 1 where any failed.
+"""
+
+import contextlib
+import gzip
+import json
+import os
+import pathlib
+import random
+import resource
+import signal
+import subprocess
+import tempfile
+import time
+from typing import Iterator, Tuple
+
+from library_built import has_library
+from runs import LONG_MACHINE, PASSES, PATIENCE, Case, expected, is_at_work, kill_often
+from runs import killed, most_memory, random_list, seen
+from tally import Tally, end_with, words
+
+# Limits at which a line costs nothing to speak of.
+QUICK_PASS = (50, 64, 3, 10)
+LONG_PASS = "steps=1000000000000,cells=67108864"
+
+
+def hold_kills(tally: Tally, program: str, top: pathlib.Path, count: int, lines: int, seed: int) -> None:
+    """The runner is killed at random moments, all of them before its end; what it is run again for is checked."""
+    case = Case(top / "kills", random_list(lines, seed))
+    right = expected(program, case.list.read_bytes(), PASSES)
+    kills = kill_often(case, count, random.Random(seed), "--threads", "2")
+    tally.hold("%d of %d kills before the run's end" % (kills, count), kills == count)
+    status = case.run(str(case.list), "--check")
+    tally.hold("run after the kills, status %d: %s" % (status, case.said()), status == 1)
+    tally.hold("verdicts after %d kills" % kills, case.verdicts() == right)
+    summary = json.loads((case.out / "summary.json").read_text())
+    tally.hold("all was checked: %s" % summary, all(one["checked"] for one in summary["passes"]))
+    tally.hold("the summary counts %d lines" % summary["lines"], summary["lines"] == lines)
+
+
+def hold_interruption(tally: Tally, top: pathlib.Path) -> None:
+    """SIGINT in the middle of 1,000,000,000,000 steps ends it within a second; a second run is refused meanwhile."""
+    case = Case(top / "interruption", b"1RZ---\n" * 30 + LONG_MACHINE * 3)
+    case.words = ["--pass", LONG_PASS, "--threads", "2"]
+    with case.start() as process:
+        for _ in range(30):
+            seen(process, lambda: case.pieces() > 0)
+        at_work = seen(process, lambda: is_at_work(process.pid))
+        second = Case(top / "second", b"")
+        second.list, second.out, second.words = case.list, case.out, case.words
+        status = second.run()
+        refused = status == 2 and "another run works in" in second.said()
+        tally.hold("a second run, status %d: %s" % (status, second.said()), refused)
+        began = time.monotonic()
+        process.send_signal(signal.SIGINT)
+        try:
+            status = process.wait(PATIENCE)
+        except subprocess.TimeoutExpired:
+            process.kill()
+            status = process.wait()
+        seconds = time.monotonic() - began
+    tally.hold("SIGINT in a long run: status %d: %s" % (status, case.said()), at_work and status == 130)
+    tally.hold("SIGINT was heard after %.2f s" % seconds, seconds < 5)
+    tally.hold("its sentence: %s" % case.said(), "interrupted; the same command goes on" in case.said())
+
+
+def hold_after_fault(tally: Tally, what: str, case: Case, status: int, sentence: str, right: bytes) -> None:
+    """A run ended with status 3 and a sentence, and goes on when it is run again."""
+    said = case.said()
+    tally.hold("%s: status %d: %s" % (what, status, said), status == 3 and sentence in said)
+    tally.hold("%s: a half list is there" % what, not case.verdicts())
+    again = case.run()
+    tally.hold("%s: run again, status %d: %s" % (what, again, case.said()), again == 1)
+    tally.hold("%s: the verdicts when run again" % what, case.verdicts() == right)
+
+
+def hold_full_disk(tally: Tally, program: str, top: pathlib.Path) -> None:
+    """A file that may not grow, and a file system without room."""
+    given = random_list(6_000, 5)
+    right = expected(program, given, PASSES)
+    case = Case(top / "sizes", given)
+    for size in (10_000, len(right) - 1):
+        case.clear()
+        limited = case.run(preexec_fn=lambda: resource.setrlimit(resource.RLIMIT_FSIZE, (size, size)))
+        hold_after_fault(tally, "files of %d bytes" % size, case, limited, "File too large", right)
+    case = Case(top / "disk", given)
+    case.out.mkdir()
+    mount = ["mount", "-t", "tmpfs", "-o", "size=%dk" % (len(right) // 2_048), "tmpfs", str(case.out)]
+    if os.getuid() != 0 or subprocess.run(mount, stderr=subprocess.DEVNULL).returncode != 0:
+        tally.skip("a full disk: a file system can't be mounted here (it takes root)")
+        return
+    try:
+        status = case.run()
+        said, stood = case.said(), case.pieces()
+        subprocess.run(["mount", "-o", "remount,size=64m", str(case.out)], check=True)
+        case.errors.write_text(said)
+        hold_after_fault(tally, "a full disk", case, status, "No space left on device", right)
+        tally.hold("pieces stood on the full disk", stood > 0)
+    finally:
+        subprocess.run(["umount", str(case.out)], check=True)
+
+
+def hold_growing_list(tally: Tally, program: str, top: pathlib.Path) -> None:
+    """The list grows while it is read. The process is stopped meanwhile, so that it can't be at the end."""
+    given = random_list(60_000, 6)
+    right = expected(program, given, [QUICK_PASS])
+    case = Case(top / "growing", given, [QUICK_PASS])
+    with case.start() as process:
+        was_seen = seen(process, lambda: case.pieces() > 0)
+        process.send_signal(signal.SIGSTOP)
+        is_within = not (case.out / "verdicts.txt").exists() and was_seen
+        with open(case.list, "ab") as file:
+            file.write(b"1RZ---\n")
+        process.send_signal(signal.SIGCONT)
+        status = process.wait()
+    said = case.said()
+    os.truncate(case.list, len(given))
+    case.errors.write_text(said)
+    tally.hold("the list grew before the run's end", is_within)
+    hold_after_fault(tally, "a growing list", case, status, "changed while it was read", right)
+    with open(case.list, "ab") as file:
+        file.write(b"1RZ---\n")
+    status = case.run()
+    tally.hold("a longer list, status %d: %s" % (status, case.said()), status == 2 and "bytes" in case.said())
+
+
+def hold_changed_files(tally: Tally, program: str, top: pathlib.Path, seed: int) -> None:
+    """Files of a begun folder are cut and changed."""
+    chance = random.Random(seed)
+    given = random_list(3_000, seed)
+    right = expected(program, given, PASSES)
+    case = Case(top / "changed", given)
+    case.words += ["--piece", "100"]
+    killed(case, 12)
+    for _ in range(12):
+        files = sorted(path for path in case.out.rglob("*") if path.is_file() and path.name != "run.json")
+        for path in chance.sample(files, min(5, len(files))):
+            data = path.read_bytes()
+            place = chance.randrange(len(data) + 1)
+            path.write_bytes(data[:place] + (b"" if chance.random() < 0.5 else b"?" + data[place + 1 :]))
+        status = case.run()
+        is_right = status == 1 and case.verdicts() == right
+        tally.hold("files that were changed, status %d: %s" % (status, case.said()), is_right)
+
+
+def hold_lists(tally: Tally, program: str, top: pathlib.Path) -> None:
+    """Standard input, a pipe, a compressed list; with and without lines that are no machines."""
+    given = random_list(5_000, 7)
+    right = expected(program, given, PASSES)
+    case = Case(top / "lists", given)
+    packed = case.list.with_suffix(".gz")
+    packed.write_bytes(gzip.compress(given))
+    for path in (case.list, packed):
+        case.clear()
+        status = case.run(str(path))
+        tally.hold("%s: %s" % (path.name, case.said()), status == 1 and case.verdicts() == right)
+    case.clear()
+    with case.start("-", stdin=subprocess.PIPE) as process:
+        process.communicate(given)
+    tally.hold("standard input: %s" % case.said(), process.returncode == 1 and case.verdicts() == right)
+    with open(case.list, "rb") as file:
+        status = case.run("-", stdin=file)
+    tally.hold("the same again: %s" % case.said(), status == 1 and case.verdicts() == right)
+    clean = Case(top / "clean", b"1RB1LB_1LA1RZ\n1RA1RA")
+    status = clean.run(words=[])
+    lines = b"1RB1LB_1LA1RZ halt 6 4\n1RA1RA translated R 1 2 1 1\n"
+    tally.hold("a clean list: %s" % clean.said(), status == 0 and clean.verdicts() == lines)
+
+
+def hold_memory(tally: Tally, top: pathlib.Path) -> None:
+    """Ten times the list takes the same memory; the longer list alone has 72 MB, and its verdicts 100."""
+    case = Case(top / "memory", b"")
+    peaks = [most_memory(case, count, QUICK_PASS) for count in (200_000, 2_000_000)]
+    what = "%d KiB for 200,000 lines, %d for ten times as many" % (*peaks,)
+    tally.hold(what, 0 < peaks[1] < 1.5 * peaks[0])
+
+
+@contextlib.contextmanager
+def folder() -> Iterator[pathlib.Path]:
+    with tempfile.TemporaryDirectory() as name:
+        yield pathlib.Path(name)
+
+
+def asked() -> Tuple[str, bool, int]:
+    parser = words(__doc__)
+    parser.add_argument("--quick", action="store_true", help="a short run with one kill")
+    parser.add_argument("--seed", type=int, default=1, help="of what is random (default: 1)")
+    found = parser.parse_args()
+    return found.program, found.quick, found.seed
+
+
+def main() -> int:
+    program, is_quick, seed = asked()
+    tally = Tally()
+    if not has_library(tally, "the runner"):
+        return tally.end()
+    with folder() as top:
+        if is_quick:
+            hold_kills(tally, program, top, 1, 3_000, seed)
+            return tally.end()
+        hold_kills(tally, program, top, 20, 20_000, seed)
+        hold_interruption(tally, top)
+        hold_full_disk(tally, program, top)
+        hold_growing_list(tally, program, top)
+        hold_changed_files(tally, program, top, seed)
+        hold_lists(tally, program, top)
+        hold_memory(tally, top)
+    return tally.end()
+
+
+if __name__ == "__main__":
+    end_with(main)

@@ -1,0 +1,165 @@
+"""What the checks of `budlarem run` share: lists, what must come of them, and runs as processes."""
+
+import os
+import pathlib
+import random
+import shutil
+import signal
+import subprocess
+import sys
+import time
+from typing import Callable, Dict, List, Optional, Sequence
+
+from closed_loop import machines
+from library_built import LIBRARY
+from tally import TOP, Tally
+
+SOURCE = os.path.join(TOP, "python", "src")
+PASSES = ((300, 64, 10, 100), (20_000, 1_024, 40, 10_000))
+# It grows as the root of its steps, and no decider finds anything.
+LONG_MACHINE = b"0RB1LD_0RC1RD_0RD---_1LA0RB\n"
+# How long something may take that must come, in seconds, before it is called missing.
+PATIENCE = 600
+
+
+def environment() -> Dict[str, str]:
+    """The environment of a process that uses the package out of the repository."""
+    return {**os.environ, "PYTHONPATH": SOURCE, "BB_LIBRARY": LIBRARY}
+
+
+def words_of(limits: Sequence[int]) -> str:
+    return ",".join("%s=%d" % pair for pair in zip(("steps", "cells", "depth", "nodes"), limits))
+
+
+def random_list(count: int, seed: int) -> bytes:
+    """Machines of all sizes, and some lines that are none."""
+    lines = list(machines(count, seed))
+    lines[count // 2], lines[count // 3] = "1rB1LB", lines[count // 3] + " halt 6 4"
+    return "".join(line + "\n" for line in lines).encode()
+
+
+def decided(program: str, given: bytes, limits: Sequence[int]) -> List[bytes]:
+    """The program's verdict lines."""
+    names = ("--steps", "--cells", "--depth", "--nodes")
+    asked = [word for name, number in zip(names, limits) for word in (name, str(number))]
+    ended = subprocess.run([program, "decide", *asked], input=given, stdout=subprocess.PIPE)
+    return ended.stdout.splitlines(keepends=True)
+
+
+def expected(program: str, given: bytes, passes: Sequence[Sequence[int]]) -> bytes:
+    """The verdicts of one process for each pass, in the list's order."""
+    lines = decided(program, given, passes[0])
+    for limits in passes[1:]:
+        left = [place for place, line in enumerate(lines) if b" undecided " in line]
+        later = decided(program, b"".join(lines[place].split()[0] + b"\n" for place in left), limits)
+        for place, line in zip(left, later):
+            lines[place] = line
+    return b"".join(lines)
+
+
+class Case:
+    """A list, a folder, and runs over them."""
+
+    def __init__(self, top: pathlib.Path, given: bytes, passes: Sequence[Sequence[int]] = PASSES) -> None:
+        top.mkdir()
+        self.list, self.out, self.errors = top / "list.txt", top / "out", top / "errors.txt"
+        self.list.write_bytes(given)
+        self.words: List[str] = [word for limits in passes for word in ("--pass", words_of(limits))]
+
+    def start(
+        self,
+        *more: str,
+        words: Optional[List[str]] = None,
+        more_environment: Optional[Dict[str, str]] = None,
+        **how: object,
+    ) -> "subprocess.Popen[bytes]":
+        """Starts a run; standard error is a file."""
+        command = [sys.executable, "-m", "budlarem", "run", "--out", str(self.out)]
+        command += [*(self.words if words is None else words), *(more or [str(self.list)])]
+        with open(self.errors, "wb") as errors:
+            variables = {**environment(), **(more_environment or {})}
+            return subprocess.Popen(command, stdout=errors, stderr=errors, env=variables, **how)
+
+    def run(self, *more: str, **how: object) -> int:
+        """The status of a whole run."""
+        with self.start(*more, **how) as process:
+            return process.wait()
+
+    def said(self) -> str:
+        return self.errors.read_text(errors="replace")
+
+    def pieces(self) -> int:
+        """How many pieces stand."""
+        return sum(1 for _ in self.out.glob("pass-*/*.txt"))
+
+    def verdicts(self) -> bytes:
+        path = self.out / "verdicts.txt"
+        return path.read_bytes() if path.exists() else b""
+
+    def clear(self) -> None:
+        shutil.rmtree(self.out, ignore_errors=True)
+
+
+def seen(process: "subprocess.Popen[bytes]", what: Callable[[], bool]) -> bool:
+    """Waits until something is seen; whether it was while the process ran."""
+    until = time.monotonic() + PATIENCE
+    while process.poll() is None and time.monotonic() < until:
+        if what():
+            return process.poll() is None
+        time.sleep(0.002)
+    return False
+
+
+def killed(case: Case, more: int, *words: str) -> bool:
+    """Runs until so many more pieces stand, and kills it; whether that was before its end."""
+    before = case.pieces()
+    with case.start(str(case.list), *words) as process:
+        was_seen = seen(process, lambda: (case.out / "run.json").exists() and case.pieces() >= before + more)
+        process.kill()
+        process.wait()
+    return was_seen and process.returncode == -signal.SIGKILL and not (case.out / "verdicts.txt").exists()
+
+
+def kill_often(case: Case, count: int, chance: random.Random, *words: str) -> int:
+    """Kills runs at random moments, each of which goes on after the one before; how many were killed before their
+    end. After one that came to its end it begins anew."""
+    kills, whole = 0, 0
+    while kills < count and whole < count:
+        if killed(case, chance.randint(0, 4), "--piece", str(chance.randint(50, 150)), *words):
+            kills += 1
+        else:
+            whole += 1
+            case.clear()
+    return kills
+
+
+def most_memory(case: Case, count: int, limits: Sequence[int]) -> int:
+    """The most memory that a run over so many lines takes, in KiB; 0 where it failed. The list isn't held here,
+    since a process begins with the memory of the one that it was forked from."""
+    with open(case.list, "wb") as file:
+        for _ in range(count // 1_000):
+            file.write(b"1RB1LC_1RC1RB_1RD0LE_1LA1LD_1RZ0LA\n" * 1_000)
+    with case.start(words=["--pass", words_of(limits)] * 2) as process:
+        _, status, used = os.wait4(process.pid, 0)
+        process.returncode = os.waitstatus_to_exitcode(status)
+    case.clear()
+    return used.ru_maxrss if process.returncode == 0 else 0
+
+
+def work_of(folder: str) -> float:
+    """The processor time of a process or thread, of this folder in /proc, in seconds; 0 where it has ended."""
+    try:
+        with open(folder + "/stat") as file:
+            fields = file.read().rpartition(")")[2].split()
+    except OSError:
+        return 0.0
+    return (int(fields[11]) + int(fields[12])) / os.sysconf("SC_CLK_TCK")
+
+
+def is_at_work(pid: int) -> bool:
+    """Whether a thread of a process, beside its first, has worked for half a second."""
+    tasks = "/proc/%d/task" % pid
+    try:
+        return any(work_of("%s/%s" % (tasks, one)) > 0.5 for one in os.listdir(tasks) if int(one) != pid)
+    except FileNotFoundError:
+        return False

@@ -1,0 +1,97 @@
+"""The engine as WebAssembly in a process of Node, as the tests use it."""
+
+import itertools
+import json
+import os
+import subprocess
+import tempfile
+from typing import Any, Dict, List, NamedTuple, Optional
+
+from tally import TOP
+
+JOBS = os.path.join(TOP, "scripts", "tests", "engine.mjs")
+MODULE = os.path.join(TOP, "web", "out", "bb.wasm")
+PAGE = os.path.join(TOP, "web", "out", "bb.html")
+DEFAULTS = {"steps": 1_000_000, "cells": 65_536, "depth": 300, "nodes": 1_000_000}
+SWITCHES = ("cyclers", "translated", "backward")
+
+
+def built() -> bool:
+    """Whether `scripts/web` built what is newer than its sources, or could now. It tells what it does."""
+    return subprocess.run([os.path.join(TOP, "scripts", "web")], stdout=subprocess.DEVNULL).returncode == 0
+
+
+def documented(heading: str) -> str:
+    """The block of code below a heading of docs/web.md."""
+    with open(os.path.join(TOP, "docs", "web.md"), encoding="utf-8") as file:
+        part = file.read().split("\n## %s\n" % heading)[1]
+    lines = itertools.takewhile(lambda line: line.startswith("    ") or not line, part.split("\n"))
+    return "".join(line[4:] + "\n" for line in lines).strip("\n") + "\n"
+
+
+class Reply(NamedTuple):
+    """What a call gives: the status of the program and the bytes, or the error that it threw."""
+
+    status: int
+    reply: bytes
+    told: Dict[str, Any]
+
+
+class Engine:
+    """A process of Node that answers calls."""
+
+    def __init__(self, folder: str, module: str = MODULE) -> None:
+        command = ["node", "--no-warnings", "--experimental-wasm-memory64", JOBS, module]
+        pipe = subprocess.PIPE
+        self.process = subprocess.Popen(
+            command, stdin=pipe, stdout=pipe, stderr=subprocess.DEVNULL, text=True
+        )
+        self.given, self.out = (os.path.join(folder, name) for name in ("given", "out"))
+        self.about = self.line()
+
+    def line(self) -> Dict[str, Any]:
+        """The next line of the process; empty where it ended."""
+        assert self.process.stdout
+        return json.loads(self.process.stdout.readline() or "{}")
+
+    def call(self, name: str, plan: Dict[str, Any], given: bytes, **more: int) -> Reply:
+        """One call, with limits and switches by name."""
+        with open(self.given, "wb") as file:
+            file.write(given)
+        job = {"call": name, "plan": plan, "given": self.given, "out": self.out, **more}
+        assert self.process.stdin
+        self.process.stdin.write(json.dumps(job) + "\n")
+        self.process.stdin.flush()
+        told = self.line()
+        if "clean" not in told:
+            return Reply(2, b"", told)
+        with open(self.out, "rb") as file:
+            return Reply(0 if told["clean"] else 1, file.read(), told)
+
+    def end(self) -> None:
+        """Ends the process."""
+        self.process.stdin.close()
+        self.process.wait()
+
+
+def words_of(plan: Dict[str, Any]) -> List[str]:
+    """The program's words for limits and switches by name."""
+    limits = ["--%s=%d" % (name, value) for name, value in plan.items() if name not in SWITCHES]
+    return limits + ["--no-" + name for name in SWITCHES if plan.get(name) is False]
+
+
+def plan_of(words: List[str]) -> Dict[str, Any]:
+    """Limits and switches by name for words such as `--steps 5 --no-cyclers`."""
+    plan: Dict[str, Any] = {}
+    waiting: Optional[str] = None
+    for word in words:
+        if waiting:
+            plan[waiting], waiting = int(word), None
+        elif word.startswith("--no-"):
+            plan[word[5:]] = False
+        elif "=" in word:
+            name, value = word[2:].split("=")
+            plan[name] = int(value)
+        else:
+            waiting = word[2:]
+    return plan

@@ -1,0 +1,127 @@
+/** The memory of the engine, and what is said where it can't be had. */
+
+/** The memory that a call needs can't be had. The engine stays usable, with fewer cells or shorter lists. */
+export class MemoryError extends Error {
+  constructor() {
+    super("out of memory");
+    this.name = "MemoryError";
+  }
+}
+
+/** This browser, or this Node, has no 64-bit WebAssembly memory. */
+export class UnsupportedError extends Error {
+  constructor() {
+    super("no 64-bit WebAssembly memory here; Node 20 has it with --experimental-wasm-memory64");
+    this.name = "UnsupportedError";
+  }
+}
+
+const PAGE = 65_536;
+const MACHINE_OF_64_BIT_MEMORY = [0, 97, 115, 109, 1, 0, 0, 0, 5, 3, 1, 4, 0];
+
+/** Whether modules with 64-bit memory can be loaded here. */
+export function isSupported() {
+  return WebAssembly.validate(new Uint8Array(MACHINE_OF_64_BIT_MEMORY));
+}
+
+/** Memory by address, handed out upwards and given up as a whole: between two calls nothing is held. */
+export class Room {
+  /** @param {number} most bytes of memory */
+  constructor(most) {
+    /** @type {WebAssembly.Memory | undefined} */
+    this.memory = undefined;
+    this.base = 0;
+    this.free = 0;
+    this.last = 0;
+    this.most = most;
+  }
+
+  /** Gives up all that was handed out. */
+  clear() {
+    this.free = this.base;
+    this.last = 0;
+  }
+
+  /**
+   * The address of so many bytes, or 0 where they can't be had.
+   * @param {number} size
+   * @param {number} align a power of two
+   */
+  take(size, align) {
+    const at = Math.ceil(this.free / align) * align;
+    if (!this.reaches(at + size)) {
+      return 0;
+    }
+    this.last = at;
+    this.free = at + size;
+    return at;
+  }
+
+  /**
+   * The same for bytes that grow and move; the last ones handed out grow where they stand.
+   * @param {number} old @param {number} was @param {number} size @param {number} align
+   */
+  retake(old, was, size, align) {
+    if (old === this.last && this.reaches(old + size)) {
+      this.free = old + size;
+      return old;
+    }
+    const at = this.take(size, align);
+    if (at !== 0) {
+      this.bytes(0, this.free).copyWithin(at, old, old + Math.min(was, size));
+    }
+    return at;
+  }
+
+  /** Whether memory ends there or later, grown if need be. */
+  reaches(/** @type {number} */ end) {
+    const memory = /** @type {WebAssembly.Memory} */ (this.memory);
+    const missing = Math.ceil((end - memory.buffer.byteLength) / PAGE);
+    if (missing <= 0) {
+      return true;
+    }
+    return end <= this.most && grows(memory, missing);
+  }
+
+  /** A view of these bytes, until memory grows. */
+  bytes(/** @type {number} */ at, /** @type {number} */ length) {
+    return new Uint8Array(/** @type {WebAssembly.Memory} */ (this.memory).buffer, at, length);
+  }
+
+  /** Writes what the module waits for: whether there is memory, and its address. */
+  answer(/** @type {bigint} */ to, /** @type {number} */ at) {
+    const view = new DataView(/** @type {WebAssembly.Memory} */ (this.memory).buffer, Number(to), 16);
+    view.setBigUint64(0, at === 0 ? 0n : 1n, true);
+    view.setBigUint64(8, BigInt(at === 0 ? 1 : at), true);
+  }
+
+  /** What the module imports. */
+  imports() {
+    return {
+      /** @param {bigint} to @param {bigint} size @param {bigint} align */
+      rattle_alloc: (to, size, align) => this.answer(to, this.take(Number(size), Number(align))),
+      /**
+       * @param {bigint} to @param {bigint} old @param {bigint} was @param {bigint} size
+       * @param {bigint} align
+       */
+      rattle_realloc: (to, old, was, size, align) =>
+        this.answer(to, this.retake(Number(old), Number(was), Number(size), Number(align))),
+      rattle_dealloc: () => undefined,
+    };
+  }
+}
+
+/** Whether memory could be made larger; browsers take a BigInt for it, Node 20 a number. */
+function grows(/** @type {WebAssembly.Memory} */ memory, /** @type {number} */ pages) {
+  for (const count of [BigInt(pages), pages]) {
+    try {
+      memory.grow(/** @type {number} */ (count));
+      return true;
+    } catch (error) {
+      if (!(error instanceof TypeError)) {
+        return false;
+      }
+    }
+  }
+  return false;
+}

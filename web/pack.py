@@ -1,0 +1,98 @@
+#!/usr/bin/env python3
+"""Packs the page, its modules, the examples and the engine into one file.
+
+    web/pack.py web/out/bb.wasm web/out/bb.html
+
+A page that is opened from a disk may load no other files, so the modules stand in it as two scripts, the
+page's and the worker's: each module once, after those that it imports, as a function that gives what it
+exports. Comments that have lines of their own are left out; the modules in the repository have them.
+"""
+
+import base64
+import json
+import os
+import re
+import shlex
+import sys
+from typing import Any, Dict, Iterator, List
+
+WEB = os.path.dirname(os.path.abspath(__file__))
+EXAMPLES = os.path.join(os.path.dirname(WEB), "examples")
+MOST_EXAMPLE_BYTES = 20_000
+IMPORT = re.compile(r"^import (\{[^;]*?\}) from \"\./([a-z0-9]+)\.mjs\";$", re.MULTILINE)
+REEXPORT = re.compile(r"^export \{([^}]*)\};$", re.MULTILINE)
+EXPORT = re.compile(r"^export ((?:async )?(?:function|class|const|let) (\w+))", re.MULTILINE)
+COMMENT = re.compile(r"^[ \t]*(?:/\*\*(?:(?!\*/).)*\*/|//[^\n]*)\n", re.MULTILINE | re.DOTALL)
+
+
+def read(*path: str) -> str:
+    with open(os.path.join(*path), encoding="utf-8") as file:
+        return file.read()
+
+
+def in_order(name: str, done: List[str]) -> List[str]:
+    """The modules that a module stands on, and itself, each once and after what it imports."""
+    if name not in done:
+        for _, imported in IMPORT.findall(read(WEB, name + ".mjs")):
+            in_order(imported, done)
+        done.append(name)
+    return done
+
+
+def wrapped(name: str) -> str:
+    """A module as a function that gives what it exports, called at once."""
+    text = read(WEB, name + ".mjs")
+    exported = [found for _, found in EXPORT.findall(text)]
+    exported += [found.strip() for names in REEXPORT.findall(text) for found in names.split(",")]
+    text = IMPORT.sub(r"const \1 = of_\2;", REEXPORT.sub("", text))
+    text = COMMENT.sub("", EXPORT.sub(r"\1", text))
+    return "const of_%s = (() => {\n%s\nreturn { %s };\n})();\n" % (name, text, ", ".join(exported))
+
+
+def joined(name: str) -> str:
+    """A module and what it stands on, as one script."""
+    script = "".join(wrapped(module) for module in in_order(name, []))
+    if "</script" in script or "<!--" in script:
+        sys.exit("pack: the script of %s can't stand in a page" % name)
+    return script
+
+
+def plan_of(words: List[str]) -> Dict[str, Any]:
+    """Limits and switches by name, for the words of a command."""
+    plan: Dict[str, Any] = {word[5:]: False for word in words if word.startswith("--no-")}
+    for at, word in enumerate(words[:-1]):
+        if word.startswith("--") and not word.startswith("--no-"):
+            plan[word[2:]] = words[at + 1]
+    return plan
+
+
+def examples() -> Iterator[Dict[str, Any]]:
+    """The examples that decide or check lists of their own."""
+    for name in sorted(os.listdir(EXAMPLES)):
+        if os.path.exists(os.path.join(EXAMPLES, name, "lines.txt")):
+            call, *words = shlex.split(read(EXAMPLES, name, "command"))
+            lines = read(EXAMPLES, name, "lines.txt")
+            if len(lines) <= MOST_EXAMPLE_BYTES:
+                yield {"name": name.replace("_", " "), "call": call, "plan": plan_of(words), "lines": lines}
+
+
+def main() -> None:
+    module, page = sys.argv[1:]
+    with open(module, "rb") as file:
+        engine = base64.b64encode(file.read()).decode()
+    data = json.dumps(list(examples())).replace("<", "\\u003c")
+    scripts = [
+        '<script type="application/json" id="examples-data">%s</script>' % data,
+        '<script type="text/plain" id="module">%s</script>' % engine,
+        '<script type="text/plain" id="worker">\n%s</script>' % joined("worker"),
+        '<script type="module">\n%s</script>' % joined("page"),
+    ]
+    text = read(WEB, "page.html").replace("<!--style-->", "<style>\n%s</style>" % read(WEB, "page.css"))
+    text = text.replace("<!--scripts-->", "\n".join(scripts))
+    with open(page + ".new", "w", encoding="utf-8") as file:
+        file.write(text)
+    os.replace(page + ".new", page)
+
+
+if __name__ == "__main__":
+    main()

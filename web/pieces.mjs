@@ -1,0 +1,70 @@
+/** A list, read piece by piece, each of whole lines. */
+
+const NEWLINE = 10;
+const READ_BYTES = 1_048_576;
+const LEAST_BYTES = 64;
+const MOST_BYTES = 262_144;
+// What is kept of a line; the engine says the same of the whole line as of these bytes.
+const KEPT_BYTES = 65_536;
+
+export class Pieces {
+  /** @param {Blob} blob @param {number} workers that share it */
+  constructor(blob, workers) {
+    this.blob = blob;
+    this.size = Math.max(LEAST_BYTES, Math.min(MOST_BYTES, Math.ceil(blob.size / (8 * workers))));
+    this.offset = 0;
+    this.held = new Uint8Array(0);
+    this.skips = false;
+  }
+
+  /** The next piece; null where there is none. @returns {Promise<Uint8Array | null>} */
+  async next() {
+    for (;;) {
+      const newline = this.held.indexOf(NEWLINE, Math.min(this.size, this.held.length) - 1);
+      if (newline >= 0) {
+        return this.given(newline + 1);
+      }
+      if (this.offset >= this.blob.size) {
+        return this.held.length > 0 ? this.given(this.held.length) : null;
+      }
+      this.shorten();
+      this.hold(await this.read());
+    }
+  }
+
+  /** Gives the first bytes that are held. */
+  given(/** @type {number} */ length) {
+    const piece = this.held.slice(0, length);
+    this.held = this.held.subarray(length);
+    return piece;
+  }
+
+  /** Drops what a long line has beyond the bytes that are kept, up to its newline. */
+  shorten() {
+    const begin = this.held.lastIndexOf(NEWLINE) + 1;
+    if (this.held.length - begin > KEPT_BYTES) {
+      this.held = this.held.slice(0, begin + KEPT_BYTES);
+      this.skips = true;
+    }
+  }
+
+  /** The next bytes of the list, without those that are skipped. */
+  async read() {
+    const end = Math.min(this.offset + READ_BYTES, this.blob.size);
+    const bytes = new Uint8Array(await this.blob.slice(this.offset, end).arrayBuffer());
+    this.offset = end;
+    if (!this.skips) {
+      return bytes;
+    }
+    const newline = bytes.indexOf(NEWLINE);
+    this.skips = newline < 0;
+    return newline < 0 ? bytes.subarray(0, 0) : bytes.subarray(newline);
+  }
+
+  hold(/** @type {Uint8Array} */ bytes) {
+    const held = new Uint8Array(this.held.length + bytes.length);
+    held.set(this.held);
+    held.set(bytes, this.held.length);
+    this.held = held;
+  }
+}

@@ -1,0 +1,100 @@
+/**
+ * What was said of a list, in the order of its lines, though pieces of it may end in another order.
+ *
+ * @typedef {import("./worker.mjs").Part} Part
+ * @typedef {{part: Part, line: number}} Place
+ */
+import { ANSWERS, KINDS, readLine } from "./machine.mjs";
+
+const LONGEST_SHOWN = 1_100;
+const decoder = new TextDecoder();
+
+export class Results {
+  constructor() {
+    /** @type {Part[][]} */
+    this.jobs = [];
+    this.counts = KINDS.map(() => 0);
+    this.answers = ANSWERS.map(() => 0);
+    this.without = 0;
+    this.read = 0;
+    this.lines = 0;
+    /** @type {Part[] | null} */
+    this.flat = null;
+    this.begins = new Float64Array(1);
+  }
+
+  /** Takes in a part. */
+  add(/** @type {Part} */ part) {
+    (this.jobs[part.job] ??= []).push(part);
+    this.flat = null;
+    this.lines += part.kinds.length;
+    this.without += part.without;
+    this.read += part.read;
+    for (const kind of part.kinds) {
+      this.counts[kind] += 1;
+    }
+    for (const answer of part.answers) {
+      this.answers[answer] += 1;
+    }
+  }
+
+  /** The parts in order, with the number of the first line of each in `begins`. */
+  parts() {
+    if (this.flat === null) {
+      this.flat = this.jobs.filter(Boolean).flat();
+      this.begins = new Float64Array(this.flat.length + 1);
+      this.flat.forEach((part, k) => {
+        this.begins[k + 1] = this.begins[k] + part.kinds.length;
+      });
+    }
+    return this.flat;
+  }
+
+  /** Where a line stands. @returns {Place} */
+  place(/** @type {number} */ row) {
+    const parts = this.parts();
+    let [low, high] = [0, parts.length];
+    while (high - low > 1) {
+      const middle = (low + high) >> 1;
+      [low, high] = this.begins[middle] <= row ? [middle, high] : [low, middle];
+    }
+    return { part: parts[low], line: row - this.begins[low] };
+  }
+
+  /** A row as it is shown. */
+  row(/** @type {number} */ row) {
+    const { part, line } = this.place(row);
+    const text = part.lines ?? part.bytes;
+    const end = Math.min(part.starts[line + 1], part.starts[line] + LONGEST_SHOWN);
+    const read = readLine(decoder.decode(text.subarray(part.starts[line], end)).replace(/[\r\n]+$/, ""));
+    return { ...read, answer: ANSWERS[part.answers[line]], kind: KINDS[part.kinds[line]] };
+  }
+
+  /** The rows of these kinds, in order. */
+  rows(/** @type {Set<number>} */ kinds) {
+    const rows = new Uint32Array(this.lines);
+    let [count, at] = [0, 0];
+    for (const part of this.parts()) {
+      for (const kind of part.kinds) {
+        if (kinds.has(kind)) {
+          rows[count] = at;
+          count += 1;
+        }
+        at += 1;
+      }
+    }
+    return rows.subarray(0, count);
+  }
+
+  /** The steps that these rows name, -1 for none. */
+  stepsOf(/** @type {Uint32Array} */ rows) {
+    const all = new Float64Array(this.lines);
+    this.parts().forEach((part, k) => all.set(part.steps, this.begins[k]));
+    return Float64Array.from(rows, (row) => all[row]);
+  }
+
+  /** All that the program would write. */
+  blob() {
+    return new Blob(this.parts().map((part) => part.bytes), { type: "text/plain" });
+  }
+}

@@ -1,0 +1,129 @@
+/** The table of lines: only the rows that are seen stand in the page, so a list of millions scrolls. */
+import { made, part } from "./parts.mjs";
+import { shown } from "./machine.mjs";
+
+const ROW_PIXELS = 28;
+const HEAD_PIXELS = 29;
+// Browsers have no higher elements; in longer lists a pixel of the bar stands for more than one.
+const MOST_PIXELS = 8_000_000;
+
+export class Rows {
+  /** @param {(row: number) => void} open what happens where a row is chosen */
+  constructor(open) {
+    this.open = open;
+    /** @type {import("./results.mjs").Results | null} */
+    this.results = null;
+    this.rows = new Uint32Array(0);
+    this.top = 0;
+    this.chosen = -1;
+    this.box = part("rows");
+    this.box.addEventListener("scroll", () => this.scrolled());
+    this.box.addEventListener("keydown", (event) => this.pressed(event));
+    this.box.addEventListener("wheel", (event) => this.wheeled(event), { passive: false });
+    part("shown").addEventListener("click", (event) => this.clicked(event));
+    new ResizeObserver(() => this.draw()).observe(this.box);
+  }
+
+  /** How many rows are seen. */
+  get seen() {
+    return Math.max(1, Math.floor((this.box.clientHeight - HEAD_PIXELS) / ROW_PIXELS));
+  }
+
+  get height() {
+    return Math.min(MOST_PIXELS, this.rows.length * ROW_PIXELS);
+  }
+
+  get isScaled() {
+    return this.rows.length * ROW_PIXELS > MOST_PIXELS;
+  }
+
+  /** Shows these rows of results. */
+  show(/** @type {import("./results.mjs").Results} */ results, /** @type {Uint32Array} */ rows) {
+    this.results = results;
+    this.rows = rows;
+    part("spacer").style.height = `${this.height}px`;
+    this.box.setAttribute("aria-rowcount", String(rows.length + 1));
+    this.top = Math.min(this.top, Math.max(0, rows.length - this.seen));
+    this.draw();
+  }
+
+  scrolled() {
+    const most = Math.max(1, this.box.scrollHeight - this.box.clientHeight);
+    const scaled = (this.box.scrollTop / most) * Math.max(0, this.rows.length - this.seen);
+    this.top = this.isScaled ? Math.round(scaled) : Math.floor(this.box.scrollTop / ROW_PIXELS);
+    this.draw();
+  }
+
+  wheeled(/** @type {WheelEvent} */ event) {
+    if (this.isScaled) {
+      event.preventDefault();
+      this.go(this.top + Math.round(event.deltaY / ROW_PIXELS) || this.top + Math.sign(event.deltaY));
+    }
+  }
+
+  /** Scrolls so that this row is the first one. */
+  go(/** @type {number} */ top) {
+    this.top = Math.max(0, Math.min(top, this.rows.length - this.seen));
+    const share = this.top / Math.max(1, this.rows.length - this.seen);
+    const most = this.box.scrollHeight - this.box.clientHeight;
+    this.box.scrollTop = this.isScaled ? share * most : this.top * ROW_PIXELS;
+    this.draw();
+  }
+
+  draw() {
+    const end = Math.min(this.rows.length, this.top + this.seen + 2);
+    const box = part("shown");
+    const at = this.isScaled ? this.box.scrollTop : this.top * ROW_PIXELS;
+    box.style.transform = `translateY(${Math.max(0, at)}px)`;
+    const rows = [];
+    for (let place = this.top; place < end; place += 1) {
+      rows.push(this.row(place));
+    }
+    box.replaceChildren(...rows);
+    this.box.setAttribute("aria-activedescendant", `row-${this.chosen}`);
+  }
+
+  row(/** @type {number} */ place) {
+    const number = this.rows[place];
+    const results = /** @type {import("./results.mjs").Results} */ (this.results);
+    const { machine, verdict, answer } = results.row(number);
+    const cell = (/** @type {string} */ text, name = "") =>
+      made("span", { role: "gridcell", class: name, title: text }, text);
+    const told = [cell(machine), cell(verdict.text), cell(answer, answer)];
+    const line = cell(shown(number + 1), "number");
+    const given = { role: "row", class: "row", id: `row-${place}`, "aria-rowindex": place + 2 };
+    const chosen = { "aria-selected": place === this.chosen, "data-place": place };
+    return made("div", { ...given, ...chosen }, line, ...told);
+  }
+
+  clicked(/** @type {MouseEvent} */ event) {
+    const row = /** @type {HTMLElement} */ (event.target).closest("[data-place]");
+    if (row instanceof HTMLElement) {
+      this.choose(Number(row.dataset.place), true);
+    }
+  }
+
+  pressed(/** @type {KeyboardEvent} */ event) {
+    const [page, far] = [this.seen - 1, Infinity];
+    /** @type {Record<string, number>} */
+    const moves = { ArrowDown: 1, ArrowUp: -1, PageDown: page, PageUp: -page, Home: -far, End: far };
+    if (event.key in moves && this.rows.length > 0) {
+      event.preventDefault();
+      this.choose(this.chosen + moves[event.key], false);
+    } else if (event.key === "Enter" && this.chosen >= 0) {
+      this.choose(this.chosen, true);
+    }
+  }
+
+  /** Chooses a row, and opens its machine where that is asked for. */
+  choose(/** @type {number} */ place, /** @type {boolean} */ opens) {
+    this.chosen = Math.max(0, Math.min(place, this.rows.length - 1));
+    if (this.chosen < this.top || this.chosen >= this.top + this.seen) {
+      this.go(this.chosen < this.top ? this.chosen : this.chosen - this.seen + 1);
+    }
+    this.draw();
+    if (opens && this.rows.length > 0) {
+      this.open(this.rows[this.chosen]);
+    }
+  }
+}
