@@ -48,7 +48,7 @@ FORMER = re.compile(
     r"`[^`]+` is gone|`[^`]+` is (?=`)|\(it was `[^`]+`\)|in place of `[^`]+`|constants `[^`]+` are"
 )
 MACHINE = r"(?:<machine>|(?:\d[LR][A-Z]|---)+(?:_(?:\d[LR][A-Z]|---)+)*)"
-ENDINGS = "rt antt edit md py mjs html h c rs txt png wasm a so".split()
+ENDINGS = "rt antt edit md py mjs html h c rs txt png svg wasm a so".split()
 COMMANDS = ("bb", "./bb", "scripts/", "budlarem", "./test")
 # Documents that speak of another language too.
 LANGUAGES = {
