@@ -50,10 +50,10 @@ def sets() -> Dict[str, Set[str]]:
 class Sources:
     """All that the documents may name.
 
-    Names stand by their crate (`below` has what a crate stands on), and by what they are members of: a type, a record, a module or a crate. Those of
-    other languages stand by the language: `python`, `script` (JavaScript, HTML) or `header` (C). `options` are those of
-    all commands, `program_options` those of `bb`; `texts` has the words of the scripts that make files,
-    `words` those of the lines that the program writes.
+    Names stand by their crate (`below` has what a crate stands on), and by what they are members of: a type, a
+    record, a module or a crate. Those of other languages stand by the language: `python`, `script` (JavaScript,
+    HTML) or `header` (C). `options` are those of all commands, `program_options` those of `bb`; `texts` has the
+    words of the scripts that make files, `words` those of the lines that the program writes.
     """
 
     files: Set[str] = dataclasses.field(default_factory=set)
@@ -102,15 +102,23 @@ def read(top: str, path: str) -> str:
 
 
 def definitions(text: str) -> Iterator[Tuple[str, str]]:
-    """The names that a file of definitions or proofs has, each with the record that it is a field of, or ''."""
+    """The names that a file of definitions or proofs has, those in its modules too, each with the record that it
+    is a field of, or ''."""
     record = ""
+    columns = [0]
     for line in text.split("\n"):
-        field = FIELD.match(line)
-        if field:
+        begin = len(line) - len(line.lstrip())
+        while line and begin < columns[-1]:
+            columns.pop()
+        rest = line[columns[-1] :]
+        field = FIELD.match(rest)
+        if rest.startswith("module "):
+            columns.append(begin + 2)
+        elif field:
             yield record, field[1]
-        elif line and not line.startswith((" ", "-", "}", "use ", "pub use ", "pub mod ")):
-            names = [word for word in line.split() if word not in WORDS_OF_A_DEFINITION]
-            if names and (" : " in line or line.endswith(" :")):
+        elif rest and not rest.startswith((" ", "-", "}", "use ", "pub use ", "pub mod ")):
+            names = [word for word in rest.split() if word not in WORDS_OF_A_DEFINITION]
+            if names and (" : " in rest or rest.endswith(" :")):
                 record = names[0]
                 yield "", record
 
