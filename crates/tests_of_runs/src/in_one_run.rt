@@ -7,12 +7,16 @@ use bb_machine::Limits;
 use std::process::Abort;
 use std::test::Fail;
 
-/// How many lists there are, each with limits and a plan of its own, and how many machines each has.
-const LISTS: usize = 2_000;
+/// How many lists each test decides, each with limits and a plan of its own.
+const LISTS: usize = 500;
+
+/// How many machines each list has.
 const MACHINES: usize = 50;
 
-/// What an entry may lead to, the halting state first; and what it may write.
+/// What an entry may lead to, the halting state first.
 static LETTERS: &[u8] = b"ZABCDEFGHIJKLMNOPQRSTUVWXY";
+
+/// What an entry may write.
 static DIGITS: &[u8] = b"0123456789";
 
 /// The next of a row of numbers, each below the limit.
@@ -107,17 +111,37 @@ fn drawn_plan(seed: &mut u64) -> Plan {
     }
 }
 
-#[test]
-fn one_run_writes_the_same(rt: HostRuntime) -> Result<(), Fail> {
-    let mut seed = 1;
+/// Lists from this seed on get the same bytes in one run as otherwise.
+fn assert_same(rt: &(impl Abort + AllocGlobal), first_seed: u64) -> Result<(), Fail> {
+    let mut seed = first_seed;
     for _ in 0..LISTS {
-        let list = drawn_machines(&rt, &mut seed)?;
-        let limits = drawn_limits(&rt, &mut seed);
+        let list = drawn_machines(rt, &mut seed)?;
+        let limits = drawn_limits(rt, &mut seed);
         let plan = drawn_plan(&mut seed);
-        let (end, written) = decided_on_rings(&rt, &limits, plan, list.as_slice());
-        let (one_end, one_written) = decided_in_one_run(&rt, &limits, plan, list.as_slice());
+        let (end, written) = decided_on_rings(rt, &limits, plan, list.as_slice());
+        let (one_end, one_written) = decided_in_one_run(rt, &limits, plan, list.as_slice());
         assert_eq!(rt; one_written.as_slice(), written.as_slice());
-        assert!(rt; end.expect(&rt, "no fault").clean && one_end.expect(&rt, "no fault").clean);
+        assert!(rt; end.expect(rt, "no fault").clean && one_end.expect(rt, "no fault").clean);
     }
     Ok(())
+}
+
+#[test]
+fn one_run_writes_the_same(rt: HostRuntime) -> Result<(), Fail> {
+    assert_same(&rt, 1)
+}
+
+#[test]
+fn it_does_from_a_second_seed(rt: HostRuntime) -> Result<(), Fail> {
+    assert_same(&rt, 2)
+}
+
+#[test]
+fn it_does_from_a_third_seed(rt: HostRuntime) -> Result<(), Fail> {
+    assert_same(&rt, 3)
+}
+
+#[test]
+fn it_does_from_a_fourth_seed(rt: HostRuntime) -> Result<(), Fail> {
+    assert_same(&rt, 4)
 }
