@@ -1,16 +1,19 @@
 -- A table's rules, gathered row by row and ordered by where they lead.
-use Rattle.std.proofs.Common.{◌≡◌, ℕ, ◌+◌, ◌<◌, ◌≤◌, Bool, true, false, cond, inl, inr, List, [], ◌∷◌, ◌++◌}
-use Rattle.std.proofs.Common.{length, get_or, drop, refl, ap, sym, ◌∙◌, append_assoc, append-nil}
-use Rattle.std.proofs.Common.{length-append, arith}
-use Rattle.std.specs.List.{filter}
+use Rattle.std.proofs.Common.{◌≡◌, ℕ, ◌+◌, ◌-◌, ◌<◌, ◌≤◌, Bool, true, false, cond, inl, inr, List, [], ◌∷◌}
+use Rattle.std.proofs.Common.{◌++◌, length, get_or, take, drop, refl, ap, sym, subst, ◌∙◌, append_assoc}
+use Rattle.std.proofs.Common.{append-nil, length-append, arith}
+use Rattle.std.specs.List.{filter, refill}
+use Rattle.std.specs.List.Sorted.{IsPermutation}
 use Rattle.std.proofs.lemmas.Bool.{cases_Bool}
-use Rattle.std.proofs.lemmas.List.{drop_more, drop_all}
+use Rattle.std.proofs.lemmas.List.{drop_more, drop_all, drop_at, take_at, take_all}
+use Rattle.std.proofs.lemmas.List.Sorted.{length_permutation}
 use Rattle.bb_machine.specs.declared.entry.Next.{Next}
 use Rattle.bb_machine.specs.declared.entry.Entry.{Entry}
 use Rattle.bb_machine.specs.declared.entry.Entry.TheVariants.{Undefined}
 use Rattle.bb_machine.specs.Machine.{Table, IsMachine, symbols_of}
 use Rattle.bb_cert.specs.declared.tree.rules.Rule.{Rule}
 use Rattle.bb_cert.specs.tree.Tree.{goes_to, is_same, leads_to, rules_in, rules_from}
+use Rattle.bb_cert.specs.inside.Walk.{AddsRules}
 use Rattle.bb_cert.proofs.tree_lemmas.TreeEnds.{group_long}
 use Rattle.bb_cert.proofs.tree_lemmas.RuleEntries.{rule, is_same-true, is_same-itself}
 
@@ -149,3 +152,54 @@ module _ (next : Next) (state : ℕ) (table : Table) (within : state < length ta
   rows_room list olds more most so_far room =
       let n = length-append olds more in
       table_room list (olds ++ more) most so_far (omega (arith, n, room))
+
+-- the end of a list was put in order, in place
+module _ (olds rules list seen : List Rule) (from : ℕ) (is : list ≡ olds ++ rules) (same : seen ≡ list)
+    (at : from ≡ length olds) (sorted : List Rule)
+    (moved : IsPermutation (take (length seen - from) (drop from seen)) sorted) where
+  seen_is : seen ≡ olds ++ rules
+  seen_is = same ∙ is
+
+  rest_is : drop from seen ≡ rules
+  rest_is = ap (drop from) seen_is ∙ drop_at olds rules from (sym at)
+
+  long : length seen ≡ length olds + length rules
+  long = ap length seen_is ∙ length-append olds rules
+
+  sorted_are : IsPermutation rules sorted
+  sorted_are =
+      let n = long in
+      subst (λ l. IsPermutation l sorted)
+      (ap (take (length seen - from)) rest_is ∙ take_all (length seen - from) rules (omega (arith, n, at))) moved
+
+  abbrev written : List Rule
+  written = take from seen ++ (sorted ++ drop (length seen - from) (drop from seen))
+
+  written_is : written ≡ olds ++ sorted
+  written_is =
+      let n = long in
+      ap (λ l. take from l ++ (sorted ++ drop (length seen - from) (drop from seen))) seen_is
+      ∙ ap (λ l. l ++ (sorted ++ drop (length seen - from) (drop from seen))) (take_at olds rules from (sym at))
+      ∙ ap (λ l. olds ++ (sorted ++ l)) (ap (drop (length seen - from)) rest_is
+      ∙ drop_all (length seen - from) rules (omega (arith, n, at)))
+      ∙ ap (λ l. olds ++ l) (append-nil sorted)
+
+  pub put_in_order : AddsRules rules olds (refill (length list) list written)
+  put_in_order =
+      let m = length-append olds sorted in
+      let n = ap length is ∙ length-append olds rules in
+      let p = length_permutation rules sorted sorted_are in
+      record {
+        added = sorted;
+        is = ap (refill (length list) list) written_is
+            ∙ take_at (olds ++ sorted) (drop (length (olds ++ sorted)) list) (length list)
+            (omega (arith, m, n, p));
+        are = sorted_are;
+      }
+
+-- no row is left
+pub rows_end : (next : Next) (state : ℕ) (table : Table) (list all : List Rule) → length table ≤ state
+    → list ++ filter (leads_to next) (rules_from state (drop state table)) ≡ all → list ≡ all
+rows_end next state table list all past e =
+    sym (append-nil list) ∙ ap (λ gs. list ++ filter (leads_to next) (rules_from state gs)) (sym
+    (drop_all state table past)) ∙ e

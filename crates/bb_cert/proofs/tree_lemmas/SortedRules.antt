@@ -1,12 +1,16 @@
 -- A table's rules, all of them, ordered by where they lead.
 use Rattle.std.proofs.Common.{◌≡◌, ℕ, zero, suc, ◌+◌, ◌-◌, ◌*◌, ◌<◌, ◌≤◌, Bool, true, false, cond, inl, inr}
-use Rattle.std.proofs.Common.{List, [], ◌∷◌, ◌++◌, length, get_or, take, drop, slice_index, slice_range, refl}
+use Rattle.std.proofs.Common.{List, [], ◌∷◌, ◌++◌, length, get_or, take, drop, slice_range, refl}
 use Rattle.std.proofs.Common.{ap, sym, subst, ◌∙◌, append_assoc, append-nil, length-append, arith}
 use Rattle.std.proofs.Math.Nat.{mul-le-mul_left}
 use Rattle.std.specs.List.{AllByRecursion, filter}
+use Rattle.std.specs.List.Sorted.{IsPermutation}
 use Rattle.std.proofs.lemmas.Bool.{cases_lt, cases_eq}
-use Rattle.std.proofs.lemmas.List.{drop_at, take_at}
+use Rattle.std.proofs.lemmas.List.{drop_at, drop-append-le, take-append-le, take_all, length-drop}
+use Rattle.std.proofs.lemmas.List.Elements.{All-from_recursion, recursion_from_All}
+use Rattle.std.proofs.lemmas.List.Sorted.{All-permutation, length_permutation}
 use Rattle.bb_machine.specs.declared.machine.TheConstants.{MAX_STATES, MAX_SYMBOLS}
+use Rattle.bb_machine.specs.declared.entry.Dir.TheVariants.{L, R}
 use Rattle.bb_machine.specs.declared.entry.Next.{Next}
 use Rattle.bb_machine.specs.declared.entry.Next.TheVariants.{State, Halt}
 use Rattle.bb_machine.specs.declared.entry.Entry.{Entry}
@@ -14,32 +18,16 @@ use Rattle.bb_machine.specs.declared.entry.Entry.TheVariants.{Undefined, Go}
 use Rattle.bb_machine.specs.Entry.{IsEntryOf}
 use Rattle.bb_machine.specs.Machine.{Table, IsGroup, IsMachine, symbols_of}
 use Rattle.bb_cert.specs.declared.tree.rules.Rule.{Rule}
+use Rattle.bb_cert.specs.declared.tree.rules.Rules.{Rules}
 use Rattle.bb_cert.specs.tree.Tree.{goes_to, leads_to, rules_in, rules_from, rules_to}
-use Rattle.bb_cert.specs.inside.Walk.{AreRules, IsRange, IsRule}
+use Rattle.bb_cert.specs.inside.Walk.{AddsAll, AddsRules, AreInOrder, AreRules, IsRange, IsRule, starts_of}
 use Rattle.bb_cert.proofs.tree_lemmas.RuleEntries.{is_same-itself}
 use Rattle.bb_cert.proofs.tree_lemmas.RuleLists.{differs}
-
--- the rules that lead to the first n states
-abbrev pub sorted : Table → ℕ → List Rule
-sorted table zero = []
-sorted table (suc n) = sorted table n ++ rules_to table (State n)
-
--- where those of each of these states begin, and where all end
-abbrev pub starts_of : Table → ℕ → List ℕ
-starts_of table zero = 0 ∷ []
-starts_of table (suc n) = starts_of table n ++ length (sorted table (suc n)) ∷ []
 
 -- how many lead to the first n states
 abbrev leading : ℕ → List Rule → ℕ
 leading zero rules = 0
 leading (suc n) rules = leading n rules + length (filter (leads_to (State n)) rules)
-
-sorted_long : (table : Table) (n : ℕ) → length (sorted table n) ≡ leading n (rules_from 0 table)
-sorted_long table zero = refl
-sorted_long table (suc n) =
-    let e = sorted_long table n in
-    let a = length-append (sorted table n) (rules_to table (State n)) in
-    omega (arith, e, a)
 
 filter_one : (next : Next) (r : Rule) (rules : List Rule) (b : Bool) → leads_to next r ≡ b
     → length (filter (leads_to next) (r ∷ rules)) ≡ cond b 1 0 + length (filter (leads_to next) rules)
@@ -135,28 +123,13 @@ table_long states symbols state (group ∷ groups) all =
 small_product : (a b : ℕ) → a ≤ MAX_STATES → b ≤ MAX_SYMBOLS → a * b ≤ MAX_STATES * MAX_SYMBOLS
 small_product a b h k = omega (arith, h, mul-le-mul_left a k)
 
-pub all_fit : (table : Table) → IsMachine table → (n : ℕ)
-    → length (sorted table n) + length (rules_to table Halt) ≤ MAX_STATES * MAX_SYMBOLS
+all_fit : (table : Table) → IsMachine table → (n : ℕ)
+    → leading n (rules_from 0 table) + length (rules_to table Halt) ≤ MAX_STATES * MAX_SYMBOLS
 all_fit table machine n =
     let a = no_more_rules n (rules_from 0 table) in
-    let b = sorted_long table n in
     let c = table_long (length table) (symbols_of table) 0 table machine.groups in
     let d = small_product (length table) (symbols_of table) machine.states machine.symbols in
-    omega (arith, a, b, c, d)
-
-pub next_fits : (table : Table) → IsMachine table → (n : ℕ)
-    → length (sorted table n) + length (rules_to table (State n)) ≤ MAX_STATES * MAX_SYMBOLS
-next_fits table machine n =
-    let a = all_fit table machine (suc n) in
-    let b = length-append (sorted table n) (rules_to table (State n)) in
-    omega (arith, a, b)
-
-pub starts_long : (table : Table) (n : ℕ) → length (starts_of table n) ≡ n + 1
-starts_long table zero = omega arith
-starts_long table (suc n) =
-    let e = starts_long table n in
-    let a = length-append (starts_of table n) (length (sorted table (suc n)) ∷ []) in
-    omega (arith, e, a)
+    omega (arith, a, c, d)
 
 -- what stands at a place of a list that has more after it
 get_front : (xs ys : List ℕ) (i : ℕ) → i < length xs → get_or (xs ++ ys) i 0 ≡ get_or xs i 0
@@ -170,62 +143,43 @@ get_last [] y (suc i) e = absurd (omega (arith, e))
 get_last (x ∷ xs) y zero e = absurd (omega (arith, e))
 get_last (x ∷ xs) y (suc i) e = get_last xs y i (omega (arith, e))
 
-start_at : (table : Table) (n q : ℕ) → q ≤ n → get_or (starts_of table n) q 0 ≡ length (sorted table q)
-start_at table zero q h = let e : q ≡ zero = omega (arith, h) in ap (λ q. get_or (starts_of table zero) q 0)
-    e ∙ ap (λ q. length (sorted table q)) (sym e)
-start_at table (suc n) q h = elim (cases_lt n q) [
-  | inl more ↦
-      let e : q ≡ suc n = omega (arith, h, more) in
-      let long = starts_long table n in
-      get_last (starts_of table n) (length (sorted table (suc n))) q (omega (arith, e, long))
-      ∙ ap (λ q. length (sorted table q)) (sym e)
-  | inr less ↦
-      let long = starts_long table n in
-      get_front (starts_of table n) (length (sorted table (suc n)) ∷ []) q (omega (arith, less, long))
-      ∙ start_at table n q less
-]
+-- a stretch of a list that has more after it
+slice_front : (xs ys : List Rule) (from to : ℕ) → from ≤ to → to ≤ length xs
+    → slice_range (xs ++ ys) from to ≡ slice_range xs from to
+slice_front xs ys from to order within =
+    let long = length-drop from xs in
+    ap (take (to - from)) (drop-append-le from xs ys (omega (arith, order, within)))
+    ∙ take-append-le (to - from) (drop from xs) ys (omega (arith, order, within, long))
 
-middle : (front part rest : List Rule)
-    → slice_range (front ++ (part ++ rest)) (length front) (length front + length part) ≡ part
-middle front part rest =
-    let n : (length front + length part) - length front ≡ length part = omega arith in
-    ap (λ k. take k (drop (length front) (front ++ (part ++ rest)))) n
-    ∙ ap (take (length part)) (drop_at front (part ++ rest) (length front) refl)
-    ∙ take_at part rest (length part) refl
+slice_end : (xs ys : List Rule) (to : ℕ) → to ≡ length (xs ++ ys) → slice_range (xs ++ ys) (length xs) to ≡ ys
+slice_end xs ys to e =
+    let long = length-append xs ys in
+    ap (take (to - length xs)) (drop_at xs ys (length xs) refl)
+    ∙ take_all (to - length xs) ys (omega (arith, long, e))
 
--- a state's rules in the midst of all
-record Split (table : Table) (list : List Rule) (q : ℕ) : Type 0 where
-  rest : List Rule
-  is : list ≡ sorted table q ++ (rules_to table (State q) ++ rest)
-
-split_at : (table : Table) (n q : ℕ) (more : List Rule) → q < n → Split table (sorted table n ++ more) q
-split_at table zero q more h = absurd (omega (arith, h))
-split_at table (suc n) q more h = elim (cases_eq q n) [
-  | inl same ↦ subst (Split table (sorted table (suc n) ++ more)) (sym same)
-      (record { rest = more; is = append_assoc (sorted table n) (rules_to table (State n)) more })
-  | inr apart ↦
-      let before = split_at table n q (rules_to table (State n) ++ more) (omega (arith, h, apart)) in
-      record {
-        rest = before.rest;
-        is = append_assoc (sorted table n) (rules_to table (State n)) more
-            ∙ before.is;
-      }
-]
-
-range_at : (table : Table) (list front part rest : List Rule) (next : Next) (from to : ℕ)
-    → part ≡ rules_to table next → list ≡ front ++ (part ++ rest) → from ≡ length front
-    → to ≡ length front + length part → IsRange table list from to next
-range_at table list front part rest next from to are is begins ends =
-    let a = ap length is in
-    let b = length-append front (part ++ rest) in
-    let c = length-append part rest in
+range_kept : (table : Table) (list more : List Rule) (from to : ℕ) (next : Next)
+    → IsRange table list from to next → IsRange table (list ++ more) from to next
+range_kept table list more from to next range =
+    let long = length-append list more in
+    let within = range.within in
     record {
-      in_order = omega (arith, begins, ends);
-      within = omega (arith, a, b, c, ends);
-      are = ap (λ xs. slice_range xs from to) is
-          ∙ ap (λ n. slice_range (front ++ (part ++ rest)) n to) begins
-          ∙ ap (slice_range (front ++ (part ++ rest)) (length front)) ends
-          ∙ middle front part rest ∙ are;
+      in_order = range.in_order;
+      within = omega (arith, within, long);
+      are = subst (IsPermutation (rules_to table next))
+          (sym (slice_front list more from to range.in_order range.within)) range.are;
+    }
+
+range_added : (table : Table) (list then_list : List Rule) (from to : ℕ) (next : Next)
+    → AddsRules (rules_to table next) list then_list → from ≡ length list → to ≡ length then_list
+    → IsRange table then_list from to next
+range_added table list then_list from to next adds begins ends =
+    let long = ap length adds.is ∙ length-append list adds.added in
+    record {
+      in_order = omega (arith, long, begins, ends);
+      within = omega (arith, ends);
+      are = subst (IsPermutation (rules_to table next))
+          (sym (ap (λ xs. slice_range xs from to) adds.is ∙ ap (λ n. slice_range (list ++ adds.added) n to) begins
+          ∙ slice_end list adds.added to (ends ∙ ap length adds.is))) adds.are;
     }
 
 -- the rules name only states and symbols of their machine
@@ -272,79 +226,175 @@ rules_named states symbols state (group ∷ groups) long few all =
     (row_named states symbols state 0 group (omega (arith, long)) few (omega (arith, full)) (all.0).entries)
     (rules_named states symbols (state + 1) groups (omega (arith, long)) few all.1)
 
-sorted_named : (table : Table) → IsMachine table → (n : ℕ)
-    → AllByRecursion (IsRule (length table)) (sorted table n)
-sorted_named table machine zero = tt
-sorted_named table machine (suc n) =
-    all_append (IsRule (length table)) (sorted table n) (rules_to table (State n))
-    (sorted_named table machine n)
-    (all_filter (IsRule (length table)) (leads_to (State n)) (rules_from 0 table)
-    (rules_named (length table) (symbols_of table) 0 table (omega arith) machine.symbols machine.groups))
+added_named : (table : Table) (next : Next) (list then_list : List Rule) → IsMachine table
+    → (adds : AddsRules (rules_to table next) list then_list)
+    → AllByRecursion (IsRule (length table)) adds.added
+added_named table next list then_list machine adds =
+    let is_rule = IsRule (length table) in
+    recursion_from_All is_rule adds.added (All-permutation is_rule (rules_to table next) adds.added adds.are
+    (All-from_recursion is_rule (rules_to table next) (all_filter is_rule (leads_to next) (rules_from 0 table)
+    (rules_named (length table) (symbols_of table) 0 table (omega arith) machine.symbols machine.groups))))
 
-pub are_rules : (table : Table) (list : List Rule) (starts : List ℕ) → IsMachine table
-    → list ≡ sorted table (length table) ++ rules_to table Halt
-    → starts ≡ starts_of table (length table) ++ (length list ∷ []) → AreRules table list starts
-are_rules table list starts machine is_list is_starts =
-    let n = length table in
-    let long = starts_long table n in
-    let end = length-append (sorted table n) (rules_to table Halt) in
-    let list_end = ap length is_list in
-    record {
-      named = subst (AllByRecursion (IsRule n)) (sym is_list)
-          (all_append (IsRule n) (sorted table n) (rules_to table Halt) (sorted_named table machine n)
-          (all_filter (IsRule n) (leads_to Halt) (rules_from 0 table)
-          (rules_named n (symbols_of table) 0 table (omega arith) machine.symbols machine.groups)));
-      count = let a = ap length is_starts in let b = length-append (starts_of table n) (length list ∷ []) in
-          omega (arith, a, b, long);
-      to_state = λ q h.
-          let split = split_at table n q (rules_to table Halt) h in
-          let at_q = ap (λ xs. get_or xs q 0) is_starts
-          ∙ get_front (starts_of table n) (length list ∷ []) q (omega (arith, h, long))
-          ∙ start_at table n q (omega (arith, h)) in
-          let e : q + 1 ≡ suc q = omega arith in
-          let at_next = ap (λ xs. get_or xs (q + 1) 0) is_starts
-          ∙ get_front (starts_of table n) (length list ∷ []) (q + 1) (omega (arith, h, long))
-          ∙ start_at table n (q + 1) (omega (arith, h)) ∙ ap (λ k. length (sorted table k)) e
-          ∙ length-append (sorted table q) (rules_to table (State q)) in
-          range_at table list (sorted table q) (rules_to table (State q)) split.rest (State q)
-          (slice_index starts q) (slice_index starts (q + 1)) refl (is_list ∙ split.is) at_q at_next;
-      halting =
-          let at_n = ap (λ xs. get_or xs n 0) is_starts
-          ∙ get_front (starts_of table n) (length list ∷ []) n (omega (arith, long))
-          ∙ start_at table n n (omega arith) in
-          let at_last = ap (λ xs. get_or xs (n + 1) 0) is_starts
-          ∙ get_last (starts_of table n) (length list) (n + 1) (omega (arith, long)) ∙ list_end ∙ end in
-          range_at table list (sorted table n) (rules_to table Halt) [] Halt (slice_index starts n)
-          (slice_index starts (n + 1)) refl
-          (is_list ∙ ap (λ xs. sorted table n ++ xs) (sym (append-nil (rules_to table Halt)))) at_n
-          at_last;
+-- the rules that lead to the first n states were appended, and where those of each begin was put down
+pub record AreGathered (table : Table) (before list : List Rule) (starts : List ℕ) (n : ℕ) : Type 0 where
+  pub added : List Rule
+  pub is : list ≡ before ++ added
+  pub size : length added ≡ leading n (rules_from 0 table)
+  pub named : AllByRecursion (IsRule (length table)) added
+  pub long : length starts ≡ n + 1
+  pub last : get_or starts n 0 ≡ length list
+  pub ranges : (q : ℕ) → q < n → IsRange table list (get_or starts q 0) (get_or starts (q + 1) 0) (State q)
+
+pub gathering_begins : (table : Table) (list : List Rule) → AreGathered table list list (length list ∷ []) 0
+gathering_begins table list = record {
+  added = [];
+  is = sym (append-nil list);
+  size = refl;
+  named = tt;
+  long = omega arith;
+  last = refl;
+  ranges = λ q h. absurd (omega (arith, h));
+}
+
+module _ {table : Table} (machine : IsMachine table) {before list : List Rule} {starts : List ℕ} {n : ℕ}
+    (now : AreGathered table before list starts n) where
+  list_long : length list ≡ length before + leading n (rules_from 0 table)
+  list_long =
+      let e = ap length now.is in
+      let a = length-append before now.added in
+      let size = now.size in
+      omega (arith, e, a, size)
+
+  pub room_for_state : (most : ℕ) → length before + MAX_STATES * MAX_SYMBOLS ≤ most
+      → length list + length (rules_to table (State n)) ≤ most
+  room_for_state most room =
+      let a = all_fit table machine (suc n) in
+      let e = list_long in
+      omega (arith, a, e, room)
+
+  pub room_for_halt : (most : ℕ) → length before + MAX_STATES * MAX_SYMBOLS ≤ most
+      → length list + length (rules_to table Halt) ≤ most
+  room_for_halt most room =
+      let a = all_fit table machine n in
+      let e = list_long in
+      omega (arith, a, e, room)
+
+  pub room_for_start : {states : ℕ} → n ≤ states → states ≡ length table → length starts < MAX_STATES + 2
+  room_for_start h all =
+      let long = now.long in
+      let most = machine.states in
+      omega (arith, long, most, h, all)
+
+  module _ (next : Next) {then_list : List Rule} {then_starts : List ℕ}
+      (adds : AddsRules (rules_to table next) list then_list)
+      (put_down : then_starts ≡ starts ++ (length then_list ∷ [])) where
+    then_long : length then_starts ≡ n + 2
+    then_long =
+        let e = ap length put_down in
+        let a = length-append starts (length then_list ∷ []) in
+        let long = now.long in
+        omega (arith, e, a, long)
+
+    start_kept : (q : ℕ) → q ≤ n → get_or then_starts q 0 ≡ get_or starts q 0
+    start_kept q h =
+        let long = now.long in
+        ap (λ xs. get_or xs q 0) put_down ∙ get_front starts (length then_list ∷ []) q (omega (arith, h, long))
+
+    start_added : get_or then_starts (n + 1) 0 ≡ length then_list
+    start_added = ap (λ xs. get_or xs (n + 1) 0) put_down
+        ∙ get_last starts (length then_list) (n + 1) (sym now.long)
+
+    earlier_range : (q : ℕ) → q < n
+        → IsRange table then_list (get_or then_starts q 0) (get_or then_starts (q + 1) 0) (State q)
+    earlier_range q h =
+        rw (adds.is, start_kept q (omega (arith, h)), start_kept (q + 1) (omega (arith, h)))
+        (range_kept table list adds.added (get_or starts q 0) (get_or starts (q + 1) 0) (State q)
+        (now.ranges q h))
+
+    last_range : IsRange table then_list (get_or then_starts n 0) (get_or then_starts (n + 1) 0) next
+    last_range = range_added table list then_list (get_or then_starts n 0) (get_or then_starts (n + 1) 0) next
+        adds (start_kept n (omega arith) ∙ now.last) start_added
+
+    then_is : then_list ≡ before ++ (now.added ++ adds.added)
+    then_is = adds.is ∙ ap (λ xs. xs ++ adds.added) now.is ∙ append_assoc before now.added adds.added
+
+    then_named : AllByRecursion (IsRule (length table)) (now.added ++ adds.added)
+    then_named = all_append (IsRule (length table)) now.added adds.added now.named
+        (added_named table next list then_list machine adds)
+
+    then_size : length (now.added ++ adds.added) ≡ leading n (rules_from 0 table) + length (rules_to table next)
+    then_size =
+        let a = length-append now.added adds.added in
+        let b = length_permutation (rules_to table next) adds.added adds.are in
+        let size = now.size in
+        omega (arith, a, b, size)
+
+    pub gathering_goes_on : next ≡ State n → AreGathered table before then_list then_starts (n + 1)
+    gathering_goes_on there =
+        let more : n + 1 ≡ suc n = omega arith in
+        let size = then_size in
+        let same = ap (λ to. length (rules_to table to)) there in
+        let last = subst (IsRange table then_list (get_or then_starts n 0) (get_or then_starts (n + 1) 0)) there
+        last_range in
+        record {
+          added = now.added ++ adds.added;
+          is = then_is;
+          size = omega (arith, size, same) ∙ ap (λ k. leading k (rules_from 0 table)) (sym more);
+          named = then_named;
+          long = let long = then_long in omega (arith, long);
+          last = start_added;
+          ranges = λ q h. elim (cases_eq q n) [
+            | inl same_state ↦ rw same_state last
+            | inr apart ↦ earlier_range q (omega (arith, h, apart))
+          ];
+        }
+
+    pub all_gathered : next ≡ Halt → n ≡ length table → AddsAll table before then_list then_starts
+    all_gathered there all = record {
+      added = now.added ++ adds.added;
+      is = then_is;
+      few =
+          let size = then_size in
+          let same = ap (λ to. length (rules_to table to)) there in
+          let fit = all_fit table machine n in
+          omega (arith, size, same, fit);
+      named = then_named;
+      in_order = record {
+        count = let long = then_long in omega (arith, long, all);
+        to_state = λ q h. earlier_range q (omega (arith, h, all));
+        halting = rw (sym all, sym there) last_range;
+      };
     }
 
--- while the rules of the first n states are gathered
+order_kept : (table : Table) (list more : List Rule) (starts : List ℕ) → AreInOrder table list starts
+    → AreInOrder table (list ++ more) starts
+order_kept table list more starts order = record {
+  count = order.count;
+  to_state = λ q h. range_kept table list more (get_or starts q 0) (get_or starts (q + 1) 0) (State q)
+      (order.to_state q h);
+  halting = range_kept table list more (get_or starts (length table) 0) (get_or starts (length table + 1) 0) Halt
+      order.halting;
+}
 
-module _ {table : Table} (machine : IsMachine table) {list : List Rule} {starts : List ℕ} (n : ℕ) {states : ℕ}
-    (is_list : list ≡ sorted table n) (is_starts : starts ≡ starts_of table n) (all : states ≡ length table)
-  where
-    pub room_for_state : length list + length (rules_to table (State n)) ≤ MAX_STATES * MAX_SYMBOLS
-    room_for_state = subst (λ l. length l + length (rules_to table (State n)) ≤ MAX_STATES * MAX_SYMBOLS)
-        (sym is_list) (next_fits table machine n)
+-- all rules were appended for one direction, and then for the other
+module _ {table : Table} {left : List Rule} (rules : Rules)
+    (once : AddsAll table [] left rules.left_first.items)
+    (twice : AddsAll table left rules.list.items rules.right_first.items) where
+  both_named : AllByRecursion (IsRule (length table)) rules.list.items
+  both_named = rw twice.is (all_append (IsRule (length table)) left twice.added (rw once.is once.named) twice.named)
 
-    pub room_for_halt : length list + length (rules_to table Halt) ≤ MAX_STATES * MAX_SYMBOLS
-    room_for_halt = subst (λ l. length l + length (rules_to table Halt) ≤ MAX_STATES * MAX_SYMBOLS)
-        (sym is_list) (all_fit table machine n)
+  pub both_added : AreRules table rules.list.items (starts_of rules)
+  both_added = record {
+    named = both_named;
+    in_order = λ first. elim first as (λ d. AreInOrder table rules.list.items (starts_of rules d)) [
+      | L ↦ rw twice.is (order_kept table left twice.added rules.left_first.items once.in_order)
+      | R ↦ twice.in_order
+    ];
+  }
 
-    pub room_for_start : n ≤ states → length starts < MAX_STATES + 2
-    room_for_start h =
-        let e = ap length is_starts in
-        let long = starts_long table n in
-        let most = machine.states in
-        omega (arith, e, long, most, h, all)
-
-    pub rules_gathered : n ≤ states → states ≤ n → {then_list : List Rule} {then_starts : List ℕ}
-        → then_list ≡ list ++ rules_to table Halt → then_starts ≡ starts ++ (length then_list ∷ [])
-        → AreRules table then_list then_starts
-    rules_gathered h past {then_list} {then_starts} more more_starts =
-        let e : n ≡ length table = omega (arith, h, past, all) in
-        are_rules table then_list then_starts machine
-        (more ∙ ap (λ l. l ++ rules_to table Halt) (is_list ∙ ap (sorted table) e))
-        (more_starts ∙ ap (λ l. l ++ (length then_list ∷ [])) (is_starts ∙ ap (starts_of table) e))
+pub room_for_all : {table : Table} {left : List Rule} {starts : List ℕ} (most : ℕ) → AddsAll table [] left starts
+    → 2 * MAX_STATES * MAX_SYMBOLS ≤ most → length left + MAX_STATES * MAX_SYMBOLS ≤ most
+room_for_all most once room =
+    let few = once.few in
+    let e = ap length once.is in
+    omega (arith, few, e, room)

@@ -1,7 +1,9 @@
 -- What the steps of a walk tell one another. No public contract speaks of it.
-use Rattle.std.specs.Prelude.{◌≡◌, ℕ, ◌+◌, ◌<◌, ◌≤◌, max, Bool, true, false, List, [], ◌∷◌, slice_index, pos}
+use Rattle.std.specs.Prelude.{◌≡◌, ℕ, ◌+◌, ◌-◌, ◌<◌, ◌≤◌, max, Bool, true, false, List, [], ◌∷◌, length, slice_index, pos}
 use Rattle.std.specs.Prelude.{◌+ℤ◌, ◌≤ℤ◌}
 use Rattle.std.specs.Int.{int_min, int_max}
+use Rattle.bb_machine.specs.declared.entry.Dir.{Dir}
+use Rattle.bb_machine.specs.declared.entry.Dir.TheVariants.{L}
 use Rattle.bb_machine.specs.declared.machine.TheConstants.{MAX_SYMBOLS}
 use Rattle.bb_machine.specs.Machine.{Table}
 use Rattle.bb_tape.specs.Content.{Content, blank, cell}
@@ -14,8 +16,12 @@ use Rattle.bb_cert.specs.declared.tree.walk.Count.{Count}
 use Rattle.bb_cert.specs.tree.Tree.{Node, Matches, Ends, Clear, EndsNowhere}
 use Rattle.bb_cert.specs.inside.Walk.{AreRules, HasNonzero, IsWalked, branch_node, branches, content_in}
 
+-- of how many states the rules are
+abbrev pub states_of : (Dir → List ℕ) → ℕ
+states_of starts = length (starts L) - 2
+
 -- the list and the starts are those of some table
-abbrev pub HasTable : List Rule → List ℕ → Type 0
+abbrev pub HasTable : List Rule → (Dir → List ℕ) → Type 0
 HasTable list starts = (table : Table) × AreRules table list starts
 
 -- no more than these
@@ -29,7 +35,7 @@ entered_on level entered = record { nodes = entered.nodes + 1; levels = max ente
 
 -- a branch was entered: the tape shows its node, which the start doesn't match, and the frame tells what was
 -- there
-pub record Enters (starts : List ℕ) (branch : Branch) (level : ℕ) (old new : TapeView) (frame : Frame)
+pub record Enters (starts : Dir → List ℕ) (branch : Branch) (level : ℕ) (old new : TapeView) (frame : Frame)
     : Type 0 where
   pub content : new.content ≡ content_in old.content branch
   pub low : new.low ≡ int_min old.low branch.position
@@ -37,8 +43,8 @@ pub record Enters (starts : List ℕ) (branch : Branch) (level : ℕ) (old new :
   pub position : frame.position ≡ branch.position
   pub state : frame.state ≡ branch.state
   pub before : frame.before ≡ branch.held
-  pub next : frame.next ≡ slice_index starts branch.state
-  pub to : frame.end ≡ slice_index starts (branch.state + 1)
+  pub next : frame.next ≡ slice_index (starts branch.dir) branch.state
+  pub to : frame.end ≡ slice_index (starts branch.dir) (branch.state + 1)
   pub nonzero_known : HasNonzero new.content frame.nonzero_known
   pub few_nonzero : frame.nonzero_known ≤ level + 1
   pub apart : Matches (branch_node old.content branch) start → ⊥
@@ -58,7 +64,7 @@ pub record IsFirstBranch (list : List Rule) (states : ℕ) (content : Content) (
       ≡ branch_node content branch ∷ branches list content (record frame { next = next })
 
 -- the tree of a root was walked through, and the tape is blank; or no tree ends within the bounds
-abbrev pub Explores : List Rule → List ℕ → Branch → Count → Count → Count → Content → Bool → Type 0
+abbrev pub Explores : List Rule → (Dir → List ℕ) → Branch → Count → Count → Count → Content → Bool → Type 0
 Explores list starts root most old new content true = (content ≡ blank)
     × ((table : Table) (rest : List Node) → AreRules table list starts
     → IsWalked table ((branch_node blank root ∷ rest) ∷ []) old.nodes old.levels

@@ -2,9 +2,12 @@
 use Rattle.std.specs.Prelude.{◌≡◌, ◌≢◌, ℕ, zero, suc, ◌+◌, ◌-◌, ◌*◌, ◌<◌, ◌≤◌, ◌⊎◌, Option, Some, None, List}
 use Rattle.std.specs.Prelude.{[], ◌∷◌, ◌++◌, length, slice_index, slice_range, ℤ, pos, neg_ℤ, ◌+ℤ◌, ◌≤ℤ◌}
 use Rattle.std.specs.List.{flat_map, AllByRecursion}
+use Rattle.std.specs.List.Sorted.{IsPermutation}
+use Rattle.bb_machine.specs.declared.entry.Dir.{Dir}
+use Rattle.bb_machine.specs.declared.entry.Dir.TheVariants.{L, R}
 use Rattle.bb_machine.specs.declared.entry.Next.{Next}
 use Rattle.bb_machine.specs.declared.entry.Next.TheVariants.{State, Halt}
-use Rattle.bb_machine.specs.declared.machine.TheConstants.{MAX_SYMBOLS}
+use Rattle.bb_machine.specs.declared.machine.TheConstants.{MAX_STATES, MAX_SYMBOLS}
 use Rattle.bb_machine.specs.Entry.{IsEntryOf}
 use Rattle.bb_machine.specs.Machine.{Table}
 use Rattle.bb_tape.specs.Content.{Content, blank, cell, with_cell, score}
@@ -12,8 +15,9 @@ use Rattle.bb_tape.specs.TapeView.{TapeView}
 use Rattle.bb_sim.specs.Configuration.{start}
 use Rattle.bb_cert.specs.declared.tree.path.Frame.{Frame}
 use Rattle.bb_cert.specs.declared.tree.rules.Rule.{Rule}
+use Rattle.bb_cert.specs.declared.tree.rules.Rules.{Rules}
 use Rattle.bb_cert.specs.declared.tree.walk.Branch.{Branch}
-use Rattle.bb_cert.specs.tree.Tree.{Node, Matches, MatchesOne, before_by, grown, level, grown_below}
+use Rattle.bb_cert.specs.tree.Tree.{Node, Matches, MatchesOne, OneOf, before_by, grown, level, grown_below}
 use Rattle.bb_cert.specs.tree.Tree.{nodes_below}
 use Rattle.bb_cert.specs.tree.Tree.{rules_to}
 
@@ -60,11 +64,9 @@ CombMatches table [] i = ⊥
 CombMatches table (nodes ∷ comb) i =
     ((length comb ≤ i) × MatchesOne (grown table nodes (i - length comb)) start) ⊎ CombMatches table comb i
 
--- a stretch of a list
-pub record IsPart (part whole : List Node) : Type 0 where
-  pub earlier : List Node
-  pub rest : List Node
-  pub is : whole ≡ earlier ++ (part ++ rest)
+-- each node of a list stands in another
+abbrev pub IsPart : List Node → List Node → Type 0
+IsPart part whole = (node : Node) → OneOf (λ other. other ≡ node) part → OneOf (λ other. other ≡ node) whole
 
 -- each list is a part of its level
 abbrev pub AreParts : Table → List (List Node) → Type 0
@@ -108,16 +110,39 @@ pub record IsRule (states : ℕ) (rule : Rule) : Type 0 where
 pub record IsRange (table : Table) (list : List Rule) (from to : ℕ) (next : Next) : Type 0 where
   pub in_order : from ≤ to
   pub within : to ≤ length list
-  pub are : slice_range list from to ≡ rules_to table next
+  pub are : IsPermutation (rules_to table next) (slice_range list from to)
 
 -- the rules of a table, ordered by where they lead, and where those of each state begin, and the halting ones
-pub record AreRules (table : Table) (list : List Rule) (starts : List ℕ) : Type 0 where
-  pub named : AllByRecursion (IsRule (length table)) list
+pub record AreInOrder (table : Table) (list : List Rule) (starts : List ℕ) : Type 0 where
   pub count : length starts ≡ length table + 2
   pub to_state : (state : ℕ) → state < length table
       → IsRange table list (slice_index starts state) (slice_index starts (state + 1)) (State state)
   pub halting :
       IsRange table list (slice_index starts (length table)) (slice_index starts (length table + 1)) Halt
+
+-- so they are once for each direction
+pub record AreRules (table : Table) (list : List Rule) (starts : Dir → List ℕ) : Type 0 where
+  pub named : AllByRecursion (IsRule (length table)) list
+  pub in_order : (first : Dir) → AreInOrder table list (starts first)
+
+-- where the rules begin whose first ones move in a direction
+abbrev pub starts_of : Rules → Dir → List ℕ
+starts_of rules L = rules.left_first.items
+starts_of rules R = rules.right_first.items
+
+-- a list was made longer by the elements of another, in any order
+pub record AddsRules (rules old new : List Rule) : Type 0 where
+  pub added : List Rule
+  pub is : new ≡ old ++ added
+  pub are : IsPermutation rules added
+
+-- a list was made longer by the rules of a table, ordered by where they lead
+pub record AddsAll (table : Table) (old new : List Rule) (starts : List ℕ) : Type 0 where
+  pub added : List Rule
+  pub is : new ≡ old ++ added
+  pub few : length added ≤ MAX_STATES * MAX_SYMBOLS
+  pub named : AllByRecursion (IsRule (length table)) added
+  pub in_order : AreInOrder table new starts
 
 -- what could come before a node, as the tape shows that node, on a level
 pub record IsBranch (states : ℕ) (content : Content) (level : ℕ) (branch : Branch) : Type 0 where

@@ -1,16 +1,17 @@
 //! A machine's entries, ordered by the state that they lead to.
-ghost use Rattle.std.specs.Prelude.{◌≡◌, ◌+◌, ◌<◌, ◌≤◌, ◌++◌, ◌∷◌, [], length, slice_index_or, IsTrue, ◌↔◌};
+ghost use Rattle.std.specs.Prelude.{◌≡◌, ◌+◌, ◌*◌, ◌<◌, ◌≤◌, ◌++◌, [], length, slice_index_or, IsTrue, ◌↔◌};
 ghost use Rattle.std.specs.List.{filter};
 ghost use Rattle.bb_machine.specs.Machine.{IsMachine};
 ghost use Rattle.bb_cert.specs.tree.Tree as tree;
 ghost use Rattle.bb_cert.specs.tree.Tree.{rules_in, rules_to};
-ghost use Rattle.bb_cert.specs.inside.Walk.{AreRules};
+ghost use Rattle.bb_cert.specs.inside.Walk.{AddsAll, AddsRules, AreRules, starts_of};
 
 use arrayvec::ArrayVec;
-use bb_machine::{Entry, MAX_STATES, MAX_SYMBOLS, Machine, Next};
+use bb_machine::{Dir, Entry, MAX_STATES, MAX_SYMBOLS, Machine, Next};
+use std::cmp::Reverse;
 
-/// As many entries as a machine can have.
-const MAX_RULES: usize = MAX_STATES * MAX_SYMBOLS;
+/// As many entries as a machine can have, each of them twice.
+const MAX_RULES: usize = 2 * MAX_STATES * MAX_SYMBOLS;
 
 /// A start for each state and one for the halting entries, and the end of all.
 const MAX_STARTS: usize = MAX_STATES + 2;
@@ -33,12 +34,16 @@ impl Default for Rule {
     }
 }
 
-/// The entries that lead to state A, then those that lead to B and so on, and last those that halt.
+/// The entries that lead to state A, then those that lead to B and so on, and those that halt; and all of them
+/// once more. The first time, of those that lead to one state the ones that move to the left come first, the
+/// second time those that move to the right.
 #[derive(Drop)]
 pub(crate) struct Rules {
     pub(crate) list: ArrayVec<Rule, MAX_RULES>,
-    /// Where each of these begins, and where all end.
-    pub(crate) starts: ArrayVec<u16, MAX_STARTS>,
+    /// Where each of these begins the first time, and where all end.
+    pub(crate) left_first: ArrayVec<u16, MAX_STARTS>,
+    /// The same of the second time.
+    pub(crate) right_first: ArrayVec<u16, MAX_STARTS>,
 }
 
 impl Rules {
@@ -46,30 +51,58 @@ impl Rules {
     /// machine can have would cost more than a small tree.
     pub(crate) fn gather(&mut self, machine: &Machine)
         requires no_list { self.old.list.items ≡ [] }
-        requires no_starts { self.old.starts.items ≡ [] }
-        ensures rules { AreRules machine.now self.new.list.items self.new.starts.items }
+        requires no_left { self.old.left_first.items ≡ [] }
+        requires no_right { self.old.right_first.items ≡ [] }
+        ensures rules { AreRules machine.now self.new.list.items (starts_of self.new) }
         ensures machine { IsMachine machine.now }
     {
-        self.starts.push(0);
-        for state in 0..machine.states() {
-            self.add(machine, Next::State(state));
-        }
-        self.add(machine, Next::Halt);
+        add_all(machine, Dir::L, &mut self.list, &mut self.left_first);
+        add_all(machine, Dir::R, &mut self.list, &mut self.right_first);
     }
+}
 
-    /// Appends the rules that lead to a state, or those that halt, and where they end.
-    fn add(&mut self, machine: &Machine, next: Next)
-        requires rules { length self.old.list.items + length (rules_to machine.now next) ≤ MAX_RULES }
-        requires starts { length self.old.starts.items < MAX_STARTS }
-        ensures rules { self.new.list.items ≡ self.old.list.items ++ rules_to machine.now next }
-        ensures starts { self.new.starts.items ≡ self.old.starts.items ++ length self.new.list.items ∷ [] }
-    {
-        for state in 0..machine.states() {
-            add_rules_of(machine, state, next, &mut self.list);
-        }
-        let len = self.list.len();
-        self.starts.push(len as u16);
+/// Appends the rules of a machine, of those that lead to one state the ones that move in a direction first, and
+/// puts down where those of each state begin, and where all end.
+fn add_all(
+    machine: &Machine,
+    first: Dir,
+    list: &mut ArrayVec<Rule, MAX_RULES>,
+    starts: &mut ArrayVec<u16, MAX_STARTS>,
+)
+    requires room { length list.old.items + MAX_STATES * MAX_SYMBOLS ≤ MAX_RULES }
+    requires no_starts { starts.old.items ≡ [] }
+    ensures added { AddsAll machine.now list.old.items list.new.items starts.new.items }
+    ensures machine { IsMachine machine.now }
+{
+    starts.push(list.len() as u16);
+    for state in 0..machine.states() {
+        add_rules(machine, Next::State(state), first, list);
+        starts.push(list.len() as u16);
     }
+    add_rules(machine, Next::Halt, first, list);
+    starts.push(list.len() as u16);
+}
+
+/// Appends the rules that lead to a state, or those that halt, the ones that move in a direction first.
+fn add_rules(machine: &Machine, next: Next, first: Dir, list: &mut ArrayVec<Rule, MAX_RULES>)
+    requires { length list.old.items + length (rules_to machine.now next) ≤ MAX_RULES }
+    ensures { AddsRules (rules_to machine.now next) list.old.items list.new.items }
+{
+    let from = list.len();
+    for state in 0..machine.states() {
+        add_rules_of(machine, state, next, list);
+    }
+    list.as_mut_slice()[from..].sort_unstable_by_key(|rule| place_of(*rule, first));
+}
+
+/// By what the rules that lead to one state are ordered: those that move in a direction come first, of these
+/// those of the same state, then those of greater symbols.
+fn place_of(rule: Rule, first: Dir) -> (bool, bool, Reverse<u8>, Reverse<u8>) {
+    let (turns, changes) = match rule.entry {
+        Entry::Undefined => (true, true),
+        Entry::Go { dir, next, .. } => (dir != first, next != Next::State(rule.state)),
+    };
+    (turns, changes, Reverse(rule.symbol), Reverse(rule.state))
 }
 
 /// Appends the rules of a state that lead to a state, or halt.

@@ -12,9 +12,9 @@ ghost use Rattle.bb_cert.specs.tree.Path.{depth_of};
 ghost use Rattle.bb_cert.specs.tree.Tree as tree;
 ghost use Rattle.bb_cert.specs.tree.WalkMeter.{IsWithinWalk, walked};
 ghost use Rattle.bb_cert.specs.tree.Tree.{EndsWithin, EndsNowhere};
-ghost use Rattle.bb_cert.specs.inside.Walk.{HasRoom, IsBranch, IsRule, Refused, branch_node, branches};
+ghost use Rattle.bb_cert.specs.inside.Walk.{HasRoom, IsBranch, IsRule, Refused, branch_node, branches, starts_of};
 ghost use Rattle.bb_cert.specs.inside.Steps.{Enters, Explores, HasTable, IsFirstBranch, IsWithin, WalksAll};
-ghost use Rattle.bb_cert.specs.inside.Steps.{entered_on};
+ghost use Rattle.bb_cert.specs.inside.Steps.{entered_on, states_of};
 
 use crate::tree::path::{Frame, Path};
 use crate::tree::rules::Rules;
@@ -37,6 +37,8 @@ struct Branch {
     position: i64,
     state: u8,
     symbol: u8,
+    /// How the head moves then.
+    dir: Dir,
     /// What the tape has there.
     held: u8,
     /// How many cells the node that it comes before knows to be other than 0.
@@ -107,16 +109,18 @@ fn explore_all<T: Tape>(
 {
     let mut rules = Rules {
         list: ArrayVec::new(),
-        starts: ArrayVec::new(),
+        left_first: ArrayVec::new(),
+        right_first: ArrayVec::new(),
     };
     rules.gather(machine);
     let halting = machine.states() as usize;
-    for index in rules.starts[halting]..rules.starts[halting + 1] {
+    for index in rules.right_first[halting]..rules.right_first[halting + 1] {
         let rule = rules.list[index as usize];
         let root = Branch {
             position: 0,
             state: rule.state,
             symbol: rule.symbol,
+            dir: Dir::R,
             held: 0,
             nonzero_known: 0,
         };
@@ -136,13 +140,13 @@ fn explore<T: Tape>(
     path: &mut Path,
     entered: &mut Count,
 ) -> Result<bool, Memory>
-    requires rules { HasTable rules.now.list.items rules.now.starts.items }
-    requires root { IsBranch (length rules.now.starts.items - 2) blank 0 root }
+    requires rules { HasTable rules.now.list.items (starts_of rules.now) }
+    requires root { IsBranch (states_of (starts_of rules.now)) blank 0 root }
     requires blank { (T.view tape.old).content ≡ blank }
     requires room { HasRoom (T.view tape.old) most.levels }
     requires path { most.levels ≤ depth_of path.old }
     requires within { IsWithin most entered.old }
-    ensures explores { IfOk result (Explores rules.now.list.items rules.now.starts.items root most entered.old
+    ensures explores { IfOk result (Explores rules.now.list.items (starts_of rules.now) root most entered.old
         entered.new (T.view tape.new).content) }
     ensures room { HasRoom (T.view tape.new) most.levels }
     ensures within { IsWithin most entered.new }
@@ -185,12 +189,13 @@ fn enter<T: Tape>(
     tape: &mut T,
     entered: &mut Count,
 ) -> Result<Option<Frame>, Memory>
-    requires branch { IsBranch (length rules.now.starts.items - 2) (T.view tape.old).content level branch }
+    requires rules { HasTable rules.now.list.items (starts_of rules.now) }
+    requires branch { IsBranch (states_of (starts_of rules.now)) (T.view tape.old).content level branch }
     requires beside { IsBeside (T.view tape.old) branch.position }
     requires level { level ≤ MAX_LEVELS }
     requires room { HasRoom (T.view tape.old) most.levels }
     requires within { IsWithin most entered.old }
-    ensures enters { IfOk result (λ frame. IfSome frame (Enters rules.now.starts.items branch level
+    ensures enters { IfOk result (λ frame. IfSome frame (Enters (starts_of rules.now) branch level
         (T.view tape.old) (T.view tape.new))) }
     ensures counted { IfOk result (λ frame. IfSome frame (λ frame. (level < most.levels)
         × (entered.old.nodes < most.nodes) × (entered.new ≡ entered_on level entered.old))) }
@@ -219,13 +224,17 @@ fn enter<T: Tape>(
         return Ok(None);
     }
     let state = branch.state as usize;
+    let starts = match branch.dir {
+        Dir::L => &rules.left_first,
+        Dir::R => &rules.right_first,
+    };
     Ok(Some(Frame {
         position: branch.position,
         state: branch.state,
         before: branch.held,
         nonzero_known,
-        next: rules.starts[state],
-        end: rules.starts[state + 1],
+        next: starts[state],
+        end: starts[state + 1],
     }))
 }
 
@@ -262,13 +271,13 @@ fn leave<T: Tape>(frame: Frame, tape: &mut T) -> Result<(), Memory>
 /// The next node that could come before one, and the rule after the one by which it comes.
 #[inline]
 fn next_branch<T: Tape>(rules: &Rules, frame: Frame, tape: &T) -> Option<(Branch, u16)>
-    requires rules { AllByRecursion (IsRule (length rules.now.starts.items - 2)) rules.now.list.items }
+    requires rules { AllByRecursion (IsRule (states_of (starts_of rules.now))) rules.now.list.items }
     requires order { frame.next ≤ frame.end }
     requires within { frame.end ≤ length rules.now.list.items }
     requires low { neg_ℤ (pos MAX_LEVELS) ≤ℤ frame.position }
     requires high { frame.position ≤ℤ pos MAX_LEVELS }
     ensures { MatchOption result (branches rules.now.list.items (T.view tape.now).content frame ≡ [])
-        (λ found. IsFirstBranch rules.now.list.items (length rules.now.starts.items - 2)
+        (λ found. IsFirstBranch rules.now.list.items (states_of (starts_of rules.now))
         (T.view tape.now).content frame found.0 found.1) }
 {
     for index in frame.next..frame.end {
@@ -283,6 +292,7 @@ fn next_branch<T: Tape>(rules: &Rules, frame: Frame, tape: &T) -> Option<(Branch
                 position,
                 state: rule.state,
                 symbol: rule.symbol,
+                dir,
                 held,
                 nonzero_known: frame.nonzero_known,
             };
