@@ -4,6 +4,7 @@ pub mod RuleEntries
 pub mod Levels
 pub mod TreeEnds
 pub mod Comb
+pub mod Orders
 pub mod Shown
 pub mod Entering
 pub mod Exploring

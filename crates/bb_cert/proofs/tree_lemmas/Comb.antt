@@ -6,11 +6,11 @@ use Rattle.std.proofs.lemmas.Bool.{cases_lt}
 use Rattle.std.proofs.lemmas.List.Concat.{flat_map-append}
 use Rattle.bb_machine.specs.Machine.{Table}
 use Rattle.bb_sim.specs.Configuration.{start}
-use Rattle.bb_cert.specs.tree.Tree.{Node, Matches, MatchesOne, before, grown, level, grown_below, Ends, Clear}
+use Rattle.bb_cert.specs.tree.Tree.{Node, Matches, OneOf, MatchesOne, before, grown, level, grown_below, Ends, Clear}
 use Rattle.bb_cert.specs.tree.Tree.{EndsNowhere}
 use Rattle.bb_cert.specs.inside.Walk.{comb_below, CombMatches, IsPart, IsWalked, Refused, too_deep, too_many}
 use Rattle.bb_cert.specs.inside.Walk.{matched}
-use Rattle.bb_cert.proofs.tree_lemmas.OneOf.{one-append_right, one-append_cases}
+use Rattle.bb_cert.proofs.tree_lemmas.OneOf.{one_more, one-append_cases, one-flat_map}
 use Rattle.bb_cert.proofs.tree_lemmas.TreeEnds.{empty_levels_stay}
 
 -- trees of two lists
@@ -21,7 +21,7 @@ grown-append table a b zero = refl
 grown-append table a b (suc i) = ap (flat_map (before table)) (grown-append table a b i)
     ∙ flat_map-append (before table) (grown table a i) (grown table b i)
 
-grown-empty : (table : Table) (i : ℕ) → grown table [] i ≡ []
+pub grown-empty : (table : Table) (i : ℕ) → grown table [] i ≡ []
 grown-empty table zero = refl
 grown-empty table (suc i) = ap (flat_map (before table)) (grown-empty table i)
 
@@ -54,7 +54,7 @@ below-node table node rest (suc h) =
 
 -- entering and leaving
 
-empty_below : (table : Table) (h : ℕ) → grown_below table [] h ≡ 0
+pub empty_below : (table : Table) (h : ℕ) → grown_below table [] h ≡ 0
 empty_below table zero = refl
 empty_below table (suc h) =
     let past = empty_below table h in
@@ -100,37 +100,22 @@ matches_entered table node rest comb i apart (inl both) = elim (cases_lt (length
       ]
 ]
 
-regroup : (node : Node) (front rest after : List Node)
-    → front ++ ((node ∷ rest) ++ after) ≡ (front ++ (node ∷ [])) ++ (rest ++ after)
-regroup node [] rest after = refl
-regroup node (n ∷ front) rest after = ap (λ ns. n ∷ ns) (regroup node front rest after)
-
 -- what could come before a node of a level is a part of the next
 before_part : (table : Table) (node : Node) (rest : List Node) (i : ℕ) → IsPart (node ∷ rest) (level table i)
     → IsPart (before table node) (level table (suc i))
-before_part table node rest i part =
-    let step = flat_map (before table) in
-    record {
-      earlier = step part.earlier;
-      rest = step (rest ++ part.rest);
-      is = ap step part.is ∙ flat_map-append (before table) part.earlier ((node ∷ rest) ++ part.rest);
-    }
+before_part table node rest i part n one =
+    one-flat_map (λ other. other ≡ n) (before table) (level table i)
+    (one_more (λ other. other ≡ node) (λ other. OneOf (λ o. o ≡ n) (before table other))
+    (λ other same. subst (λ m. OneOf (λ o. o ≡ n) (before table m)) (sym same) one) (level table i)
+    (part node (inl refl)))
 
 rest_part : (node : Node) (rest whole : List Node) → IsPart (node ∷ rest) whole → IsPart rest whole
-rest_part node rest whole part = record {
-  earlier = part.earlier ++ (node ∷ []);
-  rest = part.rest;
-  is = part.is ∙ regroup node part.earlier rest part.rest;
-}
-
-part_of_none : (node : Node) (front rest : List Node) → [] ≡ front ++ (node ∷ rest) → ⊥
-part_of_none node [] rest e = cc
-part_of_none node (n ∷ front) rest e = cc
+rest_part node rest whole part n one = part n (inr one)
 
 -- a level that has a node
 has_node : (table : Table) (node : Node) (rest : List Node) (i : ℕ) → IsPart (node ∷ rest) (level table i)
     → level table i ≢ []
-has_node table node rest i part none = part_of_none node part.earlier (rest ++ part.rest) (sym none ∙ part.is)
+has_node table node rest i part none = subst (OneOf (λ other. other ≡ node)) none (part node (inl refl))
 
 pub walk_enters : {table : Table} {node : Node} {rest : List Node} {comb : List (List Node)}
     {nodes levels : ℕ} → IsWalked table ((node ∷ rest) ∷ comb) nodes levels → (Matches node start → ⊥)
@@ -195,11 +180,10 @@ module _ {table : Table} {node : Node} {rest : List Node} {comb : List (List Nod
       omega (arith, all, more, size)
 
   never_clear : Matches node start → Clear table h → ⊥
-  never_clear here clear =
-      let part = walked.parts.0 in
-      let one : MatchesOne (part.earlier ++ ((node ∷ rest) ++ part.rest)) start =
-      one-append_right (λ n. Matches n start) part.earlier ((node ∷ rest) ++ part.rest) (inl here) in
-      clear.clear (length comb) goes_deeper (subst (λ ns. MatchesOne ns start) (sym part.is) one)
+  never_clear here clear = clear.clear (length comb) goes_deeper
+      (one_more (λ other. other ≡ node) (λ n. Matches n start)
+      (λ other same. subst (λ n. Matches n start) (sym same) here) (level table (length comb))
+      (walked.parts.0 node (inl refl)))
 
 pub walk_refused : {table : Table} {node : Node} {rest : List Node} {comb : List (List Node)}
     {nodes levels most_nodes most_levels : ℕ} → IsWalked table ((node ∷ rest) ∷ comb) nodes levels
@@ -229,7 +213,7 @@ walk_begins table = record {
       let e = ap (grown_below table (level table 0)) n in
       omega (arith, e);
   reached = λ i less. absurd (omega arith);
-  parts = (record { earlier = []; rest = []; is = sym (one_node (level table 0)) }, tt);
+  parts = (λ node one. one, tt);
   matches = λ i one.
       let n : i ≡ i - 0 = omega arith in
       inl (omega arith, subst (λ j. MatchesOne (grown table (level table 0) j) start) n one);

@@ -3,6 +3,7 @@ use Rattle.std.proofs.Common.{◌≡◌, ℕ, ◌+◌, ◌-◌, ◌<◌, min, Li
 use Rattle.std.proofs.Common.{arith}
 use Rattle.std.specs.Int.{int_min, int_max}
 use Rattle.std.proofs.lemmas.Int.{ints, clamps}
+use Rattle.bb_machine.specs.declared.entry.Dir.{Dir}
 use Rattle.bb_tape.specs.Content.{Content, cell}
 use Rattle.bb_tape.specs.TapeView.{TapeView, visited, written}
 use Rattle.bb_cert.specs.declared.tree.walk.Branch.{Branch}
@@ -77,8 +78,9 @@ module _ {states level : ℕ} (old : TapeView) {branch : Branch}
             matched (start_matches (content_in old.content branch) branch.position branch.state nonzero
             more_nonzero in_a none)
 
-        pub entered_frame : {starts : List ℕ} {next to : ℕ} → next ≡ slice_index starts branch.state
-            → to ≡ slice_index starts (branch.state + 1) → (branch.state ≡ 0 → nonzero ≡ 0 → ⊥)
+        pub entered_frame : {starts : Dir → List ℕ} {next to : ℕ}
+            → next ≡ slice_index (starts branch.dir) branch.state
+            → to ≡ slice_index (starts branch.dir) (branch.state + 1) → (branch.state ≡ 0 → nonzero ≡ 0 → ⊥)
             → Enters starts branch level old new
             (record {
               position = p;

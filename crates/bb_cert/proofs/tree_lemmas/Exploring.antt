@@ -1,11 +1,13 @@
 -- What a walk knows between its steps, and why each step keeps it.
 use Rattle.std.proofs.Common.{◌≡◌, ℕ, ◌+◌, ◌-◌, ◌<◌, ◌≤◌, max, true, false, List, [], ◌∷◌, ◌++◌, length}
-use Rattle.std.proofs.Common.{reverse, ℤ, pos, neg_ℤ, ◌+ℤ◌, ◌≤ℤ◌, refl, ap, sym}
+use Rattle.std.proofs.Common.{reverse, slice_index, slice_range, ℤ, pos, neg_ℤ, ◌+ℤ◌, ◌≤ℤ◌, refl, ap, sym}
 use Rattle.std.proofs.Common.{subst, ◌∙◌, length-append, arith}
 use Rattle.std.specs.Int.{int_min, int_max}
-use Rattle.std.specs.List.{flat_map}
+use Rattle.std.specs.List.{AllByRecursion, flat_map}
 use Rattle.std.proofs.lemmas.Int.{ints, clamps}
 use Rattle.std.proofs.lemmas.List.{reverse-append, length-reverse}
+use Rattle.bb_machine.specs.declared.entry.Dir.{Dir}
+use Rattle.bb_machine.specs.declared.entry.Dir.TheVariants.{L}
 use Rattle.bb_machine.specs.declared.entry.Next.TheVariants.{State}
 use Rattle.bb_machine.specs.declared.limits.TheConstants.{MAX_LEVELS}
 use Rattle.bb_machine.specs.Machine.{Table}
@@ -16,12 +18,14 @@ use Rattle.bb_cert.specs.declared.tree.path.Frame.{Frame}
 use Rattle.bb_cert.specs.declared.tree.rules.Rule.{Rule}
 use Rattle.bb_cert.specs.declared.tree.walk.Branch.{Branch}
 use Rattle.bb_cert.specs.declared.tree.walk.Count.{Count}
-use Rattle.bb_cert.specs.tree.Tree.{Node, before, before_by}
-use Rattle.bb_cert.specs.inside.Walk.{AreRules, AreFrames, IsFrame, IsBranch, IsRange, IsWalked, HasNonzero}
+use Rattle.bb_cert.specs.tree.Tree.{Node, before, before_by, rules_to}
+use Rattle.bb_cert.specs.inside.Walk.{AreRules, AreFrames, IsFrame, IsBranch, IsRange, IsRule, IsWalked}
+use Rattle.bb_cert.specs.inside.Walk.{HasNonzero}
 use Rattle.bb_cert.specs.inside.Walk.{Refused}
 use Rattle.bb_cert.specs.inside.Walk.{branches, comb_of, branch_node}
-use Rattle.bb_cert.specs.inside.Steps.{HasTable, Enters, Explores, IsFirstBranch, entered_on}
+use Rattle.bb_cert.specs.inside.Steps.{HasTable, Enters, Explores, IsFirstBranch, entered_on, states_of}
 use Rattle.bb_cert.proofs.tree_lemmas.Comb.{walk_enters, walk_leaves, walk_refused}
+use Rattle.bb_cert.proofs.tree_lemmas.Orders.{AreAlike, alike_permuted, walk_rearranged}
 
 -- a frame of a narrower window is one of a wider one, also with another rule to be tried next
 frame_kept : {list : List Rule} {low high low' high' : ℤ} {content : Content} {level : ℕ} {f : Frame}
@@ -66,20 +70,27 @@ min_second a b = omega (arith, ints, clamps)
 max_second : (a b : ℤ) → b ≤ℤ int_max a b
 max_second a b = omega (arith, ints, clamps)
 
+pub all_named : {list : List Rule} {starts : Dir → List ℕ} → HasTable list starts
+    → AllByRecursion (IsRule (states_of starts)) list
+all_named {list} {starts} known =
+    let n = (known.1.in_order L).count in
+    let same : length known.0 ≡ states_of starts = omega (arith, n) in
+    subst (λ states. AllByRecursion (IsRule states) list) same known.1.named
+
 -- a branch was entered
 
-module _ {list : List Rule} {starts : List ℕ} (known : HasTable list starts) {branch : Branch} {level : ℕ}
+module _ {list : List Rule} {starts : Dir → List ℕ} (known : HasTable list starts) {branch : Branch} {level : ℕ}
     {old new : TapeView} {frame : Frame} (enters : Enters starts branch level old new frame)
-    (is : IsBranch (length starts - 2) old.content level branch) (symbols : HasSymbols old.content) where
+    (is : IsBranch (states_of starts) old.content level branch) (symbols : HasSymbols old.content) where
   undone : with_cell new.content frame.position frame.before ≡ old.content
   undone = rw (enters.position, enters.content, enters.before, is.held)
       (put_back old.content branch.position (branch.symbol + 1))
 
   in_states : (table : Table) → AreRules table list starts → branch.state < length table
-  in_states table rules = let n = rules.count in let s = is.state in omega (arith, n, s)
+  in_states table rules = let n = (rules.in_order L).count in let s = is.state in omega (arith, n, s)
 
   range : IsRange known.0 list frame.next frame.end (State branch.state)
-  range = rw (enters.next, enters.to) (known.1.to_state branch.state (in_states known.0 known.1))
+  range = rw (enters.next, enters.to) ((known.1.in_order branch.dir).to_state branch.state (in_states known.0 known.1))
 
   frame_is : IsFrame list new.low new.high new.content level frame
   frame_is = record {
@@ -104,11 +115,13 @@ module _ {list : List Rule} {starts : List ℕ} (known : HasTable list starts) {
   )
 
   branches_before : (table : Table) → AreRules table list starts
-      → branches list new.content frame ≡ before table (branch_node old.content branch)
+      → AreAlike table (before table (branch_node old.content branch)) (branches list new.content frame)
   branches_before table rules =
+      let place = (rules.in_order branch.dir).to_state branch.state (in_states table rules) in
       rw (enters.content, enters.position, enters.state, enters.next, enters.to)
-      (ap (flat_map (before_by (branch_node old.content branch)))
-      (rules.to_state branch.state (in_states table rules)).are)
+      (alike_permuted table (before_by (branch_node old.content branch)) (rules_to table (State branch.state))
+      (slice_range list (slice_index (starts branch.dir) branch.state)
+      (slice_index (starts branch.dir) (branch.state + 1))) place.are)
 
   -- where the frames fs lie on the way to the branch
   pub walked_entered : (table : Table) (rest : List Node) {more : List Node} (fs : List Frame)
@@ -116,32 +129,35 @@ module _ {list : List Rule} {starts : List ℕ} (known : HasTable list starts) {
       → comb_of list rest old.content fs ≡ more ∷ tail
       → IsWalked table ((branch_node old.content branch ∷ more) ∷ tail) nodes levels
       → IsWalked table (comb_of list rest new.content (frame ∷ fs)) (nodes + 1) (max levels (level + 1))
-  walked_entered table rest fs rules long comb walked =
-      rw (branches_before table rules, undone, comb, sym long) (walk_enters walked enters.apart)
+  walked_entered table rest {more} fs {tail} {nodes} {levels} rules long comb walked =
+      let first = before table (branch_node old.content branch) in
+      let entered : IsWalked table (first ∷ comb_of list rest (with_cell new.content frame.position frame.before) fs)
+      (nodes + 1) (max levels (level + 1)) = rw (undone, comb, sym long) (walk_enters walked enters.apart) in
+      walk_rearranged (branches_before table rules) entered
 
 -- what a walk from a root knows between its steps
 
-abbrev pub WalkedTo : List Rule → List ℕ → Branch → Count → Content → List Frame → Count → Type 0
+abbrev pub WalkedTo : List Rule → (Dir → List ℕ) → Branch → Count → Content → List Frame → Count → Type 0
 WalkedTo list starts root old content fs entered = (table : Table) (rest : List Node)
     → AreRules table list starts
     → IsWalked table ((branch_node blank root ∷ rest) ∷ []) old.nodes old.levels
     → IsWalked table (comb_of list rest content fs) entered.nodes entered.levels
 
-pub record IsExploring (list : List Rule) (starts : List ℕ) (root : Branch) (old most : Count)
+pub record IsExploring (list : List Rule) (starts : Dir → List ℕ) (root : Branch) (old most : Count)
     (view : TapeView) (top : Frame) (frames : List Frame) (entered : Count) : Type 0 where
   pub are : AreFrames list view.low view.high view.content (top ∷ reverse frames)
   pub few : length frames < most.levels
   pub walked : WalkedTo list starts root old view.content (top ∷ reverse frames) entered
 
-pub exploring_begins : {list : List Rule} {starts : List ℕ} {root : Branch} {old most : Count}
+pub exploring_begins : {list : List Rule} {starts : Dir → List ℕ} {root : Branch} {old most : Count}
     {before after : TapeView} {frame : Frame} {entered : Count} → HasTable list starts
-    → IsBranch (length starts - 2) blank 0 root → before.content ≡ blank → HasSymbols before.content
+    → IsBranch (states_of starts) blank 0 root → before.content ≡ blank → HasSymbols before.content
     → Enters starts root 0 before after frame → 0 < most.levels → entered ≡ entered_on 0 old
     → IsExploring list starts root old most after frame [] entered
 exploring_begins {list} {starts} {root} {old} {before = before} {after} {frame} known is blank_before symbols
     enters some counted =
-    let is_here : IsBranch (length starts - 2) before.content 0 root =
-    subst (λ c. IsBranch (length starts - 2) c 0 root) (sym blank_before) is in
+    let is_here : IsBranch (states_of starts) before.content 0 root =
+    subst (λ c. IsBranch (states_of starts) c 0 root) (sym blank_before) is in
     record {
       are = frames_entered known enters is_here symbols [] refl blank_before;
       few = some;
@@ -174,7 +190,7 @@ far_low p n most h a = omega (arith, ints, h, a)
 far_high : (p : ℤ) (n most : ℕ) → n ≤ most → p ≤ℤ pos n → p ≤ℤ pos most
 far_high p n most h a = omega (arith, ints, h, a)
 
-module _ {list : List Rule} {starts : List ℕ} {root : Branch} {old most : Count} {view : TapeView}
+module _ {list : List Rule} {starts : Dir → List ℕ} {root : Branch} {old most : Count} {view : TapeView}
     {top : Frame} {frames : List Frame} {entered : Count}
     (now : IsExploring list starts root old most view top frames entered) where
   long : length (reverse frames) ≡ length frames
@@ -197,8 +213,8 @@ module _ {list : List Rule} {starts : List ℕ} {root : Branch} {old most : Coun
   -- a branch was found
 
   module _ {branch : Branch} {next : ℕ}
-      (first : IsFirstBranch list (length starts - 2) view.content top branch next) where
-    pub branch_is : IsBranch (length starts - 2) view.content (length frames + 1) branch
+      (first : IsFirstBranch list (states_of starts) view.content top branch next) where
+    pub branch_is : IsBranch (states_of starts) view.content (length frames + 1) branch
     branch_is = record {
       not_below = below_more top.position branch.position (length frames) top_is.not_below first.not_below;
       not_above = above_more top.position branch.position (length frames) top_is.not_above first.not_above;
@@ -301,7 +317,7 @@ module _ {list : List Rule} {starts : List ℕ} {root : Branch} {old most : Coun
         }
 
 -- the root itself is refused
-pub root_refused : (list : List Rule) (starts : List ℕ) (root : Branch) (old most new : Count)
+pub root_refused : (list : List Rule) (starts : Dir → List ℕ) (root : Branch) (old most new : Count)
     (content after : Content) → content ≡ blank
     → Refused (branch_node content root) 0 old.nodes most.nodes most.levels
     → Explores list starts root most old new after false

@@ -1,6 +1,9 @@
 -- One of a list's elements for which something holds.
-use Rattle.std.proofs.Common.{◌≡◌, Bool, true, false, cond, ◌⊎◌, inl, inr, List, [], ◌∷◌, ◌++◌, map, refl}
-use Rattle.std.specs.List.{filter, flat_map}
+use Rattle.std.proofs.Common.{◌≡◌, ℕ, zero, suc, ◌+◌, ◌<◌, Bool, true, false, cond, ◌⊎◌, inl, inr, List, []}
+use Rattle.std.proofs.Common.{◌∷◌, ◌++◌, length, get_or, map, refl, sym, subst, arith}
+use Rattle.std.specs.List.{Contains, filter, flat_map}
+use Rattle.std.specs.List.Sorted.{IsPermutation}
+use Rattle.std.proofs.lemmas.List.Sorted.{Contains-permutation}
 use Rattle.bb_cert.specs.tree.Tree.{OneOf}
 
 pub one-append_left : {X : Type 0} (P : X → Type 0) (xs ys : List X) → OneOf P xs → OneOf P (xs ++ ys)
@@ -81,3 +84,37 @@ one-in_filter P test (x ∷ xs) one = elim (kept_cases P (test x) x (filter test
   | inl both ↦ inl both
   | inr further ↦ inr (one-in_filter P test xs further)
 ]
+
+-- an element for which something holds
+record Found (X : Type 0) (P : X → Type 0) (xs : List X) : Type 0 where
+  element : X
+  contained : Contains xs element
+  holds : P element
+
+found_later : {X : Type 0} (P : X → Type 0) (y : X) (xs : List X) → Found X P xs → Found X P (y ∷ xs)
+found_later P y xs found =
+    let less = found.contained.1 in
+    record {
+      element = found.element;
+      contained = (suc found.contained.0, omega (arith, less), found.contained.2);
+      holds = found.holds;
+    }
+
+found_one : {X : Type 0} (P : X → Type 0) (xs : List X) → OneOf P xs → Found X P xs
+found_one P [] one = absurd one
+found_one P (x ∷ xs) (inl p) = record { element = x; contained = (zero, omega arith, refl); holds = p }
+found_one P (x ∷ xs) (inr one) = found_later P x xs (found_one P xs one)
+
+one_at : {X : Type 0} (P : X → Type 0) (xs : List X) (k : ℕ) (x : X) → k < length xs → get_or xs k x ≡ x → P x
+    → OneOf P xs
+one_at P [] k x less is p = absurd (omega (arith, less))
+one_at P (y ∷ xs) zero x less is p = inl (subst P (sym is) p)
+one_at P (y ∷ xs) (suc k) x less is p = inr (one_at P xs k x (omega (arith, less)) is p)
+
+-- the order makes no difference
+pub one_permuted : {X : Type 0} (P : X → Type 0) (xs ys : List X) → IsPermutation xs ys → OneOf P xs
+    → OneOf P ys
+one_permuted P xs ys same one =
+    let found = found_one P xs one in
+    let there = Contains-permutation xs ys found.element same found.contained in
+    one_at P ys there.0 found.element there.1 there.2 found.holds

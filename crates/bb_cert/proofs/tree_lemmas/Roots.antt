@@ -1,7 +1,9 @@
 -- The trees of the halting entries, one after another.
 use Rattle.std.proofs.Common.{◌≡◌, ℕ, ◌+◌, ◌-◌, ◌<◌, ◌≤◌, true, false, List, [], ◌∷◌, length, get_or}
-use Rattle.std.proofs.Common.{map, slice_range, pos, ap, sym, ◌∙◌, arith}
+use Rattle.std.proofs.Common.{map, slice_range, pos, ap, sym, subst, ◌∙◌, arith}
 use Rattle.std.proofs.lemmas.Int.{ints}
+use Rattle.bb_machine.specs.declared.entry.Dir.{Dir}
+use Rattle.bb_machine.specs.declared.entry.Dir.TheVariants.{L, R}
 use Rattle.bb_machine.specs.declared.entry.Next.TheVariants.{Halt}
 use Rattle.bb_machine.specs.Machine.{Table}
 use Rattle.bb_tape.specs.Content.{Content, blank}
@@ -9,26 +11,27 @@ use Rattle.bb_tape.proofs.Facts.{cell-blank}
 use Rattle.bb_cert.specs.declared.tree.rules.Rule.{Rule}
 use Rattle.bb_cert.specs.declared.tree.walk.Branch.{Branch}
 use Rattle.bb_cert.specs.declared.tree.walk.Count.{Count}
-use Rattle.bb_cert.specs.tree.Tree.{halting_node, EndsNowhere}
-use Rattle.bb_cert.specs.inside.Walk.{AreRules, IsBranch, IsRange, IsRule, IsWalked, branch_node}
-use Rattle.bb_cert.specs.inside.Steps.{Explores, IsWithin, WalksAll}
+use Rattle.bb_cert.specs.tree.Tree.{halting_node, rules_to, EndsNowhere}
+use Rattle.bb_cert.specs.inside.Walk.{AreInOrder, AreRules, IsBranch, IsRange, IsRule, IsWalked, branch_node}
+use Rattle.bb_cert.specs.inside.Steps.{Explores, HasTable, IsWithin, WalksAll, states_of}
 use Rattle.bb_cert.proofs.tree_lemmas.Comb.{walk_begins, walk_ends}
+use Rattle.bb_cert.proofs.tree_lemmas.Orders.{alike_mapped, walk_rearranged}
 use Rattle.bb_cert.proofs.tree_lemmas.Shown.{blank_nonzero, halting_shown, named_at, no_rule, slice_none}
 use Rattle.bb_cert.proofs.tree_lemmas.Shown.{slice_step}
 
 -- the branch of a halting rule
 abbrev pub root_of : Rule → Branch
 root_of rule =
-    record { position = pos 0; state = rule.state; symbol = rule.symbol; held = 0; nonzero_known = 0 }
+    record { position = pos 0; state = rule.state; symbol = rule.symbol; dir = R; held = 0; nonzero_known = 0 }
 
 -- a halting rule, which stands in the list that the code reads
-pub record IsRoot (table : Table) (list seen : List Rule) (starts : List ℕ) (index to : ℕ) : Type 0 where
+pub record IsRoot (table : Table) (list seen : List Rule) (starts : Dir → List ℕ) (index to : ℕ) : Type 0 where
   pub rules : AreRules table list starts
   pub same : seen ≡ list
   pub less : index < to
   pub within : to ≤ length list
 
-module _ {table : Table} {list seen : List Rule} {starts : List ℕ} {index to : ℕ}
+module _ {table : Table} {list seen : List Rule} {starts : Dir → List ℕ} {index to : ℕ}
     (root : IsRoot table list seen starts index to) where
   there : get_or seen index no_rule ≡ get_or list index no_rule
   there = ap (λ xs. get_or xs index no_rule) root.same
@@ -36,14 +39,17 @@ module _ {table : Table} {list seen : List Rule} {starts : List ℕ} {index to :
   in_list : index < length list
   in_list = let less = root.less in let within = root.within in omega (arith, less, within)
 
-  pub root_is : IsBranch (length starts - 2) blank 0 (root_of (get_or seen index no_rule))
+  pub rule_within : index < length seen
+  rule_within = subst (λ xs. index < length xs) (sym root.same) in_list
+
+  pub root_is : IsBranch (states_of starts) blank 0 (root_of (get_or seen index no_rule))
   root_is =
       let is : IsRule (length table) (get_or seen index no_rule) = rw there
       (named_at (length table) list root.rules.named index no_rule in_list) in
       record {
         not_below = omega (arith, ints);
         not_above = omega (arith, ints);
-        state = let s = is.state in let n = root.rules.count in omega (arith, s, n);
+        state = let s = is.state in let n = (root.rules.in_order L).count in omega (arith, s, n);
         symbol = is.symbol;
         held = sym (cell-blank (pos 0));
         nonzero_known = blank_nonzero;
@@ -75,8 +81,9 @@ module _ {table : Table} {list seen : List Rule} {starts : List ℕ} {index to :
 pub roots_begin : {table : Table} {list : List Rule} {from to nodes levels : ℕ}
     → IsRange table list from to Halt → nodes ≡ 0 → levels ≡ 0
     → IsWalked table (map halting_node (slice_range list from to) ∷ []) nodes levels
-roots_begin {table} range none no_levels =
-    rw (none, no_levels, range.are) (walk_begins table)
+roots_begin {table} {list} {from} {to} range none no_levels = rw (none, no_levels)
+    (walk_rearranged (alike_mapped table halting_node (rules_to table Halt) (slice_range list from to) range.are)
+    (walk_begins table))
 
 pub roots_end : (table : Table) (list : List Rule) (index to : ℕ) (most entered : Count) → to ≤ index
     → IsWalked table (map halting_node (slice_range list index to) ∷ []) entered.nodes entered.levels
@@ -102,3 +109,18 @@ before_end e h = omega (arith, e, h)
 
 pub past_end : {index read to : ℕ} → read ≡ to → read ≤ index → to ≤ index
 past_end e h = omega (arith, e, h)
+
+-- the places of all starts are in their list
+pub start_within : {table : Table} {list : List Rule} {starts : List ℕ} {state : ℕ} → AreInOrder table list starts
+    → state ≡ length table → state + 1 < length starts
+start_within order e = let n = order.count in omega (arith, n, e)
+
+pub state_within : {list : List Rule} {starts : Dir → List ℕ} {state : ℕ} → HasTable list starts → (first : Dir)
+    → state < states_of starts → state + 1 < length (starts first)
+state_within known first h =
+    let n = (known.1.in_order L).count in
+    let m = (known.1.in_order first).count in
+    omega (arith, n, m, h)
+
+pub below_next : {state long : ℕ} → state + 1 < long → state < long
+below_next h = omega (arith, h)

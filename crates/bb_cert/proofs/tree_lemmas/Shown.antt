@@ -212,6 +212,7 @@ module _ {list seen : List Rule} (same : seen ≡ list) (content : Content) (f :
       position = p;
       state = tried.state;
       symbol = tried.symbol;
+      dir = dir;
       held = held;
       nonzero_known = f.nonzero_known;
     }

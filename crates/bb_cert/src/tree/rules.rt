@@ -1,10 +1,12 @@
 //! A machine's entries, ordered by the state that they lead to.
-ghost use Rattle.std.specs.Prelude.{◌≡◌, ◌+◌, ◌*◌, ◌<◌, ◌≤◌, ◌++◌, [], length, slice_index_or, IsTrue, ◌↔◌};
+ghost use Rattle.std.specs.Prelude.{◌≡◌, ◌+◌, ◌*◌, ◌<◌, ◌≤◌, ◌++◌, [], length, slice_index};
+ghost use Rattle.std.specs.Prelude.{slice_index_or, IsTrue, ◌↔◌};
 ghost use Rattle.std.specs.List.{filter};
 ghost use Rattle.bb_machine.specs.Machine.{IsMachine};
 ghost use Rattle.bb_cert.specs.tree.Tree as tree;
 ghost use Rattle.bb_cert.specs.tree.Tree.{rules_in, rules_to};
 ghost use Rattle.bb_cert.specs.inside.Walk.{AddsAll, AddsRules, AreRules, starts_of};
+ghost use Rattle.bb_cert.specs.inside.Steps.{HasTable, states_of};
 
 use arrayvec::ArrayVec;
 use bb_machine::{Dir, Entry, MAX_STATES, MAX_SYMBOLS, Machine, Next};
@@ -58,6 +60,21 @@ impl Rules {
     {
         add_all(machine, Dir::L, &mut self.list, &mut self.left_first);
         add_all(machine, Dir::R, &mut self.list, &mut self.right_first);
+    }
+
+    /// Where the rules that lead to a state begin and end, the ones that move in a direction first.
+    #[inline]
+    pub(crate) fn range(&self, state: u8, first: Dir) -> (u16, u16)
+        requires rules { HasTable self.now.list.items (starts_of self.now) }
+        requires state { state < states_of (starts_of self.now) }
+        ensures from { result.0 ≡ slice_index (starts_of self.now first) state }
+        ensures to { result.1 ≡ slice_index (starts_of self.now first) (state + 1) }
+    {
+        let state = state as usize;
+        match first {
+            Dir::L => (self.left_first[state], self.left_first[state + 1]),
+            Dir::R => (self.right_first[state], self.right_first[state + 1]),
+        }
     }
 }
 

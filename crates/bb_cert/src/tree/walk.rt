@@ -223,18 +223,14 @@ fn enter<T: Tape>(
     if branch.state == 0 && nonzero_known == 0 {
         return Ok(None);
     }
-    let state = branch.state as usize;
-    let starts = match branch.dir {
-        Dir::L => &rules.left_first,
-        Dir::R => &rules.right_first,
-    };
+    let (next, end) = rules.range(branch.state, branch.dir);
     Ok(Some(Frame {
         position: branch.position,
         state: branch.state,
         before: branch.held,
         nonzero_known,
-        next: starts[state],
-        end: starts[state + 1],
+        next,
+        end,
     }))
 }
 

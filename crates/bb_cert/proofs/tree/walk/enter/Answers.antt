@@ -32,8 +32,7 @@ returns-clause-enters g c =
     let fits : FitsSigned w64 c.args.branch.position = search rules in
     entered_frame (g.T.Tape.view c.args.tape.now) c.requires.branch (to_z-of_z _ _ fits) c.in-Ok.ensures.ok
     c.in-Ok-write.ensures.ok c.count_known-nonzero_known.ensures
-    (ap (λ xs. slice_index_or xs c.args.branch.state 0) c.deref.ensures.0)
-    (ap (λ xs. slice_index_or xs (c.args.branch.state + 1) 0) c.deref-2.ensures.0)
+    c.range-next.ensures.from c.range-next.ensures.to
     (λ in_a none. elim c.else-branch-eq0.either [ inl both ↦ both.1 none | inr other ↦ other in_a ])
 
 pub returns-clause-room : goal.returns-clause-room

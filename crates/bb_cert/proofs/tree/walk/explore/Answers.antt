@@ -1,8 +1,9 @@
 use Rattle.std.proofs.Common.{◌≡◌, ℕ, ◌+◌, ◌<◌, ◌≤◌, refl, ◌∙◌, arith, rules}
 use Rattle.bb_machine.specs.declared.limits.TheConstants.{MAX_LEVELS}
+use Rattle.bb_cert.specs.inside.Walk.{starts_of}
 use Rattle.bb_cert.proofs.tree_lemmas.Entering.{room_written}
 use Rattle.bb_cert.proofs.tree_lemmas.Exploring.{exploring_begins, top_is, top_low, top_high}
-use Rattle.bb_cert.proofs.tree_lemmas.Exploring.{top_inside}
+use Rattle.bb_cert.proofs.tree_lemmas.Exploring.{all_named, top_inside}
 use Rattle.bb_cert.proofs.tree_lemmas.Exploring.{branch_is, branch_beside, branch_refused}
 use Rattle.bb_cert.proofs.tree_lemmas.Exploring.{exploring_descends, explored}
 use Rattle.bb_cert.proofs.tree_lemmas.Exploring.{exploring_returns, root_refused}
@@ -10,7 +11,7 @@ use Rattle.bb_cert.proofs.tree.walk.explore.Goals as goal
 
 pub returns-in_default-clause-explores : goal.returns-in_default-clause-explores
 returns-in_default-clause-explores g c = root_refused c.args.rules.now.list.items
-    c.args.rules.now.starts.items c.args.root c.args.entered.now c.args.most c.enter.new.entered
+    (starts_of c.args.rules.now) c.args.root c.args.entered.now c.args.most c.enter.new.entered
     (g.T.Tape.view c.args.tape.now).content (g.T.Tape.view c.enter.new.tape).content c.requires.blank
     (rw c.in_default.is at c.in_ok-top.ensures.refused)
 
@@ -37,7 +38,7 @@ next_branch-requires g c =
     let now = c.loop-branch.invariant.exploring in
     let most = most_levels _ _ _ c.requires.path c.loop-branch.invariant.depth c.loop-branch.path.few in
     record {
-      rules = search rules;
+      rules = all_named c.requires.rules;
       order = (top_is now).in_order;
       within = (top_is now).in_rules;
       low = top_low now most;
@@ -53,6 +54,7 @@ enter-requires-in-Some-next_branch g c =
     let first = c.in-Some-next_branch.ensures in
     let most = most_levels _ _ _ c.requires.path c.loop-branch.invariant.depth c.loop-branch.path.few in
     record {
+      rules = c.requires.rules;
       branch = rw c.len.ensures (branch_is now first);
       beside = branch_beside now first;
       level = few_levels _ _ _ _ now.few most c.len.ensures;

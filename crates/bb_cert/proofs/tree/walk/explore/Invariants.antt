@@ -1,13 +1,13 @@
 use Rattle.std.proofs.Common.{◌≡◌, ◌+◌, ◌-◌, ◌*◌, length}
 use Rattle.bb_cert.specs.tree.Path.{depth_of, frames_of}
-use Rattle.bb_cert.specs.inside.Walk.{HasRoom}
+use Rattle.bb_cert.specs.inside.Walk.{HasRoom, starts_of}
 use Rattle.bb_cert.specs.inside.Steps.{IsWithin}
 use Rattle.bb_cert.proofs.tree_lemmas.Exploring.{IsExploring}
 use Rattle.bb_cert.proofs.tree.walk.explore.Given as goal
 
 abbrev pub invariant-loop-branch : goal.invariant-loop-branch
 invariant-loop-branch g l = record {
-  exploring : IsExploring l.rules.list.items l.rules.starts.items l.fn.root l.fn.entered l.most
+  exploring : IsExploring l.rules.list.items (starts_of l.rules) l.fn.root l.fn.entered l.most
       (g.T.Tape.view l.tape) l.top (frames_of l.path) l.entered;
   room : HasRoom (g.T.Tape.view l.tape) l.most.levels;
   within : IsWithin l.most l.entered;

@@ -1,7 +1,10 @@
-use Rattle.std.proofs.Common.{◌≡◌, ◌+◌, false, true, length, get_or, slice_index}
-use Rattle.std.proofs.Common.{ap, refl, ◌∙◌, rules}
+use Rattle.std.proofs.Common.{◌≡◌, ◌+◌, ◌<◌, false, true, length, get_or, slice_index}
+use Rattle.std.proofs.Common.{ap, refl, sym, subst, ◌∙◌, rules}
+use Rattle.bb_machine.specs.declared.entry.Dir.TheVariants.{R}
+use Rattle.bb_cert.specs.inside.Walk.{starts_of}
 use Rattle.bb_cert.proofs.tree_lemmas.Roots.{IsRoot, root_is, root_explored, root_stops, roots_begin}
 use Rattle.bb_cert.proofs.tree_lemmas.Roots.{before_end, end_at, no_more, past_end, roots_end}
+use Rattle.bb_cert.proofs.tree_lemmas.Roots.{below_next, rule_within, start_within}
 use Rattle.bb_cert.proofs.tree.walk.explore_all.Goals as goal
 use Rattle.bb_cert.proofs.tree.walk.explore_all.Goals.{After-deref-in-loop-index}
 use Rattle.bb_cert.proofs.tree.walk.explore_all.Given as given
@@ -9,9 +12,9 @@ use Rattle.bb_cert.proofs.tree.walk.explore_all.Given as given
 pub loop-index-init : goal.loop-index-init
 loop-index-init g c =
     let from = ap (λ xs. get_or xs c.states-halting.result 0) c.deref.ensures.0
-    ∙ ap (λ n. get_or c.gather.new.self.starts.items n 0) c.states-halting.ensures.value in
+    ∙ ap (λ n. get_or c.gather.new.self.right_first.items n 0) c.states-halting.ensures.value in
     record {
-      walked = rw from (roots_begin c.gather.ensures.rules.halting c.requires.nodes c.requires.levels);
+      walked = rw from (roots_begin (c.gather.ensures.rules.in_order R).halting c.requires.nodes c.requires.levels);
       blank = c.requires.blank;
       room = c.requires.room;
       within = no_more c.args.most c.args.entered.now c.requires.nodes c.requires.levels;
@@ -22,15 +25,26 @@ loop-index-init g c =
 -- the rule of this turn
 root_here : (g : given.Over) (c : After-deref-in-loop-index g)
     → IsRoot c.args.machine.now c.gather.new.self.list.items c.deref-in-loop-index.result.now
-    c.gather.new.self.starts.items c.loop-index.index
-    (slice_index c.gather.new.self.starts.items (length c.args.machine.now + 1))
+    (starts_of c.gather.new.self) c.loop-index.index
+    (slice_index c.gather.new.self.right_first.items (length c.args.machine.now + 1))
 root_here g c = record {
   rules = c.gather.ensures.rules;
   same = c.deref-in-loop-index.ensures.0;
   less = before_end (end_at c.deref-2.ensures.0 c.states-halting.ensures.value)
       c.loop-index-test.true;
-  within = c.gather.ensures.rules.halting.within;
+  within = (c.gather.ensures.rules.in_order R).halting.within;
 }
+
+pub bounds-deref-halting : goal.bounds-deref-halting
+bounds-deref-halting g c = subst (λ starts. c.states-halting.result < length starts) (sym c.deref.ensures.0)
+    (below_next (start_within (c.gather.ensures.rules.in_order R) c.states-halting.ensures.value))
+
+pub bounds-deref-halting-2 : goal.bounds-deref-halting-2
+bounds-deref-halting-2 g c = subst (λ starts. c.states-halting.result + 1 < length starts) (sym c.deref-2.ensures.0)
+    (start_within (c.gather.ensures.rules.in_order R) c.states-halting.ensures.value)
+
+pub bounds-deref-index : goal.bounds-deref-index
+bounds-deref-index g c = rule_within (root_here g c)
 
 pub explore-requires-clause-root : goal.explore-requires-clause-root
 explore-requires-clause-root g c =

@@ -10,7 +10,7 @@ abbrev pub invariant-loop-index : goal.invariant-loop-index
 invariant-loop-index g l = record {
   walked : IsWalked l.machine
       (map halting_node (slice_range l.rules.list.items l.index
-      (slice_index l.rules.starts.items (length l.machine + 1))) ∷ []) l.entered.nodes l.entered.levels;
+      (slice_index l.rules.right_first.items (length l.machine + 1))) ∷ []) l.entered.nodes l.entered.levels;
   blank : (g.T.Tape.view l.tape).content ≡ blank;
   room : HasRoom (g.T.Tape.view l.tape) l.most.levels;
   within : IsWithin l.most l.entered;
