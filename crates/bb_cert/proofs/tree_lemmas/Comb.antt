@@ -6,8 +6,8 @@ use Rattle.std.proofs.lemmas.Bool.{cases_lt}
 use Rattle.std.proofs.lemmas.List.Concat.{flat_map-append}
 use Rattle.bb_machine.specs.Machine.{Table}
 use Rattle.bb_sim.specs.Configuration.{start}
-use Rattle.bb_cert.specs.tree.Tree.{Node, Matches, OneOf, MatchesOne, before, grown, level, grown_below, Ends, Clear}
-use Rattle.bb_cert.specs.tree.Tree.{EndsNowhere}
+use Rattle.bb_cert.specs.tree.Tree.{Node, Matches, OneOf, MatchesOne, before, grown, level, grown_below, Ends}
+use Rattle.bb_cert.specs.tree.Tree.{Clear, EndsNowhere}
 use Rattle.bb_cert.specs.inside.Walk.{comb_below, CombMatches, IsPart, IsWalked, Refused, too_deep, too_many}
 use Rattle.bb_cert.specs.inside.Walk.{matched}
 use Rattle.bb_cert.proofs.tree_lemmas.OneOf.{one_more, one-append_cases, one-flat_map}

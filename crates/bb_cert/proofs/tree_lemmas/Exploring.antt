@@ -1,9 +1,9 @@
 -- What a walk knows between its steps, and why each step keeps it.
-use Rattle.std.proofs.Common.{◌≡◌, ℕ, ◌+◌, ◌-◌, ◌<◌, ◌≤◌, max, true, false, List, [], ◌∷◌, ◌++◌, length}
+use Rattle.std.proofs.Common.{◌≡◌, ℕ, ◌+◌, ◌<◌, ◌≤◌, max, true, false, List, [], ◌∷◌, ◌++◌, length}
 use Rattle.std.proofs.Common.{reverse, slice_index, slice_range, ℤ, pos, neg_ℤ, ◌+ℤ◌, ◌≤ℤ◌, refl, ap, sym}
 use Rattle.std.proofs.Common.{subst, ◌∙◌, length-append, arith}
 use Rattle.std.specs.Int.{int_min, int_max}
-use Rattle.std.specs.List.{AllByRecursion, flat_map}
+use Rattle.std.specs.List.{AllByRecursion}
 use Rattle.std.proofs.lemmas.Int.{ints, clamps}
 use Rattle.std.proofs.lemmas.List.{reverse-append, length-reverse}
 use Rattle.bb_machine.specs.declared.entry.Dir.{Dir}
@@ -79,8 +79,8 @@ all_named {list} {starts} known =
 
 -- a branch was entered
 
-module _ {list : List Rule} {starts : Dir → List ℕ} (known : HasTable list starts) {branch : Branch} {level : ℕ}
-    {old new : TapeView} {frame : Frame} (enters : Enters starts branch level old new frame)
+module _ {list : List Rule} {starts : Dir → List ℕ} (known : HasTable list starts) {branch : Branch}
+    {level : ℕ} {old new : TapeView} {frame : Frame} (enters : Enters starts branch level old new frame)
     (is : IsBranch (states_of starts) old.content level branch) (symbols : HasSymbols old.content) where
   undone : with_cell new.content frame.position frame.before ≡ old.content
   undone = rw (enters.position, enters.content, enters.before, is.held)
@@ -90,7 +90,8 @@ module _ {list : List Rule} {starts : Dir → List ℕ} (known : HasTable list s
   in_states table rules = let n = (rules.in_order L).count in let s = is.state in omega (arith, n, s)
 
   range : IsRange known.0 list frame.next frame.end (State branch.state)
-  range = rw (enters.next, enters.to) ((known.1.in_order branch.dir).to_state branch.state (in_states known.0 known.1))
+  range = rw (enters.next, enters.to) ((known.1.in_order branch.dir).to_state branch.state
+      (in_states known.0 known.1))
 
   frame_is : IsFrame list new.low new.high new.content level frame
   frame_is = record {
@@ -131,8 +132,8 @@ module _ {list : List Rule} {starts : Dir → List ℕ} (known : HasTable list s
       → IsWalked table (comb_of list rest new.content (frame ∷ fs)) (nodes + 1) (max levels (level + 1))
   walked_entered table rest {more} fs {tail} {nodes} {levels} rules long comb walked =
       let first = before table (branch_node old.content branch) in
-      let entered : IsWalked table (first ∷ comb_of list rest (with_cell new.content frame.position frame.before) fs)
-      (nodes + 1) (max levels (level + 1)) = rw (undone, comb, sym long) (walk_enters walked enters.apart) in
+      let left = with_cell new.content frame.position frame.before in
+      let entered : IsWalked table (first ∷ comb_of list rest left fs) (nodes + 1) (max levels (level + 1)) = rw (undone, comb, sym long) (walk_enters walked enters.apart) in
       walk_rearranged (branches_before table rules) entered
 
 -- what a walk from a root knows between its steps

@@ -1,5 +1,5 @@
 -- A walk may enter what could come before a node in any order.
-use Rattle.std.proofs.Common.{◌≡◌, ℕ, zero, suc, ◌+◌, ◌-◌, inl, inr, List, [], ◌∷◌, ◌++◌, length, map, refl}
+use Rattle.std.proofs.Common.{◌≡◌, ℕ, zero, suc, ◌+◌, ◌-◌, inl, inr, List, [], ◌∷◌, ◌++◌, length, map}
 use Rattle.std.proofs.Common.{ap, sym, subst, ◌∙◌, length-append, arith}
 use Rattle.std.specs.List.{flat_map}
 use Rattle.std.specs.List.Sorted.{IsPermutation}
@@ -50,36 +50,38 @@ grown-flat_map table f [] i = grown-empty table i
 grown-flat_map table f (r ∷ rules) i = grown-append table (f r) (flat_map f rules) i
     ∙ ap (λ nodes. grown table (f r) i ++ nodes) (grown-flat_map table f rules i)
 
-module _ (table : Table) (f : Rule → List Node) (rules others : List Rule) (same : IsPermutation rules others) where
-  below_permuted : (h : ℕ) → grown_below table (flat_map f rules) h ≡ grown_below table (flat_map f others) h
-  below_permuted h =
-      let sum = is_sum_by (λ rs. grown_below table (flat_map f rs) h) (λ r. grown_below table (f r) h)
-      (empty_below table h) (λ r rs. below-append table (f r) (flat_map f rs) h) in
-      sum rules ∙ sym (sum_by-IsPermutation (λ r. grown_below table (f r) h) rules others same)
-      ∙ sym (sum others)
+module _ (table : Table) (f : Rule → List Node) (rules others : List Rule) (same : IsPermutation rules others)
+  where
+    below_permuted : (h : ℕ) → grown_below table (flat_map f rules) h ≡ grown_below table (flat_map f others) h
+    below_permuted h =
+        let sum = is_sum_by (λ rs. grown_below table (flat_map f rs) h) (λ r. grown_below table (f r) h)
+        (empty_below table h) (λ r rs. below-append table (f r) (flat_map f rs) h) in
+        sum rules ∙ sym (sum_by-IsPermutation (λ r. grown_below table (f r) h) rules others same)
+        ∙ sym (sum others)
 
-  one_after : (P : Node → Type 0) (from to : List Rule) → IsPermutation from to → OneOf P (flat_map f from)
-      → OneOf P (flat_map f to)
-  one_after P from to moved one = one-flat_map P f to
-      (one_permuted (λ r. OneOf P (f r)) from to moved (one-in_flat_map P f from one))
+    one_after : (P : Node → Type 0) (from to : List Rule) → IsPermutation from to → OneOf P (flat_map f from)
+        → OneOf P (flat_map f to)
+    one_after P from to moved one = one-flat_map P f to
+        (one_permuted (λ r. OneOf P (f r)) from to moved (one-in_flat_map P f from one))
 
-  matches_permuted : (i : ℕ) → MatchesOne (grown table (flat_map f rules) i) start
-      → MatchesOne (grown table (flat_map f others) i) start
-  matches_permuted i one =
-      let of : Rule → List Node = λ r. grown table (f r) i in
-      let one_of = subst (λ nodes. MatchesOne nodes start) (grown-flat_map table f rules i) one in
-      subst (λ nodes. MatchesOne nodes start) (sym (grown-flat_map table f others i))
-      (one-flat_map (λ n. Matches n start) of others
-      (one_permuted (λ r. MatchesOne (grown table (f r) i) start) rules others same
-      (one-in_flat_map (λ n. Matches n start) of rules one_of)))
+    matches_permuted : (i : ℕ) → MatchesOne (grown table (flat_map f rules) i) start
+        → MatchesOne (grown table (flat_map f others) i) start
+    matches_permuted i one =
+        let of : Rule → List Node = λ r. grown table (f r) i in
+        let one_of = subst (λ nodes. MatchesOne nodes start) (grown-flat_map table f rules i) one in
+        subst (λ nodes. MatchesOne nodes start) (sym (grown-flat_map table f others i))
+        (one-flat_map (λ n. Matches n start) of others
+        (one_permuted (λ r. MatchesOne (grown table (f r) i) start) rules others same
+        (one-in_flat_map (λ n. Matches n start) of rules one_of)))
 
-  -- what rules give in one order, and in another
-  pub alike_permuted : AreAlike table (flat_map f rules) (flat_map f others)
-  alike_permuted = record {
-    below = below_permuted;
-    part = λ node one. one_after (λ other. other ≡ node) others rules (IsPermutation-sym rules others same) one;
-    matches = matches_permuted;
-  }
+    -- what rules give in one order, and in another
+    pub alike_permuted : AreAlike table (flat_map f rules) (flat_map f others)
+    alike_permuted = record {
+      below = below_permuted;
+      part = λ node one. one_after (λ other. other ≡ node) others rules
+          (IsPermutation-sym rules others same) one;
+      matches = matches_permuted;
+    }
 
 pub alike_mapped : (table : Table) (f : Rule → Node) (rules others : List Rule) → IsPermutation rules others
     → AreAlike table (map f rules) (map f others)

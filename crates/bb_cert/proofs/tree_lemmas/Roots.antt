@@ -1,5 +1,5 @@
 -- The trees of the halting entries, one after another.
-use Rattle.std.proofs.Common.{◌≡◌, ℕ, ◌+◌, ◌-◌, ◌<◌, ◌≤◌, true, false, List, [], ◌∷◌, length, get_or}
+use Rattle.std.proofs.Common.{◌≡◌, ℕ, ◌+◌, ◌<◌, ◌≤◌, true, false, List, [], ◌∷◌, length, get_or}
 use Rattle.std.proofs.Common.{map, slice_range, pos, ap, sym, subst, ◌∙◌, arith}
 use Rattle.std.proofs.lemmas.Int.{ints}
 use Rattle.bb_machine.specs.declared.entry.Dir.{Dir}
@@ -22,10 +22,18 @@ use Rattle.bb_cert.proofs.tree_lemmas.Shown.{slice_step}
 -- the branch of a halting rule
 abbrev pub root_of : Rule → Branch
 root_of rule =
-    record { position = pos 0; state = rule.state; symbol = rule.symbol; dir = R; held = 0; nonzero_known = 0 }
+    record {
+      position = pos 0;
+      state = rule.state;
+      symbol = rule.symbol;
+      dir = R;
+      held = 0;
+      nonzero_known = 0;
+    }
 
 -- a halting rule, which stands in the list that the code reads
-pub record IsRoot (table : Table) (list seen : List Rule) (starts : Dir → List ℕ) (index to : ℕ) : Type 0 where
+pub record IsRoot (table : Table) (list seen : List Rule) (starts : Dir → List ℕ) (index to : ℕ)
+    : Type 0 where
   pub rules : AreRules table list starts
   pub same : seen ≡ list
   pub less : index < to
@@ -82,7 +90,8 @@ pub roots_begin : {table : Table} {list : List Rule} {from to nodes levels : ℕ
     → IsRange table list from to Halt → nodes ≡ 0 → levels ≡ 0
     → IsWalked table (map halting_node (slice_range list from to) ∷ []) nodes levels
 roots_begin {table} {list} {from} {to} range none no_levels = rw (none, no_levels)
-    (walk_rearranged (alike_mapped table halting_node (rules_to table Halt) (slice_range list from to) range.are)
+    (walk_rearranged
+    (alike_mapped table halting_node (rules_to table Halt) (slice_range list from to) range.are)
     (walk_begins table))
 
 pub roots_end : (table : Table) (list : List Rule) (index to : ℕ) (most entered : Count) → to ≤ index
@@ -111,12 +120,12 @@ pub past_end : {index read to : ℕ} → read ≡ to → read ≤ index → to �
 past_end e h = omega (arith, e, h)
 
 -- the places of all starts are in their list
-pub start_within : {table : Table} {list : List Rule} {starts : List ℕ} {state : ℕ} → AreInOrder table list starts
-    → state ≡ length table → state + 1 < length starts
+pub start_within : {table : Table} {list : List Rule} {starts : List ℕ} {state : ℕ}
+    → AreInOrder table list starts → state ≡ length table → state + 1 < length starts
 start_within order e = let n = order.count in omega (arith, n, e)
 
-pub state_within : {list : List Rule} {starts : Dir → List ℕ} {state : ℕ} → HasTable list starts → (first : Dir)
-    → state < states_of starts → state + 1 < length (starts first)
+pub state_within : {list : List Rule} {starts : Dir → List ℕ} {state : ℕ} → HasTable list starts
+    → (first : Dir) → state < states_of starts → state + 1 < length (starts first)
 state_within known first h =
     let n = (known.1.in_order L).count in
     let m = (known.1.in_order first).count in

@@ -170,7 +170,8 @@ module _ (olds rules list seen : List Rule) (from : ℕ) (is : list ≡ olds ++ 
   sorted_are =
       let n = long in
       subst (λ l. IsPermutation l sorted)
-      (ap (take (length seen - from)) rest_is ∙ take_all (length seen - from) rules (omega (arith, n, at))) moved
+      (ap (take (length seen - from)) rest_is
+      ∙ take_all (length seen - from) rules (omega (arith, n, at))) moved
 
   abbrev written : List Rule
   written = take from seen ++ (sorted ++ drop (length seen - from) (drop from seen))
@@ -179,7 +180,8 @@ module _ (olds rules list seen : List Rule) (from : ℕ) (is : list ≡ olds ++ 
   written_is =
       let n = long in
       ap (λ l. take from l ++ (sorted ++ drop (length seen - from) (drop from seen))) seen_is
-      ∙ ap (λ l. l ++ (sorted ++ drop (length seen - from) (drop from seen))) (take_at olds rules from (sym at))
+      ∙ ap (λ l. l ++ (sorted ++ drop (length seen - from) (drop from seen)))
+      (take_at olds rules from (sym at))
       ∙ ap (λ l. olds ++ (sorted ++ l)) (ap (drop (length seen - from)) rest_is
       ∙ drop_all (length seen - from) rules (omega (arith, n, at)))
       ∙ ap (λ l. olds ++ l) (append-nil sorted)

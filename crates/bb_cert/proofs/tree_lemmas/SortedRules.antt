@@ -5,7 +5,7 @@ use Rattle.std.proofs.Common.{ap, sym, subst, ◌∙◌, append_assoc, append-ni
 use Rattle.std.proofs.Math.Nat.{mul-le-mul_left}
 use Rattle.std.specs.List.{AllByRecursion, filter}
 use Rattle.std.specs.List.Sorted.{IsPermutation}
-use Rattle.std.proofs.lemmas.Bool.{cases_lt, cases_eq}
+use Rattle.std.proofs.lemmas.Bool.{cases_eq}
 use Rattle.std.proofs.lemmas.List.{drop_at, drop-append-le, take-append-le, take_all, length-drop}
 use Rattle.std.proofs.lemmas.List.Elements.{All-from_recursion, recursion_from_All}
 use Rattle.std.proofs.lemmas.List.Sorted.{All-permutation, length_permutation}
@@ -178,7 +178,8 @@ range_added table list then_list from to next adds begins ends =
       in_order = omega (arith, long, begins, ends);
       within = omega (arith, ends);
       are = subst (IsPermutation (rules_to table next))
-          (sym (ap (λ xs. slice_range xs from to) adds.is ∙ ap (λ n. slice_range (list ++ adds.added) n to) begins
+          (sym (ap (λ xs. slice_range xs from to) adds.is
+          ∙ ap (λ n. slice_range (list ++ adds.added) n to) begins
           ∙ slice_end list adds.added to (ends ∙ ap length adds.is))) adds.are;
     }
 
@@ -298,7 +299,8 @@ module _ {table : Table} (machine : IsMachine table) {before list : List Rule} {
     start_kept : (q : ℕ) → q ≤ n → get_or then_starts q 0 ≡ get_or starts q 0
     start_kept q h =
         let long = now.long in
-        ap (λ xs. get_or xs q 0) put_down ∙ get_front starts (length then_list ∷ []) q (omega (arith, h, long))
+        ap (λ xs. get_or xs q 0) put_down
+        ∙ get_front starts (length then_list ∷ []) q (omega (arith, h, long))
 
     start_added : get_or then_starts (n + 1) 0 ≡ length then_list
     start_added = ap (λ xs. get_or xs (n + 1) 0) put_down
@@ -322,7 +324,8 @@ module _ {table : Table} (machine : IsMachine table) {before list : List Rule} {
     then_named = all_append (IsRule (length table)) now.added adds.added now.named
         (added_named table next list then_list machine adds)
 
-    then_size : length (now.added ++ adds.added) ≡ leading n (rules_from 0 table) + length (rules_to table next)
+    then_size : length (now.added ++ adds.added)
+        ≡ leading n (rules_from 0 table) + length (rules_to table next)
     then_size =
         let a = length-append now.added adds.added in
         let b = length_permutation (rules_to table next) adds.added adds.are in
@@ -334,8 +337,8 @@ module _ {table : Table} (machine : IsMachine table) {before list : List Rule} {
         let more : n + 1 ≡ suc n = omega arith in
         let size = then_size in
         let same = ap (λ to. length (rules_to table to)) there in
-        let last = subst (IsRange table then_list (get_or then_starts n 0) (get_or then_starts (n + 1) 0)) there
-        last_range in
+        let last =
+        subst (IsRange table then_list (get_or then_starts n 0) (get_or then_starts (n + 1) 0)) there last_range in
         record {
           added = now.added ++ adds.added;
           is = then_is;
@@ -372,8 +375,8 @@ order_kept table list more starts order = record {
   count = order.count;
   to_state = λ q h. range_kept table list more (get_or starts q 0) (get_or starts (q + 1) 0) (State q)
       (order.to_state q h);
-  halting = range_kept table list more (get_or starts (length table) 0) (get_or starts (length table + 1) 0) Halt
-      order.halting;
+  halting = range_kept table list more (get_or starts (length table) 0) (get_or starts (length table + 1) 0)
+      Halt order.halting;
 }
 
 -- all rules were appended for one direction, and then for the other
@@ -381,7 +384,8 @@ module _ {table : Table} {left : List Rule} (rules : Rules)
     (once : AddsAll table [] left rules.left_first.items)
     (twice : AddsAll table left rules.list.items rules.right_first.items) where
   both_named : AllByRecursion (IsRule (length table)) rules.list.items
-  both_named = rw twice.is (all_append (IsRule (length table)) left twice.added (rw once.is once.named) twice.named)
+  both_named = rw twice.is (all_append (IsRule (length table)) left twice.added (rw once.is once.named)
+      twice.named)
 
   pub both_added : AreRules table rules.list.items (starts_of rules)
   both_added = record {
@@ -391,10 +395,3 @@ module _ {table : Table} {left : List Rule} (rules : Rules)
       | R ↦ twice.in_order
     ];
   }
-
-pub room_for_all : {table : Table} {left : List Rule} {starts : List ℕ} (most : ℕ) → AddsAll table [] left starts
-    → 2 * MAX_STATES * MAX_SYMBOLS ≤ most → length left + MAX_STATES * MAX_SYMBOLS ≤ most
-room_for_all most once room =
-    let few = once.few in
-    let e = ap length once.is in
-    omega (arith, few, e, room)

@@ -12,7 +12,8 @@ ghost use Rattle.bb_cert.specs.tree.Path.{depth_of};
 ghost use Rattle.bb_cert.specs.tree.Tree as tree;
 ghost use Rattle.bb_cert.specs.tree.WalkMeter.{IsWithinWalk, walked};
 ghost use Rattle.bb_cert.specs.tree.Tree.{EndsWithin, EndsNowhere};
-ghost use Rattle.bb_cert.specs.inside.Walk.{HasRoom, IsBranch, IsRule, Refused, branch_node, branches, starts_of};
+ghost use Rattle.bb_cert.specs.inside.Walk.{HasRoom, IsBranch, IsRule, Refused, branch_node, branches};
+ghost use Rattle.bb_cert.specs.inside.Walk.{starts_of};
 ghost use Rattle.bb_cert.specs.inside.Steps.{Enters, Explores, HasTable, IsFirstBranch, IsWithin, WalksAll};
 ghost use Rattle.bb_cert.specs.inside.Steps.{entered_on, states_of};
 

@@ -1,6 +1,6 @@
-use Rattle.std.proofs.Common.{◌≡◌, ◌<◌, ◌≤◌, ℕ, ap, refl, ◌∙◌, arith}
-use Rattle.bb_cert.proofs.tree_lemmas.SortedRules.{room_for_state, room_for_halt, room_for_start}
-use Rattle.bb_cert.proofs.tree_lemmas.SortedRules.{gathering_begins, gathering_goes_on, all_gathered}
+use Rattle.std.proofs.Common.{◌≡◌, ◌≤◌, ℕ, refl, arith}
+use Rattle.bb_cert.proofs.tree_lemmas.SortedRules.{room_for_state, room_for_halt}
+use Rattle.bb_cert.proofs.tree_lemmas.SortedRules.{gathering_goes_on, all_gathered}
 use Rattle.bb_cert.proofs.tree.rules.add_all.Goals as goal
 
 all_states : (state states n : ℕ) → state ≤ states → states ≤ state → states ≡ n → state ≡ n

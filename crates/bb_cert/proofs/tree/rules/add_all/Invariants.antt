@@ -1,4 +1,3 @@
-use Rattle.bb_cert.specs.inside.Walk.{AddsAll}
 use Rattle.bb_cert.proofs.tree_lemmas.SortedRules.{AreGathered}
 use Rattle.bb_cert.proofs.tree.rules.add_all.Given as goal
 

@@ -22,5 +22,5 @@ pub returns : goal.returns
 returns c =
     let all = rows_end c.args.next c.loop-state.state c.args.machine.now c.loop-state.list.items _
     (past _ _ _ c.loop-state-test.false c.states-state-end.ensures.value) c.loop-state.invariant in
-    put_in_order c.args.list.now.items _ c.loop-state.list.items c.as_mut_slice.result.now c.len-from.result all
-    c.as_mut_slice.ensures.value c.len-from.ensures.value _ c.sort_unstable_by_key.ensures.permutation
+    put_in_order c.args.list.now.items _ c.loop-state.list.items c.as_mut_slice.result.now c.len-from.result
+    all c.as_mut_slice.ensures.value c.len-from.ensures.value _ c.sort_unstable_by_key.ensures.permutation

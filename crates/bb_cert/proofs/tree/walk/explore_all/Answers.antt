@@ -14,7 +14,8 @@ loop-index-init g c =
     let from = ap (λ xs. get_or xs c.states-halting.result 0) c.deref.ensures.0
     ∙ ap (λ n. get_or c.gather.new.self.right_first.items n 0) c.states-halting.ensures.value in
     record {
-      walked = rw from (roots_begin (c.gather.ensures.rules.in_order R).halting c.requires.nodes c.requires.levels);
+      walked = rw from (roots_begin (c.gather.ensures.rules.in_order R).halting c.requires.nodes
+          c.requires.levels);
       blank = c.requires.blank;
       room = c.requires.room;
       within = no_more c.args.most c.args.entered.now c.requires.nodes c.requires.levels;
@@ -40,8 +41,8 @@ bounds-deref-halting g c = subst (λ starts. c.states-halting.result < length st
     (below_next (start_within (c.gather.ensures.rules.in_order R) c.states-halting.ensures.value))
 
 pub bounds-deref-halting-2 : goal.bounds-deref-halting-2
-bounds-deref-halting-2 g c = subst (λ starts. c.states-halting.result + 1 < length starts) (sym c.deref-2.ensures.0)
-    (start_within (c.gather.ensures.rules.in_order R) c.states-halting.ensures.value)
+bounds-deref-halting-2 g c = subst (λ starts. c.states-halting.result + 1 < length starts)
+    (sym c.deref-2.ensures.0) (start_within (c.gather.ensures.rules.in_order R) c.states-halting.ensures.value)
 
 pub bounds-deref-index : goal.bounds-deref-index
 bounds-deref-index g c = rule_within (root_here g c)

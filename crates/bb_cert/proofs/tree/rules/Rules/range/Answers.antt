@@ -8,5 +8,5 @@ bounds-deref-state-in-R c = subst (λ starts. c.args.state < length starts) (sym
     (below_next (state_within c.requires.rules R c.requires.state))
 
 pub bounds-deref-state-in-R-2 : goal.bounds-deref-state-in-R-2
-bounds-deref-state-in-R-2 c = subst (λ starts. c.args.state + 1 < length starts) (sym c.deref-in-R-2.ensures.0)
-    (state_within c.requires.rules R c.requires.state)
+bounds-deref-state-in-R-2 c = subst (λ starts. c.args.state + 1 < length starts)
+    (sym c.deref-in-R-2.ensures.0) (state_within c.requires.rules R c.requires.state)
