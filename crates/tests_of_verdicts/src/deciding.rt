@@ -4,6 +4,7 @@ ghost use Rattle.bb_cert.specs.tree.Path.{depth_of};
 ghost use Rattle.bb_decide.specs.Bench.{BenchHasCells};
 
 mod trees;
+mod weak_keys;
 
 use bb_cert::{Extent, Side, Verdict, Why};
 use bb_decide::{Bench, Plan, cyclers, decide, translated};
