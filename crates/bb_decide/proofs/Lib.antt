@@ -1,5 +1,6 @@
 pub mod Benches
 pub mod Claims
+pub mod Counted
 pub mod Cycles
 pub mod Endings
 pub mod Facts

@@ -69,6 +69,11 @@ pub record IsFound (table : Table) (bounds : Bounds) (old new : Meter) (verdict 
   pub never : Never table
   pub claim : Claim table verdict
 
+pub counts_as : {table : Table} {bounds : Bounds} {old new same : Meter} {verdict : Verdict} → same ≡ new
+    → IsFound table bounds old new verdict → IsFound table bounds old same verdict
+counts_as {table} {bounds} {old} {new} {same} {verdict} is found =
+    subst (λ m. IsFound table bounds old m verdict) (sym is) found
+
 -- the search has come to where a runner stands: the records of both sides are known up to there, and none of
 -- them agrees with its partner
 pub record IsSearching (table : Table) (bounds : Bounds) (runner : Runner) (view : TapeView)

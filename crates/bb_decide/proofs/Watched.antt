@@ -1,6 +1,6 @@
 -- What the watched run knows of fingerprints, step by step.
 use Rattle.std.proofs.Common.{◌≡◌, ◌≢◌, ℕ, suc, ◌*◌, ◌≤◌, inl, inr, Some, ℤ, pos, ◌≤ℤ◌, neg_ℤ, refl, ap, sym}
-use Rattle.std.proofs.Common.{◌∙◌, add-one, arith}
+use Rattle.std.proofs.Common.{◌∙◌, Bool, false, IsTrue, add-one, arith}
 use Rattle.std.proofs.lemmas.Int.{ints}
 use Rattle.bb_machine.specs.declared.entry.Next.TheVariants.{Halt}
 use Rattle.bb_machine.specs.Limits.{Bounds}
@@ -74,6 +74,10 @@ watched_at_first table bounds key runner view first meter run zero =
       next = omega (arith, zero);
       running = λ halts. let state = ap (λ (c : Configuration). c.state) is in cc;
     }
+
+-- no test is both true and false
+pub not_both : {b : Bool} → IsTrue b → b ≡ false → ⊥
+not_both is not = cc
 
 -- the symbol of a cell fits, and its position is small
 pub record IsReadable (view : TapeView) (p : ℤ) : Type 0 where

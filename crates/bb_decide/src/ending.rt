@@ -1,11 +1,13 @@
 //! How a search ends.
-ghost use Rattle.bb_sim.specs.Runner.{steps_of};
+ghost use Rattle.bb_sim.specs.CellsBetween.{cells_between};
+ghost use Rattle.bb_sim.specs.Meter.{counted};
+ghost use Rattle.bb_sim.specs.Runner.{high_of, low_of, steps_of};
 ghost use Rattle.bb_tape.specs.Content.{score};
 ghost use Rattle.bb_decide.specs.inside.Ending.{TellsEnd, found_of, is_settled};
-ghost use Rattle.std.specs.Prelude.{◌≡◌};
+ghost use Rattle.std.specs.Prelude.{◌≡◌, ◌+◌, ◌<◌, ◌^◌};
 
 use bb_cert::Verdict;
-use bb_sim::{Moved, Outcome, Runner};
+use bb_sim::{Meter, Moved, Outcome, Runner};
 use bb_tape::Tape;
 
 /// What a search found, or how its run ended where there was nothing to find.
@@ -38,6 +40,16 @@ impl Ending {
             Ending::Ran(Outcome::NoCells) => false,
         }
     }
+}
+
+/// Counts what a runner has run: its steps, and the cells of its window.
+pub fn count_run(meter: &mut Meter, runner: &Runner)
+    requires { meter.old.steps + steps_of runner.now < 2 ^ 64 }
+    ensures { meter.new ≡ counted meter.old (steps_of runner.now)
+        (cells_between (low_of runner.now) (high_of runner.now)) }
+{
+    meter.steps += runner.steps();
+    meter.most_cells = meter.most_cells.max(runner.cells());
 }
 
 /// How the run of a search ended, where the runner steps no more, or has stepped into Z.

@@ -6,7 +6,7 @@ ghost use Rattle.bb_decide.specs.Bench.{BenchHasCells};
 ghost use Rattle.bb_decide.specs.inside.Ending.{Watches, WatchPromised};
 
 use crate::bench::Bench;
-use crate::ending::{Ending, outcome_of};
+use crate::ending::{Ending, count_run, outcome_of};
 use crate::fingerprint::rewritten;
 use crate::keys::Keys;
 use crate::translation::look_on;
@@ -90,13 +90,11 @@ pub fn watch<T: Tape, K: Keys>(
     ensures path { bench.new.path ≡ bench.old.path }
 {
     let limits = *limits;
-    let mut spent = *meter;
-    let ending = run(machine, &limits, keys, bench, &mut spent);
-    *meter = spent;
-    ending
+    run(machine, &limits, keys, bench, meter)
 }
 
-/// `watch`, inlined there, so that the limits and the meter, which are its locals, stay in registers.
+/// `watch`, inlined there, so that the limits, which are its local, stay in registers. The runner counts its
+/// steps and cells; the meter takes them over where the run ends.
 #[inline(always)]
 fn run<T: Tape, K: Keys>(
     machine: &Machine,
@@ -119,23 +117,28 @@ fn run<T: Tape, K: Keys>(
     let mut right = Records::new(Side::R, runner);
     let mut left = Records::new(Side::L, runner);
     let mut prints = Prints::new(runner);
-    meter.begin_run();
     loop {
         let cells = runner.cells();
         let position = runner.position();
         let old = bench.run.read_inside(position);
-        match runner.advance(machine, &mut bench.run, limits, meter)? {
+        let mut uncounted = Meter::new();
+        match runner.advance(machine, &mut bench.run, limits, &mut uncounted)? {
             Moved::Stepped => {}
-            moved => return Ok(Some(Ending::Ran(outcome_of(moved, runner, &bench.run)))),
+            moved => {
+                count_run(meter, &runner);
+                return Ok(Some(Ending::Ran(outcome_of(moved, runner, &bench.run))));
+            }
         }
         // In Z the run ends, in a state in which it wasn't before.
         let Some(_) = runner.state() else {
+            count_run(meter, &runner);
             let outcome = outcome_of(Moved::Halted, runner, &bench.run);
             return Ok(Some(Ending::Ran(outcome)));
         };
         let new = bench.run.read_inside(position);
         prints.print = rewritten(prints.print, keys, position, old, new);
         if prints.are_as_kept(&runner) {
+            count_run(meter, &runner);
             return Ok(None);
         }
         prints.keep_in_turn(&runner);
@@ -154,7 +157,10 @@ fn run<T: Tape, K: Keys>(
             &mut bench.right,
             &mut bench.left,
         )? {
-            Some(verdict) => return Ok(Some(Ending::Found(verdict))),
+            Some(verdict) => {
+                count_run(meter, &runner);
+                return Ok(Some(Ending::Found(verdict)));
+            }
             None => {}
         }
     }

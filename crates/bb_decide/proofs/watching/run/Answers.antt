@@ -5,12 +5,14 @@ use Rattle.bb_sim.proofs.Facts.{ends_in_Z, ends_stopped, has_stepped}
 use Rattle.bb_cert.specs.declared.records.Records.{Records}
 use Rattle.bb_cert.proofs.Facts.{starts}
 use Rattle.bb_decide.proofs.Benches.{tapes_keep}
+use Rattle.bb_decide.proofs.Counted.{begins, counts_on, has_counted, taken_over, within_here}
 use Rattle.bb_decide.proofs.Cycles.{no_cycle_in_Z}
 use Rattle.bb_decide.proofs.Endings.{ran_as, ran_into_Z}
 use Rattle.bb_decide.proofs.Halting.{in_no_state, is_none, not_in_Z}
 use Rattle.bb_decide.proofs.TakingIn.{searched_at_first}
-use Rattle.bb_decide.proofs.Translations.{IsFound, goes_on_from, goes_past, is_found, is_ready, none_at_first}
+use Rattle.bb_decide.proofs.Translations.{counts_as, goes_on_from, goes_past, is_found, is_ready, none_at_first}
 use Rattle.bb_decide.proofs.Translations.{none_in_Z, takes_in}
+use Rattle.bb_decide.proofs.Watched.{not_both}
 use Rattle.bb_decide.proofs.Watched.{print_known, readable_here, still_inside, suspected, watched_at_first}
 use Rattle.bb_decide.proofs.Watched.{watched_on}
 use Rattle.bb_decide.proofs.watching.run.Goals as goal
@@ -22,7 +24,7 @@ loop-moved-init g c =
     let start = starts _ _ _ c.start-runner.ensures.stands zero in
     record {
       search = record {
-        run = search rules;
+        run = begins c.args.meter.now c.start-runner.ensures.stands zero;
         right_searched = rw zero (searched_at_first _ _ _ (ap (λ
             (r : Records). position_of r.kept) c.new-right.ensures ∙ start));
         left_searched = rw zero (searched_at_first _ _ _ (ap (λ
@@ -31,9 +33,11 @@ loop-moved-init g c =
         left_is = ap (λ (r : Records). r.side) c.new-left.ensures;
         none = rw zero (none_at_first _ _);
       };
-      watched = rw c.new-prints.ensures (watched_at_first _ _ _ _ _ _ _ (search rules) zero);
+      watched = rw c.new-prints.ensures (watched_at_first _ _ _ _ _ _ _
+          (begins c.args.meter.now c.start-runner.ensures.stands zero) zero);
       tapes = tapes_keep c.start-runner.ensures.limit refl refl c.requires.tapes;
       path = refl;
+      meter = refl;
     }
 
 pub read_inside-old-requires : goal.read_inside-old-requires
@@ -47,40 +51,50 @@ pub returns-in_default : goal.returns-in_default
 returns-in_default g c =
     let here = c.loop-moved.invariant in
     let call = c.in_ok-moved.ensures in
-    let end = ends_stopped here.search.run call.stands _ _ c.in_default.not-Stepped call.reaches call.moves in
+    let moves = counts_on here.search.run call.stands _ _ _ call.moves in
+    let end = ends_stopped here.search.run call.stands _ _ c.in_default.not-Stepped call.reaches moves in
+    let counted = taken_over call.stands here.meter c.count_run.ensures in
     record {
       watched = (
         λ side a b translation. here.search.none side a b
             (end.last.greatest b translation.inside) translation,
-        end.counted,
-        ran_as here.search.run call.stands _ _ c.in_default.not-Stepped call.answers call.reaches call.moves _
+        rw counted end.counted,
+        ran_as here.search.run call.stands _ _ c.in_default.not-Stepped call.answers call.reaches moves _
             c.outcome_of.ensures,
         λ a t cycle. here.watched.search.none a t (end.last.greatest t cycle.inside) cycle,
       );
-      within = end.within;
+      within = rw counted end.within;
       promised = record { claim = tt; numbers = tt; memory = tt };
       tapes = tapes_keep call.limit refl refl here.tapes;
       path = here.path;
     }
 
 -- a step into Z ends the run
-pub returns-in_default-state-clause-watched : goal.returns-in_default-state-clause-watched
-returns-in_default-state-clause-watched g c =
+pub returns-in_default-state : goal.returns-in_default-state
+returns-in_default-state g c =
     let here = c.loop-moved.invariant in
     let call = c.in_ok-moved.ensures in
-    let step = has_stepped here.search.run call.stands _ call.reaches call.moves c.in-Stepped.is in
-    let halts = in_no_state _ _ c.state.ensures c.in_default-state.not-Some in (
-      none_in_Z here.search step halts,
-      (ends_in_Z step halts).counted,
-      ran_into_Z step halts _ c.outcome_of-outcome.ensures,
-      no_cycle_in_Z here.watched.search step halts,
-    )
+    let step = has_counted here.search.run call.stands _ _ _ call.reaches call.moves c.in-Stepped.is in
+    let halts = in_no_state _ _ c.state.ensures c.in_default-state.not-Some in
+    let counted = taken_over call.stands here.meter c.count_run-in_default-state.ensures in
+    record {
+      watched = (
+        none_in_Z here.search step halts,
+        rw counted (ends_in_Z step halts).counted,
+        ran_into_Z step halts _ c.outcome_of-outcome.ensures,
+        no_cycle_in_Z here.watched.search step halts,
+      );
+      within = rw counted (within_here step);
+      promised = record { claim = tt; numbers = tt; memory = tt };
+      tapes = tapes_keep call.limit refl refl here.tapes;
+      path = here.path;
+    }
 
 pub read_inside-new-requires : goal.read_inside-new-requires
 read_inside-new-requires g c =
     let here = c.loop-moved.invariant in
     let call = c.in_ok-moved.ensures in
-    let step = has_stepped here.search.run call.stands _ call.reaches call.moves c.in-Stepped.is in
+    let step = has_counted here.search.run call.stands _ _ _ call.reaches call.moves c.in-Stepped.is in
     let fits : FitsSigned w64 c.position-position.result = search rules in
     rw (to_z-of_z _ c.position-position.result fits, c.position-position.ensures)
     (still_inside here.search.run.stands here.watched.running step)
@@ -103,26 +117,34 @@ pub rewritten-requires-clause-old : goal.rewritten-requires-clause-old
 rewritten-requires-clause-old g c =
     rw c.read_inside-old.ensures ((g.met.T.Tape.sound c.loop-moved.bench.run).symbols _)
 
-pub returns-then-are_as_kept-clause-watched : goal.returns-then-are_as_kept-clause-watched
-returns-then-are_as_kept-clause-watched g c =
+pub returns-then-are_as_kept : goal.returns-then-are_as_kept
+returns-then-are_as_kept g c =
     let here = c.loop-moved.invariant in
     let call = c.in_ok-moved.ensures in
-    let step = has_stepped here.search.run call.stands _ call.reaches call.moves c.in-Stepped.is in
+    let step = has_counted here.search.run call.stands _ _ _ call.reaches call.moves c.in-Stepped.is in
     let fits : FitsSigned w64 c.position-position.result = search rules in
     let at = to_z-of_z _ c.position-position.result fits ∙ c.position-position.ensures in
     let print = print_known here.watched step _ _ _ _ at c.read_inside-old.ensures c.read_inside-new.ensures
-    c.rewritten.ensures in (
-      _,
-      suspected here.watched step refl print here.search.none (c.are_as_kept.ensures.0 c.if-are_as_kept.true),
-      step.run.counts,
-    )
+    c.rewritten.ensures in
+    let counted = taken_over call.stands here.meter c.count_run-then-are_as_kept.ensures in
+    record {
+      watched = (
+        _,
+        suspected here.watched step refl print here.search.none (c.are_as_kept.ensures.0 c.if-are_as_kept.true),
+        rw counted step.run.counts,
+      );
+      within = rw counted (within_here step);
+      promised = record { claim = tt; numbers = tt; memory = tt };
+      tapes = tapes_keep call.limit refl refl here.tapes;
+      path = here.path;
+    }
 
 -- a step that widens nothing makes no record
 pub loop-moved-preserved-in_default-widened_side : goal.loop-moved-preserved-in_default-widened_side
 loop-moved-preserved-in_default-widened_side g c =
     let here = c.loop-moved.invariant in
     let call = c.in_ok-moved.ensures in
-    let step = has_stepped here.search.run call.stands _ call.reaches call.moves c.in-Stepped.is in
+    let step = has_counted here.search.run call.stands _ _ _ call.reaches call.moves c.in-Stepped.is in
     let taken = takes_in here.search step c.in-Some.ensures c.cells-cells.ensures _ c.widened_side.ensures
     (search rules) c.position.ensures c.pass.ensures (search rules) c.position-in-loop-moved.ensures
     c.pass-in-loop-moved.ensures in
@@ -132,10 +154,10 @@ loop-moved-preserved-in_default-widened_side g c =
     c.rewritten.ensures in
     record {
       search = goes_past here.search taken (is_none _ c.in_default-widened_side.not-Some);
-      watched = watched_on here.watched step refl print (λ same. let is = c.are_as_kept.ensures.1 same in
-          let not = c.if-are_as_kept.false in cc) (not_in_Z c.in-Some.ensures) c.keep_in_turn.ensures;
+      watched = watched_on here.watched step refl print (λ same. not_both (c.are_as_kept.ensures.1 same) c.if-are_as_kept.false) (not_in_Z c.in-Some.ensures) c.keep_in_turn.ensures;
       tapes = tapes_keep call.limit refl refl here.tapes;
       path = here.path;
+      meter = here.meter;
     }
 
 -- else the record that it makes is looked at
@@ -143,39 +165,41 @@ pub look_on-requires-clause-ready : goal.look_on-requires-clause-ready
 look_on-requires-clause-ready g c =
     let here = c.loop-moved.invariant.search in
     let call = c.in_ok-moved.ensures in
-    let step = has_stepped here.run call.stands _ call.reaches call.moves c.in-Stepped.is in
+    let step = has_counted here.run call.stands _ _ _ call.reaches call.moves c.in-Stepped.is in
     let taken = takes_in here step c.in-Some.ensures c.cells-cells.ensures _ c.widened_side.ensures
     (search rules) c.position.ensures c.pass.ensures (search rules) c.position-in-loop-moved.ensures
     c.pass-in-loop-moved.ensures in
     is_ready here taken _ c.in-Some-widened_side.is (g.met.T.Tape.sound c.advance.new.tape)
 
-found_here : (g : given.Over) (c : goal.In-Some-2 g)
-    → IsFound c.args.machine.now c.args.limits.now c.args.meter.now c.advance.new.meter c.in-Some-2.verdict
-found_here g c =
-    let here = c.loop-moved.invariant.search in
+pub returns-in-Some-2 : goal.returns-in-Some-2
+returns-in-Some-2 g c =
+    let here = c.loop-moved.invariant in
     let call = c.in_ok-moved.ensures in
-    let step = has_stepped here.run call.stands _ call.reaches call.moves c.in-Stepped.is in
-    let taken = takes_in here step c.in-Some.ensures c.cells-cells.ensures _ c.widened_side.ensures
+    let step = has_counted here.search.run call.stands _ _ _ call.reaches call.moves c.in-Stepped.is in
+    let taken = takes_in here.search step c.in-Some.ensures c.cells-cells.ensures _ c.widened_side.ensures
     (search rules) c.position.ensures c.pass.ensures (search rules) c.position-in-loop-moved.ensures
     c.pass-in-loop-moved.ensures in
-    is_found here taken _ _ _ _ c.in-Some-widened_side.is _
-    (rw c.in-Some-2.is at c.in_ok-verdict.ensures.looks)
-
-pub returns-in-Some-2-clause-watched : goal.returns-in-Some-2-clause-watched
-returns-in-Some-2-clause-watched g c = ((found_here g c).found, (found_here g c).counted)
-
-pub returns-in-Some-2-clause-promised : goal.returns-in-Some-2-clause-promised
-returns-in-Some-2-clause-promised g c = record {
-  claim = (found_here g c).claim;
-  numbers = rw c.in-Some-2.is at c.in_ok-verdict.ensures.numbers;
-  memory = tt;
-}
+    let looks = c.in_ok-verdict.ensures in
+    let counted = taken_over call.stands here.meter c.count_run-in-Some-2.ensures in
+    let found = counts_as counted (is_found here.search taken _ _ _ _ c.in-Some-widened_side.is _
+    (rw c.in-Some-2.is at looks.looks)) in
+    record {
+      watched = (found.found, found.counted);
+      within = rw counted (within_here step);
+      promised = record {
+        claim = found.claim;
+        numbers = rw c.in-Some-2.is at looks.numbers;
+        memory = tt;
+      };
+      tapes = tapes_keep call.limit looks.right_limit looks.left_limit here.tapes;
+      path = here.path;
+    }
 
 pub loop-moved-preserved : goal.loop-moved-preserved
 loop-moved-preserved g c =
     let here = c.loop-moved.invariant in
     let call = c.in_ok-moved.ensures in
-    let step = has_stepped here.search.run call.stands _ call.reaches call.moves c.in-Stepped.is in
+    let step = has_counted here.search.run call.stands _ _ _ call.reaches call.moves c.in-Stepped.is in
     let taken = takes_in here.search step c.in-Some.ensures c.cells-cells.ensures _ c.widened_side.ensures
     (search rules) c.position.ensures c.pass.ensures (search rules) c.position-in-loop-moved.ensures
     c.pass-in-loop-moved.ensures in
@@ -187,8 +211,8 @@ loop-moved-preserved g c =
     record {
       search = goes_on_from here.search taken _ _ _ _ c.in-Some-widened_side.side c.in-Some-widened_side.is
           (rw c.in-None.is at c.in_ok-verdict.ensures.looks);
-      watched = watched_on here.watched step refl print (λ same. let is = c.are_as_kept.ensures.1 same in
-          let not = c.if-are_as_kept.false in cc) (not_in_Z c.in-Some.ensures) c.keep_in_turn.ensures;
+      watched = watched_on here.watched step refl print (λ same. not_both (c.are_as_kept.ensures.1 same) c.if-are_as_kept.false) (not_in_Z c.in-Some.ensures) c.keep_in_turn.ensures;
       tapes = tapes_keep call.limit limits.right_limit limits.left_limit here.tapes;
       path = here.path;
+      meter = here.meter;
     }
