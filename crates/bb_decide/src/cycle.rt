@@ -13,7 +13,7 @@ ghost use Rattle.bb_decide.specs.inside.Ending.{EndsPromised, RanAs, found_of};
 ghost use Rattle.bb_decide.specs.Sure.{FindsRepeats};
 
 use crate::bench::Bench;
-use crate::ending::{Ending, outcome_of};
+use crate::ending::{Ending, count_run, outcome_of};
 use bb_cert::{Verdict, is_same};
 use bb_machine::{Limits, Machine};
 use bb_sim::{Meter, Moved, Runner};
@@ -70,13 +70,11 @@ pub(crate) fn seek_cycle<T: Tape>(
     ensures path { bench.new.path ≡ bench.old.path }
 {
     let limits = *limits;
-    let mut spent = *meter;
-    let ending = run(machine, &limits, bench, &mut spent);
-    *meter = spent;
-    ending
+    run(machine, &limits, bench, meter)
 }
 
-/// `seek_cycle`, inlined there, so that the limits and the meter, which are its locals, stay in registers.
+/// `seek_cycle`, inlined there, so that the limits, which are its local, stay in registers. The runner counts
+/// its steps and cells; the meter takes them over where the run ends.
 #[inline(always)]
 fn run<T: Tape>(
     machine: &Machine,
@@ -100,18 +98,23 @@ fn run<T: Tape>(
     let mut runner = Runner::start(machine, &mut bench.run);
     let mut kept = Runner::start(machine, &mut bench.right);
     let mut next_kept = 0;
-    meter.begin_run();
     loop {
-        match runner.advance(machine, &mut bench.run, limits, meter)? {
+        let mut uncounted = Meter::new();
+        match runner.advance(machine, &mut bench.run, limits, &mut uncounted)? {
             Moved::Stepped => {}
-            moved => return Ok(Ending::Ran(outcome_of(moved, runner, &bench.run))),
+            moved => {
+                count_run(meter, &runner);
+                return Ok(Ending::Ran(outcome_of(moved, runner, &bench.run)));
+            }
         }
         // In Z the run ends, in a state in which it wasn't before.
         let Some(_) = runner.state() else {
+            count_run(meter, &runner);
             let outcome = outcome_of(Moved::Halted, runner, &bench.run);
             return Ok(Ending::Ran(outcome));
         };
         if is_same(&runner, &bench.run, &kept, &bench.right) {
+            count_run(meter, &runner);
             return Ok(Ending::Found(Verdict::Cycler {
                 first: kept.steps(),
                 second: runner.steps(),

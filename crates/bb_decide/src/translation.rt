@@ -12,7 +12,7 @@ ghost use Rattle.bb_decide.specs.Sure.{FindsAgreeingRecords};
 ghost use Rattle.bb_decide.specs.Translation.{FindsTranslation};
 
 use crate::bench::Bench;
-use crate::ending::{Ending, outcome_of};
+use crate::ending::{Ending, count_run, outcome_of};
 use crate::record_search::look_at_record;
 use bb_cert::records::{Records, widened_side};
 use bb_cert::{Side, Verdict};
@@ -69,13 +69,11 @@ pub(crate) fn seek_translation<T: Tape>(
     ensures path { bench.new.path ≡ bench.old.path }
 {
     let limits = *limits;
-    let mut spent = *meter;
-    let ending = run(machine, &limits, bench, &mut spent);
-    *meter = spent;
-    ending
+    run(machine, &limits, bench, meter)
 }
 
-/// `seek_translation`, inlined there, so that the limits and the meter, its locals, stay in registers.
+/// `seek_translation`, inlined there, so that the limits, which are its local, stay in registers. The runner
+/// counts its steps and cells; the meter takes them over where the run ends.
 #[inline(always)]
 fn run<T: Tape>(
     machine: &Machine,
@@ -99,15 +97,19 @@ fn run<T: Tape>(
     let mut runner = Runner::start(machine, &mut bench.run);
     let mut right = Records::new(Side::R, runner);
     let mut left = Records::new(Side::L, runner);
-    meter.begin_run();
     loop {
         let cells = runner.cells();
-        match runner.advance(machine, &mut bench.run, limits, meter)? {
+        let mut uncounted = Meter::new();
+        match runner.advance(machine, &mut bench.run, limits, &mut uncounted)? {
             Moved::Stepped => {}
-            moved => return Ok(Ending::Ran(outcome_of(moved, runner, &bench.run))),
+            moved => {
+                count_run(meter, &runner);
+                return Ok(Ending::Ran(outcome_of(moved, runner, &bench.run)));
+            }
         }
         // In Z the run ends, in a state in which it wasn't before.
         let Some(_) = runner.state() else {
+            count_run(meter, &runner);
             let outcome = outcome_of(Moved::Halted, runner, &bench.run);
             return Ok(Ending::Ran(outcome));
         };
@@ -126,7 +128,10 @@ fn run<T: Tape>(
             &mut bench.right,
             &mut bench.left,
         )? {
-            Some(verdict) => return Ok(Ending::Found(verdict)),
+            Some(verdict) => {
+                count_run(meter, &runner);
+                return Ok(Ending::Found(verdict));
+            }
             None => {}
         }
     }

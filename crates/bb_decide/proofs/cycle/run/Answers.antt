@@ -1,67 +1,78 @@
 use Rattle.std.proofs.Common.{◌*◌, refl, ap, arith, rules}
-use Rattle.bb_sim.proofs.Facts.{ends_in_Z, ends_stopped, has_stepped}
+use Rattle.bb_sim.proofs.Facts.{ends_in_Z, ends_stopped}
 use Rattle.bb_cert.proofs.Facts.{repeats_never_halt}
 use Rattle.bb_decide.proofs.Benches.{tapes_keep}
+use Rattle.bb_decide.proofs.Counted.{begins, counts_on, has_counted, taken_over, within_here}
 use Rattle.bb_decide.proofs.Cycles.{comes_again, first_cycle, kept_earlier, no_cycle_in_Z, no_cycle_next}
 use Rattle.bb_decide.proofs.Endings.{ran_as, ran_into_Z}
 use Rattle.bb_decide.proofs.Halting.{in_no_state}
-use Rattle.bb_decide.proofs.Partners.{keeps_next, keeps_on}
+use Rattle.bb_decide.proofs.Partners.{kept_at_first, keeps_next, keeps_on}
 use Rattle.bb_decide.proofs.cycle.run.Goals as goal
+
+pub loop-moved-init : goal.loop-moved-init
+loop-moved-init g c =
+    let zero = c.start-runner.ensures.steps in
+    let kept_zero = c.start-kept.ensures.steps in
+    record {
+      search = record {
+        run = begins c.args.meter.now c.start-runner.ensures.stands zero;
+        kept_stands = c.start-kept.ensures.stands;
+        partner = rw (kept_zero, zero) kept_at_first;
+        none = λ a t few cycle. let below = cycle.partner.below in omega (arith, few, below, zero);
+      };
+      tapes = tapes_keep c.start-runner.ensures.limit c.start-kept.ensures.limit refl c.requires.tapes;
+      path = refl;
+      meter = refl;
+      next = omega (arith, kept_zero);
+    }
 
 pub returns-in_default : goal.returns-in_default
 returns-in_default g c =
     let here = c.loop-moved.invariant in
     let call = c.in_ok-moved.ensures in
-    let end = ends_stopped here.search.run call.stands _ _ c.in_default.not-Stepped call.reaches call.moves in
+    let moves = counts_on here.search.run call.stands _ _ _ call.moves in
+    let end = ends_stopped here.search.run call.stands _ _ c.in_default.not-Stepped call.reaches moves in
+    let counted = taken_over call.stands here.meter c.count_run.ensures in
     record {
       found = λ a t cycle. here.search.none a t (end.last.greatest t cycle.inside) cycle;
-      counted = end.counted;
-      within = end.within;
+      counted = rw counted end.counted;
+      within = rw counted end.within;
       never = tt;
-      ran = ran_as here.search.run call.stands _ _ c.in_default.not-Stepped call.answers call.reaches call.moves _
+      ran = ran_as here.search.run call.stands _ _ c.in_default.not-Stepped call.answers call.reaches moves _
           c.outcome_of.ensures;
       promised = record { claim = tt; numbers = tt; memory = tt };
       tapes = tapes_keep call.limit refl refl here.tapes;
       path = here.path;
     }
 
-pub returns-then-is_same-clause-promised : goal.returns-then-is_same-clause-promised
-returns-then-is_same-clause-promised g c =
-    let here = c.loop-moved.invariant.search in
+pub returns-then-is_same : goal.returns-then-is_same
+returns-then-is_same g c =
+    let here = c.loop-moved.invariant in
     let call = c.in_ok-moved.ensures in
-    let step = has_stepped here.run call.stands _ call.reaches call.moves c.in-Stepped.is in
+    let step = has_counted here.search.run call.stands _ _ _ call.reaches call.moves c.in-Stepped.is in
+    let again = comes_again here.search step c.is_same.ensures c.if-is_same.true in
+    let earlier = kept_earlier here.search step in
+    let counted = taken_over call.stands here.meter c.count_run-then-is_same.ensures in
     record {
-      claim = rw (c.steps.ensures, c.steps-then-is_same.ensures)
-          (kept_earlier here step, comes_again here step c.is_same.ensures c.if-is_same.true);
-      numbers = search rules;
-      memory = tt;
+      found = rw (c.steps.ensures, c.steps-then-is_same.ensures) (first_cycle here.search step again);
+      ran = tt;
+      counted = rw (c.steps-then-is_same.ensures, counted) step.run.counts;
+      within = rw counted (within_here step);
+      never = repeats_never_halt _ _ _ earlier again;
+      promised = record {
+        claim = rw (c.steps.ensures, c.steps-then-is_same.ensures) (earlier, again);
+        numbers = search rules;
+        memory = tt;
+      };
+      tapes = tapes_keep call.limit refl refl here.tapes;
+      path = here.path;
     }
-
-pub returns-then-is_same-clause-never : goal.returns-then-is_same-clause-never
-returns-then-is_same-clause-never g c =
-    let claim = (returns-then-is_same-clause-promised g c).claim in
-    repeats_never_halt _ _ _ claim.0 claim.1
-
-pub returns-then-is_same-clause-found : goal.returns-then-is_same-clause-found
-returns-then-is_same-clause-found g c =
-    let here = c.loop-moved.invariant.search in
-    let call = c.in_ok-moved.ensures in
-    let step = has_stepped here.run call.stands _ call.reaches call.moves c.in-Stepped.is in
-    rw (c.steps.ensures, c.steps-then-is_same.ensures)
-    (first_cycle here step (comes_again here step c.is_same.ensures c.if-is_same.true))
-
-pub returns-then-is_same-clause-counted : goal.returns-then-is_same-clause-counted
-returns-then-is_same-clause-counted g c =
-    let here = c.loop-moved.invariant.search in
-    let call = c.in_ok-moved.ensures in
-    let step = has_stepped here.run call.stands _ call.reaches call.moves c.in-Stepped.is in
-    rw c.steps-then-is_same.ensures step.run.counts
 
 pub loop-moved-preserved-then-steps-next_kept : goal.loop-moved-preserved-then-steps-next_kept
 loop-moved-preserved-then-steps-next_kept g c =
     let here = c.loop-moved.invariant in
     let call = c.in_ok-moved.ensures in
-    let step = has_stepped here.search.run call.stands _ call.reaches call.moves c.in-Stepped.is in
+    let step = has_counted here.search.run call.stands _ _ _ call.reaches call.moves c.in-Stepped.is in
     record {
       search = record {
         run = step.run;
@@ -74,6 +85,7 @@ loop-moved-preserved-then-steps-next_kept g c =
       };
       tapes = tapes_keep call.limit c.in-Ok.ensures.limit refl here.tapes;
       path = here.path;
+      meter = here.meter;
       next = ap (λ n. 2 * n) c.steps-next_kept.ensures;
     }
 
@@ -81,7 +93,7 @@ pub loop-moved-preserved : goal.loop-moved-preserved
 loop-moved-preserved g c =
     let here = c.loop-moved.invariant in
     let call = c.in_ok-moved.ensures in
-    let step = has_stepped here.search.run call.stands _ call.reaches call.moves c.in-Stepped.is in
+    let step = has_counted here.search.run call.stands _ _ _ call.reaches call.moves c.in-Stepped.is in
     record {
       search = record {
         run = step.run;
@@ -94,26 +106,25 @@ loop-moved-preserved g c =
       };
       tapes = tapes_keep call.limit refl refl here.tapes;
       path = here.path;
+      meter = here.meter;
       next = here.next;
     }
 
 -- a step into Z ends the run
-pub returns-in_default-state-clause-found : goal.returns-in_default-state-clause-found
-returns-in_default-state-clause-found g c =
-    let here = c.loop-moved.invariant.search in
+pub returns-in_default-state : goal.returns-in_default-state
+returns-in_default-state g c =
+    let here = c.loop-moved.invariant in
     let call = c.in_ok-moved.ensures in
-    no_cycle_in_Z here (has_stepped here.run call.stands _ call.reaches call.moves c.in-Stepped.is)
-    (in_no_state _ _ c.state.ensures c.in_default-state.not-Some)
-
-pub returns-in_default-state-clause-ran : goal.returns-in_default-state-clause-ran
-returns-in_default-state-clause-ran g c =
-    let here = c.loop-moved.invariant.search in
-    let call = c.in_ok-moved.ensures in
-    ran_into_Z (has_stepped here.run call.stands _ call.reaches call.moves c.in-Stepped.is)
-    (in_no_state _ _ c.state.ensures c.in_default-state.not-Some) _ c.outcome_of-outcome.ensures
-
-pub returns-in_default-state-clause-counted : goal.returns-in_default-state-clause-counted
-returns-in_default-state-clause-counted g c =
-    let call = c.in_ok-moved.ensures in
-    (ends_in_Z (has_stepped c.loop-moved.invariant.search.run call.stands _ call.reaches
-    call.moves c.in-Stepped.is) (in_no_state _ _ c.state.ensures c.in_default-state.not-Some)).counted
+    let step = has_counted here.search.run call.stands _ _ _ call.reaches call.moves c.in-Stepped.is in
+    let halts = in_no_state _ _ c.state.ensures c.in_default-state.not-Some in
+    let counted = taken_over call.stands here.meter c.count_run-in_default-state.ensures in
+    record {
+      found = no_cycle_in_Z here.search step halts;
+      ran = ran_into_Z step halts _ c.outcome_of-outcome.ensures;
+      counted = rw counted (ends_in_Z step halts).counted;
+      within = rw counted (within_here step);
+      never = tt;
+      promised = record { claim = tt; numbers = tt; memory = tt };
+      tapes = tapes_keep call.limit refl refl here.tapes;
+      path = here.path;
+    }

@@ -1,7 +1,7 @@
 use Rattle.std.proofs.Common.{refl, ap, ◌∙◌, rules, w64, FitsSigned}
 use Rattle.std.proofs.lemmas.Int.{to_z-of_z}
 use Rattle.bb_sim.specs.Runner.{position_of}
-use Rattle.bb_sim.proofs.Facts.{ends_in_Z, ends_stopped, has_stepped}
+use Rattle.bb_sim.proofs.Facts.{ends_in_Z, ends_stopped}
 use Rattle.bb_cert.specs.declared.records.Records.{Records}
 use Rattle.bb_cert.proofs.Facts.{starts}
 use Rattle.bb_decide.proofs.Benches.{tapes_keep}
@@ -16,7 +16,6 @@ use Rattle.bb_decide.proofs.Watched.{not_both}
 use Rattle.bb_decide.proofs.Watched.{print_known, readable_here, still_inside, suspected, watched_at_first}
 use Rattle.bb_decide.proofs.Watched.{watched_on}
 use Rattle.bb_decide.proofs.watching.run.Goals as goal
-use Rattle.bb_decide.proofs.watching.run.Given as given
 
 pub loop-moved-init : goal.loop-moved-init
 loop-moved-init g c =
