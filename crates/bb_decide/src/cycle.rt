@@ -103,18 +103,18 @@ fn run<T: Tape>(
         match runner.advance(machine, &mut bench.run, limits, &mut uncounted)? {
             Moved::Stepped => {}
             moved => {
-                count_run(meter, &runner);
+                count_run(meter, runner);
                 return Ok(Ending::Ran(outcome_of(moved, runner, &bench.run)));
             }
         }
         // In Z the run ends, in a state in which it wasn't before.
         let Some(_) = runner.state() else {
-            count_run(meter, &runner);
+            count_run(meter, runner);
             let outcome = outcome_of(Moved::Halted, runner, &bench.run);
             return Ok(Ending::Ran(outcome));
         };
         if is_same(&runner, &bench.run, &kept, &bench.right) {
-            count_run(meter, &runner);
+            count_run(meter, runner);
             return Ok(Ending::Found(Verdict::Cycler {
                 first: kept.steps(),
                 second: runner.steps(),

@@ -42,11 +42,14 @@ impl Ending {
     }
 }
 
-/// Counts what a runner has run: its steps, and the cells of its window.
-pub fn count_run(meter: &mut Meter, runner: &Runner)
-    requires { meter.old.steps + steps_of runner.now < 2 ^ 64 }
-    ensures { meter.new ≡ counted meter.old (steps_of runner.now)
-        (cells_between (low_of runner.now) (high_of runner.now)) }
+/// Counts what a runner has run: its steps, and the cells of its window. It is not inlined, so that the loop
+/// before it keeps its registers.
+#[cold]
+#[inline(never)]
+pub fn count_run(meter: &mut Meter, runner: Runner)
+    requires { meter.old.steps + steps_of runner < 2 ^ 64 }
+    ensures { meter.new ≡ counted meter.old (steps_of runner)
+        (cells_between (low_of runner) (high_of runner)) }
 {
     meter.steps += runner.steps();
     meter.most_cells = meter.most_cells.max(runner.cells());

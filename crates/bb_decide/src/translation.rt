@@ -103,13 +103,13 @@ fn run<T: Tape>(
         match runner.advance(machine, &mut bench.run, limits, &mut uncounted)? {
             Moved::Stepped => {}
             moved => {
-                count_run(meter, &runner);
+                count_run(meter, runner);
                 return Ok(Ending::Ran(outcome_of(moved, runner, &bench.run)));
             }
         }
         // In Z the run ends, in a state in which it wasn't before.
         let Some(_) = runner.state() else {
-            count_run(meter, &runner);
+            count_run(meter, runner);
             let outcome = outcome_of(Moved::Halted, runner, &bench.run);
             return Ok(Ending::Ran(outcome));
         };
@@ -129,7 +129,7 @@ fn run<T: Tape>(
             &mut bench.left,
         )? {
             Some(verdict) => {
-                count_run(meter, &runner);
+                count_run(meter, runner);
                 return Ok(Ending::Found(verdict));
             }
             None => {}

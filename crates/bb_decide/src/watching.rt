@@ -125,20 +125,20 @@ fn run<T: Tape, K: Keys>(
         match runner.advance(machine, &mut bench.run, limits, &mut uncounted)? {
             Moved::Stepped => {}
             moved => {
-                count_run(meter, &runner);
+                count_run(meter, runner);
                 return Ok(Some(Ending::Ran(outcome_of(moved, runner, &bench.run))));
             }
         }
         // In Z the run ends, in a state in which it wasn't before.
         let Some(_) = runner.state() else {
-            count_run(meter, &runner);
+            count_run(meter, runner);
             let outcome = outcome_of(Moved::Halted, runner, &bench.run);
             return Ok(Some(Ending::Ran(outcome)));
         };
         let new = bench.run.read_inside(position);
         prints.print = rewritten(prints.print, keys, position, old, new);
         if prints.are_as_kept(&runner) {
-            count_run(meter, &runner);
+            count_run(meter, runner);
             return Ok(None);
         }
         prints.keep_in_turn(&runner);
@@ -158,7 +158,7 @@ fn run<T: Tape, K: Keys>(
             &mut bench.left,
         )? {
             Some(verdict) => {
-                count_run(meter, &runner);
+                count_run(meter, runner);
                 return Ok(Some(Ending::Found(verdict)));
             }
             None => {}
