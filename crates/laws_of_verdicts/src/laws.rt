@@ -1,0 +1,19 @@
+//! Laws of what verdicts say beyond their machine's run within limits, as contracts: a call of each does
+//! nothing.
+ghost use Rattle.laws_of_verdicts.specs.LaterSteps.{CyclersComeAgain, TranslatedCyclersMoveOn};
+
+use bb_cert::claims::laws::agreeing_records_go_on;
+
+/// From the first step of a cycler's pair on, each configuration comes again after every so many steps as lie
+/// between the two.
+pub fn cyclers_come_again()
+    ensures { CyclersComeAgain }
+{}
+
+/// From the first step of a translated cycler's pair on, the state comes again after every so many steps, with
+/// the head as much farther out as the shift is.
+pub fn translated_cyclers_move_on()
+    ensures { TranslatedCyclersMoveOn }
+{
+    agreeing_records_go_on();
+}
