@@ -1,1 +1,2 @@
 mod LaterSteps
+mod EveryStart

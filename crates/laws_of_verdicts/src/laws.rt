@@ -1,5 +1,6 @@
 //! Laws of what verdicts say beyond their machine's run within limits, as contracts: a call of each does
 //! nothing.
+ghost use Rattle.laws_of_verdicts.specs.EveryStart.{EveryStartHaltsSoonOrNever};
 ghost use Rattle.laws_of_verdicts.specs.LaterSteps.{CyclersComeAgain, TranslatedCyclersMoveOn};
 
 use bb_cert::claims::laws::agreeing_records_go_on;
@@ -17,3 +18,9 @@ pub fn translated_cyclers_move_on()
 {
     agreeing_records_go_on();
 }
+
+/// Where the tree of what could come before a halt ends in so many levels, every state on every tape halts
+/// within as many steps or never.
+pub fn every_start_halts_soon_or_never()
+    ensures { EveryStartHaltsSoonOrNever }
+{}

@@ -1,0 +1,26 @@
+-- What a tree that ends says of every start: stronger than never from the blank tape. This law is this
+-- project's own.
+use Rattle.std.specs.Prelude.{◌≡◌, ℕ, ◌<◌, ◌≤◌, Some, None, length, ℤ}
+use Rattle.bb_machine.specs.Entry.{IsNextOf}
+use Rattle.bb_machine.specs.Machine.{Table, IsMachine, symbols_of}
+use Rattle.bb_tape.specs.Content.{cell}
+use Rattle.bb_sim.specs.Configuration.{Configuration, next}
+use Rattle.bb_sim.specs.Run.{after}
+use Rattle.bb_cert.specs.tree.Tree.{Ends}
+
+-- one of the machine's states, or Z, at any position on any tape of its symbols
+pub record IsStartOf (table : Table) (c : Configuration) : Type 0 where
+  pub state : IsNextOf (length table) c.state
+  pub symbols : (p : ℤ) → cell c.tape p < symbols_of table
+
+-- started there, the machine halts after n steps
+pub record HaltsFrom (table : Table) (c : Configuration) (n : ℕ) : Type 0 where
+  pub last : Configuration
+  pub exists : after table c n ≡ Some last
+  pub no_next : next table last ≡ None
+
+-- where the tree ends in so many levels, a machine that halts, from whatever start, does so within as many
+-- steps. That the start A on the blank tape matches no node isn't asked
+abbrev pub EveryStartHaltsSoonOrNever : Type 0
+EveryStartHaltsSoonOrNever = (table : Table) (levels nodes : ℕ) (c : Configuration) (n : ℕ)
+    → IsMachine table → Ends table levels nodes → IsStartOf table c → HaltsFrom table c n → n ≤ levels
