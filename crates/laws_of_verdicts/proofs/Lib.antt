@@ -1,2 +1,4 @@
-mod LaterSteps
+mod AlikeRuns
+mod Completions
 mod EveryStart
+mod LaterSteps

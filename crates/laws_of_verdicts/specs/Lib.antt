@@ -1,2 +1,3 @@
-pub mod LaterSteps
+pub mod Completion
 pub mod EveryStart
+pub mod LaterSteps

@@ -1,5 +1,7 @@
 //! Laws of what verdicts say beyond their machine's run within limits, as contracts: a call of each does
 //! nothing.
+ghost use Rattle.laws_of_verdicts.specs.Completion.{CompletionsKeepAnswers, CompletionsKeepClaims};
+ghost use Rattle.laws_of_verdicts.specs.Completion.{CompletionsKeepVerdicts};
 ghost use Rattle.laws_of_verdicts.specs.EveryStart.{EveryStartHaltsSoonOrNever};
 ghost use Rattle.laws_of_verdicts.specs.LaterSteps.{CyclersComeAgain, TranslatedCyclersMoveOn};
 
@@ -23,4 +25,16 @@ pub fn translated_cyclers_move_on()
 /// within as many steps or never.
 pub fn every_start_halts_soon_or_never()
     ensures { EveryStartHaltsSoonOrNever }
+{}
+
+/// A machine whose `---` are filled in any way keeps the verdict, to the digit, where that is a halt by a step
+/// into Z or a pair.
+pub fn completions_keep_verdicts()
+    ensures { CompletionsKeepVerdicts }
+{}
+
+/// It keeps what such a verdict claims, whoever made it, and the checker's `ok`.
+pub fn completions_keep_claims()
+    ensures claim { CompletionsKeepClaims }
+    ensures answer { CompletionsKeepAnswers }
 {}

@@ -1,0 +1,226 @@
+-- Why completions keep a verdict in which no `---` has a part.
+use Rattle.std.proofs.Common.{◌≡◌, ◌≢◌, ℕ, zero, suc, ◌≤◌, Option, Some, None, option_and_then}
+use Rattle.std.proofs.Common.{refl, ap, sym, ◌∙◌, arith}
+use Rattle.bb_machine.specs.declared.entry.Next.{Next}
+use Rattle.bb_machine.specs.declared.entry.Next.TheVariants as state
+use Rattle.bb_machine.specs.declared.entry.Entry.{Entry}
+use Rattle.bb_machine.specs.declared.entry.Entry.TheVariants.{Undefined, Go}
+use Rattle.bb_machine.specs.Limits.{Bounds}
+use Rattle.bb_machine.specs.Machine.{Table}
+use Rattle.bb_tape.specs.Content.{cell}
+use Rattle.bb_sim.specs.Configuration.{Configuration, followed, entry_at, next}
+use Rattle.bb_sim.specs.Run.{conf, Exists, HaltsAt, Never}
+use Rattle.bb_sim.proofs.Facts.{conf-start}
+use Rattle.bb_cert.specs.declared.verdict.Side.{Side}
+use Rattle.bb_cert.specs.declared.verdict.Verdict.{Verdict}
+use Rattle.bb_cert.specs.declared.verdict.Verdict.TheVariants.{Halt, Cycler, Translated, Backward, Undecided}
+use Rattle.bb_cert.specs.declared.checker.answer.Answer.TheVariants.{Ok}
+use Rattle.bb_cert.specs.checker.Answer.{Applies, IsAnswer, NeedsTooMuch, Rule, answer_by, rank}
+use Rattle.bb_cert.specs.checker.Answer.{undecided, too_much_named, out_of_order, too_much_needed, claim_holds}
+use Rattle.bb_cert.specs.checker.Answer.{all_else}
+use Rattle.bb_cert.specs.claims.Claim.{Claim}
+use Rattle.bb_cert.proofs.Facts.{agreeing_records_never_halt, earlier, moves, records_in_order}
+use Rattle.bb_cert.proofs.Facts.{repeats_never_halt}
+use Rattle.bb_decide.specs.Cycle.{HasNoCycle, IsFirstCycle}
+use Rattle.bb_decide.specs.Translation.{AgreesWithPartner, IsFirstTranslation}
+use Rattle.bb_decide.specs.Verdict.{IsVerdict}
+use Rattle.bb_decide.proofs.Facts.{verdicts_hold}
+use Rattle.laws_of_verdicts.specs.Completion.{IsCompletion, IsInZ, MeetsNoGap, CompletionsKeepAnswers}
+use Rattle.laws_of_verdicts.specs.Completion.{CompletionsKeepClaims, CompletionsKeepVerdicts}
+use Rattle.laws_of_verdicts.proofs.AlikeRuns.{AreAlikeTo, cycle_alike, inside_alike, pair_alike, says_alike}
+use Rattle.laws_of_verdicts.proofs.AlikeRuns.{span_alike, tells_alike, translation_alike}
+
+-- a run that never halts has every step
+next_exists : (table : Table) → Never table → (n : ℕ) → Exists table n → Exists table (suc n)
+unfolding conf
+next_exists table never n step = by_case (next table step.here) refl where
+  by_case : (o : Option Configuration) → next table step.here ≡ o → Exists table (suc n)
+  by_case None e = absurd (never.never n (record { last = step.here; exists = step.exists; no_next = e }))
+  by_case (Some c) e = record { here = c; exists = ap (option_and_then (next table)) step.exists ∙ e }
+
+exists_always : (table : Table) → Never table → (n : ℕ) → Exists table n
+exists_always table never zero = record { here = _; exists = conf-start table }
+exists_always table never (suc n) = next_exists table never n (exists_always table never n)
+
+-- the first of two records is made no later than the second
+partner_before : (table : Table) (side : Side) (a b : ℕ) → AgreesWithPartner table side a b → a ≤ b
+partner_before table side a b pair =
+    let less = (records_in_order table side pair.first_number pair.second_number a b pair.first_record
+    pair.second_record).0 pair.partner.below in
+    omega (arith, less)
+
+module _ (table filled : Table) (completion : IsCompletion table filled) where
+  same_entry : (to : Next) (symbol : ℕ) (entry : Entry) → entry_at table to symbol ≡ entry → entry ≢ Undefined
+      → entry_at filled to symbol ≡ entry
+  same_entry (state.State q) symbol entry e some = completion.kept q symbol (λ gap. some (sym e ∙ gap)) ∙ e
+  same_entry state.Halt symbol entry e some = e
+
+  followed_kept : (c d : Configuration) (entry : Entry) → entry_at table c.state (cell c.tape c.head) ≡ entry
+      → followed entry c ≡ Some d → next filled c ≡ Some d
+  unfolding next
+  followed_kept c d Undefined e leads = absurd cc
+  followed_kept c d (Go write dir to) e leads = ap (λ x. followed x c)
+      (same_entry c.state (cell c.tape c.head) (Go write dir to) e (λ gap. cc)) ∙ leads
+
+  -- each step of the machine is one of its completion
+  next_kept : (c d : Configuration) → next table c ≡ Some d → next filled c ≡ Some d
+  unfolding next
+  next_kept c d e = followed_kept c d (entry_at table c.state (cell c.tape c.head)) refl e
+
+  conf_kept : (n : ℕ) (c : Configuration) → conf table n ≡ Some c → conf filled n ≡ Some c
+  unfolding conf
+  conf_kept zero c e = e
+  conf_kept (suc n) c e =
+      let moved = moves table n (record { here = c; exists = e }) in
+      let same : Some moved.then_here ≡ Some c = sym moved.at_then ∙ e in
+      ap (option_and_then (next filled)) (conf_kept n moved.before moved.at_before)
+      ∙ next_kept moved.before moved.then_here moved.is_next ∙ same
+
+  alike_to : (n : ℕ) → Exists table n → AreAlikeTo table filled n
+  alike_to n there m h =
+      let here = earlier table n m h there in
+      conf_kept m here.here here.exists ∙ sym here.exists
+
+  -- a halt in Z is one of the completion
+  halts_kept : (n : ℕ) → IsInZ table n → HaltsAt filled n
+  unfolding next
+  halts_kept n at = record {
+    last = at.here;
+    exists = conf_kept n at.here at.exists;
+    no_next = ap (λ s. followed (entry_at filled s (cell at.here.tape at.here.head)) at.here) at.in_z;
+  }
+
+  alike_always : Never table → (n : ℕ) → AreAlikeTo table filled n
+  alike_always never n = alike_to n (exists_always table never n)
+
+  back_always : Never table → (n : ℕ) → AreAlikeTo filled table n
+  back_always never n m h = sym (alike_always never n m h)
+
+  no_cycle_kept : Never table → (bounds : Bounds) → HasNoCycle table bounds → HasNoCycle filled bounds
+  no_cycle_kept never bounds none a t cycle =
+      none a t (cycle_alike filled table t (back_always never t) bounds a cycle)
+
+  first_cycle_kept : Never table → (bounds : Bounds) (a t : ℕ) → IsFirstCycle table bounds a t
+      → IsFirstCycle filled bounds a t
+  first_cycle_kept never bounds a t is = record {
+    cycle = cycle_alike table filled t (alike_always never t) bounds a is.cycle;
+    first = λ b u other. is.first b u (cycle_alike filled table u (back_always never u) bounds b other);
+  }
+
+  first_translation_kept : Never table → (bounds : Bounds) (side : Side) (a b : ℕ)
+      → IsFirstTranslation table bounds side a b → IsFirstTranslation filled bounds side a b
+  first_translation_kept never bounds side a b is = record {
+    translation = translation_alike table filled b (alike_always never b) bounds side a
+        (partner_before table side a b is.translation.pair) is.translation;
+    first = λ other c d found. is.first other c d
+        (translation_alike filled table d (back_always never d) bounds other c
+        (partner_before filled other c d found.pair) found);
+  }
+
+  claim_kept : (verdict : Verdict) → MeetsNoGap table verdict → Claim table verdict → Claim filled verdict
+  claim_kept (Halt n ones) at claim = (
+    halts_kept n at,
+    record {
+      here = claim.1.here;
+      exists = conf_kept n claim.1.here claim.1.exists;
+      counted = claim.1.counted;
+    },
+  )
+  claim_kept (Cycler a b) at claim = (
+    claim.0,
+    record {
+      here = claim.1.here;
+      at_first = conf_kept a claim.1.here claim.1.at_first;
+      at_second = conf_kept b claim.1.here claim.1.at_second;
+    },
+  )
+  claim_kept (Translated side a b extent) at claim =
+      let in_order = claim.0.in_order in
+      let alike = alike_to b (record { here = claim.0.agree.second; exists = claim.0.agree.at_second }) in (
+        pair_alike table filled b alike side a claim.0,
+        says_alike table filled b alike side a extent (omega (arith, in_order)) claim.1,
+      )
+  claim_kept (Backward levels nodes) at claim = absurd at
+  claim_kept (Undecided why) at claim = absurd at
+
+  verdict_kept : (bounds : Bounds) (plan : _) (verdict : Verdict) → MeetsNoGap table verdict
+      → IsVerdict table bounds plan verdict → IsVerdict filled bounds plan verdict
+  verdict_kept bounds plan (Halt n ones) at is =
+      let claim = claim_kept (Halt n ones) at (is.0.halts, is.1) in
+      let alike = alike_to n (record { here = at.here; exists = at.exists }) in (
+        record { halts = claim.0; inside = inside_alike table filled n alike bounds is.0.inside },
+        claim.1,
+      )
+  verdict_kept bounds plan (Cycler a b) at is =
+      let claim = verdicts_hold table bounds plan (Cycler a b) is in
+      let never = repeats_never_halt table a b claim.0 claim.1 in
+      let kept = claim_kept (Cycler a b) at claim in
+      let stays = repeats_never_halt filled a b kept.0 kept.1 in (
+        λ n halts. stays.never n halts.halts,
+        is.1,
+        first_cycle_kept never bounds a b is.2,
+      )
+  verdict_kept bounds plan (Translated side a b extent) at is =
+      let claim = verdicts_hold table bounds plan (Translated side a b extent) is in
+      let never = agreeing_records_never_halt table side a b claim.0 in
+      let kept = claim_kept (Translated side a b extent) at claim in
+      let stays = agreeing_records_never_halt filled side a b kept.0 in
+      let in_order = claim.0.in_order in (
+        λ n halts. stays.never n halts.halts,
+        λ on. no_cycle_kept never bounds (is.1 on),
+        is.2,
+        first_translation_kept never bounds side a b is.3,
+        tells_alike table filled b (alike_always never b) side a extent (omega (arith, in_order)) is.4,
+      )
+  verdict_kept bounds plan (Backward levels nodes) at is = absurd at
+  verdict_kept bounds plan (Undecided why) at is = absurd at
+
+  -- the last step that is named exists, so the span up to it is the same
+  needs_back : (bounds : Bounds) (verdict : Verdict) → MeetsNoGap table verdict → Claim table verdict
+      → NeedsTooMuch filled bounds verdict → NeedsTooMuch table bounds verdict
+  needs_back bounds (Halt n ones) at claim needs =
+      let alike = alike_to n (record { here = at.here; exists = at.exists }) in
+      rw (← span_alike table filled n alike) needs
+  needs_back bounds (Cycler a b) at claim needs =
+      let alike = alike_to b (record { here = claim.1.here; exists = claim.1.at_second }) in
+      rw (← span_alike table filled b alike) needs
+  needs_back bounds (Translated side a b extent) at claim needs =
+      let alike = alike_to b (record { here = claim.0.agree.second; exists = claim.0.agree.at_second }) in
+      rw (← span_alike table filled b alike) needs
+  needs_back bounds (Backward levels nodes) at claim needs = absurd at
+  needs_back bounds (Undecided why) at claim needs = absurd at
+
+  answer_kept : (bounds : Bounds) (verdict : Verdict) → MeetsNoGap table verdict → (rule : Rule)
+      → Ok ≡ answer_by rule → Applies table bounds verdict rule
+      → ((other : Rule) → Applies table bounds verdict other → rank rule ≤ rank other)
+      → IsAnswer filled bounds verdict Ok
+  answer_kept bounds verdict at undecided is applies first = absurd cc
+  answer_kept bounds verdict at too_much_named is applies first = absurd cc
+  answer_kept bounds verdict at out_of_order is applies first = absurd cc
+  answer_kept bounds verdict at too_much_needed is applies first = absurd cc
+  answer_kept bounds verdict at all_else is applies first = absurd cc
+  answer_kept bounds verdict at claim_holds is claim first = record {
+    rule = claim_holds;
+    is = is;
+    applies = claim_kept verdict at claim;
+    first = comes_first;
+  } where
+    comes_first : (other : Rule) → Applies filled bounds verdict other → rank claim_holds ≤ rank other
+    comes_first undecided applies = first undecided applies
+    comes_first too_much_named applies = first too_much_named applies
+    comes_first out_of_order applies = first out_of_order applies
+    comes_first too_much_needed applies = first too_much_needed (needs_back bounds verdict at claim applies)
+    comes_first claim_holds applies = omega arith
+    comes_first all_else applies = omega arith
+
+pub completions_keep_verdicts : CompletionsKeepVerdicts
+completions_keep_verdicts table filled bounds plan verdict completion at is =
+    verdict_kept table filled completion bounds plan verdict at is
+
+pub completions_keep_claims : CompletionsKeepClaims
+completions_keep_claims table filled verdict completion at claim =
+    claim_kept table filled completion verdict at claim
+
+pub completions_keep_answers : CompletionsKeepAnswers
+completions_keep_answers table filled bounds verdict completion at is =
+    answer_kept table filled completion bounds verdict at is.rule is.is is.applies is.first
