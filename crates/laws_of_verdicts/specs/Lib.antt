@@ -1,3 +1,4 @@
+pub mod Change
 pub mod Completion
 pub mod EveryStart
 pub mod LaterSteps
