@@ -1,6 +1,7 @@
 mod AlikeRuns
 mod ChangedNotions
 mod ChangedRuns
+mod ChangedTrees
 mod Completions
 mod EveryStart
 mod LaterSteps
