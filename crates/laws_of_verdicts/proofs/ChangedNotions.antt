@@ -1,6 +1,6 @@
 -- Why halts, spans, repeats and records of a changed machine are those of the machine.
-use Rattle.std.proofs.Common.{◌≡◌, ◌≢◌, ℕ, zero, suc, ◌+◌, ◌-◌, ◌<◌, ◌≤◌, Bool, true, false, Option, Some, None, ℤ, pos}
-use Rattle.std.proofs.Common.{neg_ℤ, ◌+ℤ◌, ◌-ℤ◌, ◌≤ℤ◌, refl, ap, ap₂, sym, subst, ◌∙◌, arith}
+use Rattle.std.proofs.Common.{◌≡◌, ℕ, zero, suc, ◌+◌, ◌-◌, Bool, true, false, Option, Some, None, ℤ}
+use Rattle.std.proofs.Common.{neg_ℤ, ◌+ℤ◌, ◌-ℤ◌, ◌≤ℤ◌, refl, ap, ap₂, sym, ◌∙◌, arith}
 use Rattle.std.proofs.lemmas.Int.{ints, clamps}
 use Rattle.std.specs.Int.{int_min, int_max}
 use Rattle.std.specs.Int.RustNames.{unsigned_abs}
@@ -24,7 +24,7 @@ use Rattle.bb_decide.specs.Cycle.{IsCycle}
 use Rattle.bb_decide.specs.Translation.{IsTranslation}
 use Rattle.laws_of_verdicts.specs.Change.{Change, IsChanged, changed_next, turned_side}
 use Rattle.laws_of_verdicts.proofs.AlikeRuns.{least_alike, greatest_alike}
-use Rattle.laws_of_verdicts.proofs.ChangedRuns.{AreImages, ImageOf, IsImage, conf_image, image_is_one, image_of}
+use Rattle.laws_of_verdicts.proofs.ChangedRuns.{AreImages, ImageOf, conf_image, image_is_one, image_of}
 use Rattle.laws_of_verdicts.proofs.ChangedRuns.{cell_at, next_image, no_image, placed, placed-add, placed-subtract}
 use Rattle.laws_of_verdicts.proofs.ChangedRuns.{placed-twice, placed-zero}
 

@@ -1,5 +1,5 @@
 -- Why the run of a changed machine is the image of the machine's own.
-use Rattle.std.proofs.Common.{◌≡◌, ◌≢◌, ◌↔◌, ℕ, zero, suc, ◌+◌, ◌<◌, ◌≤◌, min, Bool, true, false, Option, Some, None, ℤ, pos}
+use Rattle.std.proofs.Common.{◌≡◌, ◌≢◌, ◌↔◌, ℕ, zero, suc, ◌<◌, min, Bool, true, false, Option, Some, None, ℤ, pos}
 use Rattle.std.proofs.Common.{neg_ℤ, ◌+ℤ◌, ◌-ℤ◌, option_and_then, refl, ap, ap₂, sym, subst, ◌∙◌, arith}
 use Rattle.std.proofs.lemmas.Int.{ints}
 use Rattle.bb_machine.specs.declared.entry.Dir.{Dir}
@@ -9,11 +9,11 @@ use Rattle.bb_machine.specs.declared.entry.Entry.TheVariants.{Undefined, Go}
 use Rattle.bb_machine.specs.declared.entry.Next.{Next}
 use Rattle.bb_machine.specs.declared.entry.Next.TheVariants.{State, Halt}
 use Rattle.bb_machine.specs.Machine.{Table, entry_of}
-use Rattle.bb_tape.specs.Content.{Content, cell, with_cell, score}
+use Rattle.bb_tape.specs.Content.{cell, with_cell, score}
 use Rattle.bb_tape.proofs.Facts.{cell-blank, cell-with_cell-same, cell-with_cell-other, by_position, same_content}
 use Rattle.bb_tape.proofs.Facts.{score-with_cell}
 use Rattle.bb_sim.specs.Configuration.{Configuration, start, beside, followed, entry_at, next}
-use Rattle.bb_sim.specs.Run.{after, conf, HaltsAt}
+use Rattle.bb_sim.specs.Run.{after, conf}
 use Rattle.bb_sim.proofs.Facts.{led}
 use Rattle.laws_of_verdicts.specs.Change.{Change, IsChanged, Renaming, changed_entry, changed_next, turned}
 

@@ -1,7 +1,7 @@
 -- Why the tree of a changed machine has as many nodes in each level.
-use Rattle.std.proofs.Common.{◌≡◌, ℕ, zero, suc, ◌+◌, ◌<◌, ◌≤◌, Bool, true, false, cond, nat_eq, Option, Some, None}
-use Rattle.std.proofs.Common.{List, [], ◌∷◌, ◌++◌, map, length, get_or, filter, flat_map, ℤ, pos, neg_ℤ, ◌+ℤ◌}
-use Rattle.std.proofs.Common.{refl, ap, ap₂, sym, subst, ◌∙◌, append_assoc, arith}
+use Rattle.std.proofs.Common.{◌≡◌, ℕ, zero, suc, ◌+◌, ◌<◌, Bool, true, false, cond, nat_eq, Option, Some, None}
+use Rattle.std.proofs.Common.{List, [], ◌∷◌, ◌++◌, map, length, get_or, filter, flat_map, ℤ, pos, ◌+ℤ◌}
+use Rattle.std.proofs.Common.{refl, ap, ap₂, sym, ◌∙◌, append_assoc, arith}
 use Rattle.std.proofs.Math.Path.{fun_ext}
 use Rattle.std.proofs.lemmas.Bool.Decides.{Decides-eqb, same_from_decides}
 use Rattle.std.proofs.lemmas.List.{length-map}
@@ -20,12 +20,12 @@ use Rattle.bb_machine.specs.declared.entry.Next.TheVariants.{State, Halt}
 use Rattle.bb_machine.specs.Machine.{Table, IsGroup, IsMachine, entry_of, symbols_of}
 use Rattle.bb_cert.specs.tree.Tree.{Node, rules_in, rules_from, goes_to, is_same, leads_to, rules_to, with_known}
 use Rattle.bb_cert.specs.tree.Tree.{halting_node, left_cell, may_be, seen_from, before_by_entry, before_by, before}
-use Rattle.bb_cert.specs.tree.Tree.{grown, level, nodes_below, grown_below}
+use Rattle.bb_cert.specs.tree.Tree.{level, nodes_below}
 use Rattle.laws_of_verdicts.specs.Change.{Change, IsChanged, Renaming, changed_entry, changed_next, turned}
 use Rattle.laws_of_verdicts.proofs.ChangedRuns.{placed, placed-add, placed-twice, placed-zero}
-use Rattle.laws_of_verdicts.proofs.Permuted.{Permuted, joined, length-numbers, numbers, numbers_permuted}
-use Rattle.laws_of_verdicts.proofs.Permuted.{permuted_back, permuted_each, permuted_equal}
-use Rattle.laws_of_verdicts.proofs.Permuted.{permuted_flat_map, permuted_length, permuted_map}
+use Rattle.laws_of_verdicts.proofs.Permuted.{Permuted, joined, numbers, numbers_permuted}
+use Rattle.laws_of_verdicts.proofs.Permuted.{permuted_each, permuted_equal}
+use Rattle.laws_of_verdicts.proofs.Permuted.{permuted_flat_map, permuted_length}
 
 -- lists of nodes by state and symbol
 

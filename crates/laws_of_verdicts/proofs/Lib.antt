@@ -2,6 +2,7 @@ mod AlikeRuns
 mod ChangedNotions
 mod ChangedRuns
 mod ChangedTrees
+mod Changes
 mod Completions
 mod EveryStart
 mod LaterSteps

@@ -1,5 +1,6 @@
 //! Laws of what verdicts say beyond their machine's run within limits, as contracts: a call of each does
 //! nothing.
+ghost use Rattle.laws_of_verdicts.specs.Change.{ChangesKeepAnswers, ChangesKeepClaims, ChangesKeepVerdicts};
 ghost use Rattle.laws_of_verdicts.specs.Completion.{CompletionsKeepAnswers, CompletionsKeepClaims};
 ghost use Rattle.laws_of_verdicts.specs.Completion.{CompletionsKeepVerdicts};
 ghost use Rattle.laws_of_verdicts.specs.EveryStart.{EveryStartHaltsSoonOrNever};
@@ -37,4 +38,16 @@ pub fn completions_keep_verdicts()
 pub fn completions_keep_claims()
     ensures claim { CompletionsKeepClaims }
     ensures answer { CompletionsKeepAnswers }
+{}
+
+/// A machine with left and right swapped, its states renamed but for A, its symbols renamed but for 0, has the
+/// same verdict, to the digit: that of a translated cycler with the other side where left and right are swapped.
+pub fn changes_keep_verdicts()
+    ensures { ChangesKeepVerdicts }
+{}
+
+/// So it is with what a verdict claims, whoever made it, and with each of the checker's answers.
+pub fn changes_keep_claims()
+    ensures claim { ChangesKeepClaims }
+    ensures answer { ChangesKeepAnswers }
 {}

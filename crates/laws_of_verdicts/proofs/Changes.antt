@@ -1,0 +1,295 @@
+-- Why a changed machine has the changed verdict, claims and answers.
+use Rattle.std.proofs.Common.{◌≡◌, ℕ, zero, suc, ◌<◌, Bool, true, false, List, [], ◌∷◌, length}
+use Rattle.std.proofs.Common.{get_or, refl, ap, sym, subst, ◌∙◌, arith}
+use Rattle.std.proofs.lemmas.List.Elements.{All-from_recursion}
+use Rattle.bb_machine.specs.declared.entry.Entry.{Entry}
+use Rattle.bb_machine.specs.declared.entry.Entry.TheVariants.{Undefined, Go}
+use Rattle.bb_machine.specs.declared.entry.Next.TheVariants as to
+use Rattle.bb_machine.specs.declared.plan.Plan.{Plan}
+use Rattle.bb_machine.specs.Limits.{Bounds}
+use Rattle.bb_machine.specs.Machine.{Table, IsGroup, IsMachine, entry_of, symbols_of}
+use Rattle.bb_tape.specs.Content.{cell}
+use Rattle.bb_sim.specs.Configuration.{Configuration, start}
+use Rattle.bb_sim.specs.Outcome.{HaltsInside, HaltsNowhere}
+use Rattle.bb_sim.specs.Run.{after}
+use Rattle.bb_cert.specs.declared.verdict.Side.{Side}
+use Rattle.bb_cert.specs.declared.verdict.Side.TheVariants.{L, R}
+use Rattle.bb_cert.specs.declared.verdict.Verdict.{Verdict}
+use Rattle.bb_cert.specs.declared.verdict.Verdict.TheVariants.{Halt, Cycler, Translated, Backward, Undecided}
+use Rattle.bb_cert.specs.declared.verdict.Why.TheVariants.{Steps, Cells}
+use Rattle.bb_cert.specs.checker.Answer.{Applies, Rule}
+use Rattle.bb_cert.specs.checker.Answer.{undecided, too_much_named, out_of_order, too_much_needed, claim_holds}
+use Rattle.bb_cert.specs.checker.Answer.{all_else}
+use Rattle.bb_cert.specs.claims.Claim.{Claim}
+use Rattle.bb_cert.specs.tree.Tree.{MatchesOne, level, Ends, Clear, EndsWithin, HaltsNextAfter, goes_to}
+use Rattle.bb_cert.specs.tree.Tree.{IsAtHaltingEntry}
+use Rattle.bb_cert.proofs.Facts.{matches_level, halts_from_level}
+use Rattle.bb_decide.specs.Backward.{HasNoTree}
+use Rattle.bb_decide.specs.Cycle.{HasNoCycle, IsFirstCycle}
+use Rattle.bb_decide.specs.Translation.{HasNoTranslation, IsFirstTranslation}
+use Rattle.bb_decide.specs.Verdict.{IsVerdict, PassesAll}
+use Rattle.laws_of_verdicts.specs.Change.{Change, ChangesKeepAnswers, ChangesKeepClaims, ChangesKeepVerdicts}
+use Rattle.laws_of_verdicts.specs.Change.{IsChanged, changed_entry, changed_next, changed_verdict, turned_side}
+use Rattle.laws_of_verdicts.proofs.ChangedNotions.{cycle_image, halts_image, inside_image, pair_image, same_image}
+use Rattle.laws_of_verdicts.proofs.ChangedNotions.{says_image, score_image, span_image, tells_image}
+use Rattle.laws_of_verdicts.proofs.ChangedNotions.{translation_image}
+use Rattle.laws_of_verdicts.proofs.ChangedRuns.{IsImage, after_image, back, changed_back}
+use Rattle.laws_of_verdicts.proofs.ChangedRuns.{cell_at, image_of, start_image}
+use Rattle.laws_of_verdicts.proofs.ChangedTrees.{level_length, nodes_alike}
+
+side-twice : (mirrored : Bool) (side : Side) → turned_side mirrored (turned_side mirrored side) ≡ side
+side-twice false side = refl
+side-twice true L = refl
+side-twice true R = refl
+
+verdict-back : (change : Change) (verdict : Verdict)
+    → changed_verdict (back change) (changed_verdict change verdict) ≡ verdict
+verdict-back change (Halt n ones) = refl
+verdict-back change (Cycler a b) = refl
+verdict-back change (Translated side a b extent) = ap (λ s. Translated s a b extent)
+    (side-twice change.mirrored side)
+verdict-back change (Backward levels nodes) = refl
+verdict-back change (Undecided why) = refl
+
+empty_of_length : {X : Type 0} (xs : List X) → length xs ≡ 0 → xs ≡ []
+empty_of_length [] e = refl
+empty_of_length (x ∷ xs) e = absurd (omega (arith, e))
+
+-- some entry of a group is in a group that there is
+in_states : (table : Table) (q : ℕ) (n : ℕ) → n < length (get_or table q []) → q < length table
+in_states [] q n h = absurd (omega (arith, h))
+in_states (group ∷ groups) zero n h = omega arith
+in_states (group ∷ groups) (suc q) n h = let less = in_states groups q n h in omega (arith, less)
+
+module _ (change : Change) (table changed : Table) (machine : IsMachine table) (machine_too : IsMachine changed)
+    (is : IsChanged change table changed) where
+  group_long : (q : ℕ) → q < length table → length (get_or table q []) ≡ symbols_of table
+  group_long q h = (All-from_recursion (IsGroup (length table) (symbols_of table)) table machine.groups q [] h).full
+
+  group_long_too : (q : ℕ) → q < length changed → length (get_or changed q []) ≡ symbols_of changed
+  group_long_too q h =
+      (All-from_recursion (IsGroup (length changed) (symbols_of changed)) changed machine_too.groups q [] h).full
+
+  goes_changed : (entry : Entry) → goes_to entry ≡ to.Halt → goes_to (changed_entry change entry) ≡ to.Halt
+  goes_changed Undefined e = refl
+  goes_changed (Go write dir then) e = ap (changed_next change) e
+
+  named_too : (q s : ℕ) → s < length (get_or table q [])
+      → change.symbols.new s < length (get_or changed (change.states.new q) [])
+  named_too q s h =
+      let in_table = in_states table q s h in
+      let long = group_long q in_table in
+      let new_in_table = (is.states_named q).0 in_table in
+      let states = is.states in
+      let long_too = group_long_too (change.states.new q) (omega (arith, states, new_in_table)) in
+      let new = (is.symbols_named s).0 (omega (arith, long, h)) in
+      let symbols = is.symbols in
+      omega (arith, long_too, new, symbols)
+
+  at_halting_image : (c d : Configuration) → IsImage change c d → IsAtHaltingEntry table c
+      → IsAtHaltingEntry changed d
+  at_halting_image c d image at =
+      let symbol = cell_at change c d image c.head d.head image.head in
+      let state : d.state ≡ to.State (change.states.new at.state) =
+      image.state ∙ ap (changed_next change) at.in_state in
+      record {
+        state = change.states.new at.state;
+        in_state = state;
+        in_table = rw symbol (named_too at.state (cell c.tape c.head) at.in_table);
+        halts = rw symbol (rw (is.entries at.state (cell c.tape c.head))
+            (goes_changed (entry_of table at.state (cell c.tape c.head)) at.halts));
+      }
+
+  halts_next_image : (i : ℕ) → HaltsNextAfter table start i → HaltsNextAfter changed start i
+  halts_next_image i halts =
+      let there = image_of change (after table start i) (after changed start i) halts.then_here
+      (after_image change table changed is start start (start_image change) i) halts.exists in
+      record {
+        then_here = there.there;
+        exists = there.exists;
+        at_halt = at_halting_image halts.then_here there.there there.image halts.at_halt;
+      }
+
+  matches_image : (i : ℕ) → MatchesOne (level table i) start → MatchesOne (level changed i) start
+  matches_image i one = matches_level changed i start (halts_next_image i (halts_from_level table i start one))
+
+  ends_image : (h k : ℕ) → Ends table h k → Ends changed h k
+  ends_image h k ends = record {
+    is_empty = empty_of_length (level changed h)
+        (level_length change table changed machine machine_too is h ∙ ap length ends.is_empty);
+    is_first = λ i less empty. ends.is_first i less (empty_of_length (level table i)
+        (sym (level_length change table changed machine machine_too is i) ∙ ap length empty));
+    counted = ends.counted ∙ sym (nodes_alike change table changed machine machine_too is h);
+  }
+
+-- what holds of a machine holds of the changed one, by the change; and back, by the change back
+module _ (change : Change) (table changed : Table) (machine : IsMachine table) (machine_too : IsMachine changed)
+    (is : IsChanged change table changed) where
+  undone : IsChanged (back change) changed table
+  undone = changed_back change table changed is
+
+  clear_image : (h : ℕ) → Clear table h → Clear changed h
+  clear_image h clear = record {
+    clear = λ i less one. clear.clear i less
+        (matches_image (back change) changed table machine_too machine undone i one);
+  }
+
+  ends_within_image : (levels nodes h k : ℕ) → EndsWithin table levels nodes h k
+      → EndsWithin changed levels nodes h k
+  ends_within_image levels nodes h k ends = record {
+    ends = ends_image change table changed machine machine_too is h k ends.ends;
+    clear = clear_image h ends.clear;
+    within_levels = ends.within_levels;
+    within_nodes = ends.within_nodes;
+  }
+
+  halts_inside_image : (bounds : Bounds) (n : ℕ) → HaltsInside table bounds n → HaltsInside changed bounds n
+  halts_inside_image bounds n halts = record {
+    halts = halts_image change table changed is n halts.halts;
+    inside = inside_image change table changed is bounds n halts.inside;
+  }
+
+  claim_image : (verdict : Verdict) → Claim table verdict → Claim changed (changed_verdict change verdict)
+  claim_image (Halt n ones) claim =
+      (halts_image change table changed is n claim.0, score_image change table changed is n ones claim.1)
+  claim_image (Cycler a b) claim = (claim.0, same_image change table changed is a b claim.1)
+  claim_image (Translated side a b extent) claim = (
+    pair_image change table changed is side a b claim.0,
+    says_image change table changed is side a b extent
+        claim.1,
+  )
+  claim_image (Backward levels nodes) claim =
+      (ends_image change table changed machine machine_too is levels nodes claim.0, clear_image levels claim.1)
+  claim_image (Undecided why) claim = tt
+
+  first_cycle_image : (bounds : Bounds) (a t : ℕ) → IsFirstCycle table bounds a t
+      → IsFirstCycle changed bounds a t
+  first_cycle_image bounds a t first = record {
+    cycle = cycle_image change table changed is bounds a t first.cycle;
+    first = λ b u other. first.first b u (cycle_image (back change) changed table undone bounds b u other);
+  }
+
+  first_translation_image : (bounds : Bounds) (side : Side) (a b : ℕ) → IsFirstTranslation table bounds side a b
+      → IsFirstTranslation changed bounds (turned_side change.mirrored side) a b
+  first_translation_image bounds side a b first = record {
+    translation = translation_image change table changed is bounds side a b first.translation;
+    first = λ other c d found. first.first (turned_side change.mirrored other) c d
+        (translation_image (back change) changed table undone bounds other c d found);
+  }
+
+  no_halt_image : (bounds : Bounds) → HaltsNowhere table bounds → HaltsNowhere changed bounds
+  no_halt_image bounds none n halts = none n (record {
+    halts = halts_image (back change) changed table undone n halts.halts;
+    inside = inside_image (back change) changed table undone bounds n halts.inside;
+  })
+
+  no_cycle_image : (bounds : Bounds) → HasNoCycle table bounds → HasNoCycle changed bounds
+  no_cycle_image bounds none a t cycle =
+      none a t (cycle_image (back change) changed table undone bounds a t cycle)
+
+  no_translation_image : (bounds : Bounds) → HasNoTranslation table bounds → HasNoTranslation changed bounds
+  no_translation_image bounds none side a b found = none (turned_side change.mirrored side) a b
+      (translation_image (back change) changed table undone bounds side a b found)
+
+-- no tree of the machine means none of the changed one
+module _ (change : Change) (table changed : Table) (machine : IsMachine table) (machine_too : IsMachine changed)
+    (is : IsChanged change table changed) where
+  no_tree_image : (bounds : Bounds) → HasNoTree table bounds → HasNoTree changed bounds
+  no_tree_image bounds none = record {
+    nowhere = λ h k ends. none.nowhere h k (ends_within_image (back change) changed table machine_too machine
+        (changed_back change table changed is) bounds.depth bounds.nodes h k ends);
+  }
+
+  passes_image : (bounds : Bounds) (plan : Plan) → PassesAll table bounds plan → PassesAll changed bounds plan
+  passes_image bounds plan passes = (
+    λ on. no_cycle_image change table changed machine machine_too is bounds (passes.0 on),
+    λ on. no_translation_image change table changed machine machine_too is bounds (passes.1 on),
+    λ on. no_tree_image bounds (passes.2 on),
+  )
+
+  verdict_image : (bounds : Bounds) (plan : Plan) (verdict : Verdict) → IsVerdict table bounds plan verdict
+      → IsVerdict changed bounds plan (changed_verdict change verdict)
+  verdict_image bounds plan (Halt n ones) given = (
+    halts_inside_image change table changed machine machine_too is bounds n given.0,
+    score_image change table changed is n ones given.1,
+  )
+  verdict_image bounds plan (Cycler a b) given = (
+    no_halt_image change table changed machine machine_too is bounds given.0,
+    given.1,
+    first_cycle_image change table changed machine machine_too is bounds a b given.2,
+  )
+  verdict_image bounds plan (Translated side a b extent) given = (
+    no_halt_image change table changed machine machine_too is bounds given.0,
+    λ on. no_cycle_image change table changed machine machine_too is bounds (given.1 on),
+    given.2,
+    first_translation_image change table changed machine machine_too is bounds side a b given.3,
+    tells_image change table changed is side a b extent given.4,
+  )
+  verdict_image bounds plan (Backward levels nodes) given = (
+    no_halt_image change table changed machine machine_too is bounds given.0,
+    λ on. no_cycle_image change table changed machine machine_too is bounds (given.1 on),
+    λ on. no_translation_image change table changed machine machine_too is bounds (given.2 on),
+    given.3,
+    ends_within_image change table changed machine machine_too is bounds.depth bounds.nodes levels nodes given.4,
+  )
+  verdict_image bounds plan (Undecided Steps) given = (
+    (
+      no_halt_image change table changed machine machine_too is bounds given.0.0,
+      rw (span_image change table changed is bounds.steps) given.0.1,
+    ),
+    passes_image bounds plan given.1,
+  )
+  verdict_image bounds plan (Undecided Cells) given = (
+    (
+      no_halt_image change table changed machine machine_too is bounds given.0.0,
+      rw (span_image change table changed is bounds.steps) given.0.1,
+    ),
+    passes_image bounds plan given.1,
+  )
+
+  -- each rule of the checker applies to both
+  rule_image : (bounds : Bounds) (verdict : Verdict) (rule : Rule) → Applies table bounds verdict rule
+      → Applies changed bounds (changed_verdict change verdict) rule
+  rule_image bounds (Halt n ones) undecided applies = applies
+  rule_image bounds (Cycler a b) undecided applies = applies
+  rule_image bounds (Translated side a b extent) undecided applies = applies
+  rule_image bounds (Backward levels nodes) undecided applies = applies
+  rule_image bounds (Undecided why) undecided applies = applies
+  rule_image bounds (Halt n ones) too_much_named applies = applies
+  rule_image bounds (Cycler a b) too_much_named applies = applies
+  rule_image bounds (Translated side a b extent) too_much_named applies = applies
+  rule_image bounds (Backward levels nodes) too_much_named applies = applies
+  rule_image bounds (Undecided why) too_much_named applies = applies
+  rule_image bounds (Halt n ones) out_of_order applies = applies
+  rule_image bounds (Cycler a b) out_of_order applies = applies
+  rule_image bounds (Translated side a b extent) out_of_order applies = applies
+  rule_image bounds (Backward levels nodes) out_of_order applies = applies
+  rule_image bounds (Undecided why) out_of_order applies = applies
+  rule_image bounds (Halt n ones) too_much_needed applies = rw (span_image change table changed is n) applies
+  rule_image bounds (Cycler a b) too_much_needed applies = rw (span_image change table changed is b) applies
+  rule_image bounds (Translated side a b extent) too_much_needed applies =
+      rw (span_image change table changed is b) applies
+  rule_image bounds (Backward levels nodes) too_much_needed applies = applies
+  rule_image bounds (Undecided why) too_much_needed applies = applies
+  rule_image bounds verdict claim_holds applies =
+      claim_image change table changed machine machine_too is verdict applies
+  rule_image bounds verdict all_else applies = tt
+
+pub changes_keep_verdicts : ChangesKeepVerdicts
+changes_keep_verdicts change table changed bounds plan verdict machine machine_too is given =
+    verdict_image change table changed machine machine_too is bounds plan verdict given
+
+pub changes_keep_claims : ChangesKeepClaims
+changes_keep_claims change table changed verdict machine machine_too is claim =
+    claim_image change table changed machine machine_too is verdict claim
+
+pub changes_keep_answers : ChangesKeepAnswers
+changes_keep_answers change table changed bounds verdict answer machine machine_too is given = record {
+  rule = given.rule;
+  is = given.is;
+  applies = rule_image change table changed machine machine_too is bounds verdict given.rule given.applies;
+  first = λ other applies. given.first other (subst (λ v. Applies table bounds v other)
+      (verdict-back change verdict)
+      (rule_image (back change) changed table machine_too machine (changed_back change table changed is) bounds
+      (changed_verdict change verdict) other applies));
+}
