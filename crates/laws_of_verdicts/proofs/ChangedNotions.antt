@@ -12,7 +12,8 @@ use Rattle.bb_tape.specs.Content.{cell}
 use Rattle.bb_sim.specs.CellsBetween.{cells_between}
 use Rattle.bb_sim.specs.Configuration.{Configuration, next}
 use Rattle.bb_sim.specs.Run.{conf, HaltsAt, IsScore}
-use Rattle.bb_sim.specs.Span.{counted_position, counted_position_in, counted_head, least, greatest, span, Inside}
+use Rattle.bb_sim.specs.Span.{counted_position, counted_position_in, counted_head, least, greatest, span}
+use Rattle.bb_sim.specs.Span.{Inside}
 use Rattle.bb_cert.specs.declared.verdict.Extent.{Extent}
 use Rattle.bb_cert.specs.declared.verdict.Side.{Side}
 use Rattle.bb_cert.specs.declared.verdict.Side.TheVariants.{L, R}
@@ -25,7 +26,8 @@ use Rattle.bb_decide.specs.Translation.{IsTranslation}
 use Rattle.laws_of_verdicts.specs.Change.{Change, IsChanged, changed_next, turned_side}
 use Rattle.laws_of_verdicts.proofs.AlikeRuns.{least_alike, greatest_alike}
 use Rattle.laws_of_verdicts.proofs.ChangedRuns.{AreImages, ImageOf, conf_image, image_is_one, image_of}
-use Rattle.laws_of_verdicts.proofs.ChangedRuns.{cell_at, next_image, no_image, placed, placed-add, placed-subtract}
+use Rattle.laws_of_verdicts.proofs.ChangedRuns.{cell_at, next_image, no_image, placed, placed-add}
+use Rattle.laws_of_verdicts.proofs.ChangedRuns.{placed-subtract}
 use Rattle.laws_of_verdicts.proofs.ChangedRuns.{placed-twice, placed-zero}
 
 out-placed : (mirrored : Bool) (side : Side) (p : ℤ) → out (turned_side mirrored side) (placed mirrored p)
@@ -170,7 +172,8 @@ module _ (change : Change) (table changed : Table) (is : IsChanged change table 
         is_first = λ m less e. made.is_first m less (sym (out_image side m) ∙ e);
       }
 
-  far_image : (side : Side) (a b : ℕ) → far changed (turned_side change.mirrored side) a b ≡ far table side a b
+  far_image : (side : Side) (a b : ℕ) → far changed (turned_side change.mirrored side) a b
+      ≡ far table side a b
   far_image side a b = least_alike
       (λ u. out (turned_side change.mirrored side) (head_at changed (u + a)))
       (λ u. out side (head_at table (u + a))) (b - a) (λ u h. out_image side (u + a))
@@ -211,7 +214,8 @@ module _ (change : Change) (table changed : Table) (is : IsChanged change table 
         ∙ ap change.symbols.new (agree.same_cells y near_y within_y)
         ∙ sym (cell_at change agree.second second.there second.image
         (y +ℤ (agree.second.head -ℤ agree.first.head)) _
-        (shifted change x agree.first.head agree.second.head first.there.head second.there.head first.image.head
+        (shifted change x agree.first.head agree.second.head first.there.head second.there.head
+        first.image.head
         second.image.head))
 
   pub extent_image : (side : Side) (a b : ℕ) (extent : Extent) → IsExtent table side a b extent

@@ -1,5 +1,6 @@
 -- Why the run of a changed machine is the image of the machine's own.
-use Rattle.std.proofs.Common.{◌≡◌, ◌≢◌, ◌↔◌, ℕ, zero, suc, ◌<◌, min, Bool, true, false, Option, Some, None, ℤ, pos}
+use Rattle.std.proofs.Common.{◌≡◌, ◌≢◌, ◌↔◌, ℕ, zero, suc, ◌<◌, min, Bool, true, false, Option, Some, None}
+use Rattle.std.proofs.Common.{ℤ, pos}
 use Rattle.std.proofs.Common.{neg_ℤ, ◌+ℤ◌, ◌-ℤ◌, option_and_then, refl, ap, ap₂, sym, subst, ◌∙◌, arith}
 use Rattle.std.proofs.lemmas.Int.{ints}
 use Rattle.bb_machine.specs.declared.entry.Dir.{Dir}
@@ -10,7 +11,8 @@ use Rattle.bb_machine.specs.declared.entry.Next.{Next}
 use Rattle.bb_machine.specs.declared.entry.Next.TheVariants.{State, Halt}
 use Rattle.bb_machine.specs.Machine.{Table, entry_of}
 use Rattle.bb_tape.specs.Content.{cell, with_cell, score}
-use Rattle.bb_tape.proofs.Facts.{cell-blank, cell-with_cell-same, cell-with_cell-other, by_position, same_content}
+use Rattle.bb_tape.proofs.Facts.{cell-blank, cell-with_cell-same, cell-with_cell-other, by_position}
+use Rattle.bb_tape.proofs.Facts.{same_content}
 use Rattle.bb_tape.proofs.Facts.{score-with_cell}
 use Rattle.bb_sim.specs.Configuration.{Configuration, start, beside, followed, entry_at, next}
 use Rattle.bb_sim.specs.Run.{after, conf}
@@ -45,7 +47,8 @@ next-back : (change : Change) (to : Next) → changed_next (back change) (change
 next-back change (State q) = ap State (change.states.old_of_new q)
 next-back change Halt = refl
 
-entry-back : (change : Change) (entry : Entry) → changed_entry (back change) (changed_entry change entry) ≡ entry
+entry-back : (change : Change) (entry : Entry) → changed_entry (back change) (changed_entry change entry)
+    ≡ entry
 entry-back change Undefined = refl
 entry-back change (Go write to then) =
     let w = change.symbols.old_of_new write in
@@ -90,7 +93,8 @@ pub placed-twice : (mirrored : Bool) (p : ℤ) → placed mirrored (placed mirro
 placed-twice false p = refl
 placed-twice true p = omega (arith, ints)
 
-pub placed-add : (mirrored : Bool) (p q : ℤ) → placed mirrored (p +ℤ q) ≡ placed mirrored p +ℤ placed mirrored q
+pub placed-add : (mirrored : Bool) (p q : ℤ) → placed mirrored (p +ℤ q)
+    ≡ placed mirrored p +ℤ placed mirrored q
 placed-add false p q = refl
 placed-add true p q = omega (arith, ints)
 
@@ -165,7 +169,8 @@ module _ (change : Change) where
         ≡ change.symbols.new (cell (with_cell c.tape c.head write) p)
     at_head p e =
         let there : placed change.mirrored p ≡ d.head = ap (placed change.mirrored) e ∙ sym image.head in
-        ap (cell (with_cell d.tape d.head (change.symbols.new write))) there ∙ cell-with_cell-same d.tape d.head _
+        ap (cell (with_cell d.tape d.head (change.symbols.new write))) there
+        ∙ cell-with_cell-same d.tape d.head _
         ∙ ap change.symbols.new (sym (ap (cell (with_cell c.tape c.head write)) e
         ∙ cell-with_cell-same c.tape c.head write))
 
@@ -177,7 +182,8 @@ module _ (change : Change) where
         cell-with_cell-other d.tape d.head _ _ far ∙ image.cells p
         ∙ ap change.symbols.new (sym (cell-with_cell-other c.tape c.head write p differ))
 
-    scored : score (with_cell d.tape d.head (change.symbols.new write)) ≡ score (with_cell c.tape c.head write)
+    scored : score (with_cell d.tape d.head (change.symbols.new write))
+        ≡ score (with_cell c.tape c.head write)
     scored =
         let one = score-with_cell c.tape c.head write in
         let two = score-with_cell d.tape d.head (change.symbols.new write) in
@@ -196,7 +202,8 @@ module _ (change : Change) (table changed : Table) (is : IsChanged change table 
   pub entry_here : (c d : Configuration) → IsImage change c d
       → entry_at changed d.state (cell d.tape d.head)
       ≡ changed_entry change (entry_at table c.state (cell c.tape c.head))
-  entry_here c d image = ap₂ (entry_at changed) image.state (cell_at change c d image c.head d.head image.head)
+  entry_here c d image = ap₂ (entry_at changed) image.state (cell_at change c d image c.head d.head
+      image.head)
       ∙ entry_changed c.state (cell c.tape c.head)
 
   followed_image : (c d : Configuration) (entry : Entry) → IsImage change c d

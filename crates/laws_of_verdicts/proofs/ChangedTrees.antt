@@ -1,5 +1,6 @@
 -- Why the tree of a changed machine has as many nodes in each level.
-use Rattle.std.proofs.Common.{◌≡◌, ℕ, zero, suc, ◌+◌, ◌<◌, Bool, true, false, cond, nat_eq, Option, Some, None}
+use Rattle.std.proofs.Common.{◌≡◌, ℕ, zero, suc, ◌+◌, ◌<◌, Bool, true, false, cond, nat_eq, Option, Some}
+use Rattle.std.proofs.Common.{None}
 use Rattle.std.proofs.Common.{List, [], ◌∷◌, ◌++◌, map, length, get_or, filter, flat_map, ℤ, pos, ◌+ℤ◌}
 use Rattle.std.proofs.Common.{refl, ap, ap₂, sym, ◌∙◌, append_assoc, arith}
 use Rattle.std.proofs.Math.Path.{fun_ext}
@@ -18,8 +19,10 @@ use Rattle.bb_machine.specs.declared.entry.Entry.TheVariants.{Undefined, Go}
 use Rattle.bb_machine.specs.declared.entry.Next.{Next}
 use Rattle.bb_machine.specs.declared.entry.Next.TheVariants.{State, Halt}
 use Rattle.bb_machine.specs.Machine.{Table, IsGroup, IsMachine, entry_of, symbols_of}
-use Rattle.bb_cert.specs.tree.Tree.{Node, rules_in, rules_from, goes_to, is_same, leads_to, rules_to, with_known}
-use Rattle.bb_cert.specs.tree.Tree.{halting_node, left_cell, may_be, seen_from, before_by_entry, before_by, before}
+use Rattle.bb_cert.specs.tree.Tree.{Node, rules_in, rules_from, goes_to, is_same, leads_to, rules_to}
+use Rattle.bb_cert.specs.tree.Tree.{with_known}
+use Rattle.bb_cert.specs.tree.Tree.{halting_node, left_cell, may_be, seen_from, before_by_entry, before_by}
+use Rattle.bb_cert.specs.tree.Tree.{before}
 use Rattle.bb_cert.specs.tree.Tree.{level, nodes_below}
 use Rattle.laws_of_verdicts.specs.Change.{Change, IsChanged, Renaming, changed_entry, changed_next, turned}
 use Rattle.laws_of_verdicts.proofs.ChangedRuns.{placed, placed-add, placed-twice, placed-zero}
@@ -57,7 +60,8 @@ module _ {X : Type 0} (make : ℕ → ℕ → Entry → X) (f : X → List Node)
       → ((q k : ℕ) (x : Entry) (xs : List Entry) → rules q k (x ∷ xs) ≡ make q k x ∷ rules q (k + 1) xs)
       → (q k : ℕ) (group : List Entry) (entry : ℕ → Entry)
       → ((i : ℕ) → get_or group i Undefined ≡ entry (k + i))
-      → flat_map f (filter p (rules q k group)) ≡ flat_map (λ s. given q s (entry s)) (numbers k (length group))
+      → flat_map f (filter p (rules q k group)) ≡ flat_map (λ s. given q s (entry s)) (numbers k (length
+      group))
   over_group rules none more q k [] entry each = ap (λ rs. flat_map f (filter p rs)) (none q k)
   over_group rules none more q k (x ∷ xs) entry each =
       let k_is : k + 0 ≡ k = omega arith in
@@ -84,7 +88,8 @@ module _ {X : Type 0} (make : ℕ → ℕ → Entry → X) (f : X → List Node)
       ap (λ rs. flat_map f (filter p rs)) (none k)
   over_table rules row none more symbols in_row k (group ∷ groups) entry long each =
       let k_is : k + 0 ≡ k = omega arith in
-      let first = in_row k group (entry k) (long 0 (omega arith)) (λ i. each 0 i ∙ ap (λ q. entry q i) k_is) in
+      let first = in_row k group (entry k) (long 0 (omega arith)) (λ i. each 0 i
+      ∙ ap (λ q. entry q i) k_is) in
       let rest = over_table rules row none more symbols in_row (k + 1) groups entry
       (λ i h. long (suc i) (omega (arith, h)))
       (λ i j. let e : k + suc i ≡ (k + 1) + i = omega arith in each (suc i) j ∙ ap (λ q. entry q j) e) in
@@ -96,13 +101,15 @@ groups_long : (table : Table) → IsMachine table → (i : ℕ) → i < length t
 groups_long table machine i h =
     (All-from_recursion (IsGroup (length table) (symbols_of table)) table machine.groups i [] h).full
 
-from_zero : (entry : ℕ → Entry) (group : List Entry) → ((i : ℕ) → get_or group i Undefined ≡ entry i) → (i : ℕ)
+from_zero : (entry : ℕ → Entry) (group : List Entry) → ((i : ℕ) → get_or group i Undefined ≡ entry i)
+    → (i : ℕ)
     → get_or group i Undefined ≡ entry (0 + i)
 from_zero entry group each i = let e : i ≡ 0 + i = omega arith in each i ∙ ap entry e
 
 -- what could come before a node by an entry, if the entry leads to it
 abbrev before_cell : Node → ℕ → ℕ → Entry → List Node
-before_cell node q s entry = cond (is_same (goes_to entry) (State node.state)) (before_by_entry node q s entry) []
+before_cell node q s entry = cond (is_same (goes_to entry) (State node.state)) (before_by_entry node q s
+    entry) []
 
 -- the node of an entry, if it halts
 abbrev halting_cell : ℕ → ℕ → Entry → List Node
@@ -199,7 +206,8 @@ module _ (change : Change) where
     known = λ x. known_new change.symbols (node.known (placed change.mirrored x));
   }
 
-  goes_to-changed : (entry : Entry) → goes_to (changed_entry change entry) ≡ changed_next change (goes_to entry)
+  goes_to-changed : (entry : Entry) → goes_to (changed_entry change entry)
+      ≡ changed_next change (goes_to entry)
   goes_to-changed Undefined = refl
   goes_to-changed (Go write to then) = refl
 
@@ -270,16 +278,19 @@ module _ (change : Change) where
       } ∷ []))
 
   before_image : (node : Node) (q s : ℕ) (entry : Entry)
-      → before_cell (node_image node) (change.states.new q) (change.symbols.new s) (changed_entry change entry)
+      → before_cell (node_image node) (change.states.new q) (change.symbols.new s) (changed_entry change
+      entry)
       ≡ map node_image (before_cell node q s entry)
   before_image node q s entry =
       ap₂ (λ b ns. cond b ns []) (leads-changed entry (State node.state)) (before-entry node q s entry)
-      ∙ sym (map-cond node_image (is_same (goes_to entry) (State node.state)) (before_by_entry node q s entry))
+      ∙ sym (map-cond node_image (is_same (goes_to entry) (State node.state)) (before_by_entry node q s
+      entry))
 
 module _ (change : Change) (table changed : Table) (is : IsChanged change table changed) where
   -- over new names in place of old ones
   over_moved : (f : ℕ → ℕ → List Node)
-      → Permuted (over (length table) (symbols_of table) (λ q s. f (change.states.new q) (change.symbols.new s)))
+      → Permuted (over (length table) (symbols_of table) (λ q s. f (change.states.new q)
+      (change.symbols.new s)))
       (over (length table) (symbols_of table) f)
   over_moved f = joined (permuted_each
       (λ q. flat_map (λ s. f (change.states.new q) (change.symbols.new s)) (numbers 0 (symbols_of table)))
@@ -294,7 +305,8 @@ module _ (change : Change) (table changed : Table) (is : IsChanged change table 
             → Permuted (flat_map (λ s. f (change.states.new q) (change.symbols.new s))
             (numbers 0 (symbols_of table)))
             (flat_map (f (change.states.new q)) (numbers 0 (symbols_of table)))
-        row_moved q = joined (permuted_equal _ _ (sym (flat_map-map (f (change.states.new q)) change.symbols.new
+        row_moved q = joined (permuted_equal _ _ (sym (flat_map-map (f (change.states.new q))
+            change.symbols.new
             (numbers 0 (symbols_of table)))))
             (permuted_flat_map (f (change.states.new q))
             (numbers_permuted change.symbols.new change.symbols.old change.symbols.old_of_new
@@ -318,11 +330,13 @@ module _ (change : Change) (table changed : Table) (is : IsChanged change table 
       joined (permuted_equal _ _ rows) (joined (over_moved g)
       (permuted_equal _ _ (sym (λ i. over (is.states i) (is.symbols i) g))))
 
-module _ (change : Change) (table changed : Table) (machine : IsMachine table) (machine_too : IsMachine changed)
+module _ (change : Change) (table changed : Table) (machine : IsMachine table) (machine_too : IsMachine
+    changed)
     (is : IsChanged change table changed) where
   before_moved : (node : Node)
       → Permuted (map (node_image change) (before table node)) (before changed (node_image change node))
-  before_moved node = joined (permuted_equal _ _ (ap (map (node_image change)) (before_over table machine node)))
+  before_moved node = joined (permuted_equal _ _ (ap (map (node_image change)) (before_over table machine
+      node)))
       (joined (over_images change table changed is (λ q s. before_cell node q s (entry_of table q s))
       (λ q s. before_cell (node_image change node) q s (entry_of changed q s))
       (λ q s. ap (before_cell (node_image change node) (change.states.new q) (change.symbols.new s))

@@ -16,7 +16,8 @@ use Rattle.bb_cert.specs.declared.verdict.Verdict.{Verdict}
 use Rattle.bb_cert.specs.declared.verdict.Verdict.TheVariants.{Halt, Cycler, Translated, Backward, Undecided}
 use Rattle.bb_cert.specs.declared.checker.answer.Answer.TheVariants.{Ok}
 use Rattle.bb_cert.specs.checker.Answer.{Applies, IsAnswer, NeedsTooMuch, Rule, answer_by, rank}
-use Rattle.bb_cert.specs.checker.Answer.{undecided, too_much_named, out_of_order, too_much_needed, claim_holds}
+use Rattle.bb_cert.specs.checker.Answer.{undecided, too_much_named, out_of_order, too_much_needed}
+use Rattle.bb_cert.specs.checker.Answer.{claim_holds}
 use Rattle.bb_cert.specs.checker.Answer.{all_else}
 use Rattle.bb_cert.specs.claims.Claim.{Claim}
 use Rattle.bb_cert.proofs.Facts.{agreeing_records_never_halt, earlier, moves, records_in_order}

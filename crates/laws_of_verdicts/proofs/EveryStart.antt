@@ -1,5 +1,6 @@
 -- Why a machine whose tree ends halts soon or never, from every start.
-use Rattle.std.proofs.Common.{◌≡◌, ℕ, zero, suc, ◌<◌, ◌≤◌, inl, inr, Option, Some, None, List, [], length, get_or}
+use Rattle.std.proofs.Common.{◌≡◌, ℕ, zero, suc, ◌<◌, ◌≤◌, inl, inr, Option, Some, None, List, [], length}
+use Rattle.std.proofs.Common.{get_or}
 use Rattle.std.proofs.Common.{ℤ, option_and_then, refl, ap, sym, subst, ◌∙◌, arith}
 use Rattle.std.proofs.lemmas.Bool.{cases_lt}
 use Rattle.std.proofs.lemmas.List.Elements.{All-from_recursion}
@@ -24,7 +25,8 @@ use Rattle.laws_of_verdicts.specs.EveryStart.{IsStartOf, HaltsFrom, EveryStartHa
 written_named : (content : Content) (head p : ℤ) (write symbols : ℕ) → write < symbols
     → cell content p < symbols → cell (with_cell content head write) p < symbols
 written_named content head p write symbols named all = by_position p head _
-    (λ e. let same : cell (with_cell content head write) p ≡ write = ap (cell (with_cell content head write)) e
+    (λ e. let same : cell (with_cell content head write) p ≡ write =
+    ap (cell (with_cell content head write)) e
     ∙ cell-with_cell-same content head write in omega (arith, same, named))
     (λ apart. let same = cell-with_cell-other content head write p apart in omega (arith, same, all))
 

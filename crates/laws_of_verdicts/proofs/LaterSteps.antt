@@ -60,11 +60,13 @@ moves_again go_on table side a b n extent claim late =
       at_first = ap (conf table) (sym first) ∙ alike.at_first;
       at_second = ap (conf table) (sym second) ∙ alike.at_second;
       same_state = sym alike.same_state;
-      farther = out_by side (head_at table a) (head_at table b) alike.first.head alike.second.head extent.shift
+      farther = out_by side (head_at table a) (head_at table b) alike.first.head alike.second.head
+          extent.shift
           alike.shifted claim.1.shift;
     }
 
-moves_on : (table : Table) (side : Side) (a b c i j : ℕ) → MovesOut table side a b i → MovesOut table side b c j
+moves_on : (table : Table) (side : Side) (a b c i j : ℕ) → MovesOut table side a b i
+    → MovesOut table side b c j
     → MovesOut table side a c (i + j)
 moves_on table side a b c i j one two =
     let x = one.at_second in

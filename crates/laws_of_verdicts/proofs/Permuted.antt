@@ -1,6 +1,8 @@
 -- Lists with the same elements in another order.
-use Rattle.std.proofs.Common.{◌≡◌, ℕ, zero, suc, ◌+◌, ◌<◌, ◌≤◌, Bool, true, false, cond, List, [], ◌∷◌, ◌++◌, map}
-use Rattle.std.proofs.Common.{length, filter, flat_map, inl, inr, refl, ap, sym, subst, ◌∙◌, append-nil, append_assoc}
+use Rattle.std.proofs.Common.{◌≡◌, ℕ, zero, suc, ◌+◌, ◌<◌, ◌≤◌, Bool, true, false, cond, List, [], ◌∷◌}
+use Rattle.std.proofs.Common.{◌++◌, map}
+use Rattle.std.proofs.Common.{length, filter, flat_map, inl, inr, refl, ap, sym, subst, ◌∙◌, append-nil}
+use Rattle.std.proofs.Common.{append_assoc}
 use Rattle.std.proofs.Common.{arith}
 use Rattle.std.proofs.lemmas.Bool.{cases_order}
 use Rattle.std.proofs.lemmas.List.{length-map}
@@ -140,7 +142,8 @@ pub permuted_distinct : {X : Type 0} (xs ys : List X) → AreDistinct xs → len
     → ((z : X) → In z xs → In z ys) → Permuted xs ys
 permuted_distinct [] ys distinct short each = no_longer ys short
 permuted_distinct {X = X} (x ∷ xs) ys distinct short each =
-    joined (kept (permuted_distinct xs found.rest distinct.1 shorter others)) (permuted_back found.permuted) where
+    joined (kept (permuted_distinct xs found.rest distinct.1 shorter others)) (permuted_back
+    found.permuted) where
       found : Pulled x ys
       found = pull x ys (each x (inl refl))
 
@@ -205,11 +208,13 @@ module _ (f g : ℕ → ℕ) (back : (n : ℕ) → g (f n) ≡ n) where
   map_below n z within (x ∷ xs) below (inr one) =
       map_below n z within xs (λ y there. below y (inr there)) one
 
-  -- a function with a way back that keeps the numbers below n among themselves only puts them in another order
+  -- a function with a way back, which keeps the numbers below n among themselves, puts them in another order
   pub numbers_permuted : (n : ℕ) → ((x : ℕ) → x < n → f x < n) → Permuted (map f (numbers 0 n)) (numbers 0 n)
   numbers_permuted n within =
-      let long : length (numbers 0 n) ≤ length (map f (numbers 0 n)) = omega (arith, length-map (numbers 0 n) f) in
-      permuted_distinct (map f (numbers 0 n)) (numbers 0 n) (map_distinct (numbers 0 n) (numbers_distinct 0 n)) long
+      let long : length (numbers 0 n) ≤ length (map f (numbers 0 n)) =
+      omega (arith, length-map (numbers 0 n) f) in
+      permuted_distinct (map f (numbers 0 n)) (numbers 0 n) (map_distinct (numbers 0 n) (numbers_distinct 0
+      n)) long
       (λ z one. numbers_in z 0 n (omega arith)
       (let less = map_below n z within (numbers 0 n)
       (λ x there. let high = (in_numbers x 0 n there).1 in omega (arith, high)) one in omega (arith, less)))

@@ -1,5 +1,5 @@
--- Changes of a machine that leave what it does as it is: left and right, the names of its states, the names of
--- its symbols. These notions are this project's own.
+-- Changes of a machine that leave what it does as it is: left and right swapped, its states renamed, its
+-- symbols renamed. These notions are this project's own.
 use Rattle.std.specs.Prelude.{◌≡◌, ℕ, ◌<◌, ◌↔◌, Bool, true, false, length}
 use Rattle.bb_machine.specs.declared.entry.Dir.{Dir}
 use Rattle.bb_machine.specs.declared.entry.Dir.TheVariants as dir
@@ -26,8 +26,8 @@ pub record Renaming : Type 0 where
   pub old_of_new : (n : ℕ) → old (new n) ≡ n
   pub new_of_old : (n : ℕ) → new (old n) ≡ n
 
--- left and right swapped or not, the states renamed, the symbols renamed: A stays A, 0 stays 0, and Z is no
--- state that is renamed
+-- left and right swapped or not, the states renamed, the symbols renamed: A stays A, 0 stays 0, and Z is not
+-- renamed
 pub record Change : Type 0 where
   pub mirrored : Bool
   pub states : Renaming

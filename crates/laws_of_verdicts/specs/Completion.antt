@@ -26,8 +26,8 @@ pub record IsInZ (table : Table) (n : ℕ) : Type 0 where
   pub exists : conf table n ≡ Some here
   pub in_z : here.state ≡ next.Halt
 
--- no `---` has a part in the verdict: a halt by a step into Z, or a pair. A machine that halts on a `---` goes
--- on once that is filled, and a tree has a node for each `---`
+-- no `---` has a part in the verdict: a halt by a step into Z, or a pair. A machine that halts on a `---`
+-- goes on once that is filled, and a tree has a node for each `---`
 abbrev pub MeetsNoGap : Table → Verdict → Type 0
 MeetsNoGap table (Halt steps score) = IsInZ table steps
 MeetsNoGap table (Cycler first second) = Unit {0}

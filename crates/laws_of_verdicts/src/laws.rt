@@ -14,8 +14,8 @@ pub fn cyclers_come_again()
     ensures { CyclersComeAgain }
 {}
 
-/// From the first step of a translated cycler's pair on, the state comes again after every so many steps, with
-/// the head as much farther out as the shift is.
+/// From the first step of a translated cycler's pair on, each state comes again after every so many steps as
+/// lie between the two, with the head farther out by the shift each time.
 pub fn translated_cyclers_move_on()
     ensures { TranslatedCyclersMoveOn }
 {
@@ -28,8 +28,8 @@ pub fn every_start_halts_soon_or_never()
     ensures { EveryStartHaltsSoonOrNever }
 {}
 
-/// A machine whose `---` are filled in any way keeps the verdict, to the digit, where that is a halt by a step
-/// into Z or a pair.
+/// A machine whose `---` are filled, in any way, keeps its verdict to the digit, where that is a halt by a
+/// step into Z or a pair.
 pub fn completions_keep_verdicts()
     ensures { CompletionsKeepVerdicts }
 {}
@@ -40,8 +40,8 @@ pub fn completions_keep_claims()
     ensures answer { CompletionsKeepAnswers }
 {}
 
-/// A machine with left and right swapped, its states renamed but for A, its symbols renamed but for 0, has the
-/// same verdict, to the digit: that of a translated cycler with the other side where left and right are swapped.
+/// A machine with left and right swapped, its states renamed but for A, or its symbols renamed but for 0, has
+/// the same verdict to the digit; a translated cycler has the other side where left and right are swapped.
 pub fn changes_keep_verdicts()
     ensures { ChangesKeepVerdicts }
 {}
