@@ -30,6 +30,7 @@ WHEEL = re.compile(
 MODULES = (
     "budlarem",
     "engine",
+    "later",
     "limits",
     "verdicts",
     "lists",

@@ -26,8 +26,7 @@ pub record Renaming : Type 0 where
   pub old_of_new : (n : ℕ) → old (new n) ≡ n
   pub new_of_old : (n : ℕ) → new (old n) ≡ n
 
--- left and right swapped or not, the states renamed, the symbols renamed: A stays A, 0 stays 0, and Z is not
--- renamed
+-- left and right swapped or not, the states renamed, the symbols renamed; A stays A, 0 stays 0, Z stays Z
 pub record Change : Type 0 where
   pub mirrored : Bool
   pub states : Renaming

@@ -22,6 +22,7 @@ from .engine import (
     decide_bytes,
     trace,
 )
+from .later import Place, at
 from .limits import Limits, LimitsError, Plan
 from .pictures import Picture, PictureError, picture
 from .lists import (
@@ -71,6 +72,7 @@ __all__ = [
     "Normal",
     "Picture",
     "PictureError",
+    "Place",
     "Plan",
     "Refused",
     "ReportError",
@@ -80,6 +82,7 @@ __all__ = [
     "Undecided",
     "Verdict",
     "__version__",
+    "at",
     "check",
     "check_bytes",
     "compare",
