@@ -13,7 +13,7 @@ decided. It takes some seconds. The last line is `N passed, M failed`; the statu
 import random
 import subprocess
 import sys
-from typing import Iterator
+from typing import Iterator, List, Sequence
 
 from tally import Tally, end_with, words
 
@@ -31,7 +31,7 @@ LIMITS = [
     (10_000, 4_096, 300, 1_000),
 ]
 
-PLANS = [[], ["--no-backward"], ["--no-cyclers", "--no-translated"]]
+PLANS: List[List[str]] = [[], ["--no-backward"], ["--no-cyclers", "--no-translated"]]
 
 
 def entry(source: random.Random, states: int, symbols: int) -> str:
@@ -60,7 +60,7 @@ def machines(count: int, seed: int) -> Iterator[str]:
             yield machine(source, source.randint(1, 25), source.randint(2, 10))
 
 
-def run(program, words, lines):
+def run(program: str, words: Sequence[str], lines: Sequence[str]) -> List[str]:
     """The lines that the program answers to these. The status is 1 where an answer is neither ok nor open."""
     given = "".join(line + "\n" for line in lines).encode()
     ended = subprocess.run([program, *words], input=given, capture_output=True)
@@ -69,7 +69,7 @@ def run(program, words, lines):
     return ended.stdout.decode().splitlines()
 
 
-def options(limits):
+def options(limits: Sequence[int]) -> List[str]:
     """The options that ask for these limits."""
     return ["--%s=%d" % pair for pair in zip(("steps", "cells", "depth", "nodes"), limits)]
 

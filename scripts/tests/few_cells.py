@@ -14,6 +14,7 @@ the status is 1 where any failed.
 import itertools
 import random
 import subprocess
+from typing import Iterator, List, Sequence
 
 from tally import Tally, end_with, words
 
@@ -31,13 +32,13 @@ def configurations(states, symbols, cells):
     return states * cells * symbols**cells
 
 
-def entries(states, symbols):
+def entries(states: int, symbols: int) -> List[str]:
     """The texts of all entries that such a machine may have."""
     digits, nexts = "0123456789"[:symbols], LETTERS[:states] + "Z"
     return ["---"] + ["".join(parts) for parts in itertools.product(digits, "LR", nexts)]
 
 
-def texts(states, symbols):
+def texts(states: int, symbols: int) -> Iterator[str]:
     """All machines of so many states and symbols."""
     for table in itertools.product(entries(states, symbols), repeat=states * symbols):
         yield text(table, symbols)
@@ -52,7 +53,7 @@ def random_texts(states, symbols, count, source):
         yield text(table, symbols)
 
 
-def text(table, symbols):
+def text(table: Sequence[str], symbols: int) -> str:
     """A machine's text, from its entries."""
     groups = range(0, len(table), symbols)
     return "_".join("".join(table[k : k + symbols]) for k in groups)
