@@ -260,8 +260,8 @@ def filled_machines(machines: Sequence[str], verdicts: Sequence[str]) -> Tuple[L
 
 
 def hold_completions(tally: Tally, program: str, machines: Sequence[str], verdicts: Sequence[str]) -> None:
-    """What fills a `---` that the run doesn't meet keeps a halt or a pair; what fills one that it does doesn't
-    keep the halt. The checker says the same."""
+    """What fills a `---` that the run doesn't meet keeps a halt or a pair; what fills one that it does
+    doesn't keep the halt. The checker says the same."""
     kept, lost = filled_machines(machines, verdicts)
     for name, cases, stays, answer in (("kept", kept, True, "ok"), ("lost", lost, False, "bad")):
         others = [case.other for case in cases]
@@ -331,7 +331,7 @@ def latest_halt(text: str, levels: int) -> int:
 
 
 def hold_starts(tally: Tally, program: str, machines: Sequence[str]) -> None:
-    """Where a tree ends in h levels, no start halts after more than h steps, and one does after h or h - 1."""
+    """Where a tree ends in h levels, no start halts after more than h steps, and some after h or h - 1."""
     by_tree = decided(program, machines, TREES_ALONE)
     ended, at_last = 0, 0
     for text, verdict in zip(machines, by_tree):

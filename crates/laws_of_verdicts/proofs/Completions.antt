@@ -10,7 +10,7 @@ use Rattle.bb_machine.specs.Machine.{Table}
 use Rattle.bb_tape.specs.Content.{cell}
 use Rattle.bb_sim.specs.Configuration.{Configuration, followed, entry_at, next}
 use Rattle.bb_sim.specs.Run.{conf, Exists, HaltsAt, Never}
-use Rattle.bb_sim.proofs.Facts.{conf-start}
+use Rattle.bb_sim.proofs.Facts.{conf-start, halt_is_last}
 use Rattle.bb_cert.specs.declared.verdict.Side.{Side}
 use Rattle.bb_cert.specs.declared.verdict.Verdict.{Verdict}
 use Rattle.bb_cert.specs.declared.verdict.Verdict.TheVariants.{Halt, Cycler, Translated, Backward, Undecided}
@@ -28,6 +28,7 @@ use Rattle.bb_decide.specs.Verdict.{IsVerdict}
 use Rattle.bb_decide.proofs.Facts.{verdicts_hold}
 use Rattle.laws_of_verdicts.specs.Completion.{IsCompletion, IsInZ, MeetsNoGap, CompletionsKeepAnswers}
 use Rattle.laws_of_verdicts.specs.Completion.{CompletionsKeepClaims, CompletionsKeepVerdicts}
+use Rattle.laws_of_verdicts.specs.Completion.{CompletionsNeverHalt}
 use Rattle.laws_of_verdicts.proofs.AlikeRuns.{AreAlikeTo, cycle_alike, inside_alike, pair_alike, says_alike}
 use Rattle.laws_of_verdicts.proofs.AlikeRuns.{span_alike, tells_alike, translation_alike}
 
@@ -96,6 +97,15 @@ module _ (table filled : Table) (completion : IsCompletion table filled) where
 
   back_always : Never table → (n : ℕ) → AreAlikeTo filled table n
   back_always never n m h = sym (alike_always never n m h)
+
+  never_kept : Never table → Never filled
+  never_kept never = record {
+    never = λ n halts.
+        let later = exists_always table never (suc n) in
+        let no_later = halt_is_last filled n (suc n) later.here halts
+        (conf_kept (suc n) later.here later.exists) in
+        absurd (omega (arith, no_later));
+  }
 
   no_cycle_kept : Never table → (bounds : Bounds) → HasNoCycle table bounds → HasNoCycle filled bounds
   no_cycle_kept never bounds none a t cycle =
@@ -225,3 +235,6 @@ completions_keep_claims table filled verdict completion at claim =
 pub completions_keep_answers : CompletionsKeepAnswers
 completions_keep_answers table filled bounds verdict completion at is =
     answer_kept table filled completion bounds verdict at is.rule is.is is.applies is.first
+
+pub completions_never_halt : CompletionsNeverHalt
+completions_never_halt table filled completion never = never_kept table filled completion never

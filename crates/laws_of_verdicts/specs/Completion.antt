@@ -7,7 +7,7 @@ use Rattle.bb_machine.specs.declared.plan.Plan.{Plan}
 use Rattle.bb_machine.specs.Limits.{Bounds}
 use Rattle.bb_machine.specs.Machine.{Table, entry_of}
 use Rattle.bb_sim.specs.Configuration.{Configuration}
-use Rattle.bb_sim.specs.Run.{conf}
+use Rattle.bb_sim.specs.Run.{conf, Never}
 use Rattle.bb_cert.specs.declared.checker.answer.Answer.TheVariants.{Ok}
 use Rattle.bb_cert.specs.declared.verdict.Verdict.{Verdict}
 use Rattle.bb_cert.specs.declared.verdict.Verdict.TheVariants.{Halt, Cycler, Translated, Backward, Undecided}
@@ -51,3 +51,7 @@ abbrev pub CompletionsKeepAnswers : Type 0
 CompletionsKeepAnswers = (table filled : Table) (bounds : Bounds) (verdict : Verdict)
     → IsCompletion table filled → MeetsNoGap table verdict → IsAnswer table bounds verdict Ok
     → IsAnswer filled bounds verdict Ok
+
+-- a machine that never halts meets no `---`, so its completions never halt either, whatever the verdict is
+abbrev pub CompletionsNeverHalt : Type 0
+CompletionsNeverHalt = (table filled : Table) → IsCompletion table filled → Never table → Never filled

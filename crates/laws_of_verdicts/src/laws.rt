@@ -2,7 +2,7 @@
 //! nothing.
 ghost use Rattle.laws_of_verdicts.specs.Change.{ChangesKeepAnswers, ChangesKeepClaims, ChangesKeepVerdicts};
 ghost use Rattle.laws_of_verdicts.specs.Completion.{CompletionsKeepAnswers, CompletionsKeepClaims};
-ghost use Rattle.laws_of_verdicts.specs.Completion.{CompletionsKeepVerdicts};
+ghost use Rattle.laws_of_verdicts.specs.Completion.{CompletionsKeepVerdicts, CompletionsNeverHalt};
 ghost use Rattle.laws_of_verdicts.specs.EveryStart.{EveryStartHaltsSoonOrNever};
 ghost use Rattle.laws_of_verdicts.specs.LaterSteps.{CyclersComeAgain, TranslatedCyclersMoveOn};
 
@@ -34,10 +34,12 @@ pub fn completions_keep_verdicts()
     ensures { CompletionsKeepVerdicts }
 {}
 
-/// It keeps what such a verdict claims, whoever made it, and the checker's `ok`.
+/// It keeps what such a verdict claims, whoever made it, and the checker's `ok`; and where it never halts, for
+/// whatever reason, it never does with its `---` filled.
 pub fn completions_keep_claims()
     ensures claim { CompletionsKeepClaims }
     ensures answer { CompletionsKeepAnswers }
+    ensures never { CompletionsNeverHalt }
 {}
 
 /// A machine with left and right swapped, its states renamed but for A, or its symbols renamed but for 0, has

@@ -73,10 +73,11 @@ def at(verdict: Verdict, step: int, cells: int = 65_536) -> Place:
     is run to the last step that the verdict names, and no farther, within `cells`. The checker has to confirm
     the verdict first.
 
-    Raises ValueError where the verdict says nothing of that step, as a halt of later ones, a tree, an
-    undecided one and a refusal of each, where the checker doesn't answer `ok` to it, and where `step` is below 0;
-    LimitsError, a ValueError, where `cells` are out of their range or the verdict names more than
-    1,000,000,000,000 steps; TypeError where `verdict` is no verdict, or one of the others no whole number.
+    Raises ValueError where the verdict says nothing of that step (a halt of later ones; a tree, an undecided
+    one or a refusal of any), where the checker doesn't answer `ok` to it, where its run needs more than
+    `cells`, and where `step` is below 0; LimitsError, a ValueError, where `cells` are out of their range or
+    the verdict names more than 1,000,000,000,000 steps; TypeError where `verdict` is no verdict, or one of
+    the others no whole number.
 
     >>> from budlarem import parse
     >>> print(at(parse("0RB---_0LA--- cycler 2 4"), 10**15 + 1))
