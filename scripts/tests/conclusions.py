@@ -6,14 +6,14 @@
 Of all 28,561 machines of two states and two symbols: their mirrors, and they with other names (as machines of
 three states and three symbols, since A and 0 keep theirs) have the same verdict and the same answers of the
 checker, to true and to false claims; so do random machines of more states and symbols, under plans and limits
-of their own. Each completion of one that never halts by a pair, or halts by a step into Z, has its verdict.
-A cycler and a translated cycler go on as their verdict says. Where a tree ends in h levels, no start halts
-after more than h steps.
+of their own. Each completion of one that never halts by a pair, or halts by a step into Z, has its verdict,
+and none of one whose tree ends halts. A cycler and a translated cycler go on as their verdict says. Where a
+tree ends in h levels, no start halts after more than h steps.
 
 What only looks alike is tried too, and must differ: each completion that fills the `---` on which its machine
-halts has another verdict; a renaming that moves A, one that moves 0, and h - 1 steps are wrong for some
-machine. With `--quick` every seventh machine is taken. It takes half a minute, `--quick` some seconds.
-The last line is `N passed, M failed`; the status is 1 where any failed.
+halts has another verdict; a renaming that moves A, one that moves 0, h - 1 steps, and a completion's tree are
+wrong for some machine. With `--quick` every seventh machine is taken. It takes half a minute, `--quick` some
+seconds. The last line is `N passed, M failed`; the status is 1 where any failed.
 """
 
 import itertools
@@ -274,6 +274,24 @@ def hold_completions(tally: Tally, program: str, machines: Sequence[str], verdic
         print("completions, verdict %s: %d" % (name, len(cases)))
 
 
+def hold_never(tally: Tally, program: str, machines: Sequence[str], by_tree: Sequence[str]) -> None:
+    """No completion of a machine whose tree ends halts; but the tree of some doesn't end as before."""
+    cases = [
+        Filled(text, verdict, other)
+        for text, verdict in zip(machines, by_tree)
+        if verdict.startswith("backward ")
+        for other, _ in completions(text)
+    ]
+    others = [case.other for case in cases]
+    lasting, trees = decided(program, others), decided(program, others, TREES_ALONE)
+    tally.hold("completions by a tree: a line for each", len(cases) == len(lasting) == len(trees) > 0)
+    for case, now in zip(cases, lasting):
+        tally.hold("%s %s, but %s %s" % (*case, now), not now.startswith("halt "))
+    differ = sum(1 for case, tree in zip(cases, trees) if tree != case.verdict)
+    tally.hold("each completion keeps the tree", differ)
+    print("completions by a tree: %d, of which %d have another tree" % (len(cases), differ))
+
+
 class Going(NamedTuple):
     """What a pair says of later steps: its steps, and how far the head moves from the first to the second."""
 
@@ -330,9 +348,8 @@ def latest_halt(text: str, levels: int) -> int:
     return latest
 
 
-def hold_starts(tally: Tally, program: str, machines: Sequence[str]) -> None:
+def hold_starts(tally: Tally, machines: Sequence[str], by_tree: Sequence[str]) -> None:
     """Where a tree ends in h levels, no start halts after more than h steps, and some after h or h - 1."""
-    by_tree = decided(program, machines, TREES_ALONE)
     ended, at_last = 0, 0
     for text, verdict in zip(machines, by_tree):
         kind, *numbers = verdict.split(" ")
@@ -362,7 +379,9 @@ def main() -> int:
     hold_wrong_names(tally, asked.program, machines, verdicts)
     hold_completions(tally, asked.program, machines, verdicts)
     hold_later(tally, machines, verdicts)
-    hold_starts(tally, asked.program, machines)
+    by_tree = decided(asked.program, machines, TREES_ALONE)
+    hold_never(tally, asked.program, machines, by_tree)
+    hold_starts(tally, machines, by_tree)
     return tally.end()
 
 
