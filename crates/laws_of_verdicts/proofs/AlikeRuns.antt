@@ -1,7 +1,6 @@
 -- What two machines have in common whose runs are the same up to a step.
 use Rattle.std.proofs.Common.{◌≡◌, ℕ, zero, suc, ◌+◌, ◌-◌, ◌≤◌, Option, Some, None, ℤ, ap, ap₂, sym, subst}
-use Rattle.std.proofs.Common.{◌∙◌}
-use Rattle.std.proofs.Common.{◌≤ℤ◌, arith}
+use Rattle.std.proofs.Common.{◌∙◌, ◌≤ℤ◌, arith}
 use Rattle.std.specs.Int.{int_min, int_max}
 use Rattle.bb_machine.specs.Limits.{Bounds}
 use Rattle.bb_machine.specs.Machine.{Table}
@@ -65,11 +64,9 @@ module _ (one two : Table) (n : ℕ) (alike : AreAlikeTo one two n) where
     here = made.here;
     exists = alike m h ∙ made.exists;
     on_position = made.on_position;
-    is_first = λ k less e. made.is_first k less (ap (out side) (sym (head_alike k (omega (
-      arith,
-      h,
-      less,
-    )))) ∙ e);
+    is_first = λ k less e.
+        let same = head_alike k (omega (arith, h, less)) in
+        made.is_first k less (ap (out side) (sym same) ∙ e);
   }
 
   far_alike : (side : Side) (a : ℕ) → a ≤ n → far two side a n ≡ far one side a n

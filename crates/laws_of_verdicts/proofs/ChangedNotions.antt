@@ -1,6 +1,6 @@
 -- Why halts, spans, repeats and records of a changed machine are those of the machine.
-use Rattle.std.proofs.Common.{◌≡◌, ℕ, zero, suc, ◌+◌, ◌-◌, Bool, true, false, Option, Some, None, ℤ}
-use Rattle.std.proofs.Common.{neg_ℤ, ◌+ℤ◌, ◌-ℤ◌, ◌≤ℤ◌, refl, ap, ap₂, sym, ◌∙◌, arith}
+use Rattle.std.proofs.Common.{◌≡◌, ℕ, zero, suc, ◌+◌, ◌-◌, Bool, true, false, Option, Some, None, ℤ, neg_ℤ}
+use Rattle.std.proofs.Common.{◌+ℤ◌, ◌-ℤ◌, ◌≤ℤ◌, refl, ap, ap₂, sym, ◌∙◌, arith}
 use Rattle.std.proofs.lemmas.Int.{ints, clamps}
 use Rattle.std.specs.Int.{int_min, int_max}
 use Rattle.std.specs.Int.RustNames.{unsigned_abs}
@@ -27,8 +27,7 @@ use Rattle.laws_of_verdicts.specs.Change.{Change, IsChanged, changed_next, turne
 use Rattle.laws_of_verdicts.proofs.AlikeRuns.{least_alike, greatest_alike}
 use Rattle.laws_of_verdicts.proofs.ChangedRuns.{AreImages, ImageOf, conf_image, image_is_one, image_of}
 use Rattle.laws_of_verdicts.proofs.ChangedRuns.{cell_at, next_image, no_image, placed, placed-add}
-use Rattle.laws_of_verdicts.proofs.ChangedRuns.{placed-subtract}
-use Rattle.laws_of_verdicts.proofs.ChangedRuns.{placed-twice, placed-zero}
+use Rattle.laws_of_verdicts.proofs.ChangedRuns.{placed-subtract, placed-twice, placed-zero}
 
 out-placed : (mirrored : Bool) (side : Side) (p : ℤ) → out (turned_side mirrored side) (placed mirrored p)
     ≡ out side p
@@ -215,8 +214,7 @@ module _ (change : Change) (table changed : Table) (is : IsChanged change table 
         ∙ sym (cell_at change agree.second second.there second.image
         (y +ℤ (agree.second.head -ℤ agree.first.head)) _
         (shifted change x agree.first.head agree.second.head first.there.head second.there.head
-        first.image.head
-        second.image.head))
+        first.image.head second.image.head))
 
   pub extent_image : (side : Side) (a b : ℕ) (extent : Extent) → IsExtent table side a b extent
       → IsExtent changed (turned_side change.mirrored side) a b extent

@@ -1,7 +1,7 @@
 -- Why the run of a changed machine is the image of the machine's own.
 use Rattle.std.proofs.Common.{◌≡◌, ◌≢◌, ◌↔◌, ℕ, zero, suc, ◌<◌, min, Bool, true, false, Option, Some, None}
-use Rattle.std.proofs.Common.{ℤ, pos}
-use Rattle.std.proofs.Common.{neg_ℤ, ◌+ℤ◌, ◌-ℤ◌, option_and_then, refl, ap, ap₂, sym, subst, ◌∙◌, arith}
+use Rattle.std.proofs.Common.{ℤ, pos, neg_ℤ, ◌+ℤ◌, ◌-ℤ◌, option_and_then, refl, ap, ap₂, sym, subst, ◌∙◌}
+use Rattle.std.proofs.Common.{arith}
 use Rattle.std.proofs.lemmas.Int.{ints}
 use Rattle.bb_machine.specs.declared.entry.Dir.{Dir}
 use Rattle.bb_machine.specs.declared.entry.Dir.TheVariants as dir
@@ -12,8 +12,7 @@ use Rattle.bb_machine.specs.declared.entry.Next.TheVariants.{State, Halt}
 use Rattle.bb_machine.specs.Machine.{Table, entry_of}
 use Rattle.bb_tape.specs.Content.{cell, with_cell, score}
 use Rattle.bb_tape.proofs.Facts.{cell-blank, cell-with_cell-same, cell-with_cell-other, by_position}
-use Rattle.bb_tape.proofs.Facts.{same_content}
-use Rattle.bb_tape.proofs.Facts.{score-with_cell}
+use Rattle.bb_tape.proofs.Facts.{same_content, score-with_cell}
 use Rattle.bb_sim.specs.Configuration.{Configuration, start, beside, followed, entry_at, next}
 use Rattle.bb_sim.specs.Run.{after, conf}
 use Rattle.bb_sim.proofs.Facts.{led}
@@ -202,8 +201,8 @@ module _ (change : Change) (table changed : Table) (is : IsChanged change table 
   pub entry_here : (c d : Configuration) → IsImage change c d
       → entry_at changed d.state (cell d.tape d.head)
       ≡ changed_entry change (entry_at table c.state (cell c.tape c.head))
-  entry_here c d image = ap₂ (entry_at changed) image.state (cell_at change c d image c.head d.head
-      image.head)
+  entry_here c d image = ap₂ (entry_at changed) image.state
+      (cell_at change c d image c.head d.head image.head)
       ∙ entry_changed c.state (cell c.tape c.head)
 
   followed_image : (c d : Configuration) (entry : Entry) → IsImage change c d

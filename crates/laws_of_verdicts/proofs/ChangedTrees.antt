@@ -1,8 +1,7 @@
 -- Why the tree of a changed machine has as many nodes in each level.
 use Rattle.std.proofs.Common.{◌≡◌, ℕ, zero, suc, ◌+◌, ◌<◌, Bool, true, false, cond, nat_eq, Option, Some}
-use Rattle.std.proofs.Common.{None}
-use Rattle.std.proofs.Common.{List, [], ◌∷◌, ◌++◌, map, length, get_or, filter, flat_map, ℤ, pos, ◌+ℤ◌}
-use Rattle.std.proofs.Common.{refl, ap, ap₂, sym, ◌∙◌, append_assoc, arith}
+use Rattle.std.proofs.Common.{None, List, [], ◌∷◌, ◌++◌, map, length, get_or, filter, flat_map, ℤ, pos}
+use Rattle.std.proofs.Common.{◌+ℤ◌, refl, ap, ap₂, sym, ◌∙◌, append_assoc, arith}
 use Rattle.std.proofs.Math.Path.{fun_ext}
 use Rattle.std.proofs.lemmas.Bool.Decides.{Decides-eqb, same_from_decides}
 use Rattle.std.proofs.lemmas.List.{length-map}
@@ -20,15 +19,12 @@ use Rattle.bb_machine.specs.declared.entry.Next.{Next}
 use Rattle.bb_machine.specs.declared.entry.Next.TheVariants.{State, Halt}
 use Rattle.bb_machine.specs.Machine.{Table, IsGroup, IsMachine, entry_of, symbols_of}
 use Rattle.bb_cert.specs.tree.Tree.{Node, rules_in, rules_from, goes_to, is_same, leads_to, rules_to}
-use Rattle.bb_cert.specs.tree.Tree.{with_known}
-use Rattle.bb_cert.specs.tree.Tree.{halting_node, left_cell, may_be, seen_from, before_by_entry, before_by}
-use Rattle.bb_cert.specs.tree.Tree.{before}
-use Rattle.bb_cert.specs.tree.Tree.{level, nodes_below}
+use Rattle.bb_cert.specs.tree.Tree.{with_known, halting_node, left_cell, may_be, seen_from, before_by_entry}
+use Rattle.bb_cert.specs.tree.Tree.{before_by, before, level, nodes_below}
 use Rattle.laws_of_verdicts.specs.Change.{Change, IsChanged, Renaming, changed_entry, changed_next, turned}
 use Rattle.laws_of_verdicts.proofs.ChangedRuns.{placed, placed-add, placed-twice, placed-zero}
-use Rattle.laws_of_verdicts.proofs.Permuted.{Permuted, joined, numbers, numbers_permuted}
-use Rattle.laws_of_verdicts.proofs.Permuted.{permuted_each, permuted_equal}
-use Rattle.laws_of_verdicts.proofs.Permuted.{permuted_flat_map, permuted_length}
+use Rattle.laws_of_verdicts.proofs.Permuted.{Permuted, joined, numbers, numbers_permuted, permuted_each}
+use Rattle.laws_of_verdicts.proofs.Permuted.{permuted_equal, permuted_flat_map, permuted_length}
 
 -- lists of nodes by state and symbol
 
@@ -60,8 +56,8 @@ module _ {X : Type 0} (make : ℕ → ℕ → Entry → X) (f : X → List Node)
       → ((q k : ℕ) (x : Entry) (xs : List Entry) → rules q k (x ∷ xs) ≡ make q k x ∷ rules q (k + 1) xs)
       → (q k : ℕ) (group : List Entry) (entry : ℕ → Entry)
       → ((i : ℕ) → get_or group i Undefined ≡ entry (k + i))
-      → flat_map f (filter p (rules q k group)) ≡ flat_map (λ s. given q s (entry s)) (numbers k (length
-      group))
+      → flat_map f (filter p (rules q k group))
+      ≡ flat_map (λ s. given q s (entry s)) (numbers k (length group))
   over_group rules none more q k [] entry each = ap (λ rs. flat_map f (filter p rs)) (none q k)
   over_group rules none more q k (x ∷ xs) entry each =
       let k_is : k + 0 ≡ k = omega arith in
@@ -108,8 +104,8 @@ from_zero entry group each i = let e : i ≡ 0 + i = omega arith in each i ∙ a
 
 -- what could come before a node by an entry, if the entry leads to it
 abbrev before_cell : Node → ℕ → ℕ → Entry → List Node
-before_cell node q s entry = cond (is_same (goes_to entry) (State node.state)) (before_by_entry node q s
-    entry) []
+before_cell node q s entry = cond (is_same (goes_to entry) (State node.state))
+    (before_by_entry node q s entry) []
 
 -- the node of an entry, if it halts
 abbrev halting_cell : ℕ → ℕ → Entry → List Node
@@ -278,19 +274,19 @@ module _ (change : Change) where
       } ∷ []))
 
   before_image : (node : Node) (q s : ℕ) (entry : Entry)
-      → before_cell (node_image node) (change.states.new q) (change.symbols.new s) (changed_entry change
-      entry)
+      → before_cell (node_image node) (change.states.new q) (change.symbols.new s)
+      (changed_entry change entry)
       ≡ map node_image (before_cell node q s entry)
   before_image node q s entry =
       ap₂ (λ b ns. cond b ns []) (leads-changed entry (State node.state)) (before-entry node q s entry)
-      ∙ sym (map-cond node_image (is_same (goes_to entry) (State node.state)) (before_by_entry node q s
-      entry))
+      ∙ sym (map-cond node_image (is_same (goes_to entry) (State node.state))
+      (before_by_entry node q s entry))
 
 module _ (change : Change) (table changed : Table) (is : IsChanged change table changed) where
   -- over new names in place of old ones
   over_moved : (f : ℕ → ℕ → List Node)
-      → Permuted (over (length table) (symbols_of table) (λ q s. f (change.states.new q)
-      (change.symbols.new s)))
+      → Permuted
+      (over (length table) (symbols_of table) (λ q s. f (change.states.new q) (change.symbols.new s)))
       (over (length table) (symbols_of table) f)
   over_moved f = joined (permuted_each
       (λ q. flat_map (λ s. f (change.states.new q) (change.symbols.new s)) (numbers 0 (symbols_of table)))
@@ -306,8 +302,7 @@ module _ (change : Change) (table changed : Table) (is : IsChanged change table 
             (numbers 0 (symbols_of table)))
             (flat_map (f (change.states.new q)) (numbers 0 (symbols_of table)))
         row_moved q = joined (permuted_equal _ _ (sym (flat_map-map (f (change.states.new q))
-            change.symbols.new
-            (numbers 0 (symbols_of table)))))
+            change.symbols.new (numbers 0 (symbols_of table)))))
             (permuted_flat_map (f (change.states.new q))
             (numbers_permuted change.symbols.new change.symbols.old change.symbols.old_of_new
             (symbols_of table) (λ s. (is.symbols_named s).0)))
@@ -330,13 +325,12 @@ module _ (change : Change) (table changed : Table) (is : IsChanged change table 
       joined (permuted_equal _ _ rows) (joined (over_moved g)
       (permuted_equal _ _ (sym (λ i. over (is.states i) (is.symbols i) g))))
 
-module _ (change : Change) (table changed : Table) (machine : IsMachine table) (machine_too : IsMachine
-    changed)
-    (is : IsChanged change table changed) where
+module _ (change : Change) (table changed : Table) (machine : IsMachine table)
+    (machine_too : IsMachine changed) (is : IsChanged change table changed) where
   before_moved : (node : Node)
       → Permuted (map (node_image change) (before table node)) (before changed (node_image change node))
-  before_moved node = joined (permuted_equal _ _ (ap (map (node_image change)) (before_over table machine
-      node)))
+  before_moved node = joined
+      (permuted_equal _ _ (ap (map (node_image change)) (before_over table machine node)))
       (joined (over_images change table changed is (λ q s. before_cell node q s (entry_of table q s))
       (λ q s. before_cell (node_image change node) q s (entry_of changed q s))
       (λ q s. ap (before_cell (node_image change node) (change.states.new q) (change.symbols.new s))

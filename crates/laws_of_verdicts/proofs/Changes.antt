@@ -1,6 +1,6 @@
 -- Why a changed machine has the changed verdict, claims and answers.
-use Rattle.std.proofs.Common.{◌≡◌, ℕ, zero, suc, ◌<◌, Bool, true, false, List, [], ◌∷◌, length}
-use Rattle.std.proofs.Common.{get_or, refl, ap, sym, subst, ◌∙◌, arith}
+use Rattle.std.proofs.Common.{◌≡◌, ℕ, zero, suc, ◌<◌, Bool, true, false, List, [], ◌∷◌, length, get_or}
+use Rattle.std.proofs.Common.{refl, ap, sym, subst, ◌∙◌, arith}
 use Rattle.std.proofs.lemmas.List.Elements.{All-from_recursion}
 use Rattle.bb_machine.specs.declared.entry.Entry.{Entry}
 use Rattle.bb_machine.specs.declared.entry.Entry.TheVariants.{Undefined, Go}
@@ -15,12 +15,11 @@ use Rattle.bb_sim.specs.Run.{after}
 use Rattle.bb_cert.specs.declared.verdict.Side.{Side}
 use Rattle.bb_cert.specs.declared.verdict.Side.TheVariants.{L, R}
 use Rattle.bb_cert.specs.declared.verdict.Verdict.{Verdict}
-use Rattle.bb_cert.specs.declared.verdict.Verdict.TheVariants.{Halt, Cycler, Translated, Backward, Undecided}
+use Rattle.bb_cert.specs.declared.verdict.Verdict.TheVariants.{Halt, Cycler, Translated, Backward}
+use Rattle.bb_cert.specs.declared.verdict.Verdict.TheVariants.{Undecided}
 use Rattle.bb_cert.specs.declared.verdict.Why.TheVariants.{Steps, Cells}
-use Rattle.bb_cert.specs.checker.Answer.{Applies, Rule}
-use Rattle.bb_cert.specs.checker.Answer.{undecided, too_much_named, out_of_order, too_much_needed}
-use Rattle.bb_cert.specs.checker.Answer.{claim_holds}
-use Rattle.bb_cert.specs.checker.Answer.{all_else}
+use Rattle.bb_cert.specs.checker.Answer.{Applies, Rule, undecided, too_much_named, out_of_order}
+use Rattle.bb_cert.specs.checker.Answer.{too_much_needed, claim_holds, all_else}
 use Rattle.bb_cert.specs.claims.Claim.{Claim}
 use Rattle.bb_cert.specs.tree.Tree.{MatchesOne, level, Ends, Clear, EndsWithin, HaltsNextAfter, goes_to}
 use Rattle.bb_cert.specs.tree.Tree.{IsAtHaltingEntry}
@@ -29,15 +28,14 @@ use Rattle.bb_decide.specs.Backward.{HasNoTree}
 use Rattle.bb_decide.specs.Cycle.{HasNoCycle, IsFirstCycle}
 use Rattle.bb_decide.specs.Translation.{HasNoTranslation, IsFirstTranslation}
 use Rattle.bb_decide.specs.Verdict.{IsVerdict, PassesAll}
-use Rattle.laws_of_verdicts.specs.Change.{Change, ChangesKeepAnswers, ChangesKeepClaims, ChangesKeepVerdicts}
-use Rattle.laws_of_verdicts.specs.Change.{IsChanged, changed_entry, changed_next, changed_verdict}
-use Rattle.laws_of_verdicts.specs.Change.{turned_side}
+use Rattle.laws_of_verdicts.specs.Change.{Change, ChangesKeepAnswers, ChangesKeepClaims}
+use Rattle.laws_of_verdicts.specs.Change.{ChangesKeepVerdicts, IsChanged, changed_entry, changed_next}
+use Rattle.laws_of_verdicts.specs.Change.{changed_verdict, turned_side}
 use Rattle.laws_of_verdicts.proofs.ChangedNotions.{cycle_image, halts_image, inside_image, pair_image}
-use Rattle.laws_of_verdicts.proofs.ChangedNotions.{same_image}
-use Rattle.laws_of_verdicts.proofs.ChangedNotions.{says_image, score_image, span_image, tells_image}
-use Rattle.laws_of_verdicts.proofs.ChangedNotions.{translation_image}
-use Rattle.laws_of_verdicts.proofs.ChangedRuns.{IsImage, after_image, back, changed_back}
-use Rattle.laws_of_verdicts.proofs.ChangedRuns.{cell_at, image_of, start_image}
+use Rattle.laws_of_verdicts.proofs.ChangedNotions.{same_image, says_image, score_image, span_image}
+use Rattle.laws_of_verdicts.proofs.ChangedNotions.{tells_image, translation_image}
+use Rattle.laws_of_verdicts.proofs.ChangedRuns.{IsImage, after_image, back, changed_back, cell_at, image_of}
+use Rattle.laws_of_verdicts.proofs.ChangedRuns.{start_image}
 use Rattle.laws_of_verdicts.proofs.ChangedTrees.{level_length, nodes_alike}
 
 side-twice : (mirrored : Bool) (side : Side) → turned_side mirrored (turned_side mirrored side) ≡ side
@@ -64,17 +62,16 @@ in_states [] q n h = absurd (omega (arith, h))
 in_states (group ∷ groups) zero n h = omega arith
 in_states (group ∷ groups) (suc q) n h = let less = in_states groups q n h in omega (arith, less)
 
-module _ (change : Change) (table changed : Table) (machine : IsMachine table) (machine_too : IsMachine
-    changed)
-    (is : IsChanged change table changed) where
+module _ (change : Change) (table changed : Table) (machine : IsMachine table)
+    (machine_too : IsMachine changed) (is : IsChanged change table changed) where
   group_long : (q : ℕ) → q < length table → length (get_or table q []) ≡ symbols_of table
   group_long q h = (All-from_recursion (IsGroup (length table) (symbols_of table)) table machine.groups q
       [] h).full
 
   group_long_too : (q : ℕ) → q < length changed → length (get_or changed q []) ≡ symbols_of changed
   group_long_too q h =
-      (All-from_recursion (IsGroup (length changed) (symbols_of changed)) changed machine_too.groups q []
-      h).full
+      (All-from_recursion (IsGroup (length changed) (symbols_of changed)) changed machine_too.groups q
+      [] h).full
 
   goes_changed : (entry : Entry) → goes_to entry ≡ to.Halt → goes_to (changed_entry change entry) ≡ to.Halt
   goes_changed Undefined e = refl
@@ -117,8 +114,8 @@ module _ (change : Change) (table changed : Table) (machine : IsMachine table) (
       }
 
   matches_image : (i : ℕ) → MatchesOne (level table i) start → MatchesOne (level changed i) start
-  matches_image i one = matches_level changed i start (halts_next_image i (halts_from_level table i start
-      one))
+  matches_image i one = matches_level changed i start
+      (halts_next_image i (halts_from_level table i start one))
 
   ends_image : (h k : ℕ) → Ends table h k → Ends changed h k
   ends_image h k ends = record {
@@ -130,9 +127,8 @@ module _ (change : Change) (table changed : Table) (machine : IsMachine table) (
   }
 
 -- what holds of a machine holds of the changed one, by the change; and back, by the change back
-module _ (change : Change) (table changed : Table) (machine : IsMachine table) (machine_too : IsMachine
-    changed)
-    (is : IsChanged change table changed) where
+module _ (change : Change) (table changed : Table) (machine : IsMachine table)
+    (machine_too : IsMachine changed) (is : IsChanged change table changed) where
   undone : IsChanged (back change) changed table
   undone = changed_back change table changed is
 
@@ -204,9 +200,8 @@ module _ (change : Change) (table changed : Table) (machine : IsMachine table) (
       (translation_image (back change) changed table undone bounds side a b found)
 
 -- no tree of the machine means none of the changed one
-module _ (change : Change) (table changed : Table) (machine : IsMachine table) (machine_too : IsMachine
-    changed)
-    (is : IsChanged change table changed) where
+module _ (change : Change) (table changed : Table) (machine : IsMachine table)
+    (machine_too : IsMachine changed) (is : IsChanged change table changed) where
   no_tree_image : (bounds : Bounds) → HasNoTree table bounds → HasNoTree changed bounds
   no_tree_image bounds none = record {
     nowhere = λ h k ends. none.nowhere h k (ends_within_image (back change) changed table machine_too machine
@@ -243,8 +238,8 @@ module _ (change : Change) (table changed : Table) (machine : IsMachine table) (
     λ on. no_cycle_image change table changed machine machine_too is bounds (given.1 on),
     λ on. no_translation_image change table changed machine machine_too is bounds (given.2 on),
     given.3,
-    ends_within_image change table changed machine machine_too is bounds.depth bounds.nodes levels nodes
-        given.4,
+    ends_within_image change table changed machine machine_too is bounds.depth bounds.nodes levels
+        nodes given.4,
   )
   verdict_image bounds plan (Undecided Steps) given = (
     (
@@ -305,6 +300,5 @@ changes_keep_answers change table changed bounds verdict answer machine machine_
   first = λ other applies. given.first other (subst (λ v. Applies table bounds v other)
       (verdict-back change verdict)
       (rule_image (back change) changed table machine_too machine (changed_back change table changed is)
-      bounds
-      (changed_verdict change verdict) other applies));
+      bounds (changed_verdict change verdict) other applies));
 }

@@ -1,6 +1,6 @@
 -- Why completions keep a verdict in which no `---` has a part.
-use Rattle.std.proofs.Common.{◌≡◌, ◌≢◌, ℕ, zero, suc, ◌≤◌, Option, Some, None, option_and_then}
-use Rattle.std.proofs.Common.{refl, ap, sym, ◌∙◌, arith}
+use Rattle.std.proofs.Common.{◌≡◌, ◌≢◌, ℕ, zero, suc, ◌≤◌, Option, Some, None, option_and_then, refl, ap}
+use Rattle.std.proofs.Common.{sym, ◌∙◌, arith}
 use Rattle.bb_machine.specs.declared.entry.Next.{Next}
 use Rattle.bb_machine.specs.declared.entry.Next.TheVariants as state
 use Rattle.bb_machine.specs.declared.entry.Entry.{Entry}
@@ -13,11 +13,11 @@ use Rattle.bb_sim.specs.Run.{conf, Exists, HaltsAt, Never}
 use Rattle.bb_sim.proofs.Facts.{conf-start, halt_is_last}
 use Rattle.bb_cert.specs.declared.verdict.Side.{Side}
 use Rattle.bb_cert.specs.declared.verdict.Verdict.{Verdict}
-use Rattle.bb_cert.specs.declared.verdict.Verdict.TheVariants.{Halt, Cycler, Translated, Backward, Undecided}
+use Rattle.bb_cert.specs.declared.verdict.Verdict.TheVariants.{Halt, Cycler, Translated, Backward}
+use Rattle.bb_cert.specs.declared.verdict.Verdict.TheVariants.{Undecided}
 use Rattle.bb_cert.specs.declared.checker.answer.Answer.TheVariants.{Ok}
-use Rattle.bb_cert.specs.checker.Answer.{Applies, IsAnswer, NeedsTooMuch, Rule, answer_by, rank}
-use Rattle.bb_cert.specs.checker.Answer.{undecided, too_much_named, out_of_order, too_much_needed}
-use Rattle.bb_cert.specs.checker.Answer.{claim_holds}
+use Rattle.bb_cert.specs.checker.Answer.{Applies, IsAnswer, NeedsTooMuch, Rule, answer_by, rank, undecided}
+use Rattle.bb_cert.specs.checker.Answer.{too_much_named, out_of_order, too_much_needed, claim_holds}
 use Rattle.bb_cert.specs.checker.Answer.{all_else}
 use Rattle.bb_cert.specs.claims.Claim.{Claim}
 use Rattle.bb_cert.proofs.Facts.{agreeing_records_never_halt, earlier, moves, records_in_order}

@@ -1,6 +1,6 @@
 -- Why a pair says what happens at all later steps.
-use Rattle.std.proofs.Common.{◌≡◌, ℕ, zero, suc, ◌+◌, ◌-◌, ◌*◌, ◌<◌, ◌≤◌, Some, ℤ, pos, ◌+ℤ◌, ◌-ℤ◌, refl, ap}
-use Rattle.std.proofs.Common.{sym, subst, ◌∙◌, arith}
+use Rattle.std.proofs.Common.{◌≡◌, ℕ, zero, suc, ◌+◌, ◌-◌, ◌*◌, ◌<◌, ◌≤◌, Some, ℤ, pos, ◌+ℤ◌, ◌-ℤ◌, refl}
+use Rattle.std.proofs.Common.{ap, sym, subst, ◌∙◌, arith}
 use Rattle.std.proofs.lemmas.Int.{ints}
 use Rattle.bb_machine.specs.Machine.{Table}
 use Rattle.bb_sim.specs.Configuration.{Configuration}
@@ -61,8 +61,7 @@ moves_again go_on table side a b n extent claim late =
       at_second = ap (conf table) (sym second) ∙ alike.at_second;
       same_state = sym alike.same_state;
       farther = out_by side (head_at table a) (head_at table b) alike.first.head alike.second.head
-          extent.shift
-          alike.shifted claim.1.shift;
+          extent.shift alike.shifted claim.1.shift;
     }
 
 moves_on : (table : Table) (side : Side) (a b c i j : ℕ) → MovesOut table side a b i

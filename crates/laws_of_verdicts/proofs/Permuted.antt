@@ -1,9 +1,6 @@
 -- Lists with the same elements in another order.
-use Rattle.std.proofs.Common.{◌≡◌, ℕ, zero, suc, ◌+◌, ◌<◌, ◌≤◌, Bool, true, false, cond, List, [], ◌∷◌}
-use Rattle.std.proofs.Common.{◌++◌, map}
-use Rattle.std.proofs.Common.{length, filter, flat_map, inl, inr, refl, ap, sym, subst, ◌∙◌, append-nil}
-use Rattle.std.proofs.Common.{append_assoc}
-use Rattle.std.proofs.Common.{arith}
+use Rattle.std.proofs.Common.{◌≡◌, ℕ, zero, suc, ◌+◌, ◌<◌, ◌≤◌, List, [], ◌∷◌, ◌++◌, map, length, flat_map}
+use Rattle.std.proofs.Common.{inl, inr, refl, ap, sym, subst, ◌∙◌, append-nil, append_assoc, arith}
 use Rattle.std.proofs.lemmas.Bool.{cases_order}
 use Rattle.std.proofs.lemmas.List.{length-map}
 use Rattle.bb_cert.specs.tree.Tree.{OneOf}
@@ -32,13 +29,6 @@ permuted_length none = refl
 permuted_length (kept p) = ap suc (permuted_length p)
 permuted_length swapped = refl
 permuted_length (joined p q) = permuted_length p ∙ permuted_length q
-
-pub permuted_map : {X Y : Type 0} (f : X → Y) {xs ys : List X} → Permuted xs ys
-    → Permuted (map f xs) (map f ys)
-permuted_map f none = none
-permuted_map f (kept p) = kept (permuted_map f p)
-permuted_map f swapped = swapped
-permuted_map f (joined p q) = joined (permuted_map f p) (permuted_map f q)
 
 permuted_behind : {X : Type 0} (zs : List X) {xs ys : List X} → Permuted xs ys
     → Permuted (zs ++ xs) (zs ++ ys)
@@ -76,29 +66,6 @@ pub permuted_each : {X Y : Type 0} (f g : X → List Y) → ((x : X) → Permute
 permuted_each f g each [] = none
 permuted_each f g each (x ∷ xs) = joined (permuted_before (flat_map f xs) (each x))
     (permuted_behind (g x) (permuted_each f g each xs))
-
--- filters
-
-chosen_kept : {X : Type 0} (b : Bool) (x : X) (xs ys : List X) → Permuted xs ys
-    → Permuted (cond b (x ∷ xs) xs) (cond b (x ∷ ys) ys)
-chosen_kept true x xs ys p = kept p
-chosen_kept false x xs ys p = p
-
-chosen_swapped : {X : Type 0} (b c : Bool) (x y : X) (xs : List X)
-    → Permuted (cond b (x ∷ cond c (y ∷ xs) xs) (cond c (y ∷ xs) xs))
-    (cond c (y ∷ cond b (x ∷ xs) xs) (cond b (x ∷ xs) xs))
-chosen_swapped true true x y xs = swapped
-chosen_swapped true false x y xs = permuted_same (x ∷ xs)
-chosen_swapped false true x y xs = permuted_same (y ∷ xs)
-chosen_swapped false false x y xs = permuted_same xs
-
-pub permuted_filter : {X : Type 0} (p : X → Bool) {xs ys : List X} → Permuted xs ys
-    → Permuted (filter p xs) (filter p ys)
-permuted_filter p none = none
-permuted_filter p (kept {x = x} {xs = xs} {ys = ys} q) =
-    chosen_kept (p x) x (filter p xs) (filter p ys) (permuted_filter p q)
-permuted_filter p (swapped {x = x} {y = y} {xs = xs}) = chosen_swapped (p x) (p y) x y (filter p xs)
-permuted_filter p (joined q r) = joined (permuted_filter p q) (permuted_filter p r)
 
 -- lists without repetitions
 
@@ -142,8 +109,8 @@ pub permuted_distinct : {X : Type 0} (xs ys : List X) → AreDistinct xs → len
     → ((z : X) → In z xs → In z ys) → Permuted xs ys
 permuted_distinct [] ys distinct short each = no_longer ys short
 permuted_distinct {X = X} (x ∷ xs) ys distinct short each =
-    joined (kept (permuted_distinct xs found.rest distinct.1 shorter others)) (permuted_back
-    found.permuted) where
+    joined (kept (permuted_distinct xs found.rest distinct.1 shorter others))
+    (permuted_back found.permuted) where
       found : Pulled x ys
       found = pull x ys (each x (inl refl))
 
@@ -161,10 +128,6 @@ permuted_distinct {X = X} (x ∷ xs) ys distinct short each =
 abbrev pub numbers : ℕ → ℕ → List ℕ
 numbers k zero = []
 numbers k (suc n) = k ∷ numbers (k + 1) n
-
-pub length-numbers : (k n : ℕ) → length (numbers k n) ≡ n
-length-numbers k zero = refl
-length-numbers k (suc n) = ap suc (length-numbers (k + 1) n)
 
 in_numbers : (z k n : ℕ) → In z (numbers k n) → (k ≤ z) × (z < k + n)
 in_numbers z k zero one = absurd one
@@ -213,8 +176,8 @@ module _ (f g : ℕ → ℕ) (back : (n : ℕ) → g (f n) ≡ n) where
   numbers_permuted n within =
       let long : length (numbers 0 n) ≤ length (map f (numbers 0 n)) =
       omega (arith, length-map (numbers 0 n) f) in
-      permuted_distinct (map f (numbers 0 n)) (numbers 0 n) (map_distinct (numbers 0 n) (numbers_distinct 0
-      n)) long
+      permuted_distinct (map f (numbers 0 n)) (numbers 0 n)
+      (map_distinct (numbers 0 n) (numbers_distinct 0 n)) long
       (λ z one. numbers_in z 0 n (omega arith)
       (let less = map_below n z within (numbers 0 n)
       (λ x there. let high = (in_numbers x 0 n there).1 in omega (arith, high)) one in omega (arith, less)))

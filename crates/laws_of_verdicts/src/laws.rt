@@ -34,8 +34,8 @@ pub fn completions_keep_verdicts()
     ensures { CompletionsKeepVerdicts }
 {}
 
-/// It keeps what such a verdict claims, whoever made it, and the checker's `ok`; and where it never halts, for
-/// whatever reason, it never does with its `---` filled.
+/// It keeps what such a verdict claims, whoever made it, and the checker's `ok`. And a machine that never
+/// halts, for whatever reason, never does with its `---` filled.
 pub fn completions_keep_claims()
     ensures claim { CompletionsKeepClaims }
     ensures answer { CompletionsKeepAnswers }
