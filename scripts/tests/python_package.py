@@ -6,9 +6,9 @@
 It runs `scripts/library`, which proves and builds the library first; that takes a minute or two where it
 wasn't done before, and some seconds where it was. The unit tests run under each Python from 3.9 on that is
 found, once over the sources and once from the wheel of `scripts/wheel` alone, in an empty virtual
-environment. It takes a minute beside the library. With `--quick` there is no wheel, and the unit tests run
-once, over the sources. The program isn't used. The last line is `N passed, M failed`, with `, K skipped`
-where something isn't installed; the status is 1 where any failed.
+environment; there `budlarem run` is held against the built program too. It takes a minute beside the library.
+With `--quick` there is no wheel, and the unit tests run once, over the sources. The last line is `N passed, M
+failed`, with `, K skipped` where something isn't installed; the status is 1 where any failed.
 """
 
 import os
@@ -21,6 +21,7 @@ import tempfile
 from typing import Dict, List, Tuple
 
 from library_built import LIBRARY, has_library
+from runs import expected, words_of
 from tally import TOP, Tally, end_with, words
 
 PACKAGE = pathlib.Path(TOP) / "python"
@@ -51,6 +52,15 @@ print(budlarem.__version__, budlarem.COMMIT)
 for verdict in budlarem.decide(["1RB1LB_1LA1RZ", "1RA1RA", "1rB1LB"]): print(verdict)
 """
 EXPECTED = ["1RB1LB_1LA1RZ halt 6 4", "1RA1RA translated R 1 2 1 1", "refused 2"]
+# The champions of two to five states, a translated cycler, and a line that is no machine.
+RUN_LIST = (
+    b"1RB1LB_1LA1RZ\n1RB1RZ_1LB0RC_1LC1LA\n1RA1RA\n1RB1LB_1LA0LC_1RZ1LD_1RD0RA\n1rB1LB\n"
+    b"1RB1LC_1RC1RB_1RD0LE_1LA1LD_1RZ0LA\n"
+)
+# The first leaves all three that halt within the second, and the five-state champion is left by both.
+RUN_PASSES = ((5, 16, 3, 10), (1_000, 1_024, 40, 1_000))
+# Of the first pass, and of both together: how many lines are undecided.
+RUN_LEFT = [4, 1]
 
 
 def bare(**more: str) -> Dict[str, str]:
@@ -113,7 +123,7 @@ def hold_symbols(tally: Tally) -> None:
     tally.hold("the library asks for glibc %s" % sorted(asked), asked and max(asked) <= (2, 17))
 
 
-def hold_wheel(tally: Tally, wheel: pathlib.Path, python: str, folder: pathlib.Path) -> None:
+def hold_wheel(tally: Tally, program: str, wheel: pathlib.Path, python: str, folder: pathlib.Path) -> None:
     """The wheel alone, in an empty environment: the first run, the command, the unit tests."""
     status, told = run([python, "-m", "venv", str(folder)])
     if status != 0:
@@ -132,22 +142,25 @@ def hold_wheel(tally: Tally, wheel: pathlib.Path, python: str, folder: pathlib.P
     tally.hold("the wheel's unit tests by %s:\n%s" % (python, ended.stdout), ended.returncode == 0)
     ended = subprocess.run([command, "decide"], input="1RZ---, x\n", env=bare(), **kept)
     tally.hold("the command: %s" % ended.stdout, ended.stdout == "1RZ--- halt 1 1\tx\n")
-    hold_runner(tally, command, folder)
+    hold_runner(tally, program, command, folder)
 
 
-def hold_runner(tally: Tally, command: str, folder: pathlib.Path) -> None:
-    """The command `run` of the wheel, begun, gone on with a pass, and begun with another list."""
-    (folder / "list.txt").write_text("1RB1LB_1LA1RZ\n1RA1RA\n1rB1LB\n")
-    words = [command, "run", "list.txt", "--out", "out", "--check", "--pass", "steps=0,depth=0"]
+def hold_runner(tally: Tally, program: str, command: str, folder: pathlib.Path) -> None:
+    """The command `run` of the wheel: begun, and gone on with a pass that decides what the first one leaves."""
+    (folder / "list.txt").write_bytes(RUN_LIST)
+    words = [command, "run", "list.txt", "--out", "out", "--check"]
     kept = {"stderr": subprocess.PIPE, "text": True, "cwd": folder, "env": bare()}
-    for more in ([], ["--pass", "steps=1000"]):
-        ended = subprocess.run([*words, *more], **kept)
+    for count, left in enumerate(RUN_LEFT, 1):
+        words += ["--pass", words_of(RUN_PASSES[count - 1])]
+        ended = subprocess.run(words, **kept)
         tally.hold("the runner, status %d: %s" % (ended.returncode, ended.stderr), ended.returncode == 1)
-    found = (folder / "out" / "verdicts.txt").read_text().splitlines()
-    tally.hold("the runner's verdicts: %s" % found, found == EXPECTED)
+        right = expected(program, RUN_LIST, RUN_PASSES[:count])
+        found = (folder / "out" / "verdicts.txt").read_bytes()
+        tally.hold("the verdicts of %d passes: %r" % (count, found), found == right)
+        tally.hold("%d passes leave %d lines: %r" % (count, left, found), found.count(b" undecided ") == left)
 
 
-def hold_wheels(tally: Tally, found: List[str], folder: pathlib.Path) -> None:
+def hold_wheels(tally: Tally, program: str, found: List[str], folder: pathlib.Path) -> None:
     """The wheel: twice the same bytes, and what it does by the oldest and the newest of these Pythons."""
     script = [os.path.join(TOP, "scripts", "wheel"), "--library", LIBRARY, "--out"]
     ended = subprocess.run([*script, str(folder / "first")], stdout=subprocess.PIPE, text=True)
@@ -161,7 +174,7 @@ def hold_wheels(tally: Tally, found: List[str], folder: pathlib.Path) -> None:
     same = again.returncode == 0 and second.read_bytes() == wheel.read_bytes()
     tally.hold("the same bytes again", same)
     for place, python in enumerate(dict.fromkeys([found[0], "/usr/bin/python3", found[-1]])):
-        hold_wheel(tally, wheel, python, folder / ("environment%d" % place))
+        hold_wheel(tally, program, wheel, python, folder / ("environment%d" % place))
 
 
 def main() -> int:
@@ -176,7 +189,7 @@ def main() -> int:
     hold_symbols(tally)
     if not asked.quick:
         with tempfile.TemporaryDirectory() as name:
-            hold_wheels(tally, found, pathlib.Path(name))
+            hold_wheels(tally, asked.program, found, pathlib.Path(name))
     return tally.end()
 
 

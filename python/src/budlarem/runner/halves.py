@@ -13,14 +13,15 @@ from .tasks import Numbers, Task
 
 @dataclasses.dataclass(eq=False)
 class Job:
-    """A task that was handed over: its lines, of which there are `first` before it in the whole task, and the
-    future of what comes back."""
+    """A task that is handed over: its lines, of which there are `first` before it in the whole task, the future
+    of what comes back, and how often it was handed over or lost."""
 
     task: Task
     lines: bytes
     limits: Numbers
     first: int = 0
     future: Future[Any] = dataclasses.field(default_factory=Future)
+    turn: int = 0
 
 
 def halved(job: Job) -> List[Job]:
