@@ -233,14 +233,33 @@ class ClusterTest(unittest.TestCase):
             self.assertEqual(raised.exception.line, place)
             self.client.given = []
 
+    def test_lines_that_stood_beside_it_are_not_named(self) -> None:
+        """All tasks are on one worker, and dask says of all of them that they ended it."""
+        texts = [b"1LZ---\n" * 4, LINES, b"0RZ---\n1RZ---\n"]
+        futures = [self.submit(lines) for lines in texts]
+        while not all(future.done() for future in futures):
+            is_deadly = any(b"1RA1RA" in given.lines for given in self.client.given)
+            while self.client.given:
+                if is_deadly:
+                    self.client.kill()
+                else:
+                    self.client.answer()
+            self.tend()
+        with self.assertRaises(DeadlyError) as raised:
+            futures[1].result(0)
+        self.assertEqual(raised.exception.line, 1)
+        self.is_right(futures[0], texts[0])
+        self.is_right(futures[2], texts[2])
+
     def test_workers_that_were_killed_by_chance(self) -> None:
         future = self.submit()
         self.client.kill()
         self.tend()
-        self.assertEqual([given.lines.count(b"\n") for given in self.client.given], [2, 3])
-        self.client.answer(1)
-        self.assertFalse(future.done())
-        self.client.answer()
+        for count in (2, 3):
+            self.assertEqual([given.lines.count(b"\n") for given in self.client.given], [count])
+            self.assertFalse(future.done())
+            self.client.answer()
+            self.tend()
         self.is_right(future)
         self.assertIn("5 lines ended their workers", self.told[-1])
 

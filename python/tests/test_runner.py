@@ -23,11 +23,12 @@ from budlarem.runner import folder as folders
 from budlarem.runner import joining, journal, look, passes, progress, source, tasks, whole, workplace
 from budlarem.runner.errors import CheckError, FolderError, ReplyError, RunError
 
-# Two that halt, a cycler, two translated cyclers, three that small limits leave, one of which larger ones decide,
-# and two that are no machines.
+# Two that halt, a cycler, two translated cyclers, three that small limits leave, one of which larger ones
+# decide, and two that are no machines.
 KINDS = (
     b"1RB1LB_1LA1RZ\n------\n0RB---_0LA---\n1RA1RA\n1RB1LC_1RC1RB_1RD0LE_1LA1LD_1RZ0LA\n1rB1LB\n"
-    b"1RB0RA_1LC1LB_1RA0LB\n1RB1LB_1LA1RZ halt 6 4\n0RB1LD_0RC1RD_0RD---_1LA0RB\n1RB0LA_0RC---_1RD0LD_1LA1RB\n"
+    b"1RB0RA_1LC1LB_1RA0LB\n1RB1LB_1LA1RZ halt 6 4\n0RB1LD_0RC1RD_0RD---_1LA0RB\n"
+    b"1RB0LA_0RC---_1RD0LD_1LA1RB\n"
 )
 LIST = KINDS * 37
 # Files there need no disk, so that the tests take no time for it.
@@ -49,7 +50,8 @@ def expected(given: bytes, limits: Sequence[Limits] = PASSES) -> bytes:
 
 
 class Answering(Executor):
-    """An executor whose answer to a task a function changes; it is given the reply and how many came before."""
+    """An executor whose answer to a task a function changes; it is given the reply and how many came
+    before."""
 
     def __init__(self, change: Callable[[tasks.Reply, int], Any]) -> None:
         self.change, self.count = change, 0

@@ -4,9 +4,10 @@
     scripts/speed/runner.py [crates/bb/out/bb] [--threads N] [--runs N]
 
 The list is the 858,909 machines of four states in tree normal form, and 200,000 random ones of five. Each way
-writes the same bytes, which is held; the time is the least of the runs, by the clock, of the whole command: so
-the machine must be quiet. Memory is that of the runner over a list and over one of ten times as many lines. It
-needs GNU parallel and `crates/bb_c/out/libbb.so`, and takes some minutes. The last line is `N passed, M failed`.
+writes the same bytes, which is held; the time is the least of the runs, by the clock, of the whole command:
+so the machine must be quiet. Memory is that of the runner over a list and over one of ten times as many
+lines. It needs GNU parallel and `crates/bb_c/out/libbb.so`, and takes some minutes. The last line is `N
+passed, M failed`.
 """
 
 import argparse

@@ -3,17 +3,19 @@
 
     scripts/tests/cluster.py crates/bb/out/bb [--quick] [--seed S]
 
-A worker is killed; the only worker is killed five times on one piece; all workers are killed and new ones come;
-the scheduler is killed and started again, before and after the runner's timeout; workers lack the package, have
-another version, or answer garbage; the runner is killed by SIGKILL at ten random moments, and interrupted. After
-each the verdicts are byte for byte those of one process for each pass, or the run ended with status 3 and a
-sentence and goes on when it is run again. It needs Debian's `python3-distributed`, and runs `scripts/library`
-where the library isn't there. It takes some minutes; `--quick`, with one killed worker, half of one. The last
-line is `N passed, M failed`, with `, K skipped` where dask isn't installed; the status is 1 where any failed.
+A worker is killed; the only worker is killed five times on one piece; a line ends each worker that decides
+it; all workers are killed and new ones come; the scheduler is killed and started again, before and after the
+runner's timeout; workers lack the package, have another version, or answer garbage; the runner is killed by
+SIGKILL at ten random moments, and interrupted; connections are encrypted. After each the verdicts are byte
+for byte those of one process for each pass, or the run ended with status 3 and a sentence and goes on when it
+is run again. It needs Debian's `python3-distributed`, and runs `scripts/library` where the library isn't
+there. It takes some minutes; `--quick`, with one killed worker, half of one. The last line is `N passed, M
+failed`, with `, K skipped` where something isn't installed; the status is 1 where any failed.
 """
 
 import contextlib
 import importlib.util
+import os
 import pathlib
 import random
 import shutil
@@ -26,21 +28,36 @@ import time
 from typing import Dict, Iterator, List, Optional, Tuple
 
 from library_built import has_library
-from runs import LONG_MACHINE, PASSES, PATIENCE, SOURCE, Case, environment, expected
-from runs import is_at_work, kill_often, random_list, seen
+from runs import LONG_MACHINE, PASSES, SOURCE, Case, decided, environment, expected
+from runs import hold_interrupted, is_at_work, kill_often, random_list, seen, words_of
 from tally import Tally, end_with, words
 
 # A run of LONG_MACHINE at these limits takes seconds.
-LONG_PASS = (1_000_000_000, 200_000, 3, 10)
+LONG_PASS = (300_000_000, 200_000, 3, 10)
 ENDLESS_PASS = (1_000_000_000_000, 67_108_864, 3, 10)
+# At these limits a line costs nothing to speak of.
+QUICK_PASS = (300, 64, 3, 10)
+# How a worker ends itself at LONG_MACHINE.
+DEADLY = "    if %r in lines: import os; os._exit(9)\n" % LONG_MACHINE
+# What is changed in the package of workers that can't decide anything rightly, and what the run says of them.
+WRONG_WORKERS: Dict[str, Tuple[str, List[Tuple[str, str]], str]] = {
+    "another version": ("_version.py", [('VERSION = "', 'VERSION = "9.')], "it was decided by version 9."),
+    "garbage": ("runner/tasks.py", [("return written,", 'return b"x\\n",')], "came back for"),
+    "a reply that can't be read": (
+        "runner/tasks.py",
+        [("_kept = ", "class Odd: pass\n_kept = "), ("return written,", "return Odd(),")],
+        "AttributeError: ",
+    ),
+}
 Process = "subprocess.Popen[bytes]"
 
 
 class Cluster:
-    """A scheduler and workers of one thread, all of them processes; what is started is ended by its id."""
+    """A scheduler and workers of one thread, all of them processes; what is started is ended by its id.
+    `more` are words that each of them gets."""
 
-    def __init__(self, top: pathlib.Path) -> None:
-        self.top = top
+    def __init__(self, top: pathlib.Path, more: List[str]) -> None:
+        self.top, self.more = top, more
         with socket.socket() as free:
             free.bind(("127.0.0.1", 0))
             self.port = free.getsockname()[1]
@@ -49,18 +66,18 @@ class Cluster:
 
     @property
     def address(self) -> str:
-        return "tcp://127.0.0.1:%d" % self.port
+        return "%s://127.0.0.1:%d" % ("tls" if self.more else "tcp", self.port)
 
     def _start(self, what: str, asked: List[str], variables: Dict[str, str]) -> Process:
-        command = [sys.executable, "-m", "distributed.cli.dask_" + what, *asked, "--no-dashboard"]
+        command = [sys.executable, "-m", "distributed.cli.dask_" + what, *asked, *self.more]
         with open(self.top / "dask.txt", "ab") as log:
             return subprocess.Popen(command, stdout=log, stderr=log, cwd=self.top, env=variables)
 
     def start_scheduler(self) -> None:
         """Starts a scheduler at the address, and waits until it listens."""
-        self.scheduler = self._start(
-            "scheduler", ["--host", "127.0.0.1", "--port", str(self.port)], environment()
-        )
+        asked = ["--host", self.address.rpartition(":")[0], "--port", str(self.port)]
+        asked += ["--dashboard-address", "127.0.0.1:0"]
+        self.scheduler = self._start("scheduler", asked, environment())
         seen(self.scheduler, self._listens)
 
     def _listens(self) -> bool:
@@ -68,14 +85,8 @@ class Cluster:
             return asked.connect_ex(("127.0.0.1", self.port)) == 0
 
     def start_worker(self, variables: Optional[Dict[str, str]] = None) -> Process:
-        asked = [
-            self.address,
-            "--nthreads",
-            "1",
-            "--no-nanny",
-            "--local-directory",
-            str(self.top / "scratch"),
-        ]
+        asked = [self.address, "--nthreads", "1", "--no-nanny", "--no-dashboard"]
+        asked += ["--local-directory", str(self.top / "scratch")]
         self.workers.append(self._start("worker", asked, variables or environment()))
         return self.workers[-1]
 
@@ -97,24 +108,37 @@ class Cluster:
 
 
 @contextlib.contextmanager
-def cluster(workers: int) -> Iterator[Cluster]:
-    """A scheduler with so many workers."""
+def folder() -> Iterator[pathlib.Path]:
     with tempfile.TemporaryDirectory() as name:
-        found = Cluster(pathlib.Path(name))
-        try:
-            found.start_scheduler()
-            for _ in range(workers):
-                found.start_worker()
-            yield found
-        finally:
-            found.end()
+        yield pathlib.Path(name)
 
 
-def case_of(found: Cluster, name: str, given: bytes) -> Case:
+@contextlib.contextmanager
+def cluster(
+    workers: int, top: Optional[pathlib.Path] = None, more: Tuple[str, ...] = ()
+) -> Iterator[Cluster]:
+    """A scheduler with so many workers."""
+    with contextlib.ExitStack() as kept:
+        found = Cluster(top or kept.enter_context(folder()), list(more))
+        kept.callback(found.end)
+        found.start_scheduler()
+        for _ in range(workers):
+            found.start_worker()
+        yield found
+
+
+def case_of(found: Cluster, name: str, given: bytes, passes: Tuple[Tuple[int, ...], ...] = PASSES) -> Case:
     """A list that the cluster decides in small pieces."""
-    case = Case(found.top / name, given)
+    case = Case(found.top / name, given, passes)
     case.words += ["--scheduler", found.address, "--piece", "100"]
     return case
+
+
+def quick_list(program: str, count: int, seed: int) -> bytes:
+    """Machines that small limits decide, and lines that are none."""
+    given = random_list(count, seed).splitlines(keepends=True)
+    lines = decided(program, b"".join(given), QUICK_PASS)
+    return b"".join(one for one, line in zip(given, lines) if b" undecided " not in line)
 
 
 def hold_end(tally: Tally, what: str, case: Case, status: int, right: bytes) -> None:
@@ -123,29 +147,49 @@ def hold_end(tally: Tally, what: str, case: Case, status: int, right: bytes) -> 
     tally.hold("%s: the verdicts" % what, case.verdicts() == right)
 
 
-def is_begun(case: Case, process: Process) -> bool:
-    """Waits until pieces stand; whether the run is not at its end then."""
-    return seen(process, lambda: case.pieces() >= 3) and not case.verdicts()
+def hold_told(tally: Tally, case: Case, process: Process, text: str) -> None:
+    """Waits until the run tells something."""
+    tally.hold("%r is told: %s" % (text, case.said()), seen(process, lambda: text in case.said()))
+
+
+@contextlib.contextmanager
+def stopped(tally: Tally, case: Case, process: Process) -> Iterator[None]:
+    """Waits until some pieces stand, and stops the run meanwhile, so that it can't come to its end."""
+    was_seen = seen(process, lambda: case.pieces() >= 3)
+    process.send_signal(signal.SIGSTOP)
+    tally.hold("the fault comes before the run's end: %s" % case.said(), was_seen and not case.verdicts())
+    try:
+        yield
+    finally:
+        process.send_signal(signal.SIGCONT)
 
 
 def hold_killed_worker(tally: Tally, program: str, lines: int, seed: int) -> None:
-    """One of two workers is killed."""
+    """One of two workers is killed in the middle of a line."""
+    given = quick_list(program, lines, seed)
     with cluster(2) as found:
-        case = case_of(found, "killed", random_list(lines, seed))
+        case = case_of(found, "killed", given + LONG_MACHINE + given, (QUICK_PASS, LONG_PASS))
         with case.start() as process:
-            tally.hold("a worker is killed before the run's end", is_begun(case, process))
-            found.workers[0].kill()
+            at_work: List[Process] = []
+
+            def is_one_at_work() -> bool:
+                at_work[:] = [worker for worker in found.workers if is_at_work(worker.pid)]
+                return bool(at_work)
+
+            tally.hold("a worker is at work: %s" % case.said(), seen(process, is_one_at_work))
+            for worker in at_work[:1]:
+                worker.kill()
             status = process.wait()
-        right = expected(program, case.list.read_bytes(), PASSES)
+        right = expected(program, case.list.read_bytes(), (QUICK_PASS, LONG_PASS))
         hold_end(tally, "a killed worker", case, status, right)
+        tally.hold("dask's page is told: %s" % case.said(), "page is at http://127.0.0.1:" in case.said())
 
 
 def hold_five_kills(tally: Tally, program: str) -> None:
-    """The only worker is killed five times in the middle of one line; dask gives that up at the fourth time."""
-    quick = random_list(200, 3)
+    """The only worker is killed five times in the middle of a line; dask gives that up at the fourth time."""
+    quick = quick_list(program, 300, 3)
     with cluster(0) as found:
-        case = case_of(found, "five", quick + LONG_MACHINE + quick)
-        case.words[:4] = ["--pass", "steps=%d,cells=%d,depth=%d,nodes=%d" % LONG_PASS]
+        case = case_of(found, "five", quick + LONG_MACHINE + quick, (LONG_PASS,))
         with case.start() as process:
             for count in range(5):
                 worker = found.start_worker()
@@ -158,15 +202,40 @@ def hold_five_kills(tally: Tally, program: str) -> None:
         hold_end(tally, "five kills", case, status, expected(program, case.list.read_bytes(), [LONG_PASS]))
 
 
+def hold_deadly_line(tally: Tally, program: str) -> None:
+    """A line ends each worker that decides it: it is named, and all other pieces stand."""
+    quick = quick_list(program, 60, 4)
+    with cluster(0) as found:
+        deadly = changed_package(
+            found.top,
+            "runner/tasks.py",
+            [("    return _replied(deciding", DEADLY + "    return _replied(deciding")],
+        )
+        case = case_of(found, "deadly", quick + LONG_MACHINE + quick, (QUICK_PASS,))
+        with case.start(str(case.list), "--piece", "8") as process:
+            while process.poll() is None:
+                found.workers = [worker for worker in found.workers if worker.poll() is None]
+                while len(found.workers) < 3:
+                    found.start_worker(deadly)
+                time.sleep(0.02)
+        number = quick.count(b"\n") + 1
+        named = "line %d: it ended the workers that decided it" % number in case.said()
+        is_one = "all but 1 pieces stand" in case.said() and process.returncode == 3
+        tally.hold("the line is named, status %d: %s" % (process.returncode, case.said()), named and is_one)
+        found.kill_workers()
+        found.start_worker()
+        right = expected(program, case.list.read_bytes(), [QUICK_PASS])
+        hold_end(tally, "after a deadly line", case, case.run(), right)
+
+
 def hold_no_workers(tally: Tally, given: bytes, right: bytes) -> None:
     """All workers go, and new ones come."""
     with cluster(2) as found:
         case = case_of(found, "none", given)
         with case.start() as process:
-            tally.hold("all workers are killed before the run's end", is_begun(case, process))
-            found.kill_workers()
-            told = seen(process, lambda: "has no workers; waiting" in case.said())
-            tally.hold("that there are no workers is told: %s" % case.said(), told)
+            with stopped(tally, case, process):
+                found.kill_workers()
+            hold_told(tally, case, process, "has no workers; waiting")
             found.start_worker()
             status = process.wait()
         hold_end(tally, "no workers for a while", case, status, right)
@@ -178,44 +247,42 @@ def hold_scheduler(tally: Tally, given: bytes, right: bytes, is_late: bool) -> N
         case = case_of(found, "scheduler", given)
         timeout = {"DASK_DISTRIBUTED__COMM__TIMEOUTS__CONNECT": "2s" if is_late else "600s"}
         with case.start(more_environment=timeout) as process:
-            tally.hold("the scheduler is killed before the run's end", is_begun(case, process))
-            found.end()
-            if is_late:
-                told = seen(process, lambda: "doesn't answer; waiting" in case.said())
-                tally.hold("that there is no scheduler is told: %s" % case.said(), told)
+            with stopped(tally, case, process):
+                found.end()
+            hold_told(tally, case, process, "there is no scheduler" if is_late else "doesn't answer; waiting")
             found.start_scheduler()
             found.start_worker()
             status = process.wait()
         hold_end(tally, "another scheduler, %s" % ("late" if is_late else "soon"), case, status, right)
 
 
-def changed_package(top: pathlib.Path, file: str, before: str, after: str) -> Dict[str, str]:
+def changed_package(top: pathlib.Path, file: str, changes: List[Tuple[str, str]]) -> Dict[str, str]:
     """The environment of a process with a package in which something is changed."""
     source = top / "source"
     shutil.copytree(SOURCE, source, ignore=shutil.ignore_patterns("__pycache__"))
     path = source / "budlarem" / file
     text = path.read_text(encoding="utf-8")
-    assert before in text
-    path.write_text(text.replace(before, after), encoding="utf-8")
+    for before, after in changes:
+        assert before in text
+        text = text.replace(before, after)
+    path.write_text(text, encoding="utf-8")
     return {**environment(), "PYTHONPATH": str(source)}
 
 
 def hold_wrong_worker(tally: Tally, what: str, given: bytes, right: bytes) -> None:
     """A worker that can't decide anything rightly ends the run; by a right one it goes on."""
     with cluster(0) as found:
-        if what == "nothing":
-            wrong, said = {**environment(), "PYTHONPATH": str(found.top)}, "No module named 'budlarem'"
-        elif what == "another version":
-            wrong = changed_package(found.top, "_version.py", 'VERSION = "', 'VERSION = "9.')
-            said = "it was decided by version 9."
+        if what in WRONG_WORKERS:
+            file, changes, said = WRONG_WORKERS[what]
+            wrong = changed_package(found.top, file, changes)
         else:
-            wrong = changed_package(found.top, "runner/tasks.py", "return written,", 'return b"x\\n",')
-            said = "came back for"
+            wrong, said = {**environment(), "PYTHONPATH": str(found.top)}, "No module named 'budlarem'"
         found.start_worker(wrong)
         case = case_of(found, "wrong", given)
         status = case.run()
         held = status == 3 and said in case.said() and "goes on" in case.said()
         tally.hold("a worker with %s: status %d: %s" % (what, status, case.said()), held)
+        tally.hold("dask's own lines aren't told: %s" % case.said(), "Traceback" not in case.said())
         found.kill_workers()
         found.start_worker()
         hold_end(tally, "after a worker with %s" % what, case, case.run(), right)
@@ -229,20 +296,41 @@ def hold_runner(tally: Tally, program: str, lines: int, seed: int) -> None:
         kills = kill_often(case, 10, random.Random(seed))
         tally.hold("%d of 10 kills before the run's end" % kills, kills == 10)
         hold_end(tally, "ten kills", case, case.run(), right)
-        case = case_of(found, "interruption", LONG_MACHINE)
-        case.words[:4] = ["--pass", "steps=%d,cells=%d,depth=%d,nodes=%d" % ENDLESS_PASS]
+        case = case_of(found, "interruption", LONG_MACHINE, (ENDLESS_PASS,))
         with case.start() as process:
             at_work = seen(process, lambda: any(is_at_work(worker.pid) for worker in found.workers))
-            began = time.monotonic()
-            process.send_signal(signal.SIGINT)
-            try:
-                status = process.wait(PATIENCE)
-            except subprocess.TimeoutExpired:
-                process.kill()
-                status = process.wait()
-            seconds = time.monotonic() - began
-        tally.hold("SIGINT: status %d: %s" % (status, case.said()), at_work and status == 130)
-        tally.hold("SIGINT was heard after %.2f s" % seconds, seconds < 5)
+            tally.hold("a worker is at work: %s" % case.said(), at_work)
+            hold_interrupted(tally, case, process)
+
+
+def hold_encryption(tally: Tally, given: bytes, right: bytes) -> None:
+    """Scheduler and workers take encrypted connections alone; the runner is given the files for them."""
+    if not tally.has("encrypted connections", "openssl"):
+        return
+    with folder() as top:
+        certificate, key = str(top / "certificate.pem"), str(top / "key.pem")
+        asked = [
+            "openssl",
+            "req",
+            "-x509",
+            "-newkey",
+            "rsa:2048",
+            "-nodes",
+            "-days",
+            "2",
+            "-subj",
+            "/CN=test",
+        ]
+        subprocess.run([*asked, "-keyout", key, "-out", certificate], stderr=subprocess.DEVNULL, check=True)
+        files = ("--tls-ca-file", certificate, "--tls-cert", certificate, "--tls-key", key)
+        with cluster(1, top, files) as found:
+            case = case_of(found, "encrypted", given)
+            hold_end(tally, "encrypted connections", case, case.run(str(case.list), *files), right)
+            case.clear()
+            quickly = {"DASK_DISTRIBUTED__COMM__TIMEOUTS__CONNECT": "5s"}
+            status = case.run(more_environment=quickly)
+            refused = status == 3 and "no scheduler answers" in case.said()
+            tally.hold("without the files, status %d: %s" % (status, case.said()), refused)
 
 
 def asked() -> Tuple[str, bool, int]:
@@ -261,19 +349,20 @@ def main() -> int:
         return tally.end()
     if not has_library(tally, "the runner over dask"):
         return tally.end()
+    hold_killed_worker(tally, program, 1_000 if is_quick else 10_000, seed)
     if is_quick:
-        hold_killed_worker(tally, program, 6_000, seed)
         return tally.end()
-    hold_killed_worker(tally, program, 20_000, seed)
     hold_five_kills(tally, program)
+    hold_deadly_line(tally, program)
     given, few = random_list(12_000, seed), random_list(300, seed)
-    right = expected(program, given, PASSES)
+    right, right_few = expected(program, given, PASSES), expected(program, few, PASSES)
     hold_no_workers(tally, given, right)
     for is_late in (False, True):
         hold_scheduler(tally, given, right, is_late)
-    for what in ("nothing", "another version", "garbage"):
-        hold_wrong_worker(tally, what, few, expected(program, few, PASSES))
+    for what in ("nothing", *WRONG_WORKERS):
+        hold_wrong_worker(tally, what, few, right_few)
     hold_runner(tally, program, 20_000, seed)
+    hold_encryption(tally, few, right_few)
     return tally.end()
 
 

@@ -3,13 +3,13 @@
 
     scripts/tests/runner.py crates/bb/out/bb [--quick] [--seed S]
 
-The runner is killed by SIGKILL at twenty random moments, and run again after each; interrupted in the middle of
-1,000,000,000,000 steps; its disk is full, by a limit of a file's size and by a small file system (which takes
-root); its list grows while it is read; its files are cut and changed; another run is in its folder. Lists come as
-a file, compressed, and by standard input; ten times the list takes the same memory. Executors that answer wrongly
-are in the unit tests. It uses `crates/bb_c/out/libbb.so`, and runs `scripts/library` where that isn't there. It
-takes a minute; `--quick`, with one kill, some seconds. The last line is `N passed, M failed`, with `, K skipped` where something
-can't be tried here; the status is 1 where any failed.
+The runner is killed by SIGKILL at twenty random moments, and run again after each; interrupted in the middle
+of 1,000,000,000,000 steps; its disk is full, by a limit of a file's size and by a small file system (which
+takes root); its list grows while it is read; its files are cut and changed; another run is in its folder.
+Lists come as a file, compressed, and by standard input; ten times the list takes the same memory. Executors
+that answer wrongly are in the unit tests. It uses `crates/bb_c/out/libbb.so`, and runs `scripts/library`
+where that isn't there. It takes a minute; `--quick`, with one kill, some seconds. The last line is `N passed,
+M failed`, with `, K skipped` where something can't be tried here; the status is 1 where any failed.
 """
 
 import contextlib
@@ -22,11 +22,10 @@ import resource
 import signal
 import subprocess
 import tempfile
-import time
 from typing import Iterator, Tuple
 
 from library_built import has_library
-from runs import LONG_MACHINE, PASSES, PATIENCE, Case, expected, is_at_work, kill_often
+from runs import LONG_MACHINE, PASSES, Case, expected, hold_interrupted, is_at_work, kill_often
 from runs import killed, most_memory, random_list, seen
 from tally import Tally, end_with, words
 
@@ -36,7 +35,8 @@ LONG_PASS = "steps=1000000000000,cells=67108864"
 
 
 def hold_kills(tally: Tally, program: str, top: pathlib.Path, count: int, lines: int, seed: int) -> None:
-    """The runner is killed at random moments, all of them before its end; what it is run again for is checked."""
+    """The runner is killed at random moments, all of them before its end; what it is run again for is
+    checked."""
     case = Case(top / "kills", random_list(lines, seed))
     right = expected(program, case.list.read_bytes(), PASSES)
     kills = kill_often(case, count, random.Random(seed), "--threads", "2")
@@ -50,7 +50,8 @@ def hold_kills(tally: Tally, program: str, top: pathlib.Path, count: int, lines:
 
 
 def hold_interruption(tally: Tally, top: pathlib.Path) -> None:
-    """SIGINT in the middle of 1,000,000,000,000 steps ends it within a second; a second run is refused meanwhile."""
+    """SIGINT in the middle of 1,000,000,000,000 steps ends it within a second; a second run is refused
+    meanwhile."""
     case = Case(top / "interruption", b"1RZ---\n" * 30 + LONG_MACHINE * 3)
     case.words = ["--pass", LONG_PASS, "--threads", "2"]
     with case.start() as process:
@@ -62,17 +63,8 @@ def hold_interruption(tally: Tally, top: pathlib.Path) -> None:
         status = second.run()
         refused = status == 2 and "another run works in" in second.said()
         tally.hold("a second run, status %d: %s" % (status, second.said()), refused)
-        began = time.monotonic()
-        process.send_signal(signal.SIGINT)
-        try:
-            status = process.wait(PATIENCE)
-        except subprocess.TimeoutExpired:
-            process.kill()
-            status = process.wait()
-        seconds = time.monotonic() - began
-    tally.hold("SIGINT in a long run: status %d: %s" % (status, case.said()), at_work and status == 130)
-    tally.hold("SIGINT was heard after %.2f s" % seconds, seconds < 5)
-    tally.hold("its sentence: %s" % case.said(), "interrupted; the same command goes on" in case.said())
+        tally.hold("a thread is at work: %s" % case.said(), at_work)
+        hold_interrupted(tally, case, process)
 
 
 def hold_after_fault(tally: Tally, what: str, case: Case, status: int, sentence: str, right: bytes) -> None:

@@ -120,9 +120,23 @@ def killed(case: Case, more: int, *words: str) -> bool:
     return was_seen and process.returncode == -signal.SIGKILL and not (case.out / "verdicts.txt").exists()
 
 
+def hold_interrupted(tally: Tally, case: Case, process: "subprocess.Popen[bytes]") -> None:
+    """SIGINT ends a run at once, with its status and a sentence."""
+    began = time.monotonic()
+    process.send_signal(signal.SIGINT)
+    try:
+        status = process.wait(PATIENCE)
+    except subprocess.TimeoutExpired:
+        process.kill()
+        status = process.wait()
+    tally.within("SIGINT ends a run", time.monotonic() - began, 1.0)
+    tally.hold("SIGINT: status %d: %s" % (status, case.said()), status == 130)
+    tally.hold("its sentence: %s" % case.said(), "interrupted; the same command goes on" in case.said())
+
+
 def kill_often(case: Case, count: int, chance: random.Random, *words: str) -> int:
-    """Kills runs at random moments, each of which goes on after the one before; how many were killed before their
-    end. After one that came to its end it begins anew."""
+    """Kills runs at random moments, each of which goes on after the one before; how many were killed before
+    their end. After one that came to its end it begins anew."""
     kills, whole = 0, 0
     while kills < count and whole < count:
         if killed(case, chance.randint(0, 4), "--piece", str(chance.randint(50, 150)), *words):
@@ -134,8 +148,8 @@ def kill_often(case: Case, count: int, chance: random.Random, *words: str) -> in
 
 
 def most_memory(case: Case, count: int, limits: Sequence[int]) -> int:
-    """The most memory that a run over so many lines takes, in KiB; 0 where it failed. The list isn't held here,
-    since a process begins with the memory of the one that it was forked from."""
+    """The most memory that a run over so many lines takes, in KiB; 0 where it failed. The list isn't held
+    here, since a process begins with the memory of the one that it was forked from."""
     with open(case.list, "wb") as file:
         for _ in range(count // 1_000):
             file.write(b"1RB1LC_1RC1RB_1RD0LE_1LA1LD_1RZ0LA\n" * 1_000)
@@ -147,7 +161,8 @@ def most_memory(case: Case, count: int, limits: Sequence[int]) -> int:
 
 
 def work_of(folder: str) -> float:
-    """The processor time of a process or thread, of this folder in /proc, in seconds; 0 where it has ended."""
+    """The processor time of a process or thread, of this folder in /proc, in seconds; 0 where it has
+    ended."""
     try:
         with open(folder + "/stat") as file:
             fields = file.read().rpartition(")")[2].split()

@@ -66,10 +66,14 @@ class ClusterPlace:
         self._security = self._dask.Security(**security, require_encryption=True) if security else None
         # It guards the jobs, which dask's thread ends.
         self._lock = threading.RLock()
-        # Jobs that dask has, those that have to be handed over again, and those that ended their workers.
+        # Jobs that dask has, and those that have to be handed over again.
         self._handed: Dict[Job, Handed] = {}
         self._lost: Deque[Job] = collections.deque()
+        # Jobs whose workers ended, and their halves, of which one at a time is handed over: dask says the
+        # same of all that a worker had, and only one of them ended it.
         self._killed: Deque[Job] = collections.deque()
+        self._halves: Deque[Job] = collections.deque()
+        self._suspect: Optional[Job] = None
         self._workers, self._threads, self._next = 0, 0, 0.0
         self._missing = ""
         self._client: Any = None
@@ -154,6 +158,8 @@ class ClusterPlace:
                 return
             job.turn += 1
             self._handed.pop(job, None)
+            if job is self._suspect:
+                self._suspect = None
             if isinstance(error, self._dask.KilledWorker):
                 self._killed.append(job)
             elif error is not None:
@@ -164,6 +170,7 @@ class ClusterPlace:
     def tend(self) -> None:
         """Looks now and then whether the scheduler and its workers are there, and hands over again what was
         lost."""
+        self._hand_over_halves()
         if time.monotonic() < self._next:
             return
         if self._client.status == "closed":
@@ -238,11 +245,15 @@ class ClusterPlace:
     def _hand_over_again(self) -> None:
         for _ in range(len(self._lost)):
             self._hand_over(self._lost.popleft())
-        for _ in range(len(self._killed)):
+
+    def _hand_over_halves(self) -> None:
+        while self._killed:
             job = self._killed.popleft()
             with self._lock:
                 halves = halved(job)
+            self._halves.extend(halves)
             if halves:
                 self._tell("%d lines ended their workers; they are cut in halves" % job.lines.count(b"\n"))
-            for half in halves:
-                self._hand_over(half)
+        if self._halves and self._suspect is None:
+            self._suspect = self._halves.popleft()
+            self._hand_over(self._suspect)

@@ -1,7 +1,7 @@
 """The command `budlarem run`.
 
-Its statuses: 0 where all lines are machines, 1 where a line was refused or the checker doesn't confirm a verdict,
-2 where command, limits or folder were refused, 3 for a fault, 130 after an interruption.
+Its statuses: 0 where all lines are machines, 1 where a line was refused or the checker doesn't confirm a
+verdict, 2 where command, limits or folder were refused, 3 for a fault, 130 after an interruption.
 """
 
 from __future__ import annotations
@@ -25,9 +25,9 @@ from .tasks import identity
 from .whole import run
 from .workplace import Workplace, threads
 
-_HELP = """Decides a list of any length in pieces, on all cores. FOLDER gets verdicts.txt, with a line for each line
-of LIST in its order, and summary.json. Whatever ended it, the same command goes on after what stands. More passes
-may be added at the end of the command later: they decide what is left."""
+_HELP = """Decides a list of any length in pieces, on all cores. FOLDER gets verdicts.txt, with a line for each
+line of LIST in its order, and summary.json. Whatever ended it, the same command goes on after what stands. More
+passes may be added at the end of the command later: they decide what is left."""
 
 # dask's options of TLS, and what its client calls them.
 TLS = {

@@ -11,8 +11,8 @@ from .journal import Record
 from .look import Counts
 from .source import Lines
 
-# How many lines a piece has at most where nothing is said, and how many bytes: a task of more than a mebibyte is
-# told of by some executors.
+# How many lines a piece has at most where nothing is said, and how many bytes: a task of more than a mebibyte
+# is told of by some executors.
 MOST_LINES = 20_000
 MOST_BYTES = 700_000
 # A piece that was cut before is cut so again, whatever it has.

@@ -16,8 +16,8 @@ class CheckError(Exception):
 
 
 class ReplyError(Exception):
-    """What came back for a piece isn't what belongs there. `line` is which line of the piece it is, from 0 on;
-    None where it is no single line."""
+    """What came back for a piece isn't what belongs there. `line` is which line of the piece it is, from 0
+    on; None where it is no single line."""
 
     def __init__(self, text: str, line: int | None = None) -> None:
         super().__init__(text)
@@ -25,7 +25,8 @@ class ReplyError(Exception):
 
 
 class DeadlyError(Exception):
-    """A line ended the process that decided it, as often as it was tried. `line` is which line of the piece."""
+    """A line ended the process that decided it, as often as it was tried. `line` is which line of the
+    piece."""
 
     def __init__(self, line: int) -> None:
         super().__init__(line)

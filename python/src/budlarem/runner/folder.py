@@ -55,8 +55,8 @@ def words_of(limits: Limits) -> str:
 
 @dataclasses.dataclass
 class Begun:
-    """What a folder was begun with. Of the list is known how many bytes its file has, where it is an uncompressed
-    one, and when the first pass has seen its end how many lines it has."""
+    """What a folder was begun with. Of the list is known how many bytes its file has, where it is an
+    uncompressed one, and when the first pass has seen its end how many lines it has."""
 
     passes: List[Limits]
     identity: Identity
@@ -89,8 +89,8 @@ class Begun:
 
 
 def limits_of(words: str) -> Limits:
-    """The limits that words as `steps=1000,cells=1024` name; those that aren't named are the program's. Raises
-    ValueError, LimitsError."""
+    """The limits that words as `steps=1000,cells=1024` name; those that aren't named are the program's.
+    Raises ValueError, LimitsError."""
     found: Dict[str, int] = {}
     for word in words.split(","):
         name, equals, number = word.partition("=")
@@ -185,7 +185,7 @@ class PassFolder:
             record, verdicts = self.journal.read(index), self.read(index)
             if record is None or verdicts is None or not record.has(verdicts):
                 raise RunError(
-                    "%s isn't what the journal says: it was cut or changed; run again, and it is decided again"
-                    % self._at(index)
+                    "%s isn't what the journal says: it was cut or changed;"
+                    " run again, and it is decided again" % self._at(index)
                 )
             yield record.first, verdicts

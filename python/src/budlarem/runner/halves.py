@@ -13,8 +13,8 @@ from .tasks import Numbers, Task
 
 @dataclasses.dataclass(eq=False)
 class Job:
-    """A task that is handed over: its lines, of which there are `first` before it in the whole task, the future
-    of what comes back, and how often it was handed over or lost."""
+    """A task that is handed over: its lines, of which there are `first` before it in the whole task, the
+    future of what comes back, and how often it was handed over or lost."""
 
     task: Task
     lines: bytes

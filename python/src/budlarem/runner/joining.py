@@ -52,8 +52,8 @@ def _replaced(verdicts: bytes, lines: Lines) -> bytes:
 
 
 def number_in_list(before: Sequence[PassFolder], line: int) -> int:
-    """The number in the list, from 1 on, of the line that has `line` lines of its pass before it; `before` are
-    the passes before its pass."""
+    """The number in the list, from 1 on, of the line that has `line` lines of its pass before it; `before`
+    are the passes before its pass."""
     for folder in reversed(before):
         line = _line_of_left(folder, line)
     return line + 1

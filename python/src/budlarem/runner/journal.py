@@ -1,9 +1,9 @@
 """The journal of a pass: for each piece the length and hash of what it was given and of what came of it.
 
-It is a file of lines of one width, so that the line of a piece is found by its number, and no more than one is
-held. A line ends in a seal, over what it says, the piece's number, and the pass with its limits and library: one
-that was cut, changed or moved, or that is another pass's, is as if it weren't there, and its piece is decided
-again.
+It is a file of lines of one width, so that the line of a piece is found by its number, and no more than one
+is held. A line ends in a seal, over what it says, the piece's number, and the pass with its limits and
+library: one that was cut, changed or moved, or that is another pass's, is as if it weren't there, and its
+piece is decided again.
 """
 
 from __future__ import annotations
@@ -26,8 +26,8 @@ def hash_of(data: bytes) -> str:
 
 @dataclasses.dataclass(frozen=True)
 class Record:
-    """What is known of a piece that stands. `first` is how many lines of the pass came before it, `is_checked`
-    whether the checker confirmed it, `milliseconds` what deciding it took."""
+    """What is known of a piece that stands. `first` is how many lines of the pass came before it,
+    `is_checked` whether the checker confirmed it, `milliseconds` what deciding it took."""
 
     first: int
     lines: int

@@ -1,7 +1,7 @@
 """The look at what comes back: nothing that an executor answers is believed.
 
-A reply has a line for each line of its piece, each of which begins with its machine's text and is a verdict line,
-or is the refusal of that line. That a verdict is right isn't seen here; the checker says that.
+A reply has a line for each line of its piece, each of which begins with its machine's text and is a verdict
+line, or is the refusal of that line. That a verdict is right isn't seen here; the checker says that.
 """
 
 from __future__ import annotations
@@ -89,8 +89,8 @@ def _look_at_refusals(machines: List[bytes], replies: List[bytes]) -> None:
 
 
 def look_at_answers(verdicts: bytes, answers: bytes) -> None:
-    """Looks at the checker's answers to the verdict lines of a piece. Raises ReplyError where they are no such
-    answers; its `line` is set where one is an answer that doesn't confirm."""
+    """Looks at the checker's answers to the verdict lines of a piece. Raises ReplyError where they are no
+    such answers; its `line` is set where one is an answer that doesn't confirm."""
     lines = _split(answers, verdicts.count(b"\n"), "answers")
     if set(lines) <= {b"ok", b"open"}:
         return

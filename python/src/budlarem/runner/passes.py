@@ -56,8 +56,8 @@ class Manner:
 
 
 class PassRun:
-    """Decides a pass. `number_of` gives the number in the list, from 1 on, of a line of this pass; `known` is how
-    many lines there are, where that is known."""
+    """Decides a pass. `number_of` gives the number in the list, from 1 on, of a line of this pass; `known` is
+    how many lines there are, where that is known."""
 
     def __init__(
         self,
@@ -78,8 +78,8 @@ class PassRun:
         self._left_out: List[str] = []
 
     def run(self, lines: Lines) -> PassResult:
-        """Decides the lines, but for the pieces that stand. Raises FolderError where they aren't those that the
-        journal was written for, CheckError, RunError, OSError."""
+        """Decides the lines, but for the pieces that stand. Raises FolderError where they aren't those that
+        the journal was written for, CheckError, RunError, OSError."""
         try:
             self._decide(lines)
         finally:

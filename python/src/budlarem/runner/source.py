@@ -30,7 +30,8 @@ class Lines:
         self.taken, self.taken_lines = 0, 0
 
     def take(self, lines: int, size: int) -> bytes:
-        """The next lines: so many at most, of so many bytes together, but one at least; no bytes at the end."""
+        """The next lines: so many at most, of so many bytes together, but one at least; no bytes at the
+        end."""
         while not self._ended:
             end = _end_of(self._held, self._begin, lines)
             if end is not None or len(self._held) - self._begin >= size:
@@ -55,8 +56,9 @@ class Lines:
 
 
 def _end_of(held: bytes, begin: int, lines: int) -> Optional[int]:
-    """Where so many lines end; None where there aren't so many. It goes on by jumps, as long as the lines before
-    were, which end before the last of the lines; as many bytes as there are lines left can't pass that."""
+    """Where so many lines end; None where there aren't so many. It goes on by jumps, as long as the lines
+    before were, which end before the last of the lines; as many bytes as there are lines left can't pass
+    that."""
     jump = lines
     while lines > _FEW:
         if begin >= len(held):
@@ -118,7 +120,8 @@ class ListFile:
         return self._begin.st_size if self.is_regular else None
 
     def part(self, taken: int) -> Optional[float]:
-        """Which part of the file so many bytes of the list are, as far as can be told; None where it can't."""
+        """Which part of the file so many bytes of the list are, as far as can be told; None where it
+        can't."""
         if not self.size:
             return None
         return min((self._raw.tell() if self.is_compressed else taken) / self.size, 1.0)

@@ -1,7 +1,7 @@
 """What is done with a piece, wherever that is: functions that an executor is given, and what they answer.
 
-They take and give plain values, so that a process with another version of the package can be told apart by what
-it answers, and stand in a module, so that they are sent by their names.
+They take and give plain values, so that a process with another version of the package can be told apart by
+what it answers, and stand in a module, so that they are sent by their names.
 """
 
 from __future__ import annotations
@@ -19,7 +19,8 @@ from ..engine import checking, deciding
 from ..limits import Limits, Plan
 
 Numbers = Tuple[int, int, int, int]
-# What was written for the lines, the seconds that it took, and the version, the commit and the library's sha256.
+# What was written for the lines, the seconds that it took, and the version, the commit and the library's
+# sha256.
 Reply = Tuple[bytes, float, str, str, str]
 Task = Callable[[bytes, Numbers], Reply]
 

@@ -39,8 +39,8 @@ class Outcome:
 
 
 def run(folder: Folder, source: ListFile, passes: Sequence[Limits], manner: Manner) -> Outcome:
-    """Decides a list in a folder, and leaves verdicts and summary there. Raises FolderError, CheckError, RunError,
-    OSError."""
+    """Decides a list in a folder, and leaves verdicts and summary there. Raises FolderError, CheckError,
+    RunError, OSError."""
     began = time.time()
     begun = begin(folder, source, passes, manner)
     folders: List[PassFolder] = []
@@ -119,8 +119,8 @@ def _hold_library(folder: Folder, theirs: Identity, ours: Identity) -> None:
 def _hold_passes(folder: Folder, theirs: Sequence[Limits], ours: Sequence[Limits]) -> None:
     if list(ours[: len(theirs)]) != list(theirs):
         raise FolderError(
-            "%s was begun with other passes: %s; here are %s; give the same ones, with others behind them or not,"
-            " or another folder" % (folder.path, _passes_text(theirs), _passes_text(ours))
+            "%s was begun with other passes: %s; here are %s; give the same ones, with others behind them or"
+            " not, or another folder" % (folder.path, _passes_text(theirs), _passes_text(ours))
         )
 
 
