@@ -1,16 +1,23 @@
 #!/usr/bin/python3
-"""Measures `budlarem run` beside GNU parallel over the built program, and with one thread beside several.
+"""Measures `budlarem run`: beside GNU parallel over the built program, by threads, and by dask.
 
-    scripts/speed/runner.py [crates/bb/out/bb] [--threads N] [--runs N]
+    scripts/speed/runner.py [crates/bb/out/bb] [--threads N] [--runs N] [--lines N] [--part PART]...
 
 The list is the 858,909 machines of four states in tree normal form, and 200,000 random ones of five. Each way
-writes the same bytes, which is held; the time is the least of the runs, by the clock, of the whole command:
-so the machine must be quiet. Memory is that of the runner over a list and over one of ten times as many
-lines. It needs GNU parallel and `crates/bb_c/out/libbb.so`, and takes some minutes. The last line is `N
-passed, M failed`.
+writes the same bytes, which is held; the time is the least of the runs, by the clock, so the machine must be
+quiet. It takes some minutes. The last line is `N passed, M failed`. The parts, all of which are run where
+none is named:
+
+- `threads`: one process of the program, one thread of the runner, several, and GNU parallel; whole commands.
+- `dask`: one process, and dask with one worker and with three. Of dask the time is that of the summary, so
+  without the start of Python and of dask.
+- `waiting`: a thousand workers that only wait, threads of four processes: how many pieces a second the runner
+  and the scheduler keep up with.
+- `memory`: of the runner over a list, and over one of ten times as many lines.
 """
 
 import argparse
+import json
 import os
 import pathlib
 import random
@@ -18,11 +25,12 @@ import subprocess
 import sys
 import tempfile
 import time
-from typing import Callable, Dict, List, Sequence
+from typing import Callable, Dict, List, Sequence, Tuple
 
 HERE = os.path.dirname(os.path.abspath(__file__))
 sys.path.insert(0, os.path.join(HERE, "..", "tests"))
 
+from cluster import Cluster, changed_package, cluster  # noqa: E402
 from library_built import has_library  # noqa: E402
 from runs import Case, most_memory, words_of  # noqa: E402
 from tally import PROGRAM, Tally, end_with  # noqa: E402
@@ -34,6 +42,17 @@ ROWS = ((1_000, 1_024, 40, 10_000), (100_000, 4_096, 300, 100_000))
 # Blocks of GNU parallel, of which the better counts.
 BLOCKS = ("100k", "1M")
 MEMORY_LINES = 1_000_000
+QUICK_PASS = (50, 64, 3, 10)
+# Processes of workers that wait, and how many threads each has.
+WAITING_PROCESSES, WAITING_THREADS = 4, 250
+# Seconds that each piece waits, lines of a piece, and how many pieces there are.
+WAITING = ((0.5, 100, 10_000), (0.5, 1_000, 5_000), (0.5, 20_000, 1_000))
+WAITS = """    time.sleep(%f)
+    ours = identity()
+    replies = lines.replace(b"\\n", b" undecided steps\\n")
+    return replies, 1e-6, ours.version, ours.commit, ours.library
+    return _replied(deciding"""
+CHAMPION = b"1RB1LC_1RC1RB_1RD0LE_1LA1LD_1RZ0LA\n"
 
 
 def random_machines(count: int) -> bytes:
@@ -46,14 +65,17 @@ def random_machines(count: int) -> bytes:
     return "".join(line + "\n" for line in lines).encode()
 
 
-def least(runs: int, once: Callable[[], object]) -> float:
-    """The least time of some runs, in seconds."""
-    times = []
-    for _ in range(runs):
-        began = time.monotonic()
-        once()
-        times.append(time.monotonic() - began)
-    return min(times)
+def whole_list(most: int) -> bytes:
+    """The list, or so many lines of each half of it at most."""
+    listed = subprocess.run([sys.executable, LISTER, "4"], stdout=subprocess.PIPE, check=True).stdout
+    return b"".join(listed.splitlines(keepends=True)[:most]) + random_machines(min(RANDOM, most))
+
+
+def timed(once: Callable[[], bytes]) -> Tuple[bytes, float]:
+    """What a way writes, and how many seconds it takes."""
+    began = time.monotonic()
+    written = once()
+    return written, time.monotonic() - began
 
 
 def by_program(program: str, limits: Sequence[int], given: pathlib.Path, before: List[str]) -> bytes:
@@ -72,59 +94,157 @@ def by_runner(case: Case, limits: Sequence[int], more: List[str]) -> bytes:
     return case.verdicts()
 
 
-def measure_row(
-    tally: Tally, program: str, case: Case, limits: Sequence[int], threads: int, runs: int
+def summary_of(case: Case) -> Dict[str, float]:
+    """The seconds of a whole run, without its start, and its pieces."""
+    summary = json.loads((case.out / "summary.json").read_text())
+    return {"seconds": summary["seconds"], "pieces": sum(one["pieces"] for one in summary["passes"])}
+
+
+def by_dask(
+    case: Case, limits: Sequence[int], found: Cluster, more: Sequence[str] = ()
+) -> Tuple[bytes, float]:
+    """What the runner writes by dask, and the seconds that its summary tells."""
+    written = by_runner(case, limits, ["--scheduler", found.address, *more])
+    return written, summary_of(case)["seconds"]
+
+
+def least_times(
+    tally: Tally, limits: Sequence[int], runs: int, ways: Dict[str, Callable[[], Tuple[bytes, float]]]
 ) -> Dict[str, float]:
-    """The times of one row."""
-    ways: Dict[str, Callable[[], bytes]] = {
-        "one process": lambda: by_program(program, limits, case.list, []),
-        "one thread": lambda: by_runner(case, limits, ["--threads", "1"]),
-        "%d threads" % threads: lambda: by_runner(case, limits, ["--threads", str(threads)]),
+    """The least time of each way, in seconds. The ways take turns, and write the same bytes."""
+    times: Dict[str, float] = {}
+    right = b""
+    for _ in range(runs):
+        for name, way in ways.items():
+            written, seconds = way()
+            right = right or written
+            tally.hold("%s: other bytes" % name, written == right)
+            times[name] = min(seconds, times.get(name, seconds))
+    for name, seconds in times.items():
+        print("%s | %s | %.2f s" % (words_of(limits), name, seconds), flush=True)
+    return times
+
+
+def measure_threads(
+    tally: Tally, program: str, case: Case, limits: Sequence[int], threads: int, runs: int
+) -> None:
+    """One process, threads, and GNU parallel."""
+    several = "%d threads" % threads
+    ways: Dict[str, Callable[[], Tuple[bytes, float]]] = {
+        "one process": lambda: timed(lambda: by_program(program, limits, case.list, [])),
+        "one thread": lambda: timed(lambda: by_runner(case, limits, ["--threads", "1"])),
+        several: lambda: timed(lambda: by_runner(case, limits, ["--threads", str(threads)])),
     }
     for block in BLOCKS:
         parallel = ["parallel", "-j", str(threads), "--pipe", "-k", "--block", block]
-        ways["GNU parallel, %s" % block] = lambda parallel=parallel: by_program(
-            program, limits, case.list, parallel
+        ways["GNU parallel, %s" % block] = lambda parallel=parallel: timed(
+            lambda: by_program(program, limits, case.list, parallel)
         )
-    right = ways["one process"]()
-    times = {}
-    for name, way in ways.items():
-        times[name] = least(runs, lambda: tally.hold("%s: other bytes" % name, way() == right))
-        print("%s | %s | %.2f s" % (words_of(limits), name, times[name]), flush=True)
+    times = least_times(tally, limits, runs, ways)
     parallel_time = min(times["GNU parallel, %s" % block] for block in BLOCKS)
-    several = times["%d threads" % threads]
-    print("%s | threads / GNU parallel | %.2f" % (words_of(limits), several / parallel_time))
-    print("%s | one thread / several | %.2f" % (words_of(limits), times["one thread"] / several))
-    return times
+    print("%s | threads / GNU parallel | %.2f" % (words_of(limits), times[several] / parallel_time))
+    print("%s | one thread / several | %.2f" % (words_of(limits), times["one thread"] / times[several]))
+
+
+def wait_for_workers(found: Cluster, count: int) -> None:
+    """Returns when a scheduler has so many workers."""
+    import distributed
+
+    with distributed.Client(found.address, set_as_default=False) as client:
+        client.wait_for_workers(count)
+
+
+def measure_dask(tally: Tally, program: str, case: Case, limits: Sequence[int], runs: int) -> None:
+    """One process, and dask with one worker and with three."""
+    with cluster(1) as one, cluster(3) as three:
+        wait_for_workers(one, 1)
+        wait_for_workers(three, 3)
+        times = least_times(
+            tally,
+            limits,
+            runs,
+            {
+                "one process": lambda: timed(lambda: by_program(program, limits, case.list, [])),
+                "dask, one worker": lambda: by_dask(case, limits, one),
+                "dask, three workers": lambda: by_dask(case, limits, three),
+            },
+        )
+    single = times["dask, one worker"]
+    print("%s | dask, one worker / one process | %.2f" % (words_of(limits), single / times["one process"]))
+    print("%s | dask, one / three workers | %.2f" % (words_of(limits), single / times["dask, three workers"]))
+
+
+def measure_waiting(tally: Tally, top: pathlib.Path, part: float) -> None:
+    """A thousand workers that only wait, and say that nothing is decided; `part` of the pieces."""
+    for seconds, lines, pieces in WAITING:
+        with cluster(0) as found:
+            before = "    return _replied(deciding"
+            waiting = changed_package(found.top, "runner/tasks.py", [(before, WAITS % seconds)])
+            for _ in range(WAITING_PROCESSES):
+                found.start_worker(waiting, WAITING_THREADS)
+            wait_for_workers(found, WAITING_PROCESSES)
+            case = Case(top / ("waiting-%d" % lines), CHAMPION * int(lines * pieces * part))
+            by_dask(case, QUICK_PASS, found, ["--piece", str(lines)])
+            told = summary_of(case)
+            tally.hold("a line for each: %s" % case.said(), case.verdicts().count(b"\n") > 0)
+            print(
+                "%d workers that wait %.1f s, pieces of %d lines | %d pieces | %.0f pieces/s"
+                % (
+                    WAITING_PROCESSES * WAITING_THREADS,
+                    seconds,
+                    lines,
+                    told["pieces"],
+                    told["pieces"] / told["seconds"],
+                ),
+                flush=True,
+            )
+            case.clear()
+            case.list.unlink()
 
 
 def measure_memory(top: pathlib.Path) -> None:
     case = Case(top / "memory", b"")
     for count in (MEMORY_LINES, 10 * MEMORY_LINES):
-        print(
-            "%d lines | most memory | %d KiB" % (count, most_memory(case, count, (50, 64, 3, 10))), flush=True
-        )
+        print("%d lines | most memory | %d KiB" % (count, most_memory(case, count, QUICK_PASS)), flush=True)
 
 
-def main() -> int:
+PARTS = ("memory", "threads", "dask", "waiting")
+
+
+def words() -> argparse.Namespace:
+    """What the command line asks for."""
     shape = argparse.RawDescriptionHelpFormatter
     parser = argparse.ArgumentParser(description=__doc__, formatter_class=shape)
     parser.add_argument("program", nargs="?", default=PROGRAM, type=os.path.abspath)
     parser.add_argument("--threads", type=int, default=len(os.sched_getaffinity(0)), metavar="N")
     parser.add_argument(
-        "--runs", type=int, default=3, metavar="N", help="of which the least counts (default: 3)"
+        "--runs", type=int, default=5, metavar="N", help="of which the least counts (default: 5)"
     )
-    asked = parser.parse_args()
+    parser.add_argument(
+        "--lines", type=int, default=10**6, metavar="N", help="of each half of the list at most"
+    )
+    parser.add_argument("--part", action="append", choices=PARTS, help="one part alone, or some")
+    return parser.parse_args()
+
+
+def main() -> int:
+    asked = words()
+    parts = asked.part or PARTS
     tally = Tally()
     if not tally.has("the runner's speed", "parallel") or not has_library(tally, "the runner's speed"):
         return tally.end()
     with tempfile.TemporaryDirectory() as name:
         top = pathlib.Path(name)
-        listed = subprocess.run([sys.executable, LISTER, "4"], stdout=subprocess.PIPE, check=True).stdout
-        measure_memory(top)
-        case = Case(top / "list", listed + random_machines(RANDOM), ROWS)
+        if "memory" in parts:
+            measure_memory(top)
+        case = Case(top / "list", whole_list(asked.lines), ROWS)
         for limits in ROWS:
-            measure_row(tally, asked.program, case, limits, asked.threads, asked.runs)
+            if "threads" in parts:
+                measure_threads(tally, asked.program, case, limits, asked.threads, asked.runs)
+            if "dask" in parts:
+                measure_dask(tally, asked.program, case, limits, asked.runs)
+        if "waiting" in parts:
+            measure_waiting(tally, top, min(asked.lines / 10**6, 1.0))
     return tally.end()
 
 

@@ -53,7 +53,7 @@ Process = "subprocess.Popen[bytes]"
 
 
 class Cluster:
-    """A scheduler and workers of one thread, all of them processes; what is started is ended by its id.
+    """A scheduler and workers, all of them processes; what is started is ended by its id.
     `more` are words that each of them gets."""
 
     def __init__(self, top: pathlib.Path, more: List[str]) -> None:
@@ -84,8 +84,8 @@ class Cluster:
         with socket.socket() as asked:
             return asked.connect_ex(("127.0.0.1", self.port)) == 0
 
-    def start_worker(self, variables: Optional[Dict[str, str]] = None) -> Process:
-        asked = [self.address, "--nthreads", "1", "--no-nanny", "--no-dashboard"]
+    def start_worker(self, variables: Optional[Dict[str, str]] = None, threads: int = 1) -> Process:
+        asked = [self.address, "--nthreads", str(threads), "--no-nanny", "--no-dashboard"]
         asked += ["--local-directory", str(self.top / "scratch")]
         self.workers.append(self._start("worker", asked, variables or environment()))
         return self.workers[-1]

@@ -25,9 +25,10 @@ from .tasks import identity
 from .whole import run
 from .workplace import Workplace, threads
 
-_HELP = """Decides a list of any length in pieces, on all cores. FOLDER gets verdicts.txt, with a line for each
-line of LIST in its order, and summary.json. Whatever ended it, the same command goes on after what stands. More
-passes may be added at the end of the command later: they decide what is left."""
+_HELP = """Decides a list of any length in pieces, on all cores of this computer or by dask's workers. FOLDER
+gets verdicts.txt, with a line for each line of LIST in its order, and summary.json. Whatever ended it, the
+same command goes on after what stands. More passes may be added at the end of the command later: they decide
+what is left."""
 
 # dask's options of TLS, and what its client calls them.
 TLS = {
