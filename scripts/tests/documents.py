@@ -29,6 +29,7 @@ ELSEWHERE = {
     "the system's commands": "cut git rustc sh split wait",
     "the kit": "rt requires ensures FoldsTo rattle-kit-13b rattle-kit-13f --anew --minutes",
     "GNU parallel": "--pipe",
+    "dask": "--host --memory-limit --nanny-port --nthreads --nworkers --worker-port",
     "folders that the runner makes": "pass-1 pass-2",
     "a beginning of names": "Is Has",
 }
@@ -59,6 +60,7 @@ LANGUAGES = {
     "CHANGELOG.md": ["header", "python"],
     "docs/recipes.md": ["python", "script"],
     "docs/contributing.md": ["python"],
+    "docs/clusters.md": ["python"],
 }
 # Lines of a document, and what is told of each: '' where nothing is wrong.
 BROKEN = [
