@@ -35,7 +35,7 @@ TREES = 4_000
 CHECKED = 2_000
 RANDOM = 10_000
 COUNTED = (1_000_000, 2_000_000)
-LISTER = os.path.join(HERE, "..", "tools", "tree_normal_form.py")
+LISTER = os.path.join(HERE, "..", "tools", "tree_normal_form")
 KINDS = 3_000
 OPEN_LONG = 300
 INTERRUPTED = 130
@@ -212,7 +212,7 @@ def three_kinds(draw):
 
 def in_one_run(program, draw):
     """The name, the options and the list of what measures deciding in one run."""
-    listed = subprocess.run([sys.executable, LISTER, "4"], stdout=subprocess.PIPE, check=True)
+    listed = subprocess.run([LISTER, "--states", "4"], stdout=subprocess.PIPE, check=True)
     four = listed.stdout.decode()
     limits = ["--steps", "1000", "--cells", "200", "--depth", "60", "--nodes", "2000"]
     left = undecided(program, limits, four).splitlines(keepends=True)

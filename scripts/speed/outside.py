@@ -26,6 +26,7 @@ sys.path.insert(0, os.path.join(TOP, "scripts", "tests"))
 sys.path.insert(0, os.path.join(TOP, "python", "src"))
 
 from library_built import LIBRARY, has_library  # noqa: E402
+from machine_list import has_lister, listed  # noqa: E402
 from tally import Tally, end_with, words  # noqa: E402
 
 os.environ["BB_LIBRARY"] = LIBRARY
@@ -107,9 +108,8 @@ def four_states(folder: str) -> str:
     """The path of the list of all machines of four states in tree normal form."""
     path = os.path.join(folder, "four")
     if not os.path.exists(path):
-        script = os.path.join(TOP, "scripts", "tools", "tree_normal_form.py")
         with open(path, "wb") as out:
-            subprocess.run([sys.executable, script, "4"], stdout=out, check=True)
+            out.write(listed(4))
     return path
 
 
@@ -401,6 +401,8 @@ def main() -> int:
     parser.add_argument("--only", choices=sorted(PARTS), action="append", help="this part; may be repeated")
     asked = parser.parse_args()
     figures = Figures(Tally(), asked.runs)
+    if not has_lister(figures.tally, "the list of four states"):
+        return figures.tally.end()
     with tempfile.TemporaryDirectory() as folder:
         for name, measure in PARTS.items():
             if not asked.only or name in asked.only:

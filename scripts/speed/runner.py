@@ -32,10 +32,10 @@ sys.path.insert(0, os.path.join(HERE, "..", "tests"))
 
 from cluster import Cluster, changed_package, cluster  # noqa: E402
 from library_built import has_library  # noqa: E402
+from machine_list import has_lister, listed  # noqa: E402
 from runs import Case, most_memory, words_of  # noqa: E402
 from tally import PROGRAM, Tally, end_with  # noqa: E402
 
-LISTER = os.path.join(HERE, "..", "tools", "tree_normal_form.py")
 RANDOM = 200_000
 # Limits: those of a first pass, and those of a run that looks further.
 ROWS = ((1_000, 1_024, 40, 10_000), (100_000, 4_096, 300, 100_000))
@@ -67,8 +67,7 @@ def random_machines(count: int) -> bytes:
 
 def whole_list(most: int) -> bytes:
     """The list, or so many lines of each half of it at most."""
-    listed = subprocess.run([sys.executable, LISTER, "4"], stdout=subprocess.PIPE, check=True).stdout
-    return b"".join(listed.splitlines(keepends=True)[:most]) + random_machines(min(RANDOM, most))
+    return b"".join(listed(4).splitlines(keepends=True)[:most]) + random_machines(min(RANDOM, most))
 
 
 def timed(once: Callable[[], bytes]) -> Tuple[bytes, float]:
@@ -231,7 +230,8 @@ def main() -> int:
     asked = words()
     parts = asked.part or PARTS
     tally = Tally()
-    if not tally.has("the runner's speed", "parallel") or not has_library(tally, "the runner's speed"):
+    what = "the runner's speed"
+    if not tally.has(what, "parallel") or not has_lister(tally, what) or not has_library(tally, what):
         return tally.end()
     with tempfile.TemporaryDirectory() as name:
         top = pathlib.Path(name)

@@ -18,11 +18,11 @@ import random
 import resource
 import shutil
 import subprocess
-import sys
 import tempfile
 from typing import Any, Dict, Iterator, List, Tuple
 
 from closed_loop import LIMITS, machines
+from machine_list import has_lister, listed
 from tally import TOP, Tally, end_with, words
 from web_engine import MODULE, SWITCHES, Engine, Reply, built, documented, plan_of, words_of
 
@@ -146,8 +146,9 @@ def hold_random(held: Held, count: int, seed: int) -> None:
 
 def hold_four_states(held: Held) -> None:
     """All machines of four states in tree normal form, decided and checked; their times."""
-    script = os.path.join(TOP, "scripts", "tools", "tree_normal_form.py")
-    given = subprocess.run([sys.executable, script, "4"], stdout=subprocess.PIPE).stdout
+    if not has_lister(held.tally, "machines of four states"):
+        return
+    given = listed(4)
     held.tally.hold("858909 machines of four states", given.count(b"\n") == 858_909)
     before = resource.getrusage(resource.RUSAGE_CHILDREN)
     wanted = held.written("decide", FOUR, given)

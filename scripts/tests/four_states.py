@@ -12,9 +12,9 @@ import collections
 import os
 import resource
 import subprocess
-import sys
 import tempfile
 
+from machine_list import LISTER, has_lister
 from tally import TOP, Tally, end_with, words
 
 SIMULATION = ["--no-cyclers", "--no-translated", "--no-backward"]
@@ -130,9 +130,10 @@ def tell_widths(program, machines):
 
 def main():
     program = words(__doc__).parse_args().program
-    listing = [os.path.join(TOP, "scripts", "tools", "tree_normal_form.py"), "4"]
-    machines, taken = run([sys.executable, *listing], [])
-    print("%d machines, listed in %.0f s" % (len(machines), taken))
+    if not has_lister(tally, "machines of four states"):
+        return tally.end()
+    machines, taken = run([LISTER, "--states", "4"], [])
+    print("%d machines, listed in %.2f s" % (len(machines), taken))
     told("lists {:,} machines".format(len(machines)))
     lines = decided(program, FIRST, machines)
     tell_kinds(lines)

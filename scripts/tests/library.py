@@ -16,6 +16,7 @@ import subprocess
 import sys
 import tempfile
 
+from machine_list import has_lister, listed
 from tally import TOP, Tally, end_with, words
 
 LIMITS = ["--steps", "1000", "--cells", "200", "--depth", "60"]
@@ -99,23 +100,31 @@ def hold_python(tally, program, shared):
     sys.path.insert(0, os.environ["PYTHONPATH"])
     import budlarem
 
-    listing = [sys.executable, os.path.join(TOP, "scripts", "tools", "tree_normal_form.py"), "4"]
-    with subprocess.Popen(listing, stdout=subprocess.PIPE, text=True) as lister:
-        machines = [line.rstrip("\n") for line, _ in zip(lister.stdout, range(100_000))]
-        lister.stdout.close()
+    script = [sys.executable, os.path.join(TOP, "examples", "python", "list.py")]
+    tally.hold("the script", output(script, b"1RZ---\nx\n")[1] == b"ok 1RZ--- halt 1 1\nopen refused 1\n")
     limits = budlarem.Limits(steps=1000, cells=200, depth=60)
+    hold_answers(tally, program, budlarem, CLAIMS, limits)
+    if has_lister(tally, "machines of four states"):
+        hold_list(tally, program, budlarem, limits)
+
+
+def hold_list(tally, program, budlarem, limits):
+    """Verdicts, answers and traces of machines of four states."""
+    machines = listed(4).decode().splitlines()[:100_000]
     given = "".join(machine + "\n" for machine in machines).encode()
     verdicts = output([program, "decide", *LIMITS], given)[1].decode().splitlines()
     tally.hold("100000 machines of four states", len(verdicts) == 100_000)
     told = [str(verdict) for verdict in budlarem.decide(machines, limits)]
     tally.hold("their verdicts", told == verdicts)
-    for lines in (verdicts, CLAIMS):
-        given = "".join(line + "\n" for line in lines).encode()
-        wanted = output([program, "check", *LIMITS], given)[1].decode().splitlines()
-        tally.hold("answers", [str(answer) for answer in budlarem.check(lines, limits)] == wanted)
+    hold_answers(tally, program, budlarem, verdicts, limits)
     hold_traces(tally, program, budlarem, machines[::1000])
-    script = [sys.executable, os.path.join(TOP, "examples", "python", "list.py")]
-    tally.hold("the script", output(script, b"1RZ---\nx\n")[1] == b"ok 1RZ--- halt 1 1\nopen refused 1\n")
+
+
+def hold_answers(tally, program, budlarem, lines, limits):
+    """The answers to verdict lines."""
+    given = "".join(line + "\n" for line in lines).encode()
+    wanted = output([program, "check", *LIMITS], given)[1].decode().splitlines()
+    tally.hold("answers", [str(answer) for answer in budlarem.check(lines, limits)] == wanted)
 
 
 def hold_traces(tally, program, budlarem, machines):

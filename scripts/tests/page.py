@@ -20,13 +20,13 @@ import random
 import re
 import shutil
 import subprocess
-import sys
 import tempfile
 import threading
 import time
 from typing import Any, Dict, List, Tuple
 
 from engine import FOUR, README, examples, forged, plans, random_machines, random_plan
+from machine_list import has_lister, listed
 from tally import TOP, Tally, end_with, words
 from web_engine import MODULE, PAGE, SWITCHES, built, documented, words_of
 
@@ -295,8 +295,9 @@ def hold_pictures(held: Held) -> None:
 
 def hold_four_states(held: Held) -> None:
     """All machines of four states as a dropped file, and how long the page stood still meanwhile."""
-    script = os.path.join(TOP, "scripts", "tools", "tree_normal_form.py")
-    given = subprocess.run([sys.executable, script, "4"], stdout=subprocess.PIPE).stdout
+    if not has_lister(held.tally, "machines of four states"):
+        return
+    given = listed(4)
     held.page.js("window.longest = 0")
     begun = time.monotonic()
     held.page.plan(FOUR, "decide")

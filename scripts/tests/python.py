@@ -21,6 +21,7 @@ from typing import Iterator, List, Sequence, Tuple
 
 from closed_loop import LIMITS, PLANS, machines, options
 from library_built import LIBRARY, has_library
+from machine_list import has_lister, listed
 from tally import TOP, Tally, end_with, heed_interruption, words
 
 SOURCE = os.path.join(TOP, "python", "src")
@@ -200,10 +201,9 @@ def hold_deciding_noise(tally: Tally, program: str, lines: List[str]) -> None:
 
 
 def hold_four_states(tally: Tally, program: str, count: int) -> None:
-    listing = [sys.executable, os.path.join(TOP, "scripts", "tools", "tree_normal_form.py"), "4"]
-    with subprocess.Popen(listing, stdout=subprocess.PIPE, text=True) as lister:
-        lists = [line.rstrip("\n") for line in itertools.islice(lister.stdout, count)]
-        lister.stdout.close()
+    if not has_lister(tally, "machines of four states"):
+        return
+    lists = listed(4).decode().splitlines()[:count]
     for threads in (1, 4):
         hold_deciding(tally, program, (200, 256, 20, 1_000), [], lists, threads)
 
