@@ -224,6 +224,8 @@ def read_other(sources: Sources, path: str, text: str) -> None:
         sources.languages["script"] |= set(re.findall(r"\w+", text))
     if path.endswith(".mjs"):
         sources.languages["script"] |= set(re.findall(r"\w+", without_comments(text)))
+    if path.startswith("scripts/tools/") and path.endswith(".rs"):
+        sources.options |= set(re.findall(r"\"(--[a-z]+)\" =>", text))
     if path.endswith(".h"):
         sources.languages["header"] |= set(re.findall(r"\w+", without_comments(text)))
     if path.endswith(".py") or path in PROGRAMS:
@@ -240,7 +242,7 @@ def sources_of(top: str) -> Sources:
     for path in sorted(sources.files):
         if re.fullmatch(r"crates/\w+", path):
             read_crate(sources, top, os.path.basename(path))
-        elif path.endswith((".py", ".mjs", ".html", ".h")) or path in PROGRAMS:
+        elif path.endswith((".py", ".mjs", ".html", ".h", ".rs")) or path in PROGRAMS:
             read_other(sources, path, read(top, path))
     for line in read(top, "crates.txt").split("\n"):
         crate, _, below = line.partition(":")
