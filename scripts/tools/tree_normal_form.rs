@@ -1,12 +1,14 @@
 //! Lists all machines of so many states and symbols in tree normal form, one a line; `HELP` says how.
 //!
 //! A machine is written before those that it leads to, which are walked in depth: each takes over the tape of
-//! the one that it comes from, and goes on with its run. A machine with one undefined entry leads to none, so
-//! it isn't run at all. This is no part of the program, and proves nothing. The script `tree_normal_form`
-//! beside it compiles it by `rustc -O --edition 2021`, from 1.63 on.
+//! the one that it comes from, and goes on with its run, which ends early where it is seen to repeat. A machine
+//! with one undefined entry leads to none, so it isn't run at all. This is no part of the program, and proves
+//! nothing. The script `tree_normal_form` beside it compiles it by `rustc -O --edition 2021`, from 1.63 on.
 
+use std::cmp::Ordering;
 use std::env;
 use std::io::{self, BufWriter, ErrorKind, Write};
+use std::ops::RangeInclusive;
 use std::process::ExitCode;
 
 const HELP: &str = "\
@@ -27,7 +29,7 @@ to the right. A machine that meets no undefined entry within T steps is listed a
   --every N    each so many-th machine alone, of those that are listed otherwise; N up to 1,000,000,000
 
 Of two symbols there are 3, 61, 5,417 and 858,909 machines of one to four states, and 181,385,789 of five
-states with 1,000 steps, of which the list takes a minute or two. The status is 0; 1 where whoever reads
+states with 1,000 steps, of which the list takes half a minute. The status is 0; 1 where whoever reads
 went away; 2 where the command line is refused; 3 where writing failed. Nothing of this is proved.
 ";
 
@@ -40,6 +42,10 @@ const MOST_EVERY: u64 = 1_000_000_000;
 const ENTRIES: usize = 256;
 /// Each machine of so many entries is given to a part with all that it leads to, one of fewer by itself.
 const SHARED: usize = 6;
+/// After so many steps a run is watched for whether it repeats.
+const UNWATCHED: usize = 32;
+/// No state's first entry.
+const NO_ROW: u8 = u8::MAX;
 /// Its multiples modulo 2^64 are spread evenly: the part of 2^64 that the golden ratio leaves.
 const SPREAD: u64 = 0x9e37_79b9_7f4a_7c15;
 
@@ -213,6 +219,15 @@ struct Run {
     steps: usize,
 }
 
+/// Where each run starts: in the middle of its tape.
+fn start_of(asked: &Asked) -> Run {
+    Run {
+        cell: asked.steps + 1,
+        row: 0,
+        steps: 0,
+    }
+}
+
 /// A tape, long enough for a run to its last step. All cells are 0 that are farther than `reach` from the
 /// middle, where a run starts.
 struct Tape {
@@ -237,30 +252,74 @@ impl Tape {
         self.reach = other.reach;
     }
 
-    /// Goes on with a run, up to so many steps; whether it met an undefined entry.
-    fn run(&mut self, table: &[Entry; ENTRIES], run: &mut Run, steps: usize) -> bool {
-        let Run {
-            mut cell,
-            mut row,
-            steps: mut made,
-        } = *run;
+    /// Goes on with a run, up to so many steps or until it is seen to repeat; whether it met an undefined
+    /// entry.
+    fn run(&mut self, table: &[Entry; ENTRIES], run: &mut Run, steps: usize, mark: &mut Mark) -> bool {
+        let mut now = *run;
+        let (mut least, mut most) = (now.cell, now.cell);
+        let mut next_mark = now.steps.max(UNWATCHED);
+        mark.run.row = NO_ROW;
         let met = loop {
-            let entry = table[row.wrapping_add(self.cells[cell]) as usize];
-            if !entry.is_defined || made == steps {
+            let entry = table[now.row.wrapping_add(self.cells[now.cell]) as usize];
+            if !entry.is_defined || now.steps == steps {
                 break !entry.is_defined;
             }
-            self.cells[cell] = entry.write;
-            cell = (cell as isize + entry.step as isize) as usize;
-            row = entry.row;
-            made += 1;
+            if now.steps == next_mark {
+                next_mark *= 2;
+                (least, most) = (now.cell, now.cell);
+                mark.set(self, now);
+            }
+            self.cells[now.cell] = entry.write;
+            now.cell = (now.cell as isize + entry.step as isize) as usize;
+            now.row = entry.row;
+            now.steps += 1;
+            least = least.min(now.cell);
+            most = most.max(now.cell);
+            if now.row == mark.run.row && mark.comes_again(&self.cells, now.cell, least..=most) {
+                break false;
+            }
         };
-        self.reach = made;
-        *run = Run {
-            cell,
-            row,
-            steps: made,
-        };
+        self.reach = now.steps;
+        *run = now;
         met
+    }
+}
+
+/// A configuration that a run was in, with which later ones are compared. Its row is `NO_ROW` where there is
+/// none.
+struct Mark {
+    tape: Tape,
+    run: Run,
+}
+
+impl Mark {
+    /// Marks where a run stands.
+    #[cold]
+    fn set(&mut self, tape: &mut Tape, run: Run) {
+        tape.reach = run.steps;
+        self.tape.copy(tape);
+        self.run = run;
+    }
+
+    /// Whether a run repeats for ever that came from the mark to the same state in this cell, and was in the
+    /// cells of this range alone. So it is where the range at the mark looks as the range does that lies as far
+    /// from the head here, and where all was 0 beyond the range on the side to which the head moved.
+    #[inline(never)]
+    fn comes_again(&self, cells: &[u8], cell: usize, range: RangeInclusive<usize>) -> bool {
+        let (least, most) = (*range.start(), *range.end());
+        let moved = match (least + cell).checked_sub(self.run.cell) {
+            Some(from) => from..=from + (most - least),
+            None => return false,
+        };
+        if cells.get(moved) != Some(&self.tape.cells[range]) {
+            return false;
+        }
+        let ahead = match cell.cmp(&self.run.cell) {
+            Ordering::Equal => return true,
+            Ordering::Greater => &self.tape.cells[most + 1..],
+            Ordering::Less => &self.tape.cells[..least],
+        };
+        ahead.iter().all(|symbol| *symbol == 0)
     }
 }
 
@@ -273,6 +332,7 @@ struct Tree<W: Write> {
     /// The choices where so many states and symbols were used; those of the first entry stand at `[0][0]`.
     choices: Vec<Vec<Vec<Choice>>>,
     tapes: Vec<Tape>,
+    mark: Mark,
     out: W,
     /// How many machines are passed over before the next that is written.
     passed: u64,
@@ -295,6 +355,10 @@ impl<W: Write> Tree<W> {
             text: (groups.join("_") + "\n").into_bytes(),
             choices: (0..=asked.states).map(row).collect(),
             tapes: vec![Tape::new(asked.steps)],
+            mark: Mark {
+                tape: Tape::new(asked.steps),
+                run: start_of(&asked),
+            },
             out,
             passed: asked.every - 1,
             asked,
@@ -303,11 +367,7 @@ impl<W: Write> Tree<W> {
 
     /// Lists all machines.
     fn list(&mut self) -> io::Result<()> {
-        let run = Run {
-            cell: self.asked.steps + 1,
-            row: 0,
-            steps: 0,
-        };
+        let run = start_of(&self.asked);
         if self.asked.part.takes_next() {
             self.write()?;
         }
@@ -349,7 +409,7 @@ impl<W: Write> Tree<W> {
         }
         let (before, after) = self.tapes.split_at_mut(entries);
         after[0].copy(&before[entries - 1]);
-        if after[0].run(&self.table, &mut run, self.asked.steps) {
+        if after[0].run(&self.table, &mut run, self.asked.steps, &mut self.mark) {
             self.grow(entries, run, used)?;
         }
         Ok(())
