@@ -4,11 +4,11 @@
     scripts/tests/five_states.py crates/bb/out/bb
 
 The sample goes through the passes of the whole list, and each verdict is checked. Each count of the sample is
-held exactly, the machines that are left are decided by the program too, and the share that halts is held to be
-that of the whole list, within what a sample allows. The script is killed in the middle and goes on, is
-interrupted, and refuses folders that aren't its own; all machines of four states come out as
-docs/four-states.md has them. It takes a minute or two: a minute and a half of processor time goes into the list.
-Without `rustc` it is skipped. The last line is `N passed, M failed`; the status is 1 where any failed.
+held exactly, the machines that are left are decided by the program too, and the share that halts is held to
+be that of the whole list, within what a sample allows. Over all machines of four states the script is
+interrupted, ended and killed, goes on each time, and gives what docs/four-states.md has; it refuses folders
+that aren't its own. It takes a minute, half of it for the sample. Without `rustc` it is skipped. The last
+line is `N passed, M failed`; the status is 1 where any failed.
 """
 
 from __future__ import annotations
@@ -69,25 +69,12 @@ def passes(told: Dict[str, Any]) -> List[Tuple[int, Tuple[int, ...]]]:
     return [(one["lines"], tuple(one["counts"][kind] for kind in KINDS)) for one in told.get("passes", [])]
 
 
-def killed_after(process: "subprocess.Popen[bytes]", path: pathlib.Path) -> bool:
-    """Kills a process with all that it runs once a file is there; whether that was before its end."""
-    began = time.monotonic()
-    while not path.exists() and process.poll() is None and time.monotonic() < began + PATIENCE:
-        time.sleep(0.02)
-    is_before = process.poll() is None and path.exists()
-    os.killpg(process.pid, signal.SIGKILL)
-    process.communicate()
-    return is_before
-
-
 def hold_sample(tally: Tally, program: str, top: pathlib.Path) -> None:
-    """The sample, by a script that is killed in the middle."""
+    """The sample, and what is left of it."""
     out, began = top / "sample", time.monotonic()
-    is_killed = killed_after(start(out, *SAMPLE), out / "part-0003.json")
-    tally.hold("killed before the end", is_killed and not summary(out))
     status, told = ended(start(out, *SAMPLE))
     print("the sample took %.0f s" % (time.monotonic() - began), flush=True)
-    tally.hold("the sample: status %d: %s" % (status, told), status == 0 and " parts stand" in told)
+    tally.hold("the sample: status %d: %s" % (status, told), status == 0)
     found = summary(out)
     tally.hold("passes: %s" % passes(found), passes(found) == PASSES)
     share, count = HALTING / MACHINES, PASSES[0][0]
@@ -100,41 +87,53 @@ def hold_sample(tally: Tally, program: str, top: pathlib.Path) -> None:
     decided = subprocess.run([program, "decide", *limits], input=left, stdout=subprocess.PIPE).stdout
     undecided = b"".join(machine + b" undecided steps\n" for machine in left.splitlines())
     tally.hold("the program decides none of what is left", decided == undecided)
-    tally.hold("lists and verdicts are dropped", not [path for path in out.iterdir() if path.is_dir()])
 
 
-def hold_four_states(tally: Tally, top: pathlib.Path) -> None:
-    """All machines of four states."""
-    status, told = ended(start(top / "four", "--states", "4", "--parts", "3"))
-    tally.hold("four states: status %d: %s" % (status, told), status == 0)
-    found = summary(top / "four")
+def hold_four_states(tally: Tally, out: pathlib.Path) -> None:
+    """What came of all machines of four states."""
+    found = summary(out)
     tally.hold("four states: %s" % passes(found), passes(found)[:1] == [FOUR_STATES])
+    tally.hold("lists and verdicts are dropped", not [path for path in out.iterdir() if path.is_dir()])
     greatest = {name: found["greatest"][name][0] for name in FOUR_STATES_GREATEST}
     tally.hold("the greatest of four states: %s" % greatest, greatest == FOUR_STATES_GREATEST)
     longest = found["longest"][0]
     tally.hold("the longest run: %s" % longest, longest[1] == "1RB1LB_1LA0LC_---1LD_1RD0RA halt 106 12")
 
 
-def hold_interruption(tally: Tally, top: pathlib.Path) -> None:
-    """SIGINT and SIGTERM end it soon, with what it runs; then it goes on."""
-    out, asked = top / "interrupted", ["--states", "4", "--parts", "40"]
-    for number, status in ((signal.SIGINT, 130), (signal.SIGTERM, 143)):
+def parts_of(out: pathlib.Path) -> int:
+    """How many parts stand."""
+    return len(list(out.glob("part-*.json")))
+
+
+def hold_interruptions(tally: Tally, out: pathlib.Path) -> None:
+    """It is ended by each of these signals after a part more, and all that it runs; then it goes on."""
+    asked = ["--states", "4", "--parts", "20"]
+    for number, status in ((signal.SIGINT, 130), (signal.SIGTERM, 143), (signal.SIGKILL, -9)):
+        seen, began = parts_of(out), time.monotonic()
         process = start(out, *asked)
-        began = time.monotonic()
-        seen = len(list(out.glob("part-*.json"))) if out.exists() else 0
-        while len(list(out.glob("part-*.json"))) <= seen and time.monotonic() < began + PATIENCE:
+        while parts_of(out) == seen and time.monotonic() < began + PATIENCE:
             time.sleep(0.02)
-        second, refused = ended(start(out, *asked))
-        is_refused = second == 2 and "other work goes on" in refused
-        tally.hold("a second one: status %d: %s" % (second, refused), is_refused)
-        process.send_signal(number)
+        second, told = ended(start(out, *asked))
+        is_refused = second == 2 and "other work goes on" in told
+        tally.hold("a second one: status %d: %s" % (second, told), is_refused)
+        (os.killpg if number == signal.SIGKILL else os.kill)(process.pid, number)
         found, told = ended(process)
-        tally.hold("%s: status %d: %s" % (number, found, told), found == status)
-        if number == signal.SIGINT:
-            tally.hold("its sentence: %s" % told, "interrupted; the same command goes on" in told)
+        tally.hold("signal %d: status %d: %s" % (number, found, told), found == status)
+        is_told = "interrupted; the same command goes on" in told
+        tally.hold("signal %d: %s" % (number, told), is_told == (number == signal.SIGINT))
+        tally.hold("signal %d: nothing that it ran is left" % number, not is_left(process.pid))
     found, told = ended(start(out, *asked))
     tally.hold("gone on with: status %d: %s" % (found, told), found == 0 and " parts stand" in told)
-    tally.hold("what came of it: %s" % passes(summary(out)), passes(summary(out))[:1] == [FOUR_STATES])
+    hold_four_states(tally, out)
+
+
+def is_left(group: int) -> bool:
+    """Whether something is left of a group of processes, which is ended then."""
+    try:
+        os.killpg(group, signal.SIGKILL)
+    except ProcessLookupError:
+        return False
+    return True
 
 
 def hold_refusals(tally: Tally, top: pathlib.Path) -> None:
@@ -166,8 +165,7 @@ def main() -> int:
     with tempfile.TemporaryDirectory() as name:
         top = pathlib.Path(name)
         hold_refusals(tally, top)
-        hold_interruption(tally, top)
-        hold_four_states(tally, top)
+        hold_interruptions(tally, top / "four")
         hold_sample(tally, program, top)
     return tally.end()
 

@@ -23,6 +23,7 @@ PROGRAMS = (
     "bb",
     "scripts/beside_the_gate",
     "scripts/dist",
+    "scripts/five_states",
     "scripts/library",
     "scripts/web",
     "scripts/wheel",

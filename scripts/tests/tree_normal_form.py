@@ -192,8 +192,9 @@ def hold_compiling(tally: Tally) -> None:
         status, told = ended([script, "--states", "1"], path=found)
         is_told = status == 3 and "rustc isn't installed; Debian's package rustc-web has it" in told
         tally.hold("no compiler: status %d: %s" % (status, told), is_told)
-        status, told = ended([script, "--states", "1"])
-        tally.hold("compiled: status %d: %s" % (status, told), status == 0 and os.access(made, os.X_OK))
+        at_once = [subprocess.Popen([script, "--help"], stdout=subprocess.DEVNULL) for _ in range(3)]
+        statuses = [process.wait() for process in at_once]
+        tally.hold("compiled, at once by three: %s" % statuses, statuses == [0, 0, 0])
         tally.hold("nothing else is left", os.listdir(os.path.dirname(made)) == ["tree_normal_form"])
         before = os.stat(made).st_mtime_ns
         tally.hold(

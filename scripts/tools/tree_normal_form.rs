@@ -1,9 +1,10 @@
 //! Lists all machines of so many states and symbols in tree normal form, one a line; `HELP` says how.
 //!
 //! A machine is written before those that it leads to, which are walked in depth: each takes over the tape of
-//! the one that it comes from, and goes on with its run, which ends early where it is seen to repeat. A machine
-//! with one undefined entry leads to none, so it isn't run at all. This is no part of the program, and proves
-//! nothing. The script `tree_normal_form` beside it compiles it by `rustc -O --edition 2021`, from 1.63 on.
+//! the one that it comes from, and goes on with its run. A run ends early where it is seen to repeat. A
+//! machine with one undefined entry leads to none, so it isn't run at all. This is no part of the program,
+//! and proves nothing. The script `tree_normal_form` beside it compiles it by `rustc -O --edition 2021`, from
+//! 1.63 on.
 
 use std::cmp::Ordering;
 use std::env;
@@ -302,8 +303,8 @@ impl Mark {
     }
 
     /// Whether a run repeats for ever that came from the mark to the same state in this cell, and was in the
-    /// cells of this range alone. So it is where the range at the mark looks as the range does that lies as far
-    /// from the head here, and where all was 0 beyond the range on the side to which the head moved.
+    /// cells of this range alone. So it is where the range at the mark looks as the range does that lies as
+    /// far from the head here, and where all was 0 beyond the range on the side to which the head moved.
     #[inline(never)]
     fn comes_again(&self, cells: &[u8], cell: usize, range: RangeInclusive<usize>) -> bool {
         let (least, most) = (*range.start(), *range.end());
