@@ -4,46 +4,39 @@ machines that are left."""
 from __future__ import annotations
 
 import dataclasses
-import heapq
 import re
-from typing import Any, BinaryIO, Callable, Dict, Iterator, List, Sequence, Tuple
+from typing import Any, BinaryIO, Dict, Iterator, List, Set, Tuple
 
 # Bytes that are looked at together.
 BLOCK = 1 << 22
 # How many of the longest runs are kept.
 LONGEST = 10
-Numbers = Sequence[int]
-_LINES = {
-    "halt": re.compile(rb"^(\S+ halt (\d+) (\d+))$", re.M),
-    "cycler": re.compile(rb"^(\S+ cycler (\d+) (\d+))$", re.M),
-    "translated": re.compile(rb"^(\S+ translated [LR] (\d+) (\d+) (\d+) (\d+))$", re.M),
-    "backward": re.compile(rb"^(\S+ backward (\d+) (\d+))$", re.M),
-}
-_LEFT = re.compile(rb"^(\S+) undecided ", re.M)
+# A verdict without its machine.
+_VERDICT = re.compile(rb" [^\n]+")
+_UNDECIDED = b" undecided "
 
 
-def _column(place: int) -> Callable[[Sequence[Numbers]], Numbers]:
-    return lambda columns: columns[place]
-
-
-def _apart(columns: Sequence[Numbers]) -> Numbers:
-    """How many steps the two of each line's pair are apart."""
-    return [second - first for first, second in zip(columns[0], columns[1])]
-
-
-# Of each kind the numbers whose greatest is kept, by their name.
-_GREATEST: Dict[str, Dict[str, Callable[[Sequence[Numbers]], Numbers]]] = {
-    "halt": {"steps": _column(0), "score": _column(1)},
-    "cycler": {"second": _column(1), "apart": _apart},
-    "translated": {"second": _column(1), "apart": _apart, "shift": _column(2), "length": _column(3)},
-    "backward": {"levels": _column(0), "nodes": _column(1)},
-}
+def numbers_of(kind: str, words: List[str]) -> Iterator[Tuple[str, int]]:
+    """The numbers of a verdict whose greatest is kept, by name; `words` are those behind its kind."""
+    if kind == "halt":
+        yield "halt steps", int(words[0])
+        yield "halt score", int(words[1])
+    elif kind == "cycler":
+        yield "cycler second", int(words[1])
+        yield "cycler apart", int(words[1]) - int(words[0])
+    elif kind == "translated":
+        yield "translated second", int(words[2])
+        yield "translated shift", int(words[3])
+        yield "translated length", int(words[4])
+    elif kind == "backward":
+        yield "backward levels", int(words[0])
+        yield "backward nodes", int(words[1])
 
 
 @dataclasses.dataclass
 class Figures:
-    """`greatest` has, by kind and name as `halt steps`, the greatest number and the first line that has it;
-    `longest` the halting lines with the most steps, the most first, each behind its steps."""
+    """`greatest` has, by name as `halt steps`, the greatest number and a line that has it; `longest` the most
+    steps of halting lines, the most first, with one line of each number of steps and score."""
 
     greatest: Dict[str, Tuple[int, str]] = dataclasses.field(default_factory=dict)
     longest: List[Tuple[int, str]] = dataclasses.field(default_factory=list)
@@ -57,33 +50,55 @@ class Figures:
     def add(self, other: Figures) -> None:
         """Takes in the figures of the lines that come behind."""
         for name, (number, line) in other.greatest.items():
-            self._raise(name, number, line)
-        self._keep_longest(other.longest)
+            if self._is_greater(name, number):
+                self.greatest[name] = (number, line)
+        for steps, line in other.longest:
+            self._keep_longest(steps, line)
+
+    def _is_greater(self, name: str, number: int) -> bool:
+        return name not in self.greatest or number > self.greatest[name][0]
+
+    def take_in(self, verdict: bytes, lines: bytes) -> None:
+        """Takes in a verdict without its machine, which is that of one of these lines."""
+        _, kind, *words = verdict.decode().split(" ")
+        numbers = dict(numbers_of(kind, words))
+        raised = {name: number for name, number in numbers.items() if self._is_greater(name, number)}
+        steps = numbers.get("halt steps", 0)
+        is_long = "halt steps" in numbers and (len(self.longest) < LONGEST or steps > self.longest[-1][0])
+        if raised or is_long:
+            line = _line_of(verdict, lines)
+            self.greatest.update({name: (number, line) for name, number in raised.items()})
+            if is_long:
+                self._keep_longest(steps, line)
+
+    def _keep_longest(self, steps: int, line: str) -> None:
+        """Keeps a halting line, where it is one of the longest and none has the same verdict."""
+        verdicts = [kept.split(" ", 1)[1] for _, kept in self.longest]
+        if line.split(" ", 1)[1] not in verdicts:
+            self.longest.append((steps, line))
+            self.longest.sort(key=lambda one: -one[0])
+            del self.longest[LONGEST:]
+
+
+def _line_of(verdict: bytes, lines: bytes) -> str:
+    """The first of the lines that ends in a verdict."""
+    end = lines.index(verdict + b"\n") + len(verdict)
+    return lines[lines.rfind(b"\n", 0, end) + 1 : end].decode()
+
+
+class Reader:
+    """Takes in verdict lines in blocks; a verdict that several lines have is looked at once."""
+
+    def __init__(self) -> None:
+        self.figures = Figures()
+        self._seen: Set[bytes] = set()
 
     def take_in(self, lines: bytes) -> None:
         """Takes in whole lines."""
-        for kind, pattern in _LINES.items():
-            found = pattern.findall(lines)
-            if found:
-                texts, *columns = zip(*found)
-                self._take_in_kind(kind, texts, [list(map(int, column)) for column in columns])
-
-    def _take_in_kind(self, kind: str, texts: Sequence[bytes], columns: Sequence[Numbers]) -> None:
-        for name, numbers_of in _GREATEST[kind].items():
-            numbers = numbers_of(columns)
-            number = max(numbers)
-            self._raise("%s %s" % (kind, name), number, texts[numbers.index(number)].decode())
-        if kind == "halt":
-            least = self.longest[-1][0] if len(self.longest) == LONGEST else 0
-            long = [(steps, text.decode()) for steps, text in zip(columns[0], texts) if steps > least]
-            self._keep_longest(long)
-
-    def _raise(self, name: str, number: int, line: str) -> None:
-        if name not in self.greatest or number > self.greatest[name][0]:
-            self.greatest[name] = (number, line)
-
-    def _keep_longest(self, more: Sequence[Tuple[int, str]]) -> None:
-        self.longest = heapq.nlargest(LONGEST, [*self.longest, *more], key=lambda one: one[0])
+        new = set(_VERDICT.findall(lines)) - self._seen
+        self._seen |= new
+        for verdict in sorted(new):
+            self.figures.take_in(verdict, lines)
 
 
 def blocks_of_lines(file: BinaryIO) -> Iterator[bytes]:
@@ -102,4 +117,9 @@ def blocks_of_lines(file: BinaryIO) -> Iterator[bytes]:
 
 def left_of(lines: bytes) -> bytes:
     """The machines of the undecided among verdict lines, one a line."""
-    return b"".join(machine + b"\n" for machine in _LEFT.findall(lines))
+    machines: List[bytes] = []
+    place = lines.find(_UNDECIDED)
+    while place >= 0:
+        machines.append(lines[lines.rfind(b"\n", 0, place) + 1 : place] + b"\n")
+        place = lines.find(_UNDECIDED, place + 1)
+    return b"".join(machines)
