@@ -2,6 +2,7 @@
 
 use crate::Limits;
 use crate::machine::{Entry, Machine, Next};
+use std::cmp::Reverse;
 
 /// A rule: an entry with the state and the symbol for which it stands.
 #[derive(Clone, Copy)]
@@ -11,37 +12,59 @@ pub struct Rule {
     pub entry: Entry,
 }
 
-/// The rules of a machine, those that lead to each state together, and the halting ones last.
+/// The rules of a machine, those that lead to each state together, and the halting ones last; and all of them
+/// once more. The first time, of those that lead to one state the ones that move to the left come first, the
+/// second time those that move to the right. `starts` has for each time where those of each state begin.
 pub struct Rules {
     pub list: Vec<Rule>,
-    pub starts: Vec<u16>,
+    pub starts: [Vec<u16>; 2],
 }
 
 impl Rules {
     pub fn new(machine: &Machine) -> Rules {
-        let mut list = Vec::with_capacity(machine.states * machine.symbols());
-        let mut starts = Vec::with_capacity(machine.states + 2);
-        for target in 0..=machine.states {
-            starts.push(list.len() as u16);
-            for state in 0..machine.states {
-                for symbol in 0..machine.symbols() {
-                    let entry = machine.entries[state][symbol];
-                    let leads = match entry.next {
-                        Next::State => entry.state as usize,
-                        _ => machine.states,
-                    };
-                    if leads == target {
-                        list.push(Rule {
-                            state: state as u8,
-                            symbol: symbol as u8,
-                            entry,
-                        });
-                    }
+        let mut rules = Rules {
+            list: Vec::with_capacity(2 * machine.states * machine.symbols()),
+            starts: [(); 2].map(|_| Vec::with_capacity(machine.states + 2)),
+        };
+        for first in [-1, 1] {
+            for target in 0..=machine.states {
+                rules.add(machine, target, first);
+            }
+            let len = rules.list.len() as u16;
+            rules.starts[(first > 0) as usize].push(len);
+        }
+        rules
+    }
+
+    /// Appends the rules that lead to a state, or those that halt, the ones with this step first, among them
+    /// those that stand for this state, then those that stand for greater symbols.
+    fn add(&mut self, machine: &Machine, target: usize, first: i8) {
+        let from = self.list.len();
+        self.starts[(first > 0) as usize].push(from as u16);
+        for state in 0..machine.states {
+            for symbol in 0..machine.symbols() {
+                let entry = machine.entries[state][symbol];
+                let leads = match entry.next {
+                    Next::State => entry.state as usize,
+                    _ => machine.states,
+                };
+                if leads == target {
+                    self.list.push(Rule {
+                        state: state as u8,
+                        symbol: symbol as u8,
+                        entry,
+                    });
                 }
             }
         }
-        starts.push(list.len() as u16);
-        Rules { list, starts }
+        self.list[from..].sort_unstable_by_key(|rule| {
+            (
+                rule.entry.step != first,
+                rule.state as usize != target,
+                Reverse(rule.symbol),
+                Reverse(rule.state),
+            )
+        });
     }
 }
 
@@ -63,6 +86,7 @@ pub struct Branch {
     pub position: i64,
     pub state: u8,
     pub symbol: u8,
+    pub step: i8,
     pub held: u8,
     pub others: u16,
 }
@@ -98,13 +122,14 @@ impl Walk<'_> {
             return None;
         }
         let state = branch.state as usize;
+        let starts = &self.rules.starts[(branch.step > 0) as usize];
         Some(Frame {
             position: branch.position,
             state: branch.state,
             before: branch.held,
             others,
-            next: self.rules.starts[state],
-            end: self.rules.starts[state + 1],
+            next: starts[state],
+            end: starts[state + 1],
         })
     }
 
@@ -119,6 +144,7 @@ impl Walk<'_> {
                     position,
                     state: rule.state,
                     symbol: rule.symbol,
+                    step: rule.entry.step,
                     held,
                     others: frame.others,
                 };
@@ -175,12 +201,14 @@ pub fn backward(
         levels: 0,
         nodes: 0,
     };
-    let halting = rules.starts[machine.states] as usize..rules.starts[machine.states + 1] as usize;
+    let starts = &rules.starts[1];
+    let halting = starts[machine.states] as usize..starts[machine.states + 1] as usize;
     let ends = rules.list[halting].iter().all(|rule| {
         walk.explore(Branch {
             position: 0,
             state: rule.state,
             symbol: rule.symbol,
+            step: 1,
             held: 0,
             others: 0,
         })

@@ -92,7 +92,7 @@ static ROWS: [Row; 9] = [
         [1, 64, 10, 100],
         Verdict::Undecided(Why::Steps),
         3,
-        4,
+        6,
     ),
     (
         b"1RZ---",
