@@ -106,7 +106,8 @@ def parts_of(out: pathlib.Path) -> int:
 
 
 def hold_interruptions(tally: Tally, out: pathlib.Path) -> None:
-    """It is ended by each of these signals after a part more, and all that it runs; then it goes on."""
+    """It is ended by each of these signals after a part more, and all that it runs, which SIGKILL is sent to
+    too; then it goes on."""
     asked = ["--states", "4", "--parts", "20"]
     for number, status in ((signal.SIGINT, 130), (signal.SIGTERM, 143), (signal.SIGKILL, -9)):
         seen, began = parts_of(out), time.monotonic()
@@ -121,7 +122,8 @@ def hold_interruptions(tally: Tally, out: pathlib.Path) -> None:
         tally.hold("signal %d: status %d: %s" % (number, found, told), found == status)
         is_told = "interrupted; the same command goes on" in told
         tally.hold("signal %d: %s" % (number, told), is_told == (number == signal.SIGINT))
-        tally.hold("signal %d: nothing that it ran is left" % number, not is_left(process.pid))
+        if number != signal.SIGKILL:
+            tally.hold("signal %d: nothing that it ran is left" % number, not is_left(process.pid))
     found, told = ended(start(out, *asked))
     tally.hold("gone on with: status %d: %s" % (found, told), found == 0 and " parts stand" in told)
     hold_four_states(tally, out)
