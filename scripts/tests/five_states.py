@@ -7,8 +7,8 @@ The sample goes through the passes of the whole list, and each verdict is checke
 held exactly, the machines that are left are decided by the program too, and the share that halts is held to
 be that of the whole list, within what a sample allows. Over all machines of four states the script is
 interrupted, ended and killed, goes on each time, and gives what docs/four-states.md has; it refuses folders
-that aren't its own. It takes a minute, half of it for the sample. Without `rustc` it is skipped. The last
-line is `N passed, M failed`; the status is 1 where any failed.
+that aren't its own. It takes a minute or two, half of it for the sample. Without `rustc` it is skipped. The
+last line is `N passed, M failed`; the status is 1 where any failed.
 """
 
 from __future__ import annotations
