@@ -1,3 +1,4 @@
 pub mod Buffer
 pub mod Call
+pub mod Cost
 pub mod Sample

@@ -5,12 +5,16 @@ ghost use Rattle.bb_lines.specs.Lines.{AreReplies, lines};
 ghost use Rattle.bb_machine.specs.Limits.{IsAccepted};
 ghost use Rattle.bb_machine.specs.Machine.{IsMachine, IsMachineLine, text};
 ghost use Rattle.bb_cert.specs.verdict.Verdict.{HasNumbers};
+ghost use Rattle.bb_decide.specs.Fingerprint.{CostsWhatItNames};
+ghost use Rattle.bb_decide.specs.Keys.{spread};
 ghost use Rattle.bb_decide.specs.Sure.{IsFoundByRun, NoneIsSmaller};
 ghost use Rattle.bb_decide.specs.Verdict.{IsVerdict};
+ghost use Rattle.bb_decide.specs.Work.{IsWithinWork};
 ghost use Rattle.bb_run.specs.BorneOut.{VerdictsAreBorneOut};
 ghost use Rattle.bb_run.specs.Reply.{IsReply};
 ghost use Rattle.bb_c.specs.Buffer.{IsFilled, IsTooShort, IsUntouched};
 ghost use Rattle.bb_c.specs.Call.{bounds_of, plan_of};
+ghost use Rattle.bb_c.specs.Cost.{CostsInTwoTries, IsWithinTwoTries, first_steps};
 
 use crate::buffer::{CLEAN, LIMITS, MEMORY, NOT_CLEAN, SHORT, give};
 use arrayvec::ArrayVec;
@@ -170,7 +174,8 @@ fn verdict_line(
     requires empty { reply.old.items ≡ [] }
     ensures reply { OnOk result (IsReply limits.now plan (text machine.now) reply.new.items) }
 {
-    let verdict = verdict_on(alloc, limits, plan, machine)?;
+    let mut meter = Meter::new();
+    let verdict = verdict_on(alloc, limits, plan, machine, &mut meter)?;
     lines_are_short();
     line_into(machine, &verdict, reply);
     Ok(())
@@ -183,35 +188,41 @@ const FEW_STEPS: u64 = 4096;
 const FEW_CELLS: u64 = 1024;
 
 /// The verdict on a machine: on small tapes first, since most machines need no more, and large ones take
-/// longer to make than such a machine takes to be decided.
+/// longer to make than such a machine takes to be decided. The meter counts the steps of both tries.
 fn verdict_on(
     alloc: Global,
     limits: &Limits,
     plan: Plan,
     machine: &Machine,
+    meter: &mut Meter,
 ) -> Result<Verdict, Memory>
     requires machine { IsMachine machine.now }
     ensures verdict { IfOk result (IsVerdict machine.now limits.now plan) }
     ensures numbers { IfOk result HasNumbers }
+    ensures bound { IfOk result (CostsInTwoTries machine.now limits.now meter.new.steps) }
+    ensures within { OnOk result (IsWithinTwoTries limits.now meter.new.steps) }
 {
     if limits.cells() <= FEW_CELLS {
-        return verdict_within(alloc, limits, plan, machine);
+        return verdict_within(alloc, limits, plan, machine, meter);
     }
     let searches = Plan {
         backward: false,
         ..plan
     };
-    let first = verdict_within(alloc, &small_limits(limits), searches, machine)?;
+    let first = verdict_within(alloc, &small_limits(limits), searches, machine, meter)?;
     small_limits_decide();
     if is_found_by_run(&first) {
         return Ok(first);
     }
-    verdict_within(alloc, limits, plan, machine)
+    let tried = meter.steps;
+    let verdict = verdict_within(alloc, limits, plan, machine, meter)?;
+    meter.steps += tried;
+    Ok(verdict)
 }
 
 /// Whether a verdict is a halt or a pair.
 fn is_found_by_run(verdict: &Verdict) -> bool
-    ensures { IsTrue result → IsFoundByRun verdict.now }
+    ensures { IsTrue result ↔ IsFoundByRun verdict.now }
 {
     match verdict {
         Verdict::Halt { .. } | Verdict::Cycler { .. } | Verdict::Translated { .. } => true,
@@ -221,13 +232,14 @@ fn is_found_by_run(verdict: &Verdict) -> bool
 
 /// The limits of the first try: none is greater than its own here.
 fn small_limits(limits: &Limits) -> Limits
-    ensures { NoneIsSmaller result limits.now }
+    ensures smaller { NoneIsSmaller result limits.now }
+    ensures few { result.steps ≤ first_steps limits.now }
 {
     let steps = limits.steps().min(FEW_STEPS);
     let cells = limits.cells().min(FEW_CELLS);
     match Limits::new(steps, cells, 0, 0) {
         Ok(small) => small,
-        Err(_) => *limits,
+        Err(_) => unreachable!(),
     }
 }
 
@@ -237,12 +249,14 @@ fn verdict_within(
     limits: &Limits,
     plan: Plan,
     machine: &Machine,
+    meter: &mut Meter,
 ) -> Result<Verdict, Memory>
     requires machine { IsMachine machine.now }
     ensures verdict { IfOk result (IsVerdict machine.now limits.now plan) }
     ensures numbers { IfOk result HasNumbers }
+    ensures bound { IfOk result (CostsWhatItNames spread machine.now limits.now meter.new.steps) }
+    ensures within { OnOk result (IsWithinWork limits.now meter.new) }
 {
     let mut bench = ring_bench(alloc, limits)?;
-    let mut meter = Meter::new();
-    decide_in_one_run(machine, limits, plan, &SpreadKeys, &mut bench, &mut meter)
+    decide_in_one_run(machine, limits, plan, &SpreadKeys, &mut bench, meter)
 }

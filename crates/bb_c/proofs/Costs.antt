@@ -1,0 +1,79 @@
+-- What two tries cost together.
+use Rattle.std.proofs.Common.{◌≡◌, ℕ, ◌+◌, ◌≤◌, max, ℤ, Bool, false, IsTrue, IfOk, Result, Ok, Err, arith}
+use Rattle.bb_machine.specs.Limits.{Bounds}
+use Rattle.bb_machine.specs.Machine.{Table}
+use Rattle.bb_tape.specs.declared.tape.Memory.{Memory}
+use Rattle.bb_cert.specs.declared.verdict.Verdict.{Verdict}
+use Rattle.bb_cert.specs.declared.verdict.Verdict.TheVariants.{Halt, Cycler, Translated, Backward, Undecided}
+use Rattle.bb_decide.specs.Fingerprint.{AgreesByChance, CostsWhatItNames, named_step}
+use Rattle.bb_decide.specs.Keys.{spread}
+use Rattle.bb_decide.specs.Sure.{IsFoundByRun}
+use Rattle.bb_c.specs.Cost.{CostsInTwoTries, first_steps}
+
+-- what agrees up to a step agrees up to a later one
+later : {key : ℤ → ℕ} {table : Table} {n : ℕ} (m : ℕ) → n ≤ m → AgreesByChance key table n
+    → AgreesByChance key table m
+later m more chance = record {
+  first = chance.first;
+  second = chance.second;
+  order = chance.order;
+  no_later = let early = chance.no_later in omega (arith, early, more);
+  one = chance.one;
+  other = chance.other;
+  at_first = chance.at_first;
+  at_second = chance.at_second;
+  state = chance.state;
+  head = chance.head;
+  print = chance.print;
+  differ = chance.differ;
+}
+
+-- one try costs no more than two may
+pub costs_one_try : (table : Table) (bounds : Bounds) (steps : ℕ) (verdict : Verdict)
+    → CostsWhatItNames spread table bounds steps verdict → CostsInTwoTries table bounds steps verdict
+costs_one_try table bounds steps verdict costs none =
+    let few = costs (λ chance. none (later (max (named_step bounds verdict) (first_steps bounds))
+    (omega arith) chance)) in
+    omega (arith, few)
+
+pub if_one_try : (table : Table) (bounds : Bounds) (steps : ℕ) (result : Result Verdict Memory)
+    → IfOk result (CostsWhatItNames spread table bounds steps)
+    → IfOk result (CostsInTwoTries table bounds steps)
+if_one_try table bounds steps (Ok verdict) costs = costs_one_try table bounds steps verdict costs
+if_one_try table bounds steps (Err memory) costs = tt
+
+-- no test is both true and false
+pub not_both : {b : Bool} → IsTrue b → b ≡ false → ⊥
+not_both is not = cc
+
+-- what a run finds names the same step within all limits
+module _ (table : Table) (lower upper : Bounds) where
+  pub costs_first_try : (steps : ℕ) (verdict : Verdict) → IsFoundByRun verdict
+      → CostsWhatItNames spread table lower steps verdict → CostsInTwoTries table upper steps verdict
+  costs_first_try steps (Halt n ones) found costs = costs_one_try table upper steps (Halt n ones) costs
+  costs_first_try steps (Cycler a b) found costs = costs_one_try table upper steps (Cycler a b) costs
+  costs_first_try steps (Translated side a b extent) found costs =
+      costs_one_try table upper steps (Translated side a b extent) costs
+  costs_first_try steps (Backward levels nodes) found costs = absurd found
+  costs_first_try steps (Undecided why) found costs = absurd found
+
+  -- a try in which a run finds nothing costs no more than its limit
+  costs_limit : (steps : ℕ) (verdict : Verdict) → (IsFoundByRun verdict → ⊥)
+      → CostsWhatItNames spread table lower steps verdict → (AgreesByChance spread table lower.steps → ⊥)
+      → steps ≤ lower.steps
+  costs_limit steps (Halt n ones) apart costs none = absurd (apart tt)
+  costs_limit steps (Cycler a b) apart costs none = absurd (apart tt)
+  costs_limit steps (Translated side a b extent) apart costs none = absurd (apart tt)
+  costs_limit steps (Backward levels nodes) apart costs none = costs none
+  costs_limit steps (Undecided why) apart costs none = costs none
+
+  pub costs_both_tries : (tried steps : ℕ) (first verdict : Verdict) → lower.steps ≤ first_steps upper
+      → (IsFoundByRun first → ⊥) → CostsWhatItNames spread table lower tried first
+      → CostsWhatItNames spread table upper steps verdict
+      → CostsInTwoTries table upper (steps + tried) verdict
+  costs_both_tries tried steps first verdict small nothing costs_first costs none =
+      let latest = max (named_step upper verdict) (first_steps upper) in
+      let one = costs_limit tried first nothing costs_first
+      (λ chance. none (later latest (omega (arith, small)) chance)) in
+      let other = costs (λ chance. none (later latest (omega arith) chance)) in
+      omega (arith, one, other, small)
