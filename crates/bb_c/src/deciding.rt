@@ -14,7 +14,7 @@ ghost use Rattle.bb_run.specs.BorneOut.{VerdictsAreBorneOut};
 ghost use Rattle.bb_run.specs.Reply.{IsReply};
 ghost use Rattle.bb_c.specs.Buffer.{IsFilled, IsTooShort, IsUntouched};
 ghost use Rattle.bb_c.specs.Call.{bounds_of, plan_of};
-ghost use Rattle.bb_c.specs.Cost.{CostsInTwoTries, IsWithinTwoTries, first_steps};
+ghost use Rattle.bb_c.specs.Cost.{CostsInTwoTries, IsWithinTwoTries, few_bounds};
 
 use crate::buffer::{CLEAN, LIMITS, MEMORY, NOT_CLEAN, SHORT, give};
 use arrayvec::ArrayVec;
@@ -199,7 +199,7 @@ fn verdict_on(
     requires machine { IsMachine machine.now }
     ensures verdict { IfOk result (IsVerdict machine.now limits.now plan) }
     ensures numbers { IfOk result HasNumbers }
-    ensures bound { IfOk result (CostsInTwoTries machine.now limits.now meter.new.steps) }
+    ensures bound { IfOk result (CostsInTwoTries machine.now limits.now plan meter.new.steps) }
     ensures within { OnOk result (IsWithinTwoTries limits.now meter.new.steps) }
 {
     if limits.cells() <= FEW_CELLS {
@@ -233,7 +233,7 @@ fn is_found_by_run(verdict: &Verdict) -> bool
 /// The limits of the first try: none is greater than its own here.
 fn small_limits(limits: &Limits) -> Limits
     ensures smaller { NoneIsSmaller result limits.now }
-    ensures few { result.steps ≤ first_steps limits.now }
+    ensures few { result ≡ few_bounds limits.now }
 {
     let steps = limits.steps().min(FEW_STEPS);
     let cells = limits.cells().min(FEW_CELLS);
