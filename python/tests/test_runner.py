@@ -309,15 +309,17 @@ class LookTest(unittest.TestCase):
 
 class PaceTest(unittest.TestCase):
     def test_a_piece_lasts_some_seconds(self) -> None:
-        for cost in (1e-6, 1e-3, 0.1, 3.0, 1e4):
+        costs, widths = (1e-6, 1e-3, 0.1, 3.0, 1e4), {8: 2, 200: 2, 2_000: 20}
+        for cost, (width, lasting) in itertools.product(costs, widths.items()):
             pace = cutting.Pace(20_000)
             sizes = []
             for _ in range(40):
                 sizes.append(pace.now)
-                pace.took(pace.now, pace.now * cost)
+                pace.took(pace.now, pace.now * cost, width)
             self.assertEqual(sizes[0], 1)
             self.assertTrue(all(after <= 8 * before for before, after in zip(sizes, sizes[1:])))
-            self.assertTrue(sizes[-1] in (1, 20_000) or 1.5 <= sizes[-1] * cost <= 2.5, sizes)
+            seconds = sizes[-1] * cost
+            self.assertTrue(sizes[-1] in (1, 20_000) or 0.7 <= seconds / lasting <= 1.3, sizes)
 
 
 class WholeTest(RunnerTest):

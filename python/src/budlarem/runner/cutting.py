@@ -21,20 +21,22 @@ _ANY_SIZE = 1 << 62
 
 class Pace:
     """How many lines a piece gets, such that it lasts about so many seconds: one at first, and not many more
-    than a piece that was decided had."""
+    than a piece that was decided had. It lasts longer where so many are under way, half of which wait, that
+    more than RATE would come back in a second."""
 
-    SECONDS, GROWTH, MEMORY = 2.0, 8, 0.7
+    SECONDS, GROWTH, MEMORY, RATE = 2.0, 8, 0.7, 50
 
     def __init__(self, most: int) -> None:
         self.now, self._most, self._largest = 1, most, 0
         self._lines, self._seconds = 0.0, 0.0
 
-    def took(self, lines: int, seconds: float) -> None:
-        """Tells how long a piece took."""
+    def took(self, lines: int, seconds: float, width: int) -> None:
+        """Tells how long a piece took, where so many are under way."""
         self._lines = self.MEMORY * self._lines + lines
         self._seconds = self.MEMORY * self._seconds + seconds
         self._largest = max(self._largest, lines)
-        fitting = self._lines * self.SECONDS / max(self._seconds, 1e-9)
+        lasting = max(self.SECONDS, width / 2 / self.RATE)
+        fitting = self._lines * lasting / max(self._seconds, 1e-9)
         self.now = max(int(min(fitting, self._most, self.GROWTH * self._largest)), 1)
 
 

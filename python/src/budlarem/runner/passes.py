@@ -226,7 +226,7 @@ class PassRun:
         if error is not None:
             raise error
         if not piece.is_confirmed:
-            self._cutter.pace.took(piece.lines, piece.seconds)
+            self._cutter.pace.took(piece.lines, piece.seconds, self._manner.place.width())
         if self._manner.is_checked and not piece.is_confirmed:
             self._start(piece)
             return False
