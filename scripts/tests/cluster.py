@@ -333,6 +333,17 @@ def hold_encryption(tally: Tally, given: bytes, right: bytes) -> None:
             tally.hold("without the files, status %d: %s" % (status, case.said()), refused)
 
 
+def hold_large_pieces(tally: Tally, program: str) -> None:
+    """Pieces as large as they may be, which are also checked; dask's warning of large tasks isn't told."""
+    given = b"1RB1LC_1RC1RB_1RD0LE_1LA1LD_1RZ0LA\n" * 100_000
+    with cluster(2) as found:
+        case = case_of(found, "large", given, (QUICK_PASS,))
+        status = case.run(str(case.list), "--piece", "20000", "--check")
+        said = case.said()
+        tally.hold("large pieces, status %d: %s" % (status, said), status == 0 and "arning" not in said)
+        tally.hold("the verdicts of large pieces", case.verdicts() == expected(program, given, (QUICK_PASS,)))
+
+
 def asked() -> Tuple[str, bool, int]:
     parser = words(__doc__)
     parser.add_argument("--quick", action="store_true", help="a short run with one killed worker")
@@ -363,6 +374,7 @@ def main() -> int:
         hold_wrong_worker(tally, what, few, right_few)
     hold_runner(tally, program, 20_000, seed)
     hold_encryption(tally, few, right_few)
+    hold_large_pieces(tally, program)
     return tally.end()
 
 

@@ -17,6 +17,7 @@ import logging
 import threading
 import time
 import uuid
+import warnings
 from concurrent.futures import CancelledError, Future
 from typing import Any, Callable, Deque, Dict, Mapping, Optional
 
@@ -32,6 +33,8 @@ _SILENT = 5.0
 _LEAST = 4
 # What these log is told in sentences, or is of no use to whoever runs the command.
 _LOGGERS = ("distributed", "distributed.client", "tornado", "tornado.application")
+# dask warns of a task of more than a million bytes, as verdict lines that are checked may be.
+_LARGE = "Large object of size"
 
 
 def distributed() -> Any:
@@ -63,6 +66,7 @@ class ClusterPlace:
         self._dask = distributed()
         for name in _LOGGERS:
             logging.getLogger(name).setLevel(logging.CRITICAL + 1)
+        warnings.filterwarnings("ignore", _LARGE, UserWarning)
         self._security = self._dask.Security(**security, require_encryption=True) if security else None
         # It guards the jobs, which dask's thread ends.
         self._lock = threading.RLock()
