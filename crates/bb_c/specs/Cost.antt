@@ -21,11 +21,11 @@ few_bounds bounds =
 
 -- no run within bounds finds a halt or a pair
 abbrev pub FindsNothing : Table → Bounds → Plan → Type 0
-FindsNothing table bounds plan = (verdict : Verdict) → IsVerdict table bounds plan verdict → IsFoundByRun verdict
-    → ⊥
+FindsNothing table bounds plan = (verdict : Verdict) → IsVerdict table bounds plan verdict
+    → IsFoundByRun verdict → ⊥
 
--- a verdict cost no more steps than what it names allows, or, where the first try finds nothing, than that and
--- the first try's steps, unless configurations up to there agree by chance
+-- a verdict cost no more steps than what it names allows, or, where the first try finds nothing, than that
+-- and the first try's steps, unless configurations up to there agree by chance
 abbrev pub CostsInTwoTries : Table → Bounds → Plan → ℕ → Verdict → Type 0
 CostsInTwoTries table bounds plan steps verdict =
     (AgreesByChance spread table (max (named_step bounds verdict) (first_steps bounds)) → ⊥)

@@ -1,5 +1,5 @@
-//! Deciding in one run with keys that are all the same, so that different tapes often have one fingerprint: the
-//! verdicts stay what they are.
+//! Deciding in one run with keys that are all the same, so that different tapes often have one fingerprint:
+//! the verdicts stay what they are.
 ghost use Rattle.std.specs.Prelude.{◌≡◌, ◌<◌};
 ghost use Rattle.bb_cert.specs.tree.Path.{depth_of};
 ghost use Rattle.bb_decide.specs.Bench.{BenchHasCells};
@@ -124,8 +124,8 @@ fn mixed(number: u64) -> u64 {
     folded ^ (folded >> 32)
 }
 
-/// Holds the verdict in one run with weak keys against that of `decide`. Whether fingerprints agreed by chance:
-/// then it costs more than with keys that are well spread.
+/// Holds the verdict in one run with weak keys against that of `decide`. Whether fingerprints agreed by
+/// chance: then it costs more than with keys that are well spread.
 fn agree_by_chance<T: Tape>(
     rt: &impl Abort,
     bench: &mut Bench<T>,

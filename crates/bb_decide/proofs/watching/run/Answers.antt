@@ -10,8 +10,8 @@ use Rattle.bb_decide.proofs.Cycles.{no_cycle_in_Z}
 use Rattle.bb_decide.proofs.Endings.{ran_as, ran_into_Z}
 use Rattle.bb_decide.proofs.Halting.{in_no_state, is_none, not_in_Z}
 use Rattle.bb_decide.proofs.TakingIn.{searched_at_first}
-use Rattle.bb_decide.proofs.Translations.{counts_as, goes_on_from, goes_past, is_found, is_ready, none_at_first}
-use Rattle.bb_decide.proofs.Translations.{none_in_Z, takes_in}
+use Rattle.bb_decide.proofs.Translations.{counts_as, goes_on_from, goes_past, is_found, is_ready}
+use Rattle.bb_decide.proofs.Translations.{none_at_first, none_in_Z, takes_in}
 use Rattle.bb_decide.proofs.Watched.{not_both}
 use Rattle.bb_decide.proofs.Watched.{print_known, readable_here, still_inside, suspected, watched_at_first}
 use Rattle.bb_decide.proofs.Watched.{watched_on}
@@ -153,7 +153,9 @@ loop-moved-preserved-in_default-widened_side g c =
     c.rewritten.ensures in
     record {
       search = goes_past here.search taken (is_none _ c.in_default-widened_side.not-Some);
-      watched = watched_on here.watched step refl print (λ same. not_both (c.are_as_kept.ensures.1 same) c.if-are_as_kept.false) (not_in_Z c.in-Some.ensures) c.keep_in_turn.ensures;
+      watched = watched_on here.watched step refl print
+          (λ same. not_both (c.are_as_kept.ensures.1 same) c.if-are_as_kept.false)
+          (not_in_Z c.in-Some.ensures) c.keep_in_turn.ensures;
       tapes = tapes_keep call.limit refl refl here.tapes;
       path = here.path;
       meter = here.meter;
@@ -210,7 +212,9 @@ loop-moved-preserved g c =
     record {
       search = goes_on_from here.search taken _ _ _ _ c.in-Some-widened_side.side c.in-Some-widened_side.is
           (rw c.in-None.is at c.in_ok-verdict.ensures.looks);
-      watched = watched_on here.watched step refl print (λ same. not_both (c.are_as_kept.ensures.1 same) c.if-are_as_kept.false) (not_in_Z c.in-Some.ensures) c.keep_in_turn.ensures;
+      watched = watched_on here.watched step refl print
+          (λ same. not_both (c.are_as_kept.ensures.1 same) c.if-are_as_kept.false)
+          (not_in_Z c.in-Some.ensures) c.keep_in_turn.ensures;
       tapes = tapes_keep call.limit limits.right_limit limits.left_limit here.tapes;
       path = here.path;
       meter = here.meter;
