@@ -38,7 +38,7 @@ struct Branch {
     position: i64,
     state: u8,
     symbol: u8,
-    /// How the head moves then.
+    /// How the head moves from there to the node that it comes before.
     dir: Dir,
     /// What the tape has there.
     held: u8,
