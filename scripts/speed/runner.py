@@ -46,7 +46,7 @@ QUICK_PASS = (50, 64, 3, 10)
 # Processes of workers that wait, and how many threads each has.
 WAITING_PROCESSES, WAITING_THREADS = 4, 250
 # Seconds that each piece waits, lines of a piece, and how many pieces there are.
-WAITING = ((0.5, 100, 10_000), (0.5, 1_000, 5_000), (0.5, 20_000, 1_000))
+WAITING = ((0.5, 100, 10_000), (0.5, 1_000, 4_000))
 WAITS = """    time.sleep(%f)
     ours = identity()
     replies = lines.replace(b"\\n", b" undecided steps\\n")
