@@ -345,18 +345,14 @@ class WordsTest(unittest.TestCase):
 
     def test_options_of_tls(self) -> None:
         dask = Dask()
-        words = [word for name in command.TLS for word in ("--" + name, name + ".pem")]
+        words = [word for name in command.TLS for word in ("--" + name, __file__)]
         with unittest.mock.patch.object(cluster, "distributed", lambda: dask):
             self.place("--scheduler", "tls://there:8786", *words)
-        self.assertEqual(
-            dask.clients[0].how["security"],
-            {
-                "tls_ca_file": "tls-ca-file.pem",
-                "tls_client_cert": "tls-cert.pem",
-                "tls_client_key": "tls-key.pem",
-                "require_encryption": True,
-            },
-        )
+            with self.assertRaisesRegex(ValueError, "--tls-key missing/key.pem can't be read: No such file"):
+                self.place("--scheduler", "tls://there:8786", *words, "--tls-key", "missing/key.pem")
+        files = dict.fromkeys(("tls_ca_file", "tls_client_cert", "tls_client_key"), __file__)
+        self.assertEqual(dask.clients[0].how["security"], {**files, "require_encryption": True})
+        self.assertEqual(len(dask.clients), 1)
 
     def test_dask_is_not_installed(self) -> None:
         said = io.StringIO()

@@ -80,15 +80,27 @@ def end_at_interruption(progress: Progress, folder: str) -> None:
     signal.signal(signal.SIGINT, end)
 
 
+def _hold_readable(option: str, path: str) -> None:
+    """Raises ValueError where the file that an option names can't be read."""
+    try:
+        with open(path, "rb"):
+            pass
+    except OSError as error:
+        raise ValueError("--%s %s can't be read: %s" % (option, path, error.strerror)) from None
+
+
 def _workplace(asked: argparse.Namespace, progress: Progress) -> Workplace:
     """Where the pieces are decided. Raises ValueError, RunError."""
-    files = {name: getattr(asked, name.replace("-", "_")) for name in TLS}
+    named = ((name, getattr(asked, name.replace("-", "_"))) for name in TLS)
+    files = {name: path for name, path in named if path is not None}
     if asked.scheduler is not None:
         if asked.threads is not None:
             raise ValueError("--threads is for this computer, --scheduler for others; give one of them")
-        given = {_SECURITY[name]: path for name, path in files.items() if path is not None}
-        return ClusterPlace(asked.scheduler, given, progress.tell)
-    if any(files.values()):
+        for name, path in files.items():
+            _hold_readable(name, path)
+        security = {_SECURITY[name]: path for name, path in files.items()}
+        return ClusterPlace(asked.scheduler, security, progress.tell)
+    if files:
         raise ValueError("--tls-ca-file, --tls-cert and --tls-key are for --scheduler, which isn't given")
     count = len(os.sched_getaffinity(0)) if asked.threads is None else asked.threads
     if count < 1:
