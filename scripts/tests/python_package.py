@@ -146,7 +146,7 @@ def hold_wheel(tally: Tally, program: str, wheel: pathlib.Path, python: str, fol
 
 
 def hold_runner(tally: Tally, program: str, command: str, folder: pathlib.Path) -> None:
-    """The command `run` of the wheel: begun, and gone on with a pass that decides what the first one leaves."""
+    """The command `run` of the wheel: begun, and gone on with a pass that decides what is left."""
     (folder / "list.txt").write_bytes(RUN_LIST)
     words = [command, "run", "list.txt", "--out", "out", "--check"]
     kept = {"stderr": subprocess.PIPE, "text": True, "cwd": folder, "env": bare()}
