@@ -1,12 +1,16 @@
 -- The keys that the program takes for its fingerprints: this project's own.
-use Rattle.std.specs.Prelude.{ℕ, ◌*◌, ◌/◌, ◌%◌, ◌^◌, ℤ}
+use Rattle.std.specs.Prelude.{ℕ, ◌+◌, ◌*◌, ◌/◌, ◌%◌, ◌^◌, ℤ}
 use Rattle.std.specs.Int.{cast_unsigned, w64}
 use Rattle.std.specs.Prelude.{bit_xor}
 use Rattle.bb_decide.specs.declared.keys.TheConstants.{MULTIPLIER}
 
--- the position times an odd number
+-- twice the position and one, which is never 0
+abbrev pub odd : ℤ → ℕ
+odd position = (cast_unsigned w64 position * 2 % 2 ^ 64 + 1) % 2 ^ 64
+
+-- that times an odd number
 abbrev pub product : ℤ → ℕ
-product position = cast_unsigned w64 position * MULTIPLIER % 2 ^ 64
+product position = odd position * MULTIPLIER % 2 ^ 64
 
 -- with its high half folded onto its low one
 abbrev pub spread : ℤ → ℕ

@@ -17,7 +17,8 @@ pub trait Keys {
 /// 6.4, multiplicative hashing).
 pub const MULTIPLIER: u64 = 0x9E37_79B9_7F4A_7C15;
 
-/// Keys that look like random numbers: the position times `MULTIPLIER`, folded once.
+/// Keys that look like random numbers: an odd number for each position, so that none has the key 0, times
+/// `MULTIPLIER`, folded once.
 #[derive(Clone, Copy, Debug, Default)]
 pub struct SpreadKeys;
 
@@ -28,7 +29,8 @@ impl Keys for SpreadKeys {
 
     #[inline(always)]
     fn key(&self, position: i64) -> u64 {
-        let product = position.cast_unsigned().wrapping_mul(MULTIPLIER);
+        let odd = position.cast_unsigned().wrapping_mul(2).wrapping_add(1);
+        let product = odd.wrapping_mul(MULTIPLIER);
         product ^ (product >> 29)
     }
 }

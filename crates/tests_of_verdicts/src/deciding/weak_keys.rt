@@ -5,6 +5,7 @@ ghost use Rattle.bb_cert.specs.tree.Path.{depth_of};
 ghost use Rattle.bb_decide.specs.Bench.{BenchHasCells};
 
 use super::bench_on_rings;
+use bb_cert::Verdict;
 use bb_decide::{Bench, Keys, Plan, SpreadKeys, decide, decide_in_one_run};
 use bb_machine::{Limits, Machine};
 use bb_sim::Meter;
@@ -124,8 +125,18 @@ fn mixed(number: u64) -> u64 {
     folded ^ (folded >> 32)
 }
 
-/// Holds the verdict in one run with weak keys against that of `decide`. Whether fingerprints agreed by
-/// chance: then it costs more than with keys that are well spread.
+/// How many steps deciding may make where no fingerprint agrees by chance.
+fn most_steps(verdict: &Verdict, limits: &Limits) -> u64 {
+    match verdict {
+        Verdict::Halt { steps, .. } => *steps,
+        Verdict::Cycler { second, .. } | Verdict::Translated { second, .. } =>
+            second.saturating_mul(2),
+        Verdict::Backward { .. } | Verdict::Undecided(_) => limits.steps(),
+    }
+}
+
+/// Holds the verdict in one run with weak keys against that of `decide`, and that with keys that are well
+/// spread none agrees by chance. Whether they do with the weak ones: then it costs more.
 fn agree_by_chance<T: Tape>(
     rt: &impl Abort,
     bench: &mut Bench<T>,
@@ -145,6 +156,7 @@ fn agree_by_chance<T: Tape>(
     let steps = meter.steps;
     let spread = decide_in_one_run(machine, limits, ALL, &SpreadKeys, bench, &mut meter)?;
     assert_eq!(rt; spread, verdict);
+    assert!(rt; meter.steps <= most_steps(&verdict, limits));
     Ok(meter.steps < steps)
 }
 
