@@ -117,25 +117,23 @@ def count(program, options, steps):
     return int(told.group(1)) if told else None
 
 
-def count_instructions(name, program):
-    """Prints the instructions a step of the simulation, and those that each search adds."""
-    plans = [SWITCHES, ["--no-translated", "--no-backward"], ["--no-cyclers", "--no-backward"]]
-    counts = [[count(program, options, steps) for steps in COUNTED] for options in plans]
-    if None in [each for pair in counts for each in pair]:
-        print(f"instructions a step of {name}: not counted, since there is no valgrind")
-        return
-    run, cycles, records = [(pair[1] - pair[0]) / (COUNTED[1] - COUNTED[0]) for pair in counts]
-    told = f"simulation {run:.1f}, cyclers add {cycles - run:.1f}, translated {records - run:.1f}"
-    print(f"instructions a step of {name}: {told}", flush=True)
-
-
-def count_watched(name, program, options):
-    """Prints the instructions a step where both searches are on: of one run that is watched for both, if the
-    program decides so."""
-    first, second = [count(program, ["--no-backward", *options], steps) for steps in COUNTED]
-    if None not in (first, second):
-        told = (second - first) / (COUNTED[1] - COUNTED[0])
-        print(f"instructions a step of {name}, both searches on: {told:.1f}", flush=True)
+def count_instructions(name, program, form):
+    """Prints the instructions a step of the simulation, of the run of each search alone, and of the run that is
+    watched for both."""
+    plans = {
+        "simulation": SWITCHES,
+        "cyclers alone": ["--no-translated", "--no-backward"],
+        "translated alone": ["--no-cyclers", "--no-backward"],
+        "both in one run": ["--no-backward"],
+    }
+    told = []
+    for what, options in plans.items():
+        first, second = [count(program, [*options, *form], steps) for steps in COUNTED]
+        if first is None or second is None:
+            print(f"instructions a step of {name}: not counted, since there is no valgrind")
+            return
+        told.append(f"{what} {(second - first) / (COUNTED[1] - COUNTED[0]):.1f}")
+    print(f"instructions a step of {name}: {', '.join(told)}", flush=True)
 
 
 class Wrong(Exception):
@@ -339,10 +337,8 @@ def main():
             commands = [[each, "decide", *options] for each in (program, peer)]
             commands = [commands[0], [*commands[1], "--one-run"], commands[1]]
             agreed.append(held(measure_forms, name, commands, file, runs))
-        count_instructions("the program", program)
-        count_instructions("plain Rust", peer)
-        count_watched("the program", program, [])
-        count_watched("plain Rust in one run", peer, ["--one-run"])
+        count_instructions("the program", program, [])
+        count_instructions("plain Rust", peer, ["--one-run"])
         for name, options, switch, text in searches(program, random.Random(asked.seed)):
             put(file, text)
             agreed.append(held(measure_search, program, name, options, switch, file, runs))
