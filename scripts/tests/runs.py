@@ -12,7 +12,7 @@ from typing import Callable, Dict, List, Optional, Sequence
 
 from closed_loop import machines
 from library_built import LIBRARY
-from tally import TOP, Tally
+from tally import TOP, Tally, heed_interruption
 
 SOURCE = os.path.join(TOP, "python", "src")
 PASSES = ((300, 64, 10, 100), (20_000, 1_024, 40, 10_000))
@@ -73,7 +73,8 @@ class Case:
         more_environment: Optional[Dict[str, str]] = None,
         **how: object,
     ) -> "subprocess.Popen[bytes]":
-        """Starts a run; standard error is a file."""
+        """Starts a run, which heeds interruptions; standard error is a file."""
+        how.setdefault("preexec_fn", heed_interruption)
         command = [sys.executable, "-m", "budlarem", "run", "--out", str(self.out)]
         command += [*(self.words if words is None else words), *(more or [str(self.list)])]
         with open(self.errors, "wb") as errors:
