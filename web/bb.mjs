@@ -149,8 +149,9 @@ export class Engine {
 }
 
 /**
- * An engine from the bytes of `bb.wasm`. Throws UnsupportedError; WebAssembly's errors for other bytes.
- * @param {BufferSource} bytes
+ * An engine from the bytes of `bb.wasm`, or from the module that WebAssembly compiled of them, which several
+ * workers can share. Throws UnsupportedError; WebAssembly's errors for other bytes.
+ * @param {BufferSource | WebAssembly.Module} bytes
  * @param {{memory?: number}} [most] bytes of memory; a call that needs more throws MemoryError
  */
 export async function load(bytes, most = {}) {
@@ -158,7 +159,8 @@ export async function load(bytes, most = {}) {
     throw new UnsupportedError();
   }
   const room = new Room(most.memory ?? Infinity);
-  const { instance } = await WebAssembly.instantiate(bytes, { env: room.imports() });
+  const module = bytes instanceof WebAssembly.Module ? bytes : await WebAssembly.compile(bytes);
+  const instance = await WebAssembly.instantiate(module, { env: room.imports() });
   const { memory: held, __heap_base: base, ...calls } = instance.exports;
   room.memory = /** @type {WebAssembly.Memory} */ (held);
   room.base = Number(/** @type {WebAssembly.Global} */ (base).value);
@@ -189,11 +191,12 @@ function traceRoom(/** @type {bigint[]} */ words) {
 
 /** The number of lines; a last one without a newline counts if it isn't empty. */
 export function countLines(/** @type {Uint8Array} */ bytes) {
-  let count = 0;
-  for (let at = bytes.indexOf(NEWLINE); at >= 0; at = bytes.indexOf(NEWLINE, at + 1)) {
-    count += 1;
+  const length = bytes.length;
+  let count = length > 0 && bytes[length - 1] !== NEWLINE ? 1 : 0;
+  for (let at = 0; at < length; at += 1) {
+    count += bytes[at] === NEWLINE ? 1 : 0;
   }
-  return count + (bytes.length > 0 && bytes[bytes.length - 1] !== NEWLINE ? 1 : 0);
+  return count;
 }
 
 /** The bytes of these lines, each with a newline. */

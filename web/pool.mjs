@@ -2,21 +2,49 @@
  * Workers that share a list: each has an engine of its own and takes the next piece when it is done with one.
  *
  * @typedef {import("./worker.mjs").Part} Part
+ * @typedef {{worker: Worker, pieces: number, held: number}} Hand a worker, how many pieces it has, and the
+ *   memory of its engine in bytes
  * @typedef {{piece: () => Promise<Uint8Array | null>, part: (part: Part) => void, end: () => void,
  *   fail: (error: {error: string, message: string, limit?: string}) => void}} Work
  */
 
+import { isSupported } from "./memory.mjs";
 import { part } from "./parts.mjs";
 
-/** The worker's program and the module, which stand in the page. */
-function source() {
-  const text = (/** @type {string} */ id) => part(id).textContent ?? "";
-  const module = Uint8Array.from(atob(text("module").trim()), (letter) => letter.charCodeAt(0));
-  const url = URL.createObjectURL(new Blob([text("worker")], { type: "text/javascript" }));
-  return { module, url };
+// A worker has the next piece before it is done with one, so that it never waits for the page.
+const PIECES = 2;
+// A worker whose engine holds more isn't kept for the next list.
+const MOST_HELD = 16_777_216;
+
+/** A text that stands in the page. */
+function text(/** @type {string} */ id) {
+  return part(id).textContent ?? "";
 }
 
-const { module, url } = source();
+/** The engine's module, compiled once for all workers. */
+async function compiled() {
+  const encoded = atob(text("module").trim());
+  const bytes = new Uint8Array(encoded.length);
+  for (let at = 0; at < bytes.length; at += 1) {
+    bytes[at] = encoded.charCodeAt(at);
+  }
+  return WebAssembly.compile(bytes);
+}
+
+const url = URL.createObjectURL(new Blob([text("worker")], { type: "text/javascript" }));
+/** @type {Promise<WebAssembly.Module | null>} */
+const ready = isSupported() ? compiled() : Promise.resolve(null);
+ready.catch(() => undefined);
+/**
+ * Workers that wait for a list.
+ * @type {Worker[]}
+ */
+const idle = [];
+
+/** What went wrong, as it is told. */
+function toldOf(/** @type {Error} */ { name, message }) {
+  return { error: name, message };
+}
 
 /** A worker of its own for one question, as for a picture; a new question ends the one before. */
 export class Asker {
@@ -43,7 +71,10 @@ export class Asker {
       done(event.data);
     };
     worker.onerror = (event) => done({ error: "Error", message: event.message });
-    worker.postMessage({ module, ...question });
+    ready.then(
+      (module) => worker.postMessage({ module, ...question }),
+      (error) => done(toldOf(error)),
+    );
   }
 }
 
@@ -56,41 +87,46 @@ export class Pool {
     this.work = work;
     this.asked = asked;
     this.jobs = 0;
-    this.busy = 0;
+    this.isRead = false;
     this.ended = false;
     /** @type {Promise<any>} */
     this.next = Promise.resolve();
-    this.workers = Array.from({ length: size }, () => this.begun());
+    this.hands = Array.from({ length: size }, () => this.begun());
+    for (let round = 0; round < PIECES; round += 1) {
+      this.hands.forEach((hand) => this.feed(hand));
+    }
   }
 
-  /** A new worker, which gets its first piece. */
+  /** A worker for this list. @returns {Hand} */
   begun() {
-    const worker = new Worker(url);
-    worker.addEventListener("message", (event) => this.heard(worker, event.data));
-    worker.addEventListener("error", (event) => this.failed({ error: "Error", message: event.message }));
-    this.busy += 1;
-    this.feed(worker);
-    return worker;
+    const worker = idle.pop() ?? new Worker(url);
+    const hand = { worker, pieces: 0, held: 0 };
+    worker.onmessage = (event) => this.heard(hand, event.data);
+    worker.onerror = (event) => this.failed({ error: "Error", message: event.message });
+    return hand;
   }
 
   /** Gives a worker the next piece; pieces are read one after another, so that they stay in order. */
-  feed(/** @type {Worker} */ worker) {
-    this.next = this.next.then(async () => {
-      const bytes = this.ended ? null : await this.work.piece();
-      if (bytes === null) {
-        this.busy -= 1;
-        worker.terminate();
-        this.finish();
-        return;
-      }
-      worker.postMessage({ module, what: "list", job: this.jobs, bytes, asked: this.asked }, [bytes.buffer]);
+  feed(/** @type {Hand} */ hand) {
+    this.next = this.next.then(() => this.fed(hand)).catch((error) => this.failed(toldOf(error)));
+  }
+
+  async fed(/** @type {Hand} */ hand) {
+    const module = await ready;
+    const bytes = this.ended || this.isRead ? null : await this.work.piece();
+    if (bytes === null) {
+      this.isRead = true;
+      this.finish();
+    } else if (!this.ended) {
+      const message = { module, what: "list", job: this.jobs, bytes, asked: this.asked };
+      hand.worker.postMessage(message, [bytes.buffer]);
+      hand.pieces += 1;
       this.jobs += 1;
-    });
-    this.next = this.next.catch((error) => this.failed({ error: error.name, message: error.message }));
+    }
   }
 
   /** What a worker sent: a part of its piece, or what went wrong. */
-  heard(/** @type {Worker} */ worker, /** @type {any} */ told) {
+  heard(/** @type {Hand} */ hand, /** @type {any} */ told) {
     if (this.ended) {
       return;
     }
@@ -100,21 +136,28 @@ export class Pool {
     }
     this.work.part(told);
     if (told.done) {
-      this.feed(worker);
+      hand.pieces -= 1;
+      hand.held = told.held;
+      this.feed(hand);
     }
   }
 
+  /** Ends the work where no worker has a piece; the workers wait for the next list. */
   finish() {
-    if (this.busy === 0 && !this.ended) {
-      this.ended = true;
-      this.work.end();
+    if (this.ended || this.hands.some((hand) => hand.pieces > 0)) {
+      return;
     }
+    this.ended = true;
+    for (const { worker, held } of this.hands) {
+      held > MOST_HELD ? worker.terminate() : idle.push(worker);
+    }
+    this.work.end();
   }
 
   /** Ends all workers at once, also in the middle of a machine. */
   stop() {
     this.ended = true;
-    this.workers.forEach((worker) => worker.terminate());
+    this.hands.forEach(({ worker }) => worker.terminate());
   }
 
   failed(/** @type {{error: string, message: string, limit?: string}} */ error) {

@@ -2,6 +2,10 @@
 import { MACHINES } from "./machine.mjs";
 
 const NEWLINE = 10;
+const DASH = 45;
+const [ZERO, NINE] = [48, 57];
+const [A, L, R, Z, UNDERSCORE] = [65, 76, 82, 90, 95];
+const [FEWEST_SYMBOLS, MOST_SYMBOLS] = [2, 10];
 // A longer line has no machine; it is given as it is, and refused.
 const LONGEST_LINE = 16_384;
 const latin = new TextDecoder("latin1");
@@ -18,16 +22,16 @@ export function hasVerdicts(/** @type {Uint8Array} */ bytes) {
  * @param {Uint8Array} bytes @param {{mode: string, clean: boolean}} asked
  */
 export function prepared(bytes, { mode, clean }) {
-  if (!clean || mode === "check") {
+  const whole = clean && mode !== "check" ? wholeUpTo(bytes) : bytes.length;
+  if (whole === bytes.length) {
     return { bytes, without: 0 };
   }
-  const text = latin.decode(bytes);
   const made = new Uint8Array(bytes.length + 1);
-  let [without, length] = [0, 0];
-  for (let from = 0; from < bytes.length; ) {
-    const newline = bytes.indexOf(NEWLINE, from);
-    const end = newline < 0 ? bytes.length : newline;
-    const kept = rangesOf(text.slice(from, end));
+  made.set(bytes.subarray(0, whole));
+  let [without, length] = [0, whole];
+  for (let from = whole; from < bytes.length; ) {
+    const end = endOf(bytes, from);
+    const kept = rangesOf(bytes.subarray(from, end));
     without += kept.found ? 0 : 1;
     for (const [first, last] of kept.ranges) {
       made.set(bytes.subarray(from + first, from + last), length);
@@ -39,12 +43,62 @@ export function prepared(bytes, { mode, clean }) {
   return { bytes: made.slice(0, length), without };
 }
 
+/** Where the line ends that begins there, without its newline. */
+function endOf(/** @type {Uint8Array} */ bytes, /** @type {number} */ from) {
+  const newline = bytes.indexOf(NEWLINE, from);
+  return newline < 0 ? bytes.length : newline;
+}
+
+/** Where the first line begins that isn't a machine and nothing else; the end where there is none. */
+function wholeUpTo(/** @type {Uint8Array} */ bytes) {
+  let from = 0;
+  while (from < bytes.length) {
+    const end = endOf(bytes, from);
+    if (!isMachine(bytes, from, end)) {
+      return from;
+    }
+    from = Math.min(end + 1, bytes.length);
+  }
+  return bytes.length;
+}
+
+/**
+ * Whether a line is a machine and nothing else, as nearly all lines of long lists are.
+ * @param {Uint8Array} bytes @param {number} from @param {number} end
+ */
+function isMachine(bytes, from, end) {
+  let entries = 0;
+  let at = from;
+  while (at + 3 <= end && isEntry(bytes, at)) {
+    at += 3;
+    entries += 1;
+    if (at < end && bytes[at] === UNDERSCORE && entries >= FEWEST_SYMBOLS && entries <= MOST_SYMBOLS) {
+      at += 1;
+      entries = 0;
+    }
+  }
+  const isWhole = at === end && entries >= FEWEST_SYMBOLS && entries <= MOST_SYMBOLS;
+  return isWhole && end - from <= LONGEST_LINE;
+}
+
+/** Whether an entry stands there, such as `1RB` or `---`. */
+function isEntry(/** @type {Uint8Array} */ bytes, /** @type {number} */ at) {
+  const [symbol, move, state] = [bytes[at], bytes[at + 1], bytes[at + 2]];
+  if (symbol === DASH) {
+    return move === DASH && state === DASH;
+  }
+  return symbol >= ZERO && symbol <= NINE && (move === L || move === R) && state >= A && state <= Z;
+}
+
 /**
  * The parts of a line that are given to the engine, and whether they are machines.
  * @returns {{ranges: [number, number][], found: boolean}}
  */
-function rangesOf(/** @type {string} */ line) {
-  const text = line.length > LONGEST_LINE ? "" : line.split("#")[0];
+function rangesOf(/** @type {Uint8Array} */ line) {
+  if (isMachine(line, 0, line.length)) {
+    return { ranges: [[0, line.length]], found: true };
+  }
+  const text = line.length > LONGEST_LINE ? "" : latin.decode(line).split("#")[0];
   /** @type {[number, number][]} */
   const ranges = Array.from(text.matchAll(MACHINES), (match) => {
     const at = /** @type {number} */ (match.index);

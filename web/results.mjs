@@ -30,12 +30,8 @@ export class Results {
     this.lines += part.kinds.length;
     this.without += part.without;
     this.read += part.read;
-    for (const kind of part.kinds) {
-      this.counts[kind] += 1;
-    }
-    for (const answer of part.answers) {
-      this.answers[answer] += 1;
-    }
+    part.kindCounts.forEach((count, kind) => (this.counts[kind] += count));
+    part.answerCounts.forEach((count, answer) => (this.answers[answer] += count));
   }
 
   /** The parts in order, with the number of the first line of each in `begins`. */
@@ -72,16 +68,12 @@ export class Results {
 
   /** The rows of these kinds, in order. */
   rows(/** @type {Set<number>} */ kinds) {
+    const isShown = Uint8Array.from(KINDS, (_, kind) => (kinds.has(kind) ? 1 : 0));
     const rows = new Uint32Array(this.lines);
-    let [count, at] = [0, 0];
+    let [count, begin] = [0, 0];
     for (const part of this.parts()) {
-      for (const kind of part.kinds) {
-        if (kinds.has(kind)) {
-          rows[count] = at;
-          count += 1;
-        }
-        at += 1;
-      }
+      count = addRows(rows, count, part.kinds, begin, isShown);
+      begin += part.kinds.length;
     }
     return rows.subarray(0, count);
   }
@@ -97,4 +89,19 @@ export class Results {
   blob() {
     return new Blob(this.parts().map((part) => part.bytes), { type: "text/plain" });
   }
+}
+
+/**
+ * Adds the numbers of a part's lines whose kinds are shown, and gives how many there are then.
+ * @param {Uint32Array} rows @param {number} count of rows that are there
+ * @param {Uint8Array} kinds @param {number} begin number of the part's first line
+ * @param {Uint8Array} isShown for each kind 1 or 0
+ */
+function addRows(rows, count, kinds, begin, isShown) {
+  let end = count;
+  for (let k = 0; k < kinds.length; k += 1) {
+    rows[end] = begin + k;
+    end += isShown[kinds[k]];
+  }
+  return end;
 }
