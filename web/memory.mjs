@@ -8,20 +8,24 @@ export class MemoryError extends Error {
   }
 }
 
-/** This browser, or this Node, has no 64-bit WebAssembly memory. */
+/** This browser, or this Node, has no WebAssembly with vectors. */
 export class UnsupportedError extends Error {
   constructor() {
-    super("no 64-bit WebAssembly memory here; Node 20 has it with --experimental-wasm-memory64");
+    super("no WebAssembly with vectors (SIMD) here");
     this.name = "UnsupportedError";
   }
 }
 
 const PAGE = 65_536;
-const MACHINE_OF_64_BIT_MEMORY = [0, 97, 115, 109, 1, 0, 0, 0, 5, 3, 1, 4, 0];
+// A module of one function, which gives `i8x16.popcnt (i8x16.splat (i32.const 0))`.
+const OF_VECTORS = [
+  ...[0, 97, 115, 109, 1, 0, 0, 0, 1, 5, 1, 96, 0, 1, 123, 3, 2, 1, 0],
+  ...[10, 10, 1, 8, 0, 65, 0, 253, 15, 253, 98, 11],
+];
 
-/** Whether modules with 64-bit memory can be loaded here. */
+/** Whether modules with vectors can be loaded here. */
 export function isSupported() {
-  return WebAssembly.validate(new Uint8Array(MACHINE_OF_64_BIT_MEMORY));
+  return typeof WebAssembly === "object" && WebAssembly.validate(new Uint8Array(OF_VECTORS));
 }
 
 /** Memory by address, handed out upwards and given up as a whole: between two calls nothing is held. */
@@ -111,17 +115,12 @@ export class Room {
   }
 }
 
-/** Whether memory could be made larger; browsers take a BigInt for it, Node 20 a number. */
+/** Whether memory could be made larger. */
 function grows(/** @type {WebAssembly.Memory} */ memory, /** @type {number} */ pages) {
-  for (const count of [BigInt(pages), pages]) {
-    try {
-      memory.grow(/** @type {number} */ (count));
-      return true;
-    } catch (error) {
-      if (!(error instanceof TypeError)) {
-        return false;
-      }
-    }
+  try {
+    memory.grow(pages);
+    return true;
+  } catch {
+    return false;
   }
-  return false;
 }
