@@ -35,6 +35,8 @@ const ANSWER_ROOM = 7;
 const STEP_ROOM = 64;
 const FIRST_TRACE_ROOM = 4_194_304;
 const NEWLINE = 10;
+const NEWLINES = 0x0a0a0a0a;
+const LOWER_BITS = 0x7f7f7f7f;
 /** @type {Limit[]} */
 const LIMITS = ["steps", "cells", "depth", "nodes"];
 /** @type {Limit[]} */
@@ -89,23 +91,24 @@ export class Engine {
   }
 
   /**
-   * As `decide`, from bytes to bytes: what the program reads and writes.
-   * @param {Uint8Array} list @param {Plan} [plan]
+   * As `decide`, from bytes to bytes: what the program reads and writes. Whoever knows how many lines the
+   * list has may say so, which saves counting them.
+   * @param {Uint8Array} list @param {Plan} [plan] @param {number} [lines]
    */
-  decideBytes(list, plan = {}) {
+  decideBytes(list, plan = {}, lines = countLines(list)) {
     const { cyclers = true, translated = true, backward = true, ...limits } = plan;
     const words = [...limitsOf(limits, LIMITS), ...switchesOf({ cyclers, translated, backward })];
-    const space = list.length + VERDICT_ROOM * countLines(list);
+    const space = list.length + VERDICT_ROOM * lines;
     return this.called("bb_decide", LIMITS, words, list, space);
   }
 
   /**
    * As `check`, from bytes to bytes.
-   * @param {Uint8Array} list @param {Limits} [limits]
+   * @param {Uint8Array} list @param {Limits} [limits] @param {number} [lines] as of `decideBytes`
    */
-  checkBytes(list, limits = {}) {
+  checkBytes(list, limits = {}, lines = countLines(list)) {
     const words = limitsOf(limits, LIMITS);
-    return this.called("bb_check", LIMITS, words, list, ANSWER_ROOM * countLines(list));
+    return this.called("bb_check", LIMITS, words, list, ANSWER_ROOM * lines);
   }
 
   /** As `trace`, from bytes to bytes. */
@@ -192,8 +195,28 @@ function traceRoom(/** @type {bigint[]} */ words) {
 /** The number of lines; a last one without a newline counts if it isn't empty. */
 export function countLines(/** @type {Uint8Array} */ bytes) {
   const length = bytes.length;
+  const first = -bytes.byteOffset & 3;
+  const whole = Math.max(0, length - first) >> 2;
+  const words = new Int32Array(bytes.buffer, whole > 0 ? bytes.byteOffset + first : 0, whole);
   let count = length > 0 && bytes[length - 1] !== NEWLINE ? 1 : 0;
-  for (let at = 0; at < length; at += 1) {
+  for (let at = 0; at < words.length; at += 1) {
+    const differs = words[at] ^ NEWLINES;
+    // A byte's upper bit for each newline among the four.
+    const found = ~(((differs & LOWER_BITS) + LOWER_BITS) | differs | LOWER_BITS);
+    count += found === 0 ? 0 : bitsOf(found);
+  }
+  return count + newlines(bytes, 0, Math.min(first, length)) + newlines(bytes, first + 4 * whole, length);
+}
+
+/** How many of the four bytes have their upper bit; the other bits are 0. */
+function bitsOf(/** @type {number} */ word) {
+  return ((word >>> 7) & 1) + ((word >>> 15) & 1) + ((word >>> 23) & 1) + (word >>> 31);
+}
+
+/** The newlines between two places. */
+function newlines(/** @type {Uint8Array} */ bytes, /** @type {number} */ from, /** @type {number} */ end) {
+  let count = 0;
+  for (let at = from; at < end; at += 1) {
     count += bytes[at] === NEWLINE ? 1 : 0;
   }
   return count;

@@ -4,7 +4,7 @@ import { isSupported } from "./memory.mjs";
 import { KINDS, counted, shown } from "./machine.mjs";
 import { copy, made, part, save } from "./parts.mjs";
 import { Pieces } from "./pieces.mjs";
-import { Asker, Pool } from "./pool.mjs";
+import { Asker, Pool, beginWorkers } from "./pool.mjs";
 import { hasVerdicts } from "./prepare.mjs";
 import { Results } from "./results.mjs";
 import { Rows } from "./rows.mjs";
@@ -13,6 +13,8 @@ import { View } from "./view.mjs";
 
 const MOST_WORKERS = 8;
 const REFRESH_MILLISECONDS = 200;
+// After so long workers are begun for the list that may come next.
+const READY_MILLISECONDS = 100;
 const BEGIN_BYTES = 65_536;
 // A worker isn't begun for fewer bytes.
 const LEAST_BYTES = 256;
@@ -69,10 +71,14 @@ async function begin() {
   beginWork(blob);
 }
 
+/** How many workers a list has at most. */
+function mostWorkers() {
+  return Math.min(MOST_WORKERS, navigator.hardwareConcurrency || 1);
+}
+
 /** Has workers answer a list. */
 function beginWork(/** @type {Blob} */ blob) {
-  const wanted = Math.ceil(blob.size / LEAST_BYTES);
-  const workers = Math.max(1, Math.min(MOST_WORKERS, navigator.hardwareConcurrency || 1, wanted));
+  const workers = Math.max(1, Math.min(mostWorkers(), Math.ceil(blob.size / LEAST_BYTES)));
   pieces = new Pieces(blob, workers);
   const source = pieces;
   box("stop").disabled = false;
@@ -143,6 +149,7 @@ function show(/** @type {string} */ how) {
     rows.choose(0, false);
     openRow(rows.rows[0] ?? 0, false);
     performance.mark("first verdict");
+    setTimeout(() => pool === null && beginWorkers(mostWorkers()), READY_MILLISECONDS);
   }
 }
 

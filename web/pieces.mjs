@@ -1,7 +1,9 @@
 /** A list, read piece by piece, each of whole lines. */
 
 const NEWLINE = 10;
-const READ_BYTES = 1_048_576;
+// A read has so many bytes at first, then twice as many each time.
+const FIRST_READ_BYTES = 262_144;
+const MOST_READ_BYTES = 4_194_304;
 const LEAST_BYTES = 64;
 const MOST_BYTES = 262_144;
 // What is kept of a line; the engine says the same of the whole line as of these bytes.
@@ -13,6 +15,12 @@ export class Pieces {
     this.blob = blob;
     this.size = Math.max(LEAST_BYTES, Math.min(MOST_BYTES, Math.ceil(blob.size / (8 * workers))));
     this.offset = 0;
+    this.wanted = FIRST_READ_BYTES;
+    /**
+     * What is read while the bytes before it are given out; null where nothing is.
+     * @type {Promise<ArrayBuffer> | null}
+     */
+    this.ahead = null;
     this.held = new Uint8Array(0);
     this.skips = false;
   }
@@ -24,7 +32,7 @@ export class Pieces {
       if (newline >= 0) {
         return this.given(newline + 1);
       }
-      if (this.offset >= this.blob.size) {
+      if (this.ahead === null && this.offset >= this.blob.size) {
         return this.held.length > 0 ? this.given(this.held.length) : null;
       }
       this.shorten();
@@ -48,11 +56,21 @@ export class Pieces {
     }
   }
 
+  /** Begins to read; `offset` is then where the next read begins. */
+  begun() {
+    const end = Math.min(this.offset + this.wanted, this.blob.size);
+    const bytes = this.blob.slice(this.offset, end).arrayBuffer();
+    // Whoever awaits it hears what went wrong; where the work is stopped before, nobody needs to.
+    bytes.catch(() => undefined);
+    this.offset = end;
+    this.wanted = Math.min(2 * this.wanted, MOST_READ_BYTES);
+    return bytes;
+  }
+
   /** The next bytes of the list, without those that are skipped. */
   async read() {
-    const end = Math.min(this.offset + READ_BYTES, this.blob.size);
-    const bytes = new Uint8Array(await this.blob.slice(this.offset, end).arrayBuffer());
-    this.offset = end;
+    const bytes = new Uint8Array(await (this.ahead ?? this.begun()));
+    this.ahead = this.offset < this.blob.size ? this.begun() : null;
     if (!this.skips) {
       return bytes;
     }

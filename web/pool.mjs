@@ -41,6 +41,13 @@ ready.catch(() => undefined);
  */
 const idle = [];
 
+/** Has so many workers wait for the next list, since a worker takes a while to begin. */
+export function beginWorkers(/** @type {number} */ count) {
+  while (idle.length < count) {
+    idle.push(new Worker(url));
+  }
+}
+
 /** What went wrong, as it is told. */
 function toldOf(/** @type {Error} */ { name, message }) {
   return { error: name, message };

@@ -53,8 +53,8 @@ function endOf(/** @type {Uint8Array} */ bytes, /** @type {number} */ from) {
 function wholeUpTo(/** @type {Uint8Array} */ bytes) {
   let from = 0;
   while (from < bytes.length) {
-    const end = endOf(bytes, from);
-    if (!isMachine(bytes, from, end)) {
+    const end = machineEnd(bytes, from);
+    if (end < 0 || (end < bytes.length && bytes[end] !== NEWLINE)) {
       return from;
     }
     from = Math.min(end + 1, bytes.length);
@@ -62,28 +62,27 @@ function wholeUpTo(/** @type {Uint8Array} */ bytes) {
   return bytes.length;
 }
 
-/**
- * Whether a line is a machine and nothing else, as nearly all lines of long lists are.
- * @param {Uint8Array} bytes @param {number} from @param {number} end
- */
-function isMachine(bytes, from, end) {
-  let entries = 0;
+/** Where the machine ends that begins there; -1 where none does, or where it is longer than any line. */
+function machineEnd(/** @type {Uint8Array} */ bytes, /** @type {number} */ from) {
+  let symbols = 0;
   let at = from;
-  while (at + 3 <= end && isEntry(bytes, at)) {
+  while (isEntry(bytes, at)) {
     at += 3;
-    entries += 1;
-    if (at < end && bytes[at] === UNDERSCORE && entries >= FEWEST_SYMBOLS && entries <= MOST_SYMBOLS) {
+    symbols += 1;
+    if (bytes[at] === UNDERSCORE && symbols >= FEWEST_SYMBOLS && symbols <= MOST_SYMBOLS) {
       at += 1;
-      entries = 0;
+      symbols = 0;
     }
   }
-  const isWhole = at === end && entries >= FEWEST_SYMBOLS && entries <= MOST_SYMBOLS;
-  return isWhole && end - from <= LONGEST_LINE;
+  const isWhole = symbols >= FEWEST_SYMBOLS && symbols <= MOST_SYMBOLS && at - from <= LONGEST_LINE;
+  return isWhole ? at : -1;
 }
 
 /** Whether an entry stands there, such as `1RB` or `---`. */
 function isEntry(/** @type {Uint8Array} */ bytes, /** @type {number} */ at) {
-  const [symbol, move, state] = [bytes[at], bytes[at + 1], bytes[at + 2]];
+  const symbol = bytes[at];
+  const move = bytes[at + 1];
+  const state = bytes[at + 2];
   if (symbol === DASH) {
     return move === DASH && state === DASH;
   }
@@ -95,7 +94,7 @@ function isEntry(/** @type {Uint8Array} */ bytes, /** @type {number} */ at) {
  * @returns {{ranges: [number, number][], found: boolean}}
  */
 function rangesOf(/** @type {Uint8Array} */ line) {
-  if (isMachine(line, 0, line.length)) {
+  if (machineEnd(line, 0) === line.length) {
     return { ranges: [[0, line.length]], found: true };
   }
   const text = line.length > LONGEST_LINE ? "" : latin.decode(line).split("#")[0];

@@ -4,7 +4,6 @@
  * @typedef {{starts: Uint32Array, kinds: Uint8Array, steps: Float64Array}} Lines where each line begins and
  *   the last one ends, the number of its kind, and the steps that it names, -1 for none
  */
-import { countLines } from "./bb.mjs";
 import { ANSWERS, KINDS } from "./machine.mjs";
 
 const NEWLINE = 10;
@@ -22,60 +21,94 @@ const ANSWER_LENGTHS = Uint8Array.from(ANSWERS, (word) => word.length + 1);
 // Behind how many spaces a line names its steps: a halt by its first number, a pair by its second; 0 for none.
 const SPACES = Uint8Array.from(KINDS, (kind) => ({ halt: 2, cycler: 3, translated: 4 })[String(kind)] ?? 0);
 
-/** Where each line begins, and where the last one ends. */
-export function startsOf(/** @type {Uint8Array} */ bytes, lines = countLines(bytes)) {
-  const starts = new Uint32Array(lines + 1);
+let scratch = new Uint32Array(0);
+
+/** Where each line begins and the last one ends, in a list that the next call overwrites. */
+export function startsOf(/** @type {Uint8Array} */ bytes) {
   const length = bytes.length;
-  let line = 1;
+  scratch = scratch.length > length + 1 ? scratch : new Uint32Array(2 * length + 2);
+  const starts = scratch;
+  let lines = 0;
   for (let at = 0; at < length; at += 1) {
     if (bytes[at] === NEWLINE) {
-      starts[line] = at + 1;
-      line += 1;
+      lines += 1;
+      starts[lines] = at + 1;
     }
   }
-  starts[lines] = length;
-  return starts;
+  if (starts[lines] < length) {
+    lines += 1;
+    starts[lines] = length;
+  }
+  return starts.subarray(0, lines + 1);
 }
 
-/**
- * The place behind so many spaces of a line, or its end where it has fewer.
- * @param {Uint8Array} bytes @param {number} from @param {number} end @param {number} spaces
- */
-function behind(bytes, from, end, spaces) {
+/** Where the first space or newline stands from there on; the end where there is none. */
+function wordEnd(/** @type {Uint8Array} */ bytes, /** @type {number} */ from) {
+  const length = bytes.length;
   let at = from;
-  for (let left = spaces; at < end && left > 0; at += 1) {
-    left -= bytes[at] === SPACE ? 1 : 0;
+  while (at < length && (bytes[at] > SPACE || (bytes[at] !== SPACE && bytes[at] !== NEWLINE))) {
+    at += 1;
+  }
+  return at;
+}
+
+/** Where the first newline stands from there on; the end where there is none. */
+function lineEnd(/** @type {Uint8Array} */ bytes, /** @type {number} */ from) {
+  const length = bytes.length;
+  let at = from;
+  while (at < length && bytes[at] !== NEWLINE) {
+    at += 1;
   }
   return at;
 }
 
 /**
- * The number that stands there, or -1.
- * @param {Uint8Array} bytes @param {number} from @param {number} end
+ * The place behind so many further spaces of a line, or its end where it has fewer.
+ * @param {Uint8Array} bytes @param {number} from @param {number} spaces
  */
-function numberAt(bytes, from, end) {
+function behind(bytes, from, spaces) {
+  let at = from;
+  for (let left = spaces; left > 0 && bytes[at] !== NEWLINE; left -= 1) {
+    at = wordEnd(bytes, at);
+    at += bytes[at] === SPACE ? 1 : 0;
+  }
+  return at;
+}
+
+/** The number that stands there, or -1. */
+function numberAt(/** @type {Uint8Array} */ bytes, /** @type {number} */ from) {
   let at = from;
   let value = 0;
-  for (; at < end && bytes[at] >= ZERO && bytes[at] <= NINE; at += 1) {
+  for (; at < bytes.length && bytes[at] >= ZERO && bytes[at] <= NINE; at += 1) {
     value = 10 * value + bytes[at] - ZERO;
   }
   return at === from ? -1 : value;
 }
 
-/** What is said in each line of verdict lines. @returns {Lines} */
-export function readLines(/** @type {Uint8Array} */ bytes) {
-  const starts = startsOf(bytes);
-  const count = starts.length - 1;
+/**
+ * What is said in so many verdict lines. Where they are a reply, each that isn't refused begins with the
+ * machine's line, so that it needn't be looked through.
+ * @param {Uint8Array} bytes @param {number} count
+ * @param {Uint32Array | null} machines where the machines' lines begin
+ * @returns {Lines}
+ */
+export function readLines(bytes, count, machines) {
+  const starts = new Uint32Array(count + 1);
   const kinds = new Uint8Array(count).fill(REFUSED);
   const steps = new Float64Array(count).fill(-1);
+  let at = 0;
   for (let k = 0; k < count; k += 1) {
-    const [from, end] = [starts[k], starts[k + 1]];
-    const at = bytes[from] === LETTER_R ? end : behind(bytes, from, end, 1);
-    const kind = at < end ? KIND_BY_LETTER[bytes[at]] : REFUSED;
-    kinds[k] = kind;
-    if (SPACES[kind] > 0) {
-      steps[k] = numberAt(bytes, behind(bytes, at, end, SPACES[kind] - 1), end);
+    if (bytes[at] !== LETTER_R) {
+      const space = machines === null ? -1 : at + machines[k + 1] - machines[k] - 1;
+      at = bytes[space] === SPACE ? space + 1 : behind(bytes, at, 1);
+      kinds[k] = KIND_BY_LETTER[bytes[at]] ?? REFUSED;
     }
+    if (SPACES[kinds[k]] > 0) {
+      at = behind(bytes, at, SPACES[kinds[k]] - 1);
+      steps[k] = numberAt(bytes, at);
+    }
+    at = Math.min(lineEnd(bytes, at) + 1, bytes.length);
+    starts[k + 1] = at;
   }
   return { starts, kinds, steps };
 }

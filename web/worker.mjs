@@ -10,7 +10,7 @@
 import { load } from "./bb.mjs";
 import { ANSWERS, KINDS } from "./machine.mjs";
 import { prepared } from "./prepare.mjs";
-import { readAnswers, readLines, tallied } from "./replies.mjs";
+import { readAnswers, readLines, startsOf, tallied } from "./replies.mjs";
 import { traced } from "./traced.mjs";
 
 const NEWLINE = 10;
@@ -27,10 +27,12 @@ let size = FIRST_BYTES;
 function answered(/** @type {Uint8Array} */ given, /** @type {Asked} */ { mode, plan }) {
   const { steps, cells, depth, nodes } = plan;
   const host = /** @type {import("./bb.mjs").Engine} */ (engine);
-  const told = mode === "decide" ? host.decideBytes(given, plan).bytes : given;
-  const reply = host.checkBytes(told, { steps, cells, depth, nodes }).bytes;
-  const lines = readLines(told);
-  const answers = readAnswers(reply, lines.kinds.length);
+  const starts = startsOf(given);
+  const count = starts.length - 1;
+  const told = mode === "decide" ? host.decideBytes(given, plan, count).bytes : given;
+  const reply = host.checkBytes(told, { steps, cells, depth, nodes }, count).bytes;
+  const lines = readLines(told, count, mode === "decide" ? starts : null);
+  const answers = readAnswers(reply, count);
   const kindCounts = tallied(lines.kinds, KINDS.length);
   const answerCounts = tallied(answers, ANSWERS.length);
   const written = mode === "decide" ? { bytes: told, lines: null } : { bytes: reply, lines: told.slice() };
