@@ -287,8 +287,8 @@ function start() {
     openLink();
   } else {
     tell(
-      "This browser has no 64-bit WebAssembly memory, which the engine needs, so nothing can be decided " +
-        "here. Tried and found to have it: Chromium 156.",
+      "This browser’s WebAssembly has no vectors (SIMD), which the engine needs, so nothing can be decided " +
+        "here. Tried and found to have them: Chromium 156.",
     );
     box("run").disabled = true;
   }

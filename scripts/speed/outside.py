@@ -122,7 +122,7 @@ def measure_node(figures: Figures, program: str, folder: str) -> None:
         return
     engine = Engine(folder)
     if engine.about.get("unsupported"):
-        tally.skip("the module in Node: it has no 64-bit memory")
+        tally.skip("the module in Node: it has no vectors")
         return
     figures.head("The module `bb.wasm`, in Node")
     size = os.path.getsize(MODULE)

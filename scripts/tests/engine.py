@@ -7,9 +7,8 @@ First it runs `scripts/web`, which builds the module where it isn't up to date, 
 `./bb`. It then decides, checks and traces by the module: the first run of the README, the examples, all
 plans at some limits, random machines and claims at random limits, all machines of four states, long lines
 and noise, refused limits, and memory that can't be had. It takes two minutes, `--quick` some seconds. It
-needs `node` with 64-bit memory (20 or later) and checks types by `tsc`; what is missing is told and
-skipped. The last line is `N passed, M failed`, with `, K skipped` where some were; the status is 1 where
-any failed.
+needs `node` with vectors (16.4 or later) and checks types by `tsc`; what is missing is told and skipped.
+The last line is `N passed, M failed`, with `, K skipped` where some were; the status is 1 where any failed.
 """
 
 import itertools
@@ -201,7 +200,7 @@ def hold_document(held: Held, folder: str) -> None:
     os.symlink(os.path.join(TOP, "web"), os.path.join(folder, "web"))
     with open(script, "w", encoding="utf-8") as file:
         file.write(documented("A script"))
-    command = ["node", "--no-warnings", "--experimental-wasm-memory64", script]
+    command = ["node", script]
     ended = subprocess.run(command, input=README, stdout=subprocess.PIPE, cwd=folder)
     limits = {"steps": 100_000, "cells": 4096}
     decided = held.written("decide", limits, README)[1]
@@ -276,7 +275,7 @@ def hold_all(program: str, tally: Tally, quick: bool, seed: int) -> None:
     with tempfile.TemporaryDirectory() as folder:
         engine = Engine(folder)
         if engine.about.get("unsupported"):
-            tally.skip("the engine in Node: it has no 64-bit memory; Node 20 or later has (package nodejs)")
+            tally.skip("the engine in Node: it has no vectors; Node 16.4 or later has (package nodejs)")
             return
         held = Held(program, engine, tally)
         hold_examples(held)

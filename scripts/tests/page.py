@@ -334,6 +334,21 @@ def hold_phone(program: str, tally: Tally, folder: str) -> None:
     page.end()
 
 
+def hold_unsupported(tally: Tally, folder: str) -> None:
+    """A browser without vectors is told that it lacks them, and can't decide."""
+    from browser import Page
+
+    page = Page(PAGE, folder)
+    source = "WebAssembly.validate = () => false"
+    page.driver.execute_cdp_cmd("Page.addScriptToEvaluateOnNewDocument", {"source": source})
+    page.driver.get("file://" + PAGE)
+    told = page.text("error")
+    tally.hold("a browser without vectors: " + told, "no vectors" in told and "Chromium 156" in told)
+    tally.hold("it can't decide", page.js("return document.getElementById('run').disabled"))
+    tally.hold("no error in its console: %s" % page.errors(), not page.errors())
+    page.end()
+
+
 def hold_all(program: str, tally: Tally, quick: bool, seed: int) -> None:
     """All of it, in pages that are ended whatever comes."""
     from browser import Page
@@ -355,6 +370,7 @@ def hold_all(program: str, tally: Tally, quick: bool, seed: int) -> None:
                 hold_noise(held, random.Random(seed))
                 hold_four_states(held)
                 hold_phone(program, tally, folder)
+                hold_unsupported(tally, folder)
             requests, errors = page.requests(), page.errors()
             tally.hold("no request: %s" % requests[:3], not requests)
             hold_document(held, folder)

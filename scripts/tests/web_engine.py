@@ -41,7 +41,7 @@ class Engine:
     """A process of Node that answers calls."""
 
     def __init__(self, folder: str, module: str = MODULE) -> None:
-        command = ["node", "--no-warnings", "--experimental-wasm-memory64", JOBS, module]
+        command = ["node", JOBS, module]
         pipe = subprocess.PIPE
         self.process = subprocess.Popen(
             command, stdin=pipe, stdout=pipe, stderr=subprocess.DEVNULL, text=True
