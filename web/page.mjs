@@ -4,7 +4,7 @@ import { isSupported } from "./memory.mjs";
 import { KINDS, counted, shown } from "./machine.mjs";
 import { copy, made, part, save } from "./parts.mjs";
 import { Pieces } from "./pieces.mjs";
-import { Asker, Pool, beginWorkers } from "./pool.mjs";
+import { Asker, Pool, makeReady } from "./pool.mjs";
 import { hasVerdicts } from "./prepare.mjs";
 import { Results } from "./results.mjs";
 import { Rows } from "./rows.mjs";
@@ -13,8 +13,6 @@ import { View } from "./view.mjs";
 
 const MOST_WORKERS = 8;
 const REFRESH_MILLISECONDS = 200;
-// After so long workers are begun for the list that may come next.
-const READY_MILLISECONDS = 100;
 const BEGIN_BYTES = 65_536;
 // A worker isn't begun for fewer bytes.
 const LEAST_BYTES = 256;
@@ -101,6 +99,7 @@ function ended(/** @type {string} */ how) {
   box("stop").disabled = true;
   part("results").dataset.state = how.toLowerCase();
   show(how);
+  makeReady(mostWorkers(), () => pool !== null);
 }
 
 /** What can't be done, in words that say what would do. */
@@ -149,7 +148,6 @@ function show(/** @type {string} */ how) {
     rows.choose(0, false);
     openRow(rows.rows[0] ?? 0, false);
     performance.mark("first verdict");
-    setTimeout(() => pool === null && beginWorkers(mostWorkers()), READY_MILLISECONDS);
   }
 }
 

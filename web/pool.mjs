@@ -15,6 +15,7 @@ import { part } from "./parts.mjs";
 const PIECES = 2;
 // A worker whose engine holds more isn't kept for the next list.
 const MOST_HELD = 16_777_216;
+const READY_MILLISECONDS = 50;
 
 /** A text that stands in the page. */
 function text(/** @type {string} */ id) {
@@ -41,11 +42,18 @@ ready.catch(() => undefined);
  */
 const idle = [];
 
-/** Has so many workers wait for the next list, since a worker takes a while to begin. */
-export function beginWorkers(/** @type {number} */ count) {
-  while (idle.length < count) {
-    idle.push(new Worker(url));
-  }
+/**
+ * Begins workers for the next list, one after another since each takes a while, until so many wait or a list
+ * has come.
+ * @param {number} most @param {() => boolean} isBusy
+ */
+export function makeReady(most, isBusy) {
+  setTimeout(() => {
+    if (idle.length < most && !isBusy()) {
+      idle.push(new Worker(url));
+      makeReady(most, isBusy);
+    }
+  }, READY_MILLISECONDS);
 }
 
 /** What went wrong, as it is told. */
