@@ -41,19 +41,38 @@ ready.catch(() => undefined);
  * @type {Worker[]}
  */
 const idle = [];
+let isWarm = false;
 
 /**
  * Begins workers for the next list, one after another since each takes a while, until so many wait or a list
- * has come.
+ * has come. The first one answers the examples for a moment: what the browser compiles then, it has for all.
  * @param {number} most @param {() => boolean} isBusy
  */
 export function makeReady(most, isBusy) {
   setTimeout(() => {
+    warm();
     if (idle.length < most && !isBusy()) {
       idle.push(new Worker(url));
       makeReady(most, isBusy);
     }
   }, READY_MILLISECONDS);
+}
+
+/** Has a worker that waits answer the examples, once. */
+function warm() {
+  if (isWarm || idle.length === 0) {
+    return;
+  }
+  isWarm = true;
+  const worker = idle[0];
+  /** @type {{call: string, lines: string}[]} */
+  const examples = JSON.parse(text("examples-data"));
+  const lists = examples.filter(({ call }) => call === "decide").map(({ lines }) => lines);
+  const list = new TextEncoder().encode(lists.join("\n"));
+  ready.then(
+    (module) => worker.postMessage({ module, what: "warm", list }),
+    () => undefined,
+  );
 }
 
 /** What went wrong, as it is told. */

@@ -18,6 +18,8 @@ const NEWLINE = 10;
 const BATCH_MILLISECONDS = 60;
 const FIRST_BYTES = 256;
 const MOST_BYTES = 1_048_576;
+const WARM_MILLISECONDS = 60;
+const WARM_PLAN = { steps: 200, cells: 256, depth: 20, nodes: 1_000 };
 
 /** @type {import("./bb.mjs").Engine | undefined} */
 let engine;
@@ -56,6 +58,14 @@ function work(/** @type {number} */ job, /** @type {Uint8Array} */ given, /** @t
   } while (from < bytes.length);
 }
 
+/** Answers a list again and again for a while, so that the browser compiles well what is called often. */
+function warm(/** @type {Uint8Array} */ list) {
+  const begun = performance.now();
+  while (performance.now() - begun < WARM_MILLISECONDS) {
+    answered(list, { mode: "decide", clean: false, plan: WARM_PLAN });
+  }
+}
+
 /** How many bytes the next batch has, at least; it ends with a line. */
 function nextSize(/** @type {number} */ taken) {
   const factor = taken > 2 * BATCH_MILLISECONDS ? 0.25 : taken < BATCH_MILLISECONDS / 2 ? 2 : 1;
@@ -84,6 +94,8 @@ async function answer(/** @type {any} */ asked) {
   engine ??= await load(asked.module);
   if (asked.what === "list") {
     work(asked.job, asked.bytes, asked.asked);
+  } else if (asked.what === "warm") {
+    warm(asked.list);
   } else if (asked.what === "sort") {
     postMessage({ order: sorted(asked.rows, asked.steps, asked.down) });
   } else {
