@@ -2,8 +2,8 @@
  * Workers that share a list: each has an engine of its own and takes the next piece when it is done with one.
  *
  * @typedef {import("./worker.mjs").Part} Part
- * @typedef {{worker: Worker, pieces: number, held: number}} Hand a worker, how many pieces it has, and the
- *   memory of its engine in bytes
+ * @typedef {{worker: Worker, pieces: number, isNew: boolean, held: number}} Hand a worker, how many pieces it
+ *   has, whether it had none of this list, and the memory of its engine in bytes
  * @typedef {{piece: () => Promise<Uint8Array | null>, part: (part: Part) => void, end: () => void,
  *   fail: (error: {error: string, message: string, limit?: string}) => void}} Work
  */
@@ -134,7 +134,7 @@ export class Pool {
   /** A worker for this list. @returns {Hand} */
   begun() {
     const worker = idle.pop() ?? new Worker(url);
-    const hand = { worker, pieces: 0, held: 0 };
+    const hand = { worker, pieces: 0, isNew: true, held: 0 };
     worker.onmessage = (event) => this.heard(hand, event.data);
     worker.onerror = (event) => this.failed({ error: "Error", message: event.message });
     return hand;
@@ -152,8 +152,10 @@ export class Pool {
       this.isRead = true;
       this.finish();
     } else if (!this.ended) {
-      const message = { module, what: "list", job: this.jobs, bytes, asked: this.asked };
+      const { jobs: job, asked } = this;
+      const message = { module, what: "list", job, bytes, asked, isNew: hand.isNew };
       hand.worker.postMessage(message, [bytes.buffer]);
+      hand.isNew = false;
       hand.pieces += 1;
       this.jobs += 1;
     }

@@ -93,6 +93,7 @@ function sorted(rows, steps, down) {
 async function answer(/** @type {any} */ asked) {
   engine ??= await load(asked.module);
   if (asked.what === "list") {
+    size = asked.isNew ? FIRST_BYTES : size;
     work(asked.job, asked.bytes, asked.asked);
   } else if (asked.what === "warm") {
     warm(asked.list);
