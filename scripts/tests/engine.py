@@ -262,6 +262,22 @@ def hold_traces(held: Held, count: int, source: random.Random) -> None:
     held.tally.hold("a trace of no machine", (reply.status, reply.reply) == (1, b"refused 2\n"))
 
 
+def hold_narrowing(tally: Tally, folder: str) -> None:
+    """What `web/narrow.py` doesn't know it refuses, with a line that says so, and writes nothing."""
+    given, made = (os.path.join(folder, name) for name in ("wide", "narrow"))
+    with open(MODULE, "rb") as file:
+        module = file.read()
+    head, memory = module[:8], bytes([5, 3, 1, 4, 0])
+    cases = [("its own module", module), ("a table", head + bytes([4, 4, 1, 0x70, 0, 1]) + memory)]
+    for what, content in cases:
+        with open(given, "wb") as file:
+            file.write(content)
+        command = ["python3", os.path.join(TOP, "web", "narrow.py"), given, made]
+        ended = subprocess.run(command, stderr=subprocess.PIPE, text=True)
+        told = ended.returncode == 1 and ended.stderr.startswith("narrow: ") and ended.stderr.count("\n") == 1
+        tally.hold("%s: %s" % (what, ended.stderr), told and not os.path.exists(made))
+
+
 def hold_types(tally: Tally) -> None:
     """The modules of `web/` pass the checks of types."""
     if not tally.has("types of web/", "tsc"):
@@ -283,6 +299,7 @@ def hold_all(program: str, tally: Tally, quick: bool, seed: int) -> None:
         hold_limits(held)
         hold_document(held, folder)
         hold_memory(held)
+        hold_narrowing(tally, folder)
         if engine.about.get("traces"):
             hold_traces(held, 5 if quick else 100, random.Random(seed))
         else:
