@@ -107,16 +107,15 @@ def words(
     parser.add_argument("program", nargs="?", default=PROGRAM, type=path, help="default: crates/bb/out/bb")
     if quick:
         parser.add_argument("--quick", action="store_true", help=quick)
-    for name, number, what in (
-        ("--machines", machines, "how many random machines"),
-        ("--runs", runs, "runs of each, of which the least time counts"),
-    ):
-        if number:
-            told = "{} (default: {:,})".format(what, number)
-            parser.add_argument(name, type=from_one, default=number, metavar="N", help=told)
+    if machines:
+        told = "how many random machines (default: {:,})".format(machines)
+        parser.add_argument("--machines", type=from_one, default=machines, metavar="N", help=told)
     if seed:
         told = "of what is random (default: %d)" % seed
         parser.add_argument("--seed", type=int, default=seed, metavar="S", help=told)
+    if runs:
+        told = "runs of each, of which the least time counts (default: %d)" % runs
+        parser.add_argument("--runs", type=from_one, default=runs, metavar="N", help=told)
     if parts:
         parser.add_argument("--part", action="append", choices=parts, help="this part; may be repeated")
     return parser
