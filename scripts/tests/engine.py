@@ -21,7 +21,7 @@ from typing import Any, Dict, Iterator, List, Tuple
 
 from machine_list import has_lister, listed
 from machines import mixed
-from program import LIMITS, ROWS, SWITCHES, ended, joined, processor_time, words_of
+from program import LIMITS, ROWS, SWITCHES, ended, joined, processor_time, words_of_plan
 from run_examples import EXAMPLES, content
 from tally import TOP, Tally, end_with, words
 from web_engine import MODULE, Engine, Reply, built, documented, plan_of
@@ -52,7 +52,7 @@ class Held:
 
     def written(self, name: str, plan: Dict[str, Any], given: bytes) -> Tuple[int, bytes]:
         """The status of the program and what it writes."""
-        return ended([self.program, name, *words_of(plan)], given)[:2]
+        return ended([self.program, name, *words_of_plan(plan)], given)[:2]
 
     def same(self, what: str, name: str, plan: Dict[str, Any], given: bytes) -> Reply:
         """Holds that a call's reply is the program's."""
@@ -168,7 +168,7 @@ def hold_limits(held: Held) -> None:
     """Refused limits, whose error has the program's words and names the limit; the greatest accepted ones."""
     for plan in REFUSED:
         reply = held.engine.call("decide", plan, b"1RA1RA\n")
-        said = ended([held.program, "decide", *words_of(plan)]).error.decode()
+        said = ended([held.program, "decide", *words_of_plan(plan)]).error.decode()
         named = reply.told.get("error") == "LimitsError" and reply.told.get("limit") == said[4:].split(" ")[0]
         held.tally.hold(
             "%s: %s" % (plan, reply.told), named and said == "bb: %s\n" % reply.told.get("message")

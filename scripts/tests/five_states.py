@@ -25,6 +25,7 @@ from typing import Any, Dict, List, Tuple
 
 from library_built import LIBRARY, has_library
 from machine_list import has_lister
+from program import ended, options_of_pass
 from tally import TOP, Tally, end_with, heed_interruption, words
 
 SCRIPT = os.path.join(TOP, "scripts", "five_states")
@@ -39,11 +40,12 @@ PASSES = [
 ]
 FOUR_STATES = (858_909, (249_693, 87_754, 500_902, 12_105, 8_455, 0, 0))
 FOUR_STATES_GREATEST = {"halt steps": 106, "cycler second": 102, "backward levels": 11, "backward nodes": 14}
+Process = subprocess.Popen[bytes]
 # Within so many seconds something must come that must.
 PATIENCE = 600
 
 
-def start(out: pathlib.Path, *asked: str) -> "subprocess.Popen[bytes]":
+def start(out: pathlib.Path, *asked: str) -> Process:
     """Starts the script, in a group of processes of its own."""
     command = [SCRIPT, "--library", LIBRARY, "--out", str(out), *asked]
     return subprocess.Popen(
@@ -51,7 +53,7 @@ def start(out: pathlib.Path, *asked: str) -> "subprocess.Popen[bytes]":
     )
 
 
-def ended(process: "subprocess.Popen[bytes]") -> Tuple[int, str]:
+def ending(process: Process) -> Tuple[int, str]:
     """The status of a process, and what it told."""
     told = process.communicate()[1].decode()
     return process.returncode, told
@@ -72,7 +74,7 @@ def passes(told: Dict[str, Any]) -> List[Tuple[int, Tuple[int, ...]]]:
 def hold_sample(tally: Tally, program: str, top: pathlib.Path) -> None:
     """The sample, and what is left of it."""
     out, began = top / "sample", time.monotonic()
-    status, told = ended(start(out, *SAMPLE))
+    status, told = ending(start(out, *SAMPLE))
     print("the sample took %.0f s" % (time.monotonic() - began), flush=True)
     tally.hold("the sample: status %d: %s" % (status, told), status == 0)
     found = summary(out)
@@ -83,8 +85,8 @@ def hold_sample(tally: Tally, program: str, top: pathlib.Path) -> None:
     told = "%.4f of the sample halt, %.4f of the list, %.4f allowed" % (halting, share, allowed)
     tally.hold(told, abs(halting - share) < allowed)
     left = (out / "left.txt").read_bytes()
-    limits = [word for pair in found["passes"][-1]["limits"].split(",") for word in ("--" + pair,)]
-    decided = subprocess.run([program, "decide", *limits], input=left, stdout=subprocess.PIPE).stdout
+    limits = options_of_pass(found["passes"][-1]["limits"])
+    decided = ended([program, "decide", *limits], left).output
     undecided = b"".join(machine + b" undecided steps\n" for machine in left.splitlines())
     tally.hold("the program decides none of what is left", decided == undecided)
 
@@ -114,17 +116,17 @@ def hold_interruptions(tally: Tally, out: pathlib.Path) -> None:
         process = start(out, *asked)
         while parts_of(out) == seen and time.monotonic() < began + PATIENCE:
             time.sleep(0.02)
-        second, told = ended(start(out, *asked))
+        second, told = ending(start(out, *asked))
         is_refused = second == 2 and "other work goes on" in told
         tally.hold("a second one: status %d: %s" % (second, told), is_refused)
         (os.killpg if number == signal.SIGKILL else os.kill)(process.pid, number)
-        found, told = ended(process)
+        found, told = ending(process)
         tally.hold("signal %d: status %d: %s" % (number, found, told), found == status)
         is_told = "interrupted; the same command goes on" in told
         tally.hold("signal %d: %s" % (number, told), is_told == (number == signal.SIGINT))
         if number != signal.SIGKILL:
             tally.hold("signal %d: nothing that it ran is left" % number, not is_left(process.pid))
-    found, told = ended(start(out, *asked))
+    found, told = ending(start(out, *asked))
     tally.hold("gone on with: status %d: %s" % (found, told), found == 0 and " parts stand" in told)
     hold_four_states(tally, out)
 
@@ -141,7 +143,7 @@ def is_left(group: int) -> bool:
 def hold_refusals(tally: Tally, top: pathlib.Path) -> None:
     """Commands and folders that are refused, by a sentence; nothing is changed."""
     small = ["--states", "2", "--parts", "2"]
-    status, told = ended(start(top / "small", *small))
+    status, told = ending(start(top / "small", *small))
     tally.hold("two states: status %d: %s" % (status, told), status == 0)
     (top / "foreign").mkdir()
     (top / "foreign" / "letter.txt").write_text("Dear reader\n")
@@ -153,7 +155,7 @@ def hold_refusals(tally: Tally, top: pathlib.Path) -> None:
     )
     for name, asked, sentence in rows:
         before = sorted(top.rglob("*"))
-        status, told = ended(start(top / name, *asked))
+        status, told = ending(start(top / name, *asked))
         is_right = status == 2 and sentence in told and sorted(top.rglob("*")) == before
         tally.hold("%s %s: status %d: %s" % (name, asked, status, told), is_right)
 

@@ -13,7 +13,7 @@ import os
 from typing import List, Mapping, Sequence, Tuple, Union
 
 from machine_list import LISTER, has_lister
-from program import SIMULATION, ended, joined, kind_of, processor_time, words_of
+from program import SIMULATION, ended, joined, kind_of, processor_time, words_of_plan
 from tally import TOP, Tally, end_with, words
 
 FIRST = {"steps": 200, "cells": 256, "depth": 20, "nodes": 1_000}
@@ -55,14 +55,14 @@ def kind(line: str) -> str:
 
 def decided(program: str, limits: Mapping[str, int], machines: Sequence[str]) -> List[str]:
     """The verdict lines of these machines, confirmed by the checker."""
-    lines, deciding = run([program, "decide", *words_of(limits)], machines)
+    lines, deciding = run([program, "decide", *words_of_plan(limits)], machines)
     tally.hold("a line for each machine", [line.split(" ")[0] for line in lines] == machines)
-    answers, checking = run([program, "check", *words_of(limits)], lines)
+    answers, checking = run([program, "check", *words_of_plan(limits)], lines)
     for line, answer in zip(lines, answers):
         expected = "open" if kind(line).startswith("undecided") else "ok"
         tally.hold("%s: %s" % (line, answer), answer == expected)
     tally.hold("an answer for each line", len(answers) == len(lines))
-    print(" ".join(words_of(limits)), "over %d machines" % len(machines))
+    print(" ".join(words_of_plan(limits)), "over %d machines" % len(machines))
     print("  deciding %.2f s, checking %.2f s" % (deciding, checking))
     return lines
 
@@ -111,7 +111,7 @@ def tell_widths(program: str, machines: Sequence[str]) -> None:
         counts = []
         for cells in (16, 32, 64, 128, 256, 512, 1_024):
             limits = {"steps": steps, "cells": cells, "depth": 0, "nodes": 0}
-            lines, _ = run([program, "decide", *words_of(limits), *SIMULATION], machines)
+            lines, _ = run([program, "decide", *words_of_plan(limits), *SIMULATION], machines)
             counts.append(sum(kind(line) == "undecided steps" for line in lines))
         told(row(steps, *counts))
 

@@ -26,7 +26,7 @@ from typing import Any, Dict, List, Tuple
 
 from engine import FOUR, README, examples, forged, plans, random_machines, random_plan
 from machine_list import has_lister, listed
-from program import SWITCHES, ended, joined, words_of
+from program import SWITCHES, ended, joined, words_of_plan
 from tally import TOP, Tally, end_with, words
 from web_engine import MODULE, PAGE, built, documented
 
@@ -54,7 +54,7 @@ class Held:
 
     def written(self, name: str, plan: Dict[str, Any], given: bytes) -> bytes:
         """What the program writes."""
-        return ended([self.program, name, *words_of(plan)], given).output
+        return ended([self.program, name, *words_of_plan(plan)], given).output
 
     def same(self, what: str, name: str, plan: Dict[str, Any], given: bytes, drop: bool = False) -> bytes:
         """Holds that the page saves what the program writes."""

@@ -25,7 +25,7 @@ ROWS = [
 ]
 
 
-def words_of(plan: Mapping[str, int]) -> List[str]:
+def words_of_plan(plan: Mapping[str, int]) -> List[str]:
     """The program's words for limits and switches by name; a switch that is on has none."""
     limits = ["--%s=%d" % (name, value) for name, value in plan.items() if name not in SWITCHES]
     return limits + ["--no-" + name for name in SWITCHES if not plan.get(name, True)]
@@ -34,6 +34,11 @@ def words_of(plan: Mapping[str, int]) -> List[str]:
 def options(limits: Iterable[int]) -> List[str]:
     """The options that ask for limits of steps, cells, levels and nodes, or of the first of these."""
     return ["--%s=%d" % pair for pair in zip(LIMITS, limits)]
+
+
+def options_of_pass(limits: str) -> List[str]:
+    """The options for limits as `budlarem run --pass` takes them, as `steps=5,cells=7`."""
+    return ["--" + limit for limit in limits.split(",")]
 
 
 class Ended(NamedTuple):

@@ -22,7 +22,7 @@ from typing import Callable, Dict, Iterator, List, Tuple, Union
 from library_built import has_library
 from machines import mixed
 from pictures import pixels
-from program import ended
+from program import ended, options_of_pass
 from tally import TOP, Tally, end_with, heed_interruption, words
 
 DOCUMENT = os.path.join(TOP, "docs", "recipes.md")
@@ -402,17 +402,12 @@ def any_length(folder: Folder, blocks: List[str], tally: Tally) -> Held:
         folder.write("machines.txt", content)
         status, _, error = folder.run("rm -rf decided\n" + blocks[0])
         wanted = b""
-        for line in folder.decided(content, *options_of(first)).splitlines(keepends=True):
+        for line in folder.decided(content, *options_of_pass(first)).splitlines(keepends=True):
             is_left = b" undecided " in line
-            again = folder.decided(line.split()[0], *options_of(second)) if is_left else line
+            again = folder.decided(line.split()[0], *options_of_pass(second)) if is_left else line
             wanted += again
         held = status == 0 and folder.read("decided/verdicts.txt") == wanted
         yield "the runner over %s: %r" % (name, error), held
-
-
-def options_of(limits: str) -> List[str]:
-    """The program's words for limits of a pass."""
-    return ["--" + word for word in limits.split(",")]
 
 
 def elsewhere(folder: Folder, blocks: List[str]) -> Held:
