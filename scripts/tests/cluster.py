@@ -15,7 +15,6 @@ failed`, with `, K skipped` where something isn't installed; the status is 1 whe
 
 import contextlib
 import importlib.util
-import os
 import pathlib
 import random
 import shutil

@@ -16,7 +16,6 @@ import pathlib
 import re
 import shutil
 import subprocess
-import sys
 import tempfile
 from typing import Dict, List, Mapping, Optional, Tuple
 

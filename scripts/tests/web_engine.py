@@ -6,7 +6,6 @@ import os
 import subprocess
 from typing import Any, Dict, List, NamedTuple, Optional
 
-from program import SWITCHES
 from tally import TOP
 
 JOBS = os.path.join(TOP, "scripts", "tests", "engine.mjs")
