@@ -16,7 +16,8 @@ Told = TypeVar("Told")
 
 
 class Pace:
-    """How much goes into a batch: twice as much after a short one, half as much after a long one."""
+    """How much goes into a batch: twice as much after a short one, eight times as much after one that was
+    shorter than an eighth of that, half as much after a long one."""
 
     SHORT, LONG = 0.05, 0.2  # seconds
 
@@ -26,7 +27,7 @@ class Pace:
     def took(self, seconds: float) -> None:
         """Tells how long a batch took."""
         if seconds < self.SHORT:
-            self.now = min(2 * self.now, self._most)
+            self.now = min((8 if seconds < self.SHORT / 8 else 2) * self.now, self._most)
         elif seconds > self.LONG:
             self.now = max(self.now // 2, 1)
 

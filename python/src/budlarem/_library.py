@@ -4,6 +4,7 @@ from __future__ import annotations
 
 import ctypes
 import functools
+import mmap
 import os
 import pathlib
 import threading
@@ -94,18 +95,25 @@ def forbid_fork() -> None:
 
 
 class Room:
-    """A buffer for replies, used again by each call of one thread."""
+    """A buffer for replies, used again by each call of one thread. What of it was never written to takes no
+    memory, so that it may be much larger than the replies."""
 
     def __init__(self) -> None:
-        self._bytes = bytearray()
-        self._address: Any = None
+        self._make(mmap.PAGESIZE)
+
+    def _make(self, size: int) -> None:
+        self._bytes = mmap.mmap(-1, size, mmap.MAP_PRIVATE | mmap.MAP_ANONYMOUS)
+        self._address: Any = (ctypes.c_char * size).from_buffer(self._bytes)
 
     def call(self, name: str, asked: Sequence[int], given: bytes, room: int) -> Tuple[int, bytes]:
-        """The status and the reply of a call with these numbers, over these bytes; `room` is how many bytes
-        a reply may have, and enough. Raises LibraryError, MemoryError."""
+        """The status and the reply of a call with these numbers, over these bytes. `room` is how many bytes a
+        reply is likely to have at most; where it has more, the call is made again. Raises LibraryError,
+        MemoryError."""
         status, count, reply = self.tried(name, asked, given, room)
         if status == SHORT:
-            raise AssertionError("%s with %r needs %d bytes, not %d" % (name, asked, count, room))
+            status, count, reply = self.tried(name, asked, given, count)
+        if status == SHORT:
+            raise AssertionError("%s with %r needs %d bytes, and now more" % (name, asked, count))
         return status, reply
 
     def tried(self, name: str, asked: Sequence[int], given: bytes, room: int) -> Tuple[int, int, bytes]:
@@ -113,13 +121,7 @@ class Room:
         more than `room`. Raises LibraryError, MemoryError."""
         call = call_named(name)
         if room > len(self._bytes):
-            size = 1 << max(room - 1, 1).bit_length()
-            self._address = None
-            self._bytes = bytearray(size)
-            self._address = (ctypes.c_char * size).from_buffer(self._bytes)
-        elif self._address is None:
-            self._bytes = bytearray(1)
-            self._address = (ctypes.c_char * 1).from_buffer(self._bytes)
+            self._make(1 << (room - 1).bit_length())
         count = _SIZE()
         status = call(*asked, given, len(given), self._address, room, ctypes.byref(count))
         if status == MEMORY:
@@ -128,5 +130,4 @@ class Room:
             )
         if status == LIMITS:
             raise AssertionError("%s refused the limits %r" % (name, asked))
-        given_back = 0 if status == SHORT else count.value
-        return status, count.value, bytes(memoryview(self._bytes)[:given_back])
+        return status, count.value, b"" if status == SHORT else self._bytes[: count.value]

@@ -27,6 +27,9 @@ Call = Callable[[Room, bytes], bytes]
 _ANSWERS = {str(answer): answer for answer in Answer}
 # How many bytes a reply to one line has beyond the line itself, at most, and how many an answer has.
 _BEYOND, _ANSWER = 98, 7
+# How many bytes the replies to some lines have for each byte of these at most, since a machine has six or more
+# and its line one more; and for how many bytes of verdict lines an answer has one.
+_FOLD, _FOR_EACH = 15, 2
 # How many bytes of a trace are asked for at once, where a line isn't longer; and how many they would have at
 # most if each line were as long as it may be.
 _TRACED, _TRACED_AT_WORST = 1 << 24, 1 << 28
@@ -52,8 +55,7 @@ def deciding(limits: Limits, plan: Plan) -> Call:
     asked = (*limits.numbers(), *plan.switches())
 
     def call(room: Room, lines: bytes) -> bytes:
-        count = lines.count(b"\n") + 1
-        return room.call("bb_decide", asked, lines, len(lines) + _BEYOND * count)[1]
+        return room.call("bb_decide", asked, lines, _FOLD * len(lines) + _BEYOND)[1]
 
     return call
 
@@ -63,7 +65,7 @@ def checking(limits: Limits) -> Call:
     asked = limits.numbers()
 
     def call(room: Room, lines: bytes) -> bytes:
-        return room.call("bb_check", asked, lines, _ANSWER * (lines.count(b"\n") + 1))[1]
+        return room.call("bb_check", asked, lines, len(lines) // _FOR_EACH + _ANSWER)[1]
 
     return call
 
