@@ -13,7 +13,7 @@ from typing import Any, Iterator, List
 
 import budlarem
 from budlarem import Answer, Limits, Plan
-from budlarem._library import Room
+from budlarem._library import CLEAN, Room
 
 CHAMPION = "1RB1LB_1LA1RZ"
 MACHINES = [CHAMPION, "0RB---_0LA---", "1RA1RA", "1rB1LB", ""]
@@ -151,9 +151,8 @@ class BytesTest(unittest.TestCase):
         asked = (*Limits().numbers(), *Plan().switches())
         room = Room()
         for given in (1, 22, 23, 1_000_000):
-            self.assertEqual(
-                room.call("bb_decide", asked, b"1RB1LB_1LA1RZ\n", given), (0, b"1RB1LB_1LA1RZ halt 6 4\n")
-            )
+            room.call("bb_decide", asked, b"1RB1LB_1LA1RZ\n", given)
+            self.assertEqual(room.reply(), (CLEAN, 23, b"1RB1LB_1LA1RZ halt 6 4\n"))
 
     def test_lists_of_many_batches(self) -> None:
         lines = b"".join(b"1RZ---%s\n" % (b"x" * (place % 700)) for place in range(5_000))

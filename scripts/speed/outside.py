@@ -168,8 +168,8 @@ def measure_trace(figures: Figures, program: str, folder: str) -> None:
     lines: List[int] = []
 
     def trace() -> None:
-        told = room.tried("bb_trace", (steps, cells, 0, every), machine, 1 << 26)[2]
-        lines.append(told.count(b"\n"))
+        room.call("bb_trace", (steps, cells, 0, every), machine, 1 << 26)
+        lines.append(room.reply().text.count(b"\n"))
 
     def decide(on: bool) -> None:
         room.call("bb_decide", (steps, cells, 300, 1_000_000, on, on, on), machine + b"\n", 1_000)

@@ -1,4 +1,4 @@
-"""The library `libbb.so`: where it is, its calls, and a call made with a buffer that is used again."""
+"""The library `libbb.so`: where it is, its calls, and buffers for their replies, which are used again."""
 
 from __future__ import annotations
 
@@ -8,7 +8,7 @@ import mmap
 import os
 import pathlib
 import threading
-from typing import Any, Callable, List, Sequence, Tuple
+from typing import Any, Callable, List, NamedTuple, Sequence
 
 VARIABLE = "BB_LIBRARY"
 CLEAN, NOT_CLEAN, LIMITS, MEMORY, SHORT = range(5)
@@ -94,31 +94,44 @@ def forbid_fork() -> None:
         )
 
 
+class Reply(NamedTuple):
+    """What a call told: its status, how many bytes its reply has, and the reply; none where the status is
+    SHORT."""
+
+    status: int
+    length: int
+    text: bytes
+
+
 class Room:
-    """A buffer for replies, used again by each call of one thread. What of it was never written to takes no
-    memory, so that it may be much larger than the replies."""
+    """A buffer for the reply to one call after another. What of it was never written to takes no memory, so
+    that it may be much larger than the replies."""
 
     def __init__(self) -> None:
         self._make(mmap.PAGESIZE)
+        self._status, self._length = CLEAN, 0
 
     def _make(self, size: int) -> None:
         self._bytes = mmap.mmap(-1, size, mmap.MAP_PRIVATE | mmap.MAP_ANONYMOUS)
         self._address: Any = (ctypes.c_char * size).from_buffer(self._bytes)
 
-    def call(self, name: str, asked: Sequence[int], given: bytes, room: int) -> Tuple[int, bytes]:
-        """The status and the reply of a call with these numbers, over these bytes. `room` is how many bytes a
-        reply is likely to have at most; where it has more, the call is made again. Raises LibraryError,
-        MemoryError."""
-        status, count, reply = self.tried(name, asked, given, room)
-        if status == SHORT:
-            status, count, reply = self.tried(name, asked, given, count)
-        if status == SHORT:
-            raise AssertionError("%s with %r needs %d bytes, and now more" % (name, asked, count))
-        return status, reply
+    def reply(self) -> Reply:
+        """What the last call told."""
+        given_back = 0 if self._status == SHORT else self._length
+        return Reply(self._status, self._length, self._bytes[:given_back])
 
-    def tried(self, name: str, asked: Sequence[int], given: bytes, room: int) -> Tuple[int, int, bytes]:
-        """The status, how many bytes the reply has, and the reply; status SHORT and no reply where it has
-        more than `room`. Raises LibraryError, MemoryError."""
+    def call(self, name: str, asked: Sequence[int], given: bytes, room: int) -> None:
+        """Makes a call with these numbers, over these bytes. `room` is how many bytes a reply is likely to
+        have at most; where it has more, the call is made again. Raises LibraryError, MemoryError."""
+        self.call_once(name, asked, given, room)
+        if self._status == SHORT:
+            self.call_once(name, asked, given, self._length)
+        if self._status == SHORT:
+            raise AssertionError("%s with %r asks for %d bytes, and then for more" % (name, asked, room))
+
+    def call_once(self, name: str, asked: Sequence[int], given: bytes, room: int) -> None:
+        """Makes a call, whose status is SHORT where the reply has more than `room` bytes. Raises
+        LibraryError, MemoryError."""
         call = call_named(name)
         if room > len(self._bytes):
             self._make(1 << (room - 1).bit_length())
@@ -130,4 +143,4 @@ class Room:
             )
         if status == LIMITS:
             raise AssertionError("%s refused the limits %r" % (name, asked))
-        return status, count.value, b"" if status == SHORT else self._bytes[: count.value]
+        self._status, self._length = status, count.value

@@ -11,7 +11,7 @@ import re
 from typing import Dict, List, Tuple
 
 from .._library import Room
-from ..engine import checking, deciding
+from ..engine import Call, checking, deciding
 from ..limits import Limits, Plan
 from .errors import ReplyError
 from .tasks import Identity
@@ -20,6 +20,7 @@ from .tasks import Identity
 _LOWEST = Limits(steps=0, cells=1, depth=0, nodes=0)
 _DECIDE = deciding(_LOWEST, Plan(cyclers=False, translated=False, backward=False))
 _CHECK = checking(_LOWEST)
+
 # A word of each kind's lines.
 KINDS = {
     "halt": b" halt ",
@@ -32,6 +33,12 @@ KINDS = {
 }
 Counts = Dict[str, int]
 _BEHIND_MACHINE = re.compile(b" [^\\n]*")
+
+
+def _replies(call: Call, lines: bytes) -> bytes:
+    room = Room()
+    call(room, lines)
+    return room.reply().text
 
 
 def counts_of(verdicts: bytes) -> Counts:
@@ -65,7 +72,7 @@ def look_at_verdicts(given: bytes, verdicts: bytes) -> Counts:
     if b" " in given or counts["refused"] or _BEHIND_MACHINE.sub(b"", verdicts) != given:
         machines = given.split(b"\n")[:-1]
         _look_at_refusals(machines, _split(verdicts, len(machines), "verdict lines"))
-    answers = _CHECK(Room(), verdicts)
+    answers = _replies(_CHECK, verdicts)
     if b"unread" in answers or b"bad" in answers:
         answered = answers.split(b"\n")
         wrong = next(place for place, answer in enumerate(answered) if answer in (b"unread", b"bad"))
@@ -81,7 +88,7 @@ def _look_at_refusals(machines: List[bytes], replies: List[bytes]) -> None:
         for place, (machine, reply) in enumerate(zip(machines, replies))
         if b" " in machine or reply.startswith(b"refused ") or not reply.startswith(machine + b" ")
     ]
-    own = _DECIDE(Room(), b"".join(machines[place] + b"\n" for place in odd)).split(b"\n")
+    own = _replies(_DECIDE, b"".join(machines[place] + b"\n" for place in odd)).split(b"\n")
     for place, line in zip(odd, own):
         if replies[place] != line or not line.startswith(b"refused "):
             text = "%s came back for the line %s" % (shown(replies[place]), shown(machines[place]))
