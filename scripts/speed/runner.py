@@ -83,10 +83,12 @@ def by_program(program: str, limits: Sequence[int], given: pathlib.Path, before:
 
 
 def by_runner(case: Case, limits: Sequence[int], more: List[str]) -> bytes:
-    """What the runner writes."""
+    """What the runner writes. Its modules are compiled by the first run, as those of an installed package
+    are."""
     case.clear()
     case.words = ["--pass", words_of(limits), *more]
-    case.run()
+    compiled = {"PYTHONDONTWRITEBYTECODE": "", "PYTHONPYCACHEPREFIX": str(case.list.parent / "compiled")}
+    case.run(more_environment=compiled)
     return case.verdicts()
 
 

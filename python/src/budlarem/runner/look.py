@@ -21,18 +21,18 @@ _LOWEST = Limits(steps=0, cells=1, depth=0, nodes=0)
 _DECIDE = deciding(_LOWEST, Plan(cyclers=False, translated=False, backward=False))
 _CHECK = checking(_LOWEST)
 
-# A word of each kind's lines.
+# What each kind's lines have once, and no other line has.
 KINDS = {
-    "halt": b" halt ",
-    "cycler": b" cycler ",
-    "translated": b" translated ",
-    "backward": b" backward ",
-    "undecided steps": b" undecided steps\n",
-    "undecided cells": b" undecided cells\n",
-    "refused": b"refused ",
+    "halt": b"halt",
+    "cycler": b"cycler",
+    "translated": b"translated",
+    "backward": b"backward",
+    "undecided steps": b"undecided steps",
+    "undecided cells": b"undecided cells",
+    "refused": b"refused",
 }
 Counts = Dict[str, int]
-_BEHIND_MACHINE = re.compile(b" [^\\n]*")
+_BEHIND_MACHINE = re.compile(b" .*")
 
 
 def _replies(call: Call, lines: bytes) -> bytes:
@@ -41,13 +41,12 @@ def _replies(call: Call, lines: bytes) -> bytes:
     return room.reply().text
 
 
-def counts_of(verdicts: bytes) -> Counts:
-    """How many lines there are of each kind, among lines that were looked at."""
-    left = verdicts.count(b"\n")
+def counts_of(verdicts: bytes, lines: int) -> Counts:
+    """How many there are of each kind, among so many verdict lines and refusals."""
     counts = {}
     for kind, word in KINDS.items():
-        counts[kind] = verdicts.count(word) if left else 0
-        left -= counts[kind]
+        counts[kind] = verdicts.count(word) if lines else 0
+        lines -= counts[kind]
     return counts
 
 
@@ -66,9 +65,9 @@ def _split(lines: bytes, count: int, what: str) -> List[bytes]:
     return parts
 
 
-def look_at_verdicts(given: bytes, verdicts: bytes) -> Counts:
-    """Looks at the verdict lines of a piece; counts their kinds. Raises ReplyError."""
-    counts = counts_of(verdicts)
+def look_at_verdicts(given: bytes, verdicts: bytes, lines: int) -> Counts:
+    """Looks at the verdict lines of a piece of so many lines; counts their kinds. Raises ReplyError."""
+    counts = counts_of(verdicts, lines)
     if b" " in given or counts["refused"] or _BEHIND_MACHINE.sub(b"", verdicts) != given:
         machines = given.split(b"\n")[:-1]
         _look_at_refusals(machines, _split(verdicts, len(machines), "verdict lines"))
