@@ -62,7 +62,7 @@ static TRANSLATED_ROWS: [Row; 20] = [
 ];
 
 /// The machine and the verdict of a line.
-fn claim_of(rt: &impl Abort, line: &[u8]) -> (Machine, Verdict) {
+fn read_claim(rt: &impl Abort, line: &[u8]) -> (Machine, Verdict) {
     match read_line(line) {
         Some(Line::Claim(machine, verdict)) => (machine, verdict),
         _ => panic!(rt; "{line:?} is a claim"),
@@ -104,7 +104,7 @@ fn are_decided<T: Tape>(
         backward: false,
     };
     for (line, most_steps, steps) in rows {
-        let (machine, verdict) = claim_of(rt, line);
+        let (machine, verdict) = read_claim(rt, line);
         let mut meter = Meter::new();
         let decided = decided(bench, &machine, *most_steps, plan, &mut meter)?;
         assert_eq!(rt; decided, verdict, "{most_steps} steps of {line:?}");
@@ -192,7 +192,7 @@ fn is_searched<T: Tape>(
     ensures tapes { BenchHasCells T.view CELLS bench.new }
     ensures path { bench.new.path ≡ bench.old.path }
 {
-    let (machine, verdict) = claim_of(rt, searched.0);
+    let (machine, verdict) = read_claim(rt, searched.0);
     let mut meter = Meter::new();
     let cycle = cycle_of(bench, &machine, &mut meter)?;
     is_cycle(rt, searched, verdict, cycle, &meter);

@@ -3,7 +3,7 @@ ghost use Rattle.std.specs.Prelude.{◌≡◌};
 ghost use Rattle.bb_cert.specs.tree.Path.{depth_of};
 ghost use Rattle.bb_decide.specs.Bench.{BenchHasCells};
 
-use super::{bench_on_maps, bench_on_rings, claim_of};
+use super::{bench_on_maps, bench_on_rings, read_claim};
 use bb_cert::Verdict;
 use bb_decide::{Bench, Plan, backward, decide};
 use bb_machine::{LimitFault, Limits, Machine};
@@ -87,7 +87,7 @@ fn is_reasoned<T: Tape>(
     requires tapes { BenchHasCells T.view limits.now.cells bench.old }
     requires path { depth_of bench.old.path ≡ limits.now.depth }
 {
-    let (machine, verdict) = claim_of(rt, row.0);
+    let (machine, verdict) = read_claim(rt, row.0);
     let mut meter = Meter::new();
     let found = found(bench, limits, &machine, &mut meter)?;
     is_found(rt, row, verdict, found, &meter);
