@@ -8,12 +8,13 @@ use Rattle.bb_machine.specs.Machine.{Table}
 use Rattle.bb_tape.specs.Content.{cell}
 use Rattle.bb_sim.specs.Configuration.{Configuration, next}
 use Rattle.bb_sim.specs.Run.{conf, Exists}
+use Rattle.bb_sim.proofs.Facts.{least_bounds}
 use Rattle.bb_cert.specs.declared.verdict.Side.{Side}
 use Rattle.bb_cert.specs.records.Record.{out, head_at, far}
 use Rattle.bb_cert.specs.records.Agree.{AgreeingRecords}
 use Rattle.bb_cert.specs.claims.Laws.{AgreeingRecordsGoOn, AgreeingRecordsNeverHalt}
 use Rattle.bb_cert.proofs.claim_lemmas.Runs.{conf-suc, moves, earlier, never_of_steps}
-use Rattle.bb_cert.proofs.record_lemmas.Positions.{out-add, out-subtract, head_at-is, least_at_most}
+use Rattle.bb_cert.proofs.record_lemmas.Positions.{out-add, out-subtract, head_at-is}
 use Rattle.bb_cert.proofs.record_lemmas.Records.{stands_on, has_step, records_in_order, blank_beyond}
 use Rattle.bb_cert.proofs.claim_lemmas.Regions.{IsMoved, step_alike}
 
@@ -69,7 +70,7 @@ module _ (table : Table) (side : Side) (a b : ℕ) (records : AgreeingRecords ta
   within u h =
       let e : u + a ≡ a + u = omega arith in
       subst (λ n. beyond table side a b (head_at table n)) e
-      (least_at_most (λ k. out side (head_at table (k + a))) (b - a) u h)
+      (least_bounds (λ k. out side (head_at table (k + a))) u (b - a) h)
 
   -- farther out than both records the tape is blank
   blank_at_both : (x : ℤ) → pos records.first_number ≤ℤ out side x

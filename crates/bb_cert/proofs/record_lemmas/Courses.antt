@@ -183,19 +183,16 @@ module _ (table : Table) (side : Side) (before after : Runner) (run_before run_a
 
   made_by : (told : Option Side) → MakesJust table n told → told ≡ Some side → MakesRecord table side n
   made_by None just is = absurd cc
-  made_by (Some R) just is = let same : R ≡ side = cc in subst (λ s. MakesRecord table s n) same just.0
-  made_by (Some L) just is = let same : L ≡ side = cc in subst (λ s. MakesRecord table s n) same just.0
+  made_by (Some s) just is = let same : s ≡ side = cc in subst (λ s. MakesRecord table s n) same just.0
 
   tells_made : (told : Option Side) → MakesJust table n told → MakesRecord table side n → told ≡ Some side
   tells_made None just made = absurd (just side made)
-  tells_made (Some R) just made = by_side side made where
-    by_side : (s : Side) → MakesRecord table s n → Some R ≡ Some s
-    by_side R made = refl
-    by_side L made = absurd (just.1 made)
-  tells_made (Some L) just made = by_side side made where
-    by_side : (s : Side) → MakesRecord table s n → Some L ≡ Some s
-    by_side L made = refl
-    by_side R made = absurd (just.1 made)
+  tells_made (Some s) just made = by_sides s side just made where
+    by_sides : (s t : Side) → MakesJust table n (Some s) → MakesRecord table t n → Some s ≡ Some t
+    by_sides R R just made = refl
+    by_sides L L just made = refl
+    by_sides R L just made = absurd (just.1 made)
+    by_sides L R just made = absurd (just.1 made)
 
   pub told_by_window : (cells : ℕ) → cells ≡ cells_between (low_of before) (high_of before) →
       (told : Option Side)
