@@ -1,7 +1,7 @@
 use Rattle.std.proofs.Common.{◌≡◌, ◌-◌}
 use Rattle.bb_sim.specs.Runner.{steps_of}
 use Rattle.bb_sim.proofs.Counting.{RunsWithin}
-use Rattle.bb_sim.proofs.simulation.run.Given as goal
+use Rattle.bb_sim.proofs.simulation.run_machine.Given as goal
 
 -- the runner stands within the limits, and what it has done so far is counted
 abbrev pub invariant-loop-runner : goal.invariant-loop-runner
