@@ -2,7 +2,7 @@
 ghost use Rattle.std.specs.Prelude.{◌≡◌, ◌↔◌, IsTrue};
 ghost use Rattle.bb_sim.specs.Runner.{position_of, state_of};
 
-use bb_sim::Runner;
+use crate::runner::Runner;
 use bb_tape::Tape;
 
 /// Whether two runners, each on its tape, stand at the same configuration. The tapes are compared only where
