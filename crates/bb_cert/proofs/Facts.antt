@@ -14,7 +14,7 @@ pub use Rattle.bb_cert.proofs.verdict_lemmas.Lengths.{length-line, length-verdic
 pub use Rattle.bb_cert.proofs.verdict_lemmas.Lines.{line_unique}
 pub use Rattle.bb_cert.proofs.claim_lemmas.NoRecords.{agreeing_records_never_repeat}
 pub use Rattle.bb_cert.proofs.record_lemmas.Positions.{IsLed, climbs, head_at-is, head_at-start, led_by}
-pub use Rattle.bb_cert.proofs.record_lemmas.Positions.{out-subtract}
+pub use Rattle.bb_cert.proofs.record_lemmas.Positions.{one_number, out-subtract}
 pub use Rattle.bb_cert.proofs.record_lemmas.Positions.{out-zero, starts}
 pub use Rattle.bb_cert.proofs.record_lemmas.RecordPairs.{record_pair}
 pub use Rattle.bb_cert.proofs.record_lemmas.Records.{record_has_one_step, record_takes_steps}

@@ -22,6 +22,10 @@ use Rattle.bb_cert.specs.declared.verdict.Side.TheVariants.{L, R}
 use Rattle.bb_cert.specs.records.Record.{out, head_of, head_at}
 use Rattle.bb_cert.proofs.claim_lemmas.Runs.{moves}
 
+-- a position is one number
+pub one_number : (i j : ℕ) (p : ℤ) → p ≡ pos i → p ≡ pos j → i ≡ j
+one_number i j p a b = omega (arith, ints, a, b)
+
 pub out-zero : (side : Side) → out side (pos 0) ≡ pos 0
 out-zero L = refl
 out-zero R = refl

@@ -24,7 +24,7 @@ use Rattle.bb_cert.specs.inside.Walk.{HasNonzero}
 use Rattle.bb_cert.specs.inside.Walk.{Refused}
 use Rattle.bb_cert.specs.inside.Walk.{branches, comb_of, branch_node}
 use Rattle.bb_cert.specs.inside.Steps.{HasTable, Enters, Explores, IsFirstBranch, entered_on, states_of}
-use Rattle.bb_cert.proofs.tree_lemmas.Comb.{walk_enters, walk_leaves, walk_refused}
+use Rattle.bb_cert.proofs.tree_lemmas.Walked.{walk_enters, walk_leaves, walk_refused}
 use Rattle.bb_cert.proofs.tree_lemmas.Orders.{AreAlike, alike_permuted, walk_rearranged}
 
 -- a frame of a narrower window is one of a wider one, also with another rule to be tried next

@@ -11,7 +11,7 @@ use Rattle.bb_sim.specs.Configuration.{start}
 use Rattle.bb_cert.specs.declared.tree.rules.Rule.{Rule}
 use Rattle.bb_cert.specs.tree.Tree.{Node, Matches, MatchesOne, OneOf, grown, grown_below}
 use Rattle.bb_cert.specs.inside.Walk.{IsPart, IsWalked}
-use Rattle.bb_cert.proofs.tree_lemmas.Comb.{grown-append, grown-empty, empty_below}
+use Rattle.bb_cert.proofs.tree_lemmas.Walked.{grown-append, grown-empty, empty_below}
 use Rattle.bb_cert.proofs.tree_lemmas.OneOf.{one-flat_map, one-in_flat_map, one_permuted}
 
 -- in place of some nodes a walk may enter others: they stand in the same level, and their trees are alike

@@ -14,7 +14,7 @@ use Rattle.bb_cert.specs.declared.tree.walk.Count.{Count}
 use Rattle.bb_cert.specs.tree.Tree.{halting_node, rules_to, EndsNowhere}
 use Rattle.bb_cert.specs.inside.Walk.{AreInOrder, AreRules, IsBranch, IsRange, IsRule, IsWalked, branch_node}
 use Rattle.bb_cert.specs.inside.Steps.{Explores, HasTable, IsWithin, WalksAll, states_of}
-use Rattle.bb_cert.proofs.tree_lemmas.Comb.{walk_begins, walk_ends}
+use Rattle.bb_cert.proofs.tree_lemmas.Walked.{walk_begins, walk_ends}
 use Rattle.bb_cert.proofs.tree_lemmas.Orders.{alike_mapped, walk_rearranged}
 use Rattle.bb_cert.proofs.tree_lemmas.Shown.{blank_nonzero, halting_shown, named_at, no_rule, slice_none}
 use Rattle.bb_cert.proofs.tree_lemmas.Shown.{slice_step}
