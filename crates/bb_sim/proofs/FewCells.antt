@@ -40,8 +40,7 @@ running_below table m n less end_there =
       here = there.here;
       exists = there.exists;
       runs = λ halted.
-          let end = ends_in_Z table m there.here there.exists halted n end_there in
-          absurd (omega (arith, less, end));
+          absurd (omega (arith, less, ends_in_Z table m there.here there.exists halted n end_there));
     }
 
 -- a step before one that isn't in Z isn't, either
@@ -123,8 +122,7 @@ module _ (table : Table) (machine : IsMachine table) (n cells : ℕ) (low : ℤ)
       by_entry : (b : Configuration) → conf table i ≡ Some b → Held b → (entry : Entry)
           → entry_at table b.state (cell b.tape b.head) ≡ entry → Held c
       by_entry b before held Undefined here =
-          let last = halt_is_last table i (suc i) c (halts_here table i b before here) at in
-          absurd (omega (arith, last))
+          absurd (omega (arith, halt_is_last table i (suc i) c (halts_here table i b before here) at))
       by_entry b before held (Go write dir next) here =
           let after : conf table (suc i) ≡ Some (led b write dir next) =
           subst (λ k. conf table k ≡ Some (led b write dir next)) (add-one i)
@@ -185,8 +183,7 @@ window_of table n cells narrow i few c at runs =
     let from = least_bounds f i n few in
     let to = greatest_bounds f i n few in
     let below = least_last f n in
-    let above = greatest_last f n in
-    let wide = cells_between-is (least f n) (greatest f n) (omega (arith, ints, below, above)) in
+    let wide = cells_between-is (least f n) (greatest f n) (omega (arith, ints, below, greatest_last f n)) in
     record {
       from = omega (arith, ints, here, from);
       to = omega (arith, ints, here, to, wide, narrow);
@@ -219,6 +216,5 @@ pub few_cells_repeat_before : (table : Table) (cells n : ℕ) → IsMachine tabl
     → configurations_in table cells ≤ n → IsRunning table n → span table n ≤ cells
     → RepeatsBy table (configurations_in table cells)
 few_cells_repeat_before table cells n machine few last narrow =
-    let grows = span_grows table (configurations_in table cells) n few in
     few_cells_repeat table cells machine (running_before table (configurations_in table cells) n few last)
-    (omega (arith, grows, narrow))
+    (omega (arith, span_grows table (configurations_in table cells) n few, narrow))

@@ -179,8 +179,7 @@ module _ {table : Table} {old : Runner} {view : TapeView} {write : ℕ} {dir : D
   wanted bounds apart limit fits = (
     moves_on,
     apart,
-    let spans = next-span in
-        omega (arith, spans, fits, limit),
+    omega (arith, next-span, fits, limit),
   )
 
   pub made : (bounds : Bounds) (new : Runner) (view_new : TapeView) (meter_old meter_new : Meter)

@@ -22,6 +22,9 @@ use Rattle.bb_cert.specs.declared.verdict.Side.TheVariants.{L, R}
 use Rattle.bb_cert.specs.records.Record.{out, head_of, head_at}
 use Rattle.bb_cert.proofs.claim_lemmas.Runs.{moves}
 
+pub through : (p q r : ℤ) → p ≤ℤ q → q ≤ℤ r → p ≤ℤ r
+through p q r a b = omega (arith, ints, a, b)
+
 -- a position is one number
 pub one_number : (i j : ℕ) (p : ℤ) → p ≡ pos i → p ≡ pos j → i ≡ j
 one_number i j p a b = omega (arith, ints, a, b)

@@ -21,6 +21,7 @@ use Rattle.bb_sim.proofs.Facts.{
   cells_between-is,
   conf-start,
   counted_head-at,
+  counted_running,
   greatest_bounds,
   greatest-next,
   least_bounds,
@@ -32,7 +33,7 @@ use Rattle.bb_cert.specs.inside.Checks.{MakesRecord}
 use Rattle.bb_cert.specs.records.Follow.{IsTop, TellsWidening}
 use Rattle.bb_cert.specs.records.Record.{out, head_at, IsRecord}
 use Rattle.bb_cert.proofs.record_lemmas.Heads.{head_in_window, runs_before, runs_up_to}
-use Rattle.bb_cert.proofs.record_lemmas.Positions.{climbs, head_at-is, head_at-start, out-zero}
+use Rattle.bb_cert.proofs.record_lemmas.Positions.{climbs, head_at-is, head_at-start, out-zero, through}
 use Rattle.bb_cert.proofs.record_lemmas.Records.{short_of_record, stands_on}
 
 pub top_at_first : (table : Table) (side : Side) → IsTop table side 0 (pos 0)
@@ -53,9 +54,6 @@ next_up p q r step below above = omega (arith, ints, step, below, above)
 
 one_up : (n : ℕ) (q : ℤ) → q ≡ pos n +ℤ pos 1 → q ≡ pos (n + 1)
 one_up n q is = omega (arith, ints, is)
-
-through : (p q r : ℤ) → p ≤ℤ q → q ≤ℤ r → p ≤ℤ r
-through p q r a b = omega (arith, ints, a, b)
 
 apart : (p q r : ℤ) → p ≤ℤ q → q <ℤ r → p ≢ r
 apart p q r a b is = omega (arith, ints, a, b, is)
@@ -253,12 +251,8 @@ module _ {table : Table} {before after : Runner} {run_before run_after : TapeVie
 
   -- outside Z
   module _ (runs : state_of after ≢ Halt) where
-    in_state : (state : Next) (p : ℤ) → state ≢ Halt → counted_position state p ≡ p
-    in_state (State q) p some = refl
-    in_state Halt p some = absurd (some refl)
-
     at : counted_position (state_of after) (position_of after) ≡ position_of after
-    at = in_state (state_of after) (position_of after) runs
+    at = counted_running (state_of after) (position_of after) runs
 
     head : head_at table (n + 1) ≡ position_of after
     head = ap (head_at table) (sym next) ∙ head_at-is table (steps_of after) _ stands.at

@@ -93,10 +93,9 @@ record Found (X : Type 0) (P : X → Type 0) (xs : List X) : Type 0 where
 
 found_later : {X : Type 0} (P : X → Type 0) (y : X) (xs : List X) → Found X P xs → Found X P (y ∷ xs)
 found_later P y xs found =
-    let less = found.contained.1 in
     record {
       element = found.element;
-      contained = (suc found.contained.0, omega (arith, less), found.contained.2);
+      contained = (suc found.contained.0, omega (arith, found.contained.1), found.contained.2);
       holds = found.holds;
     }
 

@@ -25,9 +25,7 @@ pub walk_rearranged : {table : Table} {first others : List Node} {comb : List (L
     → IsWalked table (others ∷ comb) nodes levels
 walk_rearranged {comb = comb} alike walked = record {
   counted = λ h deep.
-      let old = walked.counted h deep in
-      let same = alike.below (h - length comb) in
-      omega (arith, old, same);
+      omega (arith, walked.counted h deep, alike.below (h - length comb));
   reached = walked.reached;
   parts = (λ node one. walked.parts.0 node (alike.part node one), walked.parts.1);
   matches = λ i one. elim (walked.matches i one) [
@@ -40,9 +38,8 @@ below-append : (table : Table) (a b : List Node) (h : ℕ)
     → grown_below table (a ++ b) h ≡ grown_below table a h + grown_below table b h
 below-append table a b zero = omega arith
 below-append table a b (suc h) =
-    let past = below-append table a b h in
     let here = ap length (grown-append table a b h) ∙ length-append (grown table a h) (grown table b h) in
-    omega (arith, past, here)
+    omega (arith, below-append table a b h, here)
 
 grown-flat_map : (table : Table) (f : Rule → List Node) (rules : List Rule) (i : ℕ)
     → grown table (flat_map f rules) i ≡ flat_map (λ r. grown table (f r) i) rules

@@ -127,9 +127,7 @@ start_within order e = let n = order.count in omega (arith, n, e)
 pub state_within : {list : List Rule} {starts : Dir → List ℕ} {state : ℕ} → HasTable list starts
     → (first : Dir) → state < states_of starts → state + 1 < length (starts first)
 state_within known first h =
-    let n = (known.1.in_order L).count in
-    let m = (known.1.in_order first).count in
-    omega (arith, n, m, h)
+    omega (arith, (known.1.in_order L).count, (known.1.in_order first).count, h)
 
 pub below_next : {state long : ℕ} → state + 1 < long → state < long
 below_next h = omega (arith, h)

@@ -284,11 +284,9 @@ written_nonzero content p symbol nonzero more has sum = record {
       cell-with_cell-other has.one_less p symbol q apart ∙ has.each q
       ∙ ap (λ c. c - 1) (sym (cell-with_cell-other content p (symbol + 1) q apart)));
   counted =
-      let law = score-with_cell has.one_less p symbol in
       let here = has.each p in
-      let old = has.counted in
       let same : min 1 (cell has.one_less p) ≡ min 1 (cell content p - 1) = ap (min 1) here in
-      omega (arith, law, same, old, sum);
+      omega (arith, score-with_cell has.one_less p symbol, same, has.counted, sum);
 }
 
 -- a cell that is known to be other than 0 is counted
@@ -296,11 +294,9 @@ pub some_nonzero : (content : Content) (p : ℤ) (nonzero : ℕ) → HasNonzero 
     → 1 < cell content p → 0 < nonzero
 some_nonzero content p nonzero has more = elim (cases_eq nonzero 0) [
   | inl none ↦
-      let law = score-with_cell has.one_less p 0 in
       let here = has.each p in
-      let old = has.counted in
       let same : min 1 (cell has.one_less p) ≡ min 1 (cell content p - 1) = ap (min 1) here in
-      absurd (omega (arith, law, same, old, none, more))
+      absurd (omega (arith, score-with_cell has.one_less p 0, same, has.counted, none, more))
   | inr some ↦ omega (arith, some)
 ]
 
@@ -308,8 +304,7 @@ no_nonzero : (content : Content) (p : ℤ) → HasNonzero content 0 → cell con
 no_nonzero content p has = elim (cases_eq (min 1 (cell content p - 1)) 0) [
   | inl e ↦ omega (arith, e)
   | inr some ↦
-      let wrong = some_nonzero content p 0 has (omega (arith, some)) in
-      absurd (omega (arith, wrong))
+      absurd (omega (arith, some_nonzero content p 0 has (omega (arith, some))))
 ]
 
 -- where the start matches

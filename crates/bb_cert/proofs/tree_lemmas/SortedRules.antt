@@ -56,10 +56,8 @@ leading_next : (n : ℕ) (rules : List Rule)
     → leading (suc n) rules ≡ leading n rules + length (filter (leads_to (State n)) rules)
 leading_next n [] = refl
 leading_next n (r ∷ rules) =
-    let past = leading_next n rules in
     let here = filter_one (State n) r rules _ refl in
-    let one = one_more (goes_to r.entry) in
-    omega (arith, past, here, one) where
+    omega (arith, leading_next n rules, here, one_more (goes_to r.entry)) where
       one_more : (to : Next) → among (suc n) to ≡ among n to + cond (is_same to (State n)) 1 0
       one_more (State q) = grind arith
       one_more Halt = refl
@@ -69,10 +67,8 @@ no_more_rules : (n : ℕ) (rules : List Rule)
     → leading n rules + length (filter (leads_to Halt) rules) ≤ length rules
 no_more_rules n [] = omega arith
 no_more_rules n (r ∷ rules) =
-    let past = no_more_rules n rules in
     let here = filter_one Halt r rules _ refl in
-    let one = at_most_one (goes_to r.entry) in
-    omega (arith, past, here, one) where
+    omega (arith, no_more_rules n rules, here, at_most_one (goes_to r.entry)) where
       at_most_one : (to : Next) → among n to + cond (is_same to Halt) 1 0 ≤ 1
       at_most_one (State q) = grind arith
       at_most_one Halt = omega arith
@@ -88,8 +84,7 @@ table_long states symbols state (group ∷ groups) all =
     let past = table_long states symbols (state + 1) groups all.1 in
     let row = row_long state 0 group in
     let full = (all.0).full in
-    let a = length-append (rules_in state 0 group) (rules_from (state + 1) groups) in
-    omega (arith, past, row, full, a)
+    omega (arith, past, row, full, length-append (rules_in state 0 group) (rules_from (state + 1) groups))
 
 small_product : (a b : ℕ) → a ≤ MAX_STATES → b ≤ MAX_SYMBOLS → a * b ≤ MAX_STATES * MAX_SYMBOLS
 small_product a b h k = omega (arith, h, mul-le-mul_left a k)
@@ -99,31 +94,27 @@ all_fit : (table : Table) → IsMachine table → (n : ℕ)
 all_fit table machine n =
     let a = no_more_rules n (rules_from 0 table) in
     let c = table_long (length table) (symbols_of table) 0 table machine.groups in
-    let d = small_product (length table) (symbols_of table) machine.states machine.symbols in
-    omega (arith, a, c, d)
+    omega (arith, a, c, small_product (length table) (symbols_of table) machine.states machine.symbols)
 
 -- a stretch of a list that has more after it
 slice_front : (xs ys : List Rule) (from to : ℕ) → from ≤ to → to ≤ length xs
     → slice_range (xs ++ ys) from to ≡ slice_range xs from to
 slice_front xs ys from to order within =
-    let long = length-drop from xs in
     ap (take (to - from)) (drop-append-le from xs ys (omega (arith, order, within)))
-    ∙ take-append-le (to - from) (drop from xs) ys (omega (arith, order, within, long))
+    ∙ take-append-le (to - from) (drop from xs) ys (omega (arith, order, within, length-drop from xs))
 
 slice_end : (xs ys : List Rule) (to : ℕ) → to ≡ length (xs ++ ys) → slice_range (xs ++ ys) (length xs) to ≡ ys
 slice_end xs ys to e =
-    let long = length-append xs ys in
     ap (take (to - length xs)) (drop_at xs ys (length xs) refl)
-    ∙ take_all (to - length xs) ys (omega (arith, long, e))
+    ∙ take_all (to - length xs) ys (omega (arith, length-append xs ys, e))
 
 range_kept : (table : Table) (list more : List Rule) (from to : ℕ) (next : Next)
     → IsRange table list from to next → IsRange table (list ++ more) from to next
 range_kept table list more from to next range =
-    let long = length-append list more in
     let within = range.within in
     record {
       in_order = range.in_order;
-      within = omega (arith, within, long);
+      within = omega (arith, within, length-append list more);
       are = subst (IsPermutation (rules_to table next))
           (sym (slice_front list more from to range.in_order range.within)) range.are;
     }
@@ -207,47 +198,33 @@ module _ {table : Table} (machine : IsMachine table) {before list : List Rule} {
     (now : AreGathered table before list starts n) where
   list_long : length list ≡ length before + leading n (rules_from 0 table)
   list_long =
-      let e = ap length now.is in
-      let a = length-append before now.added in
-      let size = now.size in
-      omega (arith, e, a, size)
+      omega (arith, ap length now.is, length-append before now.added, now.size)
 
   pub room_for_state : (most : ℕ) → length before + MAX_STATES * MAX_SYMBOLS ≤ most
       → length list + length (rules_to table (State n)) ≤ most
   room_for_state most room =
-      let a = all_fit table machine (suc n) in
-      let more = leading_next n (rules_from 0 table) in
-      let e = list_long in
-      omega (arith, a, e, more, room)
+      omega (arith, all_fit table machine (suc n), list_long, leading_next n (rules_from 0 table), room)
 
   pub room_for_halt : (most : ℕ) → length before + MAX_STATES * MAX_SYMBOLS ≤ most
       → length list + length (rules_to table Halt) ≤ most
   room_for_halt most room =
-      let a = all_fit table machine n in
-      let e = list_long in
-      omega (arith, a, e, room)
+      omega (arith, all_fit table machine n, list_long, room)
 
   pub room_for_start : {states : ℕ} → n ≤ states → states ≡ length table → length starts < MAX_STATES + 2
   room_for_start h all =
-      let long = now.long in
-      let most = machine.states in
-      omega (arith, long, most, h, all)
+      omega (arith, now.long, machine.states, h, all)
 
   module _ (next : Next) {then_list : List Rule} {then_starts : List ℕ}
       (adds : AddsRules (rules_to table next) list then_list)
       (put_down : then_starts ≡ starts ++ (length then_list ∷ [])) where
     then_long : length then_starts ≡ n + 2
     then_long =
-        let e = ap length put_down in
-        let a = length-append starts (length then_list ∷ []) in
-        let long = now.long in
-        omega (arith, e, a, long)
+        omega (arith, ap length put_down, length-append starts (length then_list ∷ []), now.long)
 
     start_kept : (q : ℕ) → q ≤ n → get_or then_starts q 0 ≡ get_or starts q 0
     start_kept q h =
-        let long = now.long in
         ap (λ xs. get_or xs q 0) put_down
-        ∙ get_or_append_left starts (length then_list ∷ []) 0 q (omega (arith, h, long))
+        ∙ get_or_append_left starts (length then_list ∷ []) 0 q (omega (arith, h, now.long))
 
     start_added : get_or then_starts (n + 1) 0 ≡ length then_list
     start_added = ap (λ xs. get_or xs (n + 1) 0) put_down
@@ -275,9 +252,7 @@ module _ {table : Table} (machine : IsMachine table) {before list : List Rule} {
         ≡ leading n (rules_from 0 table) + length (rules_to table next)
     then_size =
         let a = length-append now.added adds.added in
-        let b = length_permutation (rules_to table next) adds.added adds.are in
-        let size = now.size in
-        omega (arith, a, b, size)
+        omega (arith, a, length_permutation (rules_to table next) adds.added adds.are, now.size)
 
     pub gathering_goes_on : next ≡ State n → AreGathered table before then_list then_starts (n + 1)
     gathering_goes_on there =
@@ -305,10 +280,8 @@ module _ {table : Table} (machine : IsMachine table) {before list : List Rule} {
       added = now.added ++ adds.added;
       is = then_is;
       few =
-          let size = then_size in
           let same = ap (λ to. length (rules_to table to)) there in
-          let fit = all_fit table machine n in
-          omega (arith, size, same, fit);
+          omega (arith, then_size, same, all_fit table machine n);
       named = then_named;
       in_order = record {
         count = let long = then_long in omega (arith, long, all);

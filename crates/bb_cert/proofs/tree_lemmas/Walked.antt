@@ -47,19 +47,16 @@ below-node : (table : Table) (node : Node) (rest : List Node) (h : ℕ)
     (grown_below table (before table node) h + grown_below table rest (suc h))
 below-node table node rest zero = omega arith
 below-node table node rest (suc h) =
-    let past = below-node table node rest h in
     let here = ap length (grown-node table node rest h)
     ∙ length-append (grown table (before table node) h) (grown table rest (suc h)) in
-    omega (arith, past, here)
+    omega (arith, below-node table node rest h, here)
 
 -- entering and leaving
 
 pub empty_below : (table : Table) (h : ℕ) → grown_below table [] h ≡ 0
 empty_below table zero = refl
 empty_below table (suc h) =
-    let past = empty_below table h in
-    let here = ap length (grown-empty table h) in
-    omega (arith, past, here)
+    omega (arith, empty_below table h, ap length (grown-empty table h))
 
 below_entered : (table : Table) (node : Node) (rest : List Node) (comb : List (List Node)) (h : ℕ)
     → length comb < h → comb_below table ((node ∷ rest) ∷ comb) h ≡ suc
@@ -67,8 +64,7 @@ below_entered : (table : Table) (node : Node) (rest : List Node) (comb : List (L
 below_entered table node rest comb h deep =
     let n : h - length comb ≡ suc (h - suc (length comb)) = omega (arith, deep) in
     let here = ap (grown_below table (node ∷ rest)) n ∙ below-node table node rest (h - suc (length comb)) in
-    let there = ap (grown_below table rest) n in
-    omega (arith, here, there)
+    omega (arith, here, ap (grown_below table rest) n)
 
 matches_entered : (table : Table) (node : Node) (rest : List Node) (comb : List (List Node)) (i : ℕ)
     → (Matches node start → ⊥) → CombMatches table ((node ∷ rest) ∷ comb) i
@@ -123,8 +119,7 @@ pub walk_enters : {table : Table} {node : Node} {rest : List Node} {comb : List 
 walk_enters {table} {node} {rest} {comb} {levels = levels} walked apart = record {
   counted = λ h deep.
       let old = walked.counted h (omega (arith, deep)) in
-      let new = below_entered table node rest comb h (omega (arith, deep)) in
-      omega (arith, old, new);
+      omega (arith, old, below_entered table node rest comb h (omega (arith, deep)));
   reached = λ i less. elim (cases_lt i levels) [
     | inl known ↦ walked.reached i known
     | inr more ↦ λ none.
@@ -149,9 +144,7 @@ pub walk_leaves : {table : Table} {comb : List (List Node)} {nodes levels : ℕ}
     → IsWalked table ([] ∷ comb) nodes levels → IsWalked table comb nodes levels
 walk_leaves {table} {comb} walked = record {
   counted = λ h deep.
-      let old = walked.counted h deep in
-      let none = empty_below table (h - length comb) in
-      omega (arith, old, none);
+      omega (arith, walked.counted h deep, empty_below table (h - length comb));
   reached = walked.reached;
   parts = walked.parts.1;
   matches = λ i one. no_matches table comb i (walked.matches i one);
@@ -174,10 +167,7 @@ module _ {table : Table} {node : Node} {rest : List Node} {comb : List (List Nod
         | inl less ↦ absurd (walked.reached h less ends.is_empty)
         | inr more ↦ more
       ] in
-      let all = walked.counted h deep in
-      let more = below_entered table node rest comb h goes_deeper in
-      let size = ends.counted in
-      omega (arith, all, more, size)
+      omega (arith, walked.counted h deep, below_entered table node rest comb h goes_deeper, ends.counted)
 
   never_clear : Matches node start → Clear table h → ⊥
   never_clear here clear = clear.clear (length comb) goes_deeper
@@ -210,8 +200,7 @@ pub walk_begins : (table : Table) → IsWalked table (level table 0 ∷ []) 0 0
 walk_begins table = record {
   counted = λ h deep.
       let n : h - 0 ≡ h = omega arith in
-      let e = ap (grown_below table (level table 0)) n in
-      omega (arith, e);
+      omega (arith, ap (grown_below table (level table 0)) n);
   reached = λ i less. absurd (omega arith);
   parts = (λ node one. one, tt);
   matches = λ i one.
