@@ -6,8 +6,7 @@ use Rattle.std.specs.Prelude.{◌≢◌, ◌<ℤ◌}
 use Rattle.std.specs.Int.{int_min, int_max}
 use Rattle.std.proofs.lemmas.Bool.{cases_lt}
 use Rattle.std.proofs.lemmas.Int.{ints, clamps, by_lt_z}
-use Rattle.bb_machine.specs.declared.entry.Next.TheVariants.{Halt, State}
-use Rattle.bb_machine.specs.declared.entry.Next.{Next}
+use Rattle.bb_machine.specs.declared.entry.Next.TheVariants.{Halt}
 use Rattle.bb_machine.specs.Machine.{Table}
 use Rattle.bb_tape.specs.TapeView.{TapeView}
 use Rattle.bb_sim.specs.declared.runner.Runner.{Runner}
