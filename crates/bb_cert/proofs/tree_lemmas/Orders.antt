@@ -12,7 +12,7 @@ use Rattle.bb_cert.specs.declared.tree.rules.Rule.{Rule}
 use Rattle.bb_cert.specs.tree.Tree.{Node, Matches, MatchesOne, OneOf, grown, grown_below}
 use Rattle.bb_cert.specs.inside.Walk.{IsPart, IsWalked}
 use Rattle.bb_cert.proofs.tree_lemmas.Walked.{grown-append, grown-empty, empty_below}
-use Rattle.bb_cert.proofs.tree_lemmas.OneOf.{one-flat_map, one-in_flat_map, one_permuted}
+use Rattle.bb_cert.proofs.tree_lemmas.OneOf.{one-flat_map, one_permuted}
 
 -- in place of some nodes a walk may enter others: they stand in the same level, and their trees are alike
 pub record AreAlike (table : Table) (nodes others : List Node) : Type 0 where
@@ -58,8 +58,8 @@ module _ (table : Table) (f : Rule → List Node) (rules others : List Rule) (sa
 
     one_after : (P : Node → Type 0) (from to : List Rule) → IsPermutation from to → OneOf P (flat_map f from)
         → OneOf P (flat_map f to)
-    one_after P from to moved one = one-flat_map P f to
-        (one_permuted (λ r. OneOf P (f r)) from to moved (one-in_flat_map P f from one))
+    one_after P from to moved one = (one-flat_map P f to).1
+        (one_permuted (λ r. OneOf P (f r)) from to moved ((one-flat_map P f from).0 one))
 
     matches_permuted : (i : ℕ) → MatchesOne (grown table (flat_map f rules) i) start
         → MatchesOne (grown table (flat_map f others) i) start
@@ -67,9 +67,9 @@ module _ (table : Table) (f : Rule → List Node) (rules others : List Rule) (sa
         let of : Rule → List Node = λ r. grown table (f r) i in
         let one_of = subst (λ nodes. MatchesOne nodes start) (grown-flat_map table f rules i) one in
         subst (λ nodes. MatchesOne nodes start) (sym (grown-flat_map table f others i))
-        (one-flat_map (λ n. Matches n start) of others
+        ((one-flat_map (λ n. Matches n start) of others).1
         (one_permuted (λ r. MatchesOne (grown table (f r) i) start) rules others same
-        (one-in_flat_map (λ n. Matches n start) of rules one_of)))
+        ((one-flat_map (λ n. Matches n start) of rules).0 one_of)))
 
     -- what rules give in one order, and in another
     pub alike_permuted : AreAlike table (flat_map f rules) (flat_map f others)

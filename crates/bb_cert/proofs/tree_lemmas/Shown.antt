@@ -7,6 +7,7 @@ use Rattle.std.specs.List.{AllByRecursion, flat_map}
 use Rattle.std.proofs.lemmas.Bool.{cases_eq, eq-eqb, ne_eqb, cond-true, cond-false}
 use Rattle.std.proofs.lemmas.List.{drop_more}
 use Rattle.std.proofs.lemmas.Int.{ints}
+use Rattle.std.proofs.lemmas.List.Elements.{All-from_recursion, All-get_or}
 use Rattle.bb_machine.specs.declared.entry.Dir.{Dir}
 use Rattle.bb_machine.specs.declared.entry.Dir.TheVariants.{L, R}
 use Rattle.bb_machine.specs.declared.entry.Next.{Next}
@@ -156,9 +157,8 @@ undefined_else (Go write dir next) other = absurd (other write dir next refl)
 
 pub named_at : (states : ℕ) (list : List Rule) → AllByRecursion (IsRule states) list → (index : ℕ)
     (d : Rule) → index < length list → IsRule states (get_or list index d)
-named_at states [] all index d h = absurd (omega (arith, h))
-named_at states (r ∷ list) all zero d h = all.0
-named_at states (r ∷ list) all (suc index) d h = named_at states list all.1 index d (omega (arith, h))
+named_at states list all index d h =
+    All-get_or (IsRule states) list index d h (All-from_recursion (IsRule states) list all)
 
 -- a rule is tried, which stands in the list that the code reads
 module _ {list seen : List Rule} (same : seen ≡ list) (content : Content) (f : Frame) {index : ℕ}

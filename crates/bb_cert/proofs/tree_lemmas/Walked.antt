@@ -10,7 +10,7 @@ use Rattle.bb_cert.specs.tree.Tree.{Node, Matches, OneOf, MatchesOne, before, gr
 use Rattle.bb_cert.specs.tree.Tree.{Clear, EndsNowhere}
 use Rattle.bb_cert.specs.inside.Walk.{comb_below, CombMatches, IsPart, IsWalked, Refused, too_deep, too_many}
 use Rattle.bb_cert.specs.inside.Walk.{matched}
-use Rattle.bb_cert.proofs.tree_lemmas.OneOf.{one_more, one-append_cases, one-flat_map}
+use Rattle.bb_cert.proofs.tree_lemmas.OneOf.{one_more, one-append, one-flat_map}
 use Rattle.bb_cert.proofs.tree_lemmas.TreeEnds.{empty_levels_stay}
 
 -- trees of two lists
@@ -75,8 +75,8 @@ matches_entered table node rest comb i apart (inl both) = elim (cases_lt (length
       let n : i - length comb ≡ suc (i - suc (length comb)) = omega (arith, less) in
       let split = subst (λ nodes. MatchesOne nodes start) (ap (grown table (node ∷ rest)) n
       ∙ grown-node table node rest (i - suc (length comb))) both.1 in
-      elim (one-append_cases (λ m. Matches m start) (grown table (before table node) (i - suc (length comb)))
-      (grown table rest (suc (i - suc (length comb)))) split) [
+      elim ((one-append (λ m. Matches m start) (grown table (before table node) (i - suc (length comb)))
+      (grown table rest (suc (i - suc (length comb))))).0 split) [
         | inl here ↦ inl (omega (arith, less), here)
         | inr later ↦ inr (inl (
           both.0,
@@ -100,7 +100,7 @@ matches_entered table node rest comb i apart (inl both) = elim (cases_lt (length
 before_part : (table : Table) (node : Node) (rest : List Node) (i : ℕ) → IsPart (node ∷ rest) (level table i)
     → IsPart (before table node) (level table (suc i))
 before_part table node rest i part n one =
-    one-flat_map (λ other. other ≡ n) (before table) (level table i)
+    (one-flat_map (λ other. other ≡ n) (before table) (level table i)).1
     (one_more (λ other. other ≡ node) (λ other. OneOf (λ o. o ≡ n) (before table other))
     (λ other same. subst (λ m. OneOf (λ o. o ≡ n) (before table m)) (sym same) one) (level table i)
     (part node (inl refl)))
