@@ -1,5 +1,5 @@
 -- A table's rules, gathered row by row and ordered by where they lead.
-use Rattle.std.proofs.Common.{◌≡◌, ℕ, ◌+◌, ◌-◌, ◌<◌, ◌≤◌, Bool, true, false, cond, inl, inr, List, [], ◌∷◌}
+use Rattle.std.proofs.Common.{◌≡◌, ℕ, ◌+◌, ◌-◌, ◌<◌, ◌≤◌, false, cond, inl, inr, List, [], ◌∷◌}
 use Rattle.std.proofs.Common.{◌++◌, length, get_or, take, drop, refl, ap, sym, subst, ◌∙◌, append_assoc}
 use Rattle.std.proofs.Common.{append-nil, length-append, arith}
 use Rattle.std.specs.List.{filter, refill}
@@ -7,6 +7,7 @@ use Rattle.std.specs.List.Sorted.{IsPermutation}
 use Rattle.std.proofs.lemmas.Bool.{cases_Bool}
 use Rattle.std.proofs.lemmas.List.{drop_more, drop_all, drop_at, take_at, take_all}
 use Rattle.std.proofs.lemmas.List.Sorted.{length_permutation}
+use Rattle.std.proofs.lemmas.List.Elements.{filter-append}
 use Rattle.bb_machine.specs.declared.entry.Next.{Next}
 use Rattle.bb_machine.specs.declared.entry.Entry.{Entry}
 use Rattle.bb_machine.specs.declared.entry.Entry.TheVariants.{Undefined}
@@ -16,16 +17,6 @@ use Rattle.bb_cert.specs.tree.Tree.{goes_to, is_same, leads_to, rules_in, rules_
 use Rattle.bb_cert.specs.inside.Walk.{AddsRules}
 use Rattle.bb_cert.proofs.tree_lemmas.TreeEnds.{group_long}
 use Rattle.bb_cert.proofs.tree_lemmas.RuleEntries.{rule, is_same-true, is_same-itself}
-
-filter-append : (test : Rule → Bool) (xs ys : List Rule) → filter test (xs ++ ys)
-    ≡ filter test xs ++ filter test ys
-filter-append test [] ys = refl
-filter-append test (x ∷ xs) ys = by_case (test x) (filter test xs) (filter test (xs ++ ys))
-    (filter-append test xs ys) where
-      by_case : (b : Bool) (f g : List Rule) → g ≡ f ++ filter test ys → cond b (x ∷ g) g ≡ cond b
-          (x ∷ f) f ++ filter test ys
-      by_case true f g e = ap (λ l. x ∷ l) e
-      by_case false f g e = e
 
 pub differs : (a b : Next) → (a ≡ b → ⊥) → is_same a b ≡ false
 differs a b apart = elim (cases_Bool (is_same a b)) [
