@@ -14,3 +14,4 @@ pub use Rattle.bb_sim.proofs.Counting.{HasStepped, RunsWithin, counts_start, cou
 pub use Rattle.bb_sim.proofs.Endings.{IsEnd, ends_in_Z, ends_stopped, halts_in_Z}
 pub use Rattle.bb_sim.proofs.FewCells.{few_cells_repeat_before, running_below}
 pub use Rattle.bb_sim.proofs.RunningOn.{RunsOn, conf-suc, runs_on}
+pub use Rattle.bb_sim.proofs.NamedRuns.{IsNamed, next_named, run_named}

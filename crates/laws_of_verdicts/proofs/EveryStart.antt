@@ -14,44 +14,18 @@ use Rattle.bb_tape.specs.Content.{Content, cell, with_cell}
 use Rattle.bb_tape.proofs.Facts.{cell-with_cell-same, cell-with_cell-other, by_position}
 use Rattle.bb_sim.specs.Configuration.{Configuration, followed, entry_at, next}
 use Rattle.bb_sim.specs.Run.{after}
+use Rattle.bb_sim.proofs.Facts as sim
 use Rattle.bb_sim.proofs.Facts.{led}
 use Rattle.bb_cert.specs.tree.Tree.{Node, MatchesOne, goes_to, IsAtHaltingEntry, Ends}
 use Rattle.bb_cert.proofs.Facts.{matches_level, empty_levels_stay}
 use Rattle.laws_of_verdicts.specs.EveryStart.{IsStartOf, HaltsFrom, EveryStartHaltsSoonOrNever}
 
--- a run names only states and symbols of its machine
-
-written_named : (content : Content) (head p : ℤ) (write symbols : ℕ) → write < symbols
-    → cell content p < symbols → cell (with_cell content head write) p < symbols
-written_named content head p write symbols named all = by_position p head _
-    (λ e. let same : cell (with_cell content head write) p ≡ write =
-    ap (cell (with_cell content head write)) e
-    ∙ cell-with_cell-same content head write in omega (arith, same, named))
-    (λ apart. let same = cell-with_cell-other content head write p apart in omega (arith, same, all))
-
-entry_at_named : (table : Table) → IsMachine table → (state : Next) (symbol : ℕ)
-    → IsNextOf (length table) state → symbol < symbols_of table
-    → IsEntryOf (length table) (symbols_of table) (entry_at table state symbol)
-entry_at_named table machine (State state) symbol in_states in_symbols =
-    entry_named _ _ table state symbol machine in_states in_symbols
-entry_at_named table machine Halt symbol in_states in_symbols = tt
-
-followed_named : (table : Table) (c d : Configuration) (entry : Entry)
-    → IsEntryOf (length table) (symbols_of table) entry → IsStartOf table c → followed entry c ≡ Some d
-    → IsStartOf table d
-followed_named table c d Undefined of_table named e = absurd cc
-followed_named table c d (Go write dir to) of_table named e =
-    let same : led c write dir to ≡ d = cc in
-    subst (IsStartOf table) same (record {
-      state = of_table.1;
-      symbols = λ p. written_named c.tape c.head p write (symbols_of table) of_table.0 (named.symbols p);
-    })
-
+-- a step names only states and symbols of its machine
 next_named : (table : Table) (c d : Configuration) → IsMachine table → IsStartOf table c
     → next table c ≡ Some d → IsStartOf table d
-unfolding next
-next_named table c d machine named e = followed_named table c d (entry_at table c.state (cell c.tape c.head))
-    (entry_at_named table machine c.state (cell c.tape c.head) named.state (named.symbols c.head)) named e
+next_named table c d machine named e =
+    let is = sim.next_named table c d machine (record { state = named.state; symbols = named.symbols }) e in
+    record { state = is.state; symbols = is.symbols }
 
 -- a step of a run from c, and the one before it
 record Steps (table : Table) (c : Configuration) (n : ℕ) (d : Configuration) : Type 0 where

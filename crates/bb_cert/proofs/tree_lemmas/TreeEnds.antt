@@ -1,19 +1,18 @@
 -- Where the tree ends, and what follows where the start matches no node of it.
 use Rattle.std.proofs.Common.{◌≡◌, ℕ, zero, suc, ◌+◌, ◌-◌, ◌<◌, inl, inr, Some, None, List, [], ◌∷◌, length}
-use Rattle.std.proofs.Common.{get_or, map, ℤ, refl, ap, sym, subst, ◌∙◌, arith}
+use Rattle.std.proofs.Common.{get_or, map, refl, ap, sym, subst, ◌∙◌, arith}
 use Rattle.std.specs.List.{AllByRecursion, flat_map}
 use Rattle.std.proofs.lemmas.Bool.{cases_lt, cases_order}
 use Rattle.bb_machine.specs.declared.entry.Next.{Next}
 use Rattle.bb_machine.specs.declared.entry.Next.TheVariants.{State, Halt}
 use Rattle.bb_machine.specs.declared.entry.Entry.{Entry}
 use Rattle.bb_machine.specs.declared.entry.Entry.TheVariants.{Undefined, Go}
-use Rattle.bb_machine.specs.Entry.{IsEntryOf, IsNextOf}
+use Rattle.bb_machine.specs.Entry.{IsNextOf}
 use Rattle.bb_machine.specs.Machine.{Table, IsGroup, IsMachine, entry_of, symbols_of}
-use Rattle.bb_tape.specs.Content.{Content, cell, with_cell}
-use Rattle.bb_tape.proofs.Facts.{cell-blank, cell-with_cell-same, cell-with_cell-other, by_position}
+use Rattle.bb_tape.specs.Content.{cell}
 use Rattle.bb_sim.specs.Configuration.{Configuration, start, followed, entry_at, next}
 use Rattle.bb_sim.specs.Run.{conf, HaltsAt}
-use Rattle.bb_sim.proofs.Facts.{led}
+use Rattle.bb_sim.proofs.Facts.{run_named, led}
 use Rattle.bb_cert.specs.tree.Tree.{Node, MatchesOne, goes_to, rules_to, halting_node, before, grown, level}
 use Rattle.bb_cert.specs.tree.Tree.{nodes_below, Ends, Clear, IsAtHaltingEntry}
 use Rattle.bb_cert.specs.claims.Laws.{EmptyLevelsStay, ClearTreesNeverHalt, TreeHasOneEnd}
@@ -41,81 +40,12 @@ tree_has_one_end table h k i j a b =
     ] in
     (same, a.counted ∙ ap (nodes_below table) same ∙ sym b.counted)
 
--- a run names only states and symbols of its machine
-
-entry_named : (states symbols : ℕ) (group : List Entry) → AllByRecursion (IsEntryOf states symbols) group
-    → (symbol : ℕ) → IsEntryOf states symbols (get_or group symbol Undefined)
-entry_named states symbols [] all symbol = tt
-entry_named states symbols (entry ∷ entries) all zero = all.0
-entry_named states symbols (entry ∷ entries) all (suc symbol) = entry_named states symbols entries all.1
-    symbol
-
-table_named : (states symbols : ℕ) (table : Table) → AllByRecursion (IsGroup states symbols) table
-    → (state symbol : ℕ) → IsEntryOf states symbols (entry_of table state symbol)
-table_named states symbols [] all state symbol = tt
-table_named states symbols (group ∷ groups) all zero symbol =
-    entry_named states symbols group (all.0).entries symbol
-table_named states symbols (group ∷ groups) all (suc state) symbol =
-    table_named states symbols groups all.1 state symbol
-
 pub group_long : (states symbols : ℕ) (table : Table) → AllByRecursion (IsGroup states symbols) table
     → (state : ℕ) → state < length table → length (get_or table state []) ≡ symbols
 group_long states symbols [] all state h = absurd (omega (arith, h))
 group_long states symbols (group ∷ groups) all zero h = (all.0).full
 group_long states symbols (group ∷ groups) all (suc state) h = group_long states symbols groups all.1 state
     (omega (arith, h))
-
-record IsNamed (table : Table) (c : Configuration) : Type 0 where
-  state : IsNextOf (length table) c.state
-  symbols : (p : ℤ) → cell c.tape p < symbols_of table
-
-start_named : (table : Table) → IsMachine table → IsNamed table start
-start_named table machine = record {
-  state = machine.some_state;
-  symbols = λ p. let e = cell-blank p in let two = machine.two_symbols in omega arith;
-}
-
-written_named : (content : Content) (head p : ℤ) (write symbols : ℕ) → write < symbols
-    → cell content p < symbols → cell (with_cell content head write) p < symbols
-written_named content head p write symbols named all = by_position p head _
-    (λ e. let same : cell (with_cell content head write) p ≡ write = ap (cell (with_cell content head write))
-    e ∙ cell-with_cell-same content head write in omega (arith, same, named))
-    (λ apart. let same = cell-with_cell-other content head write p apart in omega (arith, same, all))
-
-entry_at_named : (table : Table) → IsMachine table → (state : Next) (symbol : ℕ)
-    → IsEntryOf (length table) (symbols_of table) (entry_at table state symbol)
-entry_at_named table machine (State state) symbol = table_named (length table) (symbols_of table) table
-    machine.groups state symbol
-entry_at_named table machine Halt symbol = tt
-
-followed_named : (table : Table) (c d : Configuration) (entry : Entry)
-    → IsEntryOf (length table) (symbols_of table) entry → IsNamed table c → followed entry c ≡ Some d
-    → IsNamed table d
-followed_named table c d Undefined of_table named e = absurd cc
-followed_named table c d (Go write dir to) of_table named e =
-    let same : led c write dir to ≡ d = cc in
-    subst (IsNamed table) same (record {
-      state = of_table.1;
-      symbols = λ p. written_named c.tape c.head p write (symbols_of table) of_table.0 (named.symbols p);
-    })
-
-next_named : (table : Table) (c d : Configuration) → IsMachine table → IsNamed table c
-    → next table c ≡ Some d → IsNamed table d
-unfolding next
-next_named table c d machine named e = followed_named table c d (entry_at table c.state (cell c.tape c.head))
-    (entry_at_named table machine c.state (cell c.tape c.head)) named e
-
-run_named : (table : Table) → IsMachine table → (n : ℕ) (c : Configuration) → conf table n ≡ Some c
-    → IsNamed table c
-unfolding conf
-run_named table machine zero c e =
-    let same : start ≡ c = cc in
-    subst (IsNamed table) same (start_named table machine)
-run_named table machine (suc n) c e =
-    let moved = moves table n (record { here = c; exists = e }) in
-    let same : moved.then_here ≡ c = cc (moved.at_then, e) in
-    next_named table moved.before c machine (run_named table machine n moved.before moved.at_before)
-    (moved.is_next ∙ ap Some same)
 
 -- a halt comes from a halting entry
 
