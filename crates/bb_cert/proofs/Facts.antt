@@ -28,4 +28,4 @@ pub use Rattle.bb_cert.proofs.claim_lemmas.Standing.{no_repeat_at_once}
 pub use Rattle.bb_cert.proofs.tree_lemmas.Levels.{matches_level, halts_from_level}
 pub use Rattle.bb_cert.proofs.record_lemmas.Tops.{MakesJust, farther, made_next, makes_just, nearer_on}
 pub use Rattle.bb_cert.proofs.tree_lemmas.TreeEnds.{empty_levels_stay, tree_has_one_end}
-pub use Rattle.bb_cert.proofs.tree_lemmas.TreeEnds.{clear_trees_never_halt}
+pub use Rattle.bb_cert.proofs.tree_lemmas.TreeEnds.{at_end, before_z, clear_trees_never_halt}

@@ -8,16 +8,16 @@ use Rattle.bb_machine.specs.declared.entry.Next.TheVariants.{State, Halt}
 use Rattle.bb_machine.specs.declared.entry.Entry.{Entry}
 use Rattle.bb_machine.specs.declared.entry.Entry.TheVariants.{Undefined, Go}
 use Rattle.bb_machine.specs.Entry.{IsNextOf}
-use Rattle.bb_machine.specs.Machine.{Table, IsGroup, IsMachine, entry_of, symbols_of}
+use Rattle.bb_machine.specs.Machine.{Table, IsGroup, IsMachine, symbols_of}
 use Rattle.bb_tape.specs.Content.{cell}
 use Rattle.bb_sim.specs.Configuration.{Configuration, start, followed, entry_at, next}
 use Rattle.bb_sim.specs.Run.{conf, HaltsAt}
-use Rattle.bb_sim.proofs.Facts.{run_named, led}
+use Rattle.bb_sim.proofs.Facts.{IsNamed, run_named, led}
 use Rattle.bb_cert.specs.tree.Tree.{Node, MatchesOne, goes_to, rules_to, halting_node, before, grown, level}
 use Rattle.bb_cert.specs.tree.Tree.{nodes_below, Ends, Clear, IsAtHaltingEntry}
 use Rattle.bb_cert.specs.claims.Laws.{EmptyLevelsStay, ClearTreesNeverHalt, TreeHasOneEnd}
 use Rattle.bb_cert.proofs.claim_lemmas.Runs.{moves}
-use Rattle.bb_cert.proofs.tree_lemmas.Levels.{matches_level, stands_in}
+use Rattle.bb_cert.proofs.tree_lemmas.Levels.{matches_level}
 
 stays_empty : (table : Table) (nodes : List Node) (i d : ℕ) → grown table nodes i ≡ []
     → grown table nodes (d + i) ≡ []
@@ -49,85 +49,82 @@ group_long states symbols (group ∷ groups) all (suc state) h = group_long stat
 
 -- a halt comes from a halting entry
 
+entry_halts : (entry : Entry) (c : Configuration) → followed entry c ≡ None → goes_to entry ≡ Halt
+entry_halts Undefined c e = refl
+entry_halts (Go write dir to) c e = absurd cc
+
+entry_into_halt : (entry : Entry) (c d : Configuration) → followed entry c ≡ Some d → d.state ≡ Halt
+    → goes_to entry ≡ Halt
+entry_into_halt Undefined c d e into = absurd cc
+entry_into_halt (Go write dir to) c d e into =
+    let same : led c write dir to ≡ d = cc in ap (λ (x : Configuration). x.state) same ∙ into
+
+-- a configuration in a state whose entry halts
+at_halting : (table : Table) (c : Configuration) → IsMachine table → IsNamed table c → (state : ℕ)
+    → c.state ≡ State state → goes_to (entry_at table c.state (cell c.tape c.head)) ≡ Halt
+    → IsAtHaltingEntry table c
+at_halting table c machine named state in_state halts = record {
+  state = state;
+  in_state = in_state;
+  in_table = omega (
+    arith,
+    group_long (length table) (symbols_of table) table machine.groups state
+        (subst (IsNextOf (length table)) in_state named.state),
+    named.symbols c.head,
+  );
+  halts = ap (λ s. goes_to (entry_at table s (cell c.tape c.head))) (sym in_state) ∙ halts;
+}
+
+-- before a step into Z the entry halts
+pub before_z : (table : Table) (c d : Configuration) → IsMachine table → IsNamed table c → next table c ≡ Some d
+    → d.state ≡ Halt → (state : Next) → c.state ≡ state → IsAtHaltingEntry table c
+unfolding next
+before_z table c d machine named e into (State state) in_state =
+    at_halting table c machine named state in_state
+    (entry_into_halt (entry_at table c.state (cell c.tape c.head)) c d e into)
+before_z table c d machine named e into Halt in_state =
+    let none : followed (entry_at table c.state (cell c.tape c.head)) c ≡ None =
+    ap (λ s. followed (entry_at table s (cell c.tape c.head)) c) in_state in
+    absurd cc
+
+pub at_end : (table : Table) (c : Configuration) → IsMachine table → IsNamed table c → next table c ≡ None
+    → (state : ℕ) → c.state ≡ State state → IsAtHaltingEntry table c
+unfolding next
+at_end table c machine named e state in_state =
+    at_halting table c machine named state in_state
+    (entry_halts (entry_at table c.state (cell c.tape c.head)) c e)
+
 record HasHaltingEntry (table : Table) : Type 0 where
   step : ℕ
   here : Configuration
   exists : conf table step ≡ Some here
   at_halt : IsAtHaltingEntry table here
 
-at_undefined : (table : Table) (state symbol : ℕ) → IsMachine table → state < length table
-    → symbol < symbols_of table → symbol < length (get_or table state [])
-at_undefined table state symbol machine in_states in_symbols =
-    let long = group_long (length table) (symbols_of table) table machine.groups state in_states in
-    omega (arith, long, in_symbols)
-
-no_next-entry : (entry : Entry) (c : Configuration) → followed entry c ≡ None → goes_to entry ≡ Halt
-no_next-entry Undefined c e = refl
-no_next-entry (Go write dir to) c e = absurd cc
-
-halt_in_state : (table : Table) (n : ℕ) (state : ℕ) → IsMachine table → (halts : HaltsAt table n)
-    → halts.last.state ≡ State state → HasHaltingEntry table
-unfolding next
-halt_in_state table n state machine halts in_state =
-    let c = halts.last in
-    let named = run_named table machine n c halts.exists in
-    let in_states : state < length table = subst (IsNextOf (length table)) in_state named.state in
-    record {
-      step = n;
-      here = c;
-      exists = halts.exists;
-      at_halt = record {
-        state = state;
-        in_state = in_state;
-        in_table = at_undefined table state (cell c.tape c.head) machine in_states (named.symbols c.head);
-        halts = no_next-entry (entry_of table state (cell c.tape c.head)) c
-            (ap (λ s. followed (entry_at table s (cell c.tape c.head)) c) (sym in_state) ∙ halts.no_next);
-      };
-    }
-
-entry_into_halt : (table : Table) (c d : Configuration) (state : Next) → c.state ≡ state → d.state ≡ Halt
-    → (entry : Entry) → entry_at table state (cell c.tape c.head) ≡ entry → followed entry c ≡ Some d
-    → IsAtHaltingEntry table c
-entry_into_halt table c d Halt at into entry e leads = let none : followed entry c ≡ None =
-    ap (λ x. followed x c) (sym e) in absurd cc
-entry_into_halt table c d (State state) at into Undefined e leads = absurd cc
-entry_into_halt table c d (State state) at into (Go write dir to) e leads =
-    let same : led c write dir to ≡ d = cc in
-    let halt : to ≡ Halt = ap (λ x. x.state) same ∙ into in
-    record {
-      state = state;
-      in_state = at;
-      in_table = stands_in table state (cell c.tape c.head) write dir to e;
-      halts = ap goes_to e ∙ halt;
-    }
-
-step_into_halt : (table : Table) (c d : Configuration) → next table c ≡ Some d → d.state ≡ Halt
-    → IsAtHaltingEntry table c
-unfolding next
-step_into_halt table c d e into = entry_into_halt table c d c.state refl into
-    (entry_at table c.state (cell c.tape c.head)) refl e
-
-halt_in_z : (table : Table) (n : ℕ) → (halts : HaltsAt table n) → halts.last.state ≡ Halt
-    → HasHaltingEntry table
+halting_entry : (table : Table) (n : ℕ) → IsMachine table → (halts : HaltsAt table n) → (state : Next)
+    → halts.last.state ≡ state → HasHaltingEntry table
 unfolding conf
-halt_in_z table zero halts in_z =
+halting_entry table n machine halts (State state) e = record {
+  step = n;
+  here = halts.last;
+  exists = halts.exists;
+  at_halt = at_end table halts.last machine (run_named table machine n halts.last halts.exists) halts.no_next
+      state e;
+}
+halting_entry table zero machine halts Halt e =
     let same : start ≡ halts.last = cc (halts.exists) in
-    let wrong : State 0 ≡ Halt = ap (λ c. c.state) same ∙ in_z in
+    let wrong : State 0 ≡ Halt = ap (λ c. c.state) same ∙ e in
     absurd cc
-halt_in_z table (suc n) halts in_z =
+halting_entry table (suc n) machine halts Halt e =
     let moved = moves table n (record { here = halts.last; exists = halts.exists }) in
     let same : moved.then_here ≡ halts.last = cc (moved.at_then, halts.exists) in
     record {
       step = n;
       here = moved.before;
       exists = moved.at_before;
-      at_halt = step_into_halt table moved.before halts.last (moved.is_next ∙ ap Some same) in_z;
+      at_halt = before_z table moved.before halts.last machine
+          (run_named table machine n moved.before moved.at_before) (moved.is_next ∙ ap Some same) e
+          moved.before.state refl;
     }
-
-halting_entry : (table : Table) (n : ℕ) → IsMachine table → (halts : HaltsAt table n) → (state : Next)
-    → halts.last.state ≡ state → HasHaltingEntry table
-halting_entry table n machine halts (State state) e = halt_in_state table n state machine halts e
-halting_entry table n machine halts Halt e = halt_in_z table n halts e
 
 no_match : (table : Table) (h k m : ℕ) → Ends table h k → Clear table h → MatchesOne (level table m) start → ⊥
 no_match table h k m ends clear one = elim (cases_lt m h) [
