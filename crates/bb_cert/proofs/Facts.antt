@@ -21,7 +21,7 @@ pub use Rattle.bb_cert.proofs.record_lemmas.Records.{record_has_one_step, record
 pub use Rattle.bb_cert.proofs.record_lemmas.Records.{records_in_order}
 pub use Rattle.bb_cert.proofs.record_lemmas.Records.{short_of_record, stands_on}
 pub use Rattle.bb_cert.proofs.claim_lemmas.Repeats.{repeats_go_on, repeats_keep_distance, repeats_never_halt}
-pub use Rattle.bb_cert.proofs.claim_lemmas.Runs.{earlier, moves}
+pub use Rattle.bb_cert.proofs.claim_lemmas.Runs.{earlier, moves, steps_of_never}
 pub use Rattle.bb_cert.proofs.record_lemmas.Stretches.{are_narrow, limit_kept, out_as_far, twice_fits}
 pub use Rattle.bb_cert.proofs.claim_lemmas.Standing.{AreAlike, same_of_alike, alike_of_same}
 pub use Rattle.bb_cert.proofs.claim_lemmas.Standing.{no_repeat_at_once}

@@ -20,7 +20,7 @@ use Rattle.bb_cert.specs.checker.Answer.{Applies, IsAnswer, NeedsTooMuch, Rule, 
 use Rattle.bb_cert.specs.checker.Answer.{too_much_named, out_of_order, too_much_needed, claim_holds}
 use Rattle.bb_cert.specs.checker.Answer.{all_else}
 use Rattle.bb_cert.specs.claims.Claim.{Claim}
-use Rattle.bb_cert.proofs.Facts.{agreeing_records_never_halt, earlier, moves, records_in_order}
+use Rattle.bb_cert.proofs.Facts.{steps_of_never, agreeing_records_never_halt, earlier, moves, records_in_order}
 use Rattle.bb_cert.proofs.Facts.{repeats_never_halt}
 use Rattle.bb_decide.specs.Cycle.{HasNoCycle, IsFirstCycle}
 use Rattle.bb_decide.specs.Translation.{AgreesWithPartner, IsFirstTranslation}
@@ -31,18 +31,6 @@ use Rattle.laws_of_verdicts.specs.Completion.{CompletionsKeepClaims, Completions
 use Rattle.laws_of_verdicts.specs.Completion.{CompletionsNeverHalt}
 use Rattle.laws_of_verdicts.proofs.AlikeRuns.{AreAlikeTo, cycle_alike, inside_alike, pair_alike, says_alike}
 use Rattle.laws_of_verdicts.proofs.AlikeRuns.{span_alike, tells_alike, translation_alike}
-
--- a run that never halts has every step
-next_exists : (table : Table) → Never table → (n : ℕ) → Exists table n → Exists table (suc n)
-unfolding conf
-next_exists table never n step = by_case (next table step.here) refl where
-  by_case : (o : Option Configuration) → next table step.here ≡ o → Exists table (suc n)
-  by_case None e = absurd (never.never n (record { last = step.here; exists = step.exists; no_next = e }))
-  by_case (Some c) e = record { here = c; exists = ap (option_and_then (next table)) step.exists ∙ e }
-
-exists_always : (table : Table) → Never table → (n : ℕ) → Exists table n
-exists_always table never zero = record { here = _; exists = conf-start table }
-exists_always table never (suc n) = next_exists table never n (exists_always table never n)
 
 -- the first of two records is made no later than the second
 partner_before : (table : Table) (side : Side) (a b : ℕ) → AgreesWithPartner table side a b → a ≤ b
@@ -93,7 +81,7 @@ module _ (table filled : Table) (completion : IsCompletion table filled) where
   }
 
   alike_always : Never table → (n : ℕ) → AreAlikeTo table filled n
-  alike_always never n = alike_to n (exists_always table never n)
+  alike_always never n = alike_to n (steps_of_never table never n)
 
   back_always : Never table → (n : ℕ) → AreAlikeTo filled table n
   back_always never n m h = sym (alike_always never n m h)
@@ -101,7 +89,7 @@ module _ (table filled : Table) (completion : IsCompletion table filled) where
   never_kept : Never table → Never filled
   never_kept never = record {
     never = λ n halts.
-        let later = exists_always table never (suc n) in
+        let later = steps_of_never table never (suc n) in
         let no_later = halt_is_last filled n (suc n) later.here halts
         (conf_kept (suc n) later.here later.exists) in
         absurd (omega (arith, no_later));
