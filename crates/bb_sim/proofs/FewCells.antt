@@ -70,7 +70,8 @@ module _ (table : Table) (machine : IsMachine table) (n cells : ℕ) (low : ℤ)
   IsBlankOutside c = (p : ℤ) → (IsIn low cells p → ⊥) → cell c.tape p ≡ 0
 
   blank_next : (i : ℕ) → i ≤ n → (b : Configuration) → conf table i ≡ Some b → IsBlankOutside b
-      → (write : ℕ) (dir : Dir) (next : Next) → entry_at table b.state (cell b.tape b.head) ≡ Go write dir next
+      → (write : ℕ) (dir : Dir) (next : Next) → entry_at table b.state (cell b.tape b.head)
+      ≡ Go write dir next
       → IsBlankOutside (led b write dir next)
   blank_next i few b at blank_there write dir next here p out =
       let inside = in_window i few b at (no_entry_in_Z table b.state _ write dir next (sym here)) in
@@ -96,7 +97,8 @@ module _ (table : Table) (machine : IsMachine table) (n cells : ℕ) (low : ℤ)
           subst (λ k. conf table k ≡ Some (led b write dir next)) (add-one i)
           (conf-next table i b before write dir next here) in
           let same : led b write dir next ≡ c = cc (after, at) in
-          subst IsBlankOutside same (blank_next i (omega (arith, few)) b before blank_there write dir next here)
+          subst IsBlankOutside same (blank_next i (omega (arith, few)) b before blank_there write dir next
+          here)
 
   held_at : (i : ℕ) → i ≤ n → (c : Configuration) → conf table i ≡ Some c → Held c
   unfolding Held

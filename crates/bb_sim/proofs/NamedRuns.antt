@@ -29,9 +29,11 @@ start_named table machine = record {
 }
 
 -- the entry that applies
-entry_at_named : (table : Table) → IsMachine table → (state : Next) (symbol : ℕ) → IsNextOf (length table) state
+entry_at_named : (table : Table) → IsMachine table → (state : Next) (symbol : ℕ) → IsNextOf
+    (length table) state
     → symbol < symbols_of table → IsEntryOf (length table) (symbols_of table) (entry_at table state symbol)
-entry_at_named table machine (State state) symbol below inside = entry_named _ _ table state symbol machine below inside
+entry_at_named table machine (State state) symbol below inside = entry_named _ _ table state symbol machine
+    below inside
 entry_at_named table machine Halt symbol below inside = tt
 
 followed_named : (table : Table) (c d : Configuration) (entry : Entry)

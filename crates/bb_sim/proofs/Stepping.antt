@@ -22,7 +22,8 @@ use Rattle.bb_sim.specs.Configuration.{beside, entry_at}
 use Rattle.bb_sim.specs.Run.{HaltsAt}
 use Rattle.bb_sim.specs.CellsBetween.{cells_between}
 use Rattle.bb_sim.specs.Span.{counted_position, counted_head, span}
-use Rattle.bb_sim.specs.Runner.{Stands, Answers, Moves, Reaches, Stays, state_of, position_of, steps_of, low_of}
+use Rattle.bb_sim.specs.Runner.{Stands, Answers, Moves, Reaches, Stays, state_of, position_of, steps_of}
+use Rattle.bb_sim.specs.Runner.{low_of}
 use Rattle.bb_sim.specs.Runner.{high_of}
 use Rattle.bb_sim.specs.inside.Advancing.{Advances}
 use Rattle.bb_sim.specs.inside.Widening.{GoesNowhere, IsWidened, StepsTo}

@@ -1,4 +1,5 @@
--- What users of any tape need to know of its cells, its window and positions. Proofs of other crates cite this file
+-- What users of any tape need to know of its cells, its window and positions. Proofs of other crates cite
+-- this file
 -- alone.
 use Rattle.std.proofs.Common.{◌≡◌, ℤ, ◌≤ℤ◌, arith}
 use Rattle.std.proofs.lemmas.Int.{ints, clamps}

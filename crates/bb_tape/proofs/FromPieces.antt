@@ -1,4 +1,5 @@
--- What the two pieces of a stretch tell of a tape: its score, which cells are 0, whether two tapes are the same.
+-- What the two pieces of a stretch tell of a tape: its score, which cells are 0, whether two tapes are the
+-- same.
 use Rattle.std.proofs.Common.{◌≡◌, ◌⊎◌, inl, inr, ℕ, zero, suc, ◌+◌, ◌<◌, cond, ℤ, pos, ◌+ℤ◌, ◌-ℤ◌, ◌<ℤ◌}
 use Rattle.std.proofs.Common.{List, [], ◌∷◌, ◌++◌, get_or, take, drop, length, count_by, refl, sym, ap, ◌∙◌}
 use Rattle.std.proofs.Common.{arith}

@@ -20,7 +20,8 @@ use Rattle.bb_cert.specs.checker.Answer.{Applies, IsAnswer, NeedsTooMuch, Rule, 
 use Rattle.bb_cert.specs.checker.Answer.{too_much_named, out_of_order, too_much_needed, claim_holds}
 use Rattle.bb_cert.specs.checker.Answer.{all_else}
 use Rattle.bb_cert.specs.claims.Claim.{Claim}
-use Rattle.bb_cert.proofs.Facts.{steps_of_never, agreeing_records_never_halt, earlier, moves, records_in_order}
+use Rattle.bb_cert.proofs.Facts.{steps_of_never, agreeing_records_never_halt, earlier, moves}
+use Rattle.bb_cert.proofs.Facts.{records_in_order}
 use Rattle.bb_cert.proofs.Facts.{repeats_never_halt}
 use Rattle.bb_decide.specs.Cycle.{HasNoCycle, IsFirstCycle}
 use Rattle.bb_decide.specs.Translation.{AgreesWithPartner, IsFirstTranslation}

@@ -171,7 +171,8 @@ module _ (table : Table) (side : Side) (n : ℕ) (runs : IsRunningAt table n (he
   top_is : IsTop table side n (pos count.0)
   top_is = subst (IsTop table side n) count.1 (at_end table side n runs)
 
-  made_beyond : out side (end table side n) <ℤ out side (head_at table (n + 1)) → MakesRecord table side (n + 1)
+  made_beyond : out side (end table side n) <ℤ out side (head_at table (n + 1)) → MakesRecord table side
+      (n + 1)
   made_beyond beyond = (count.0 + 1, made_next table side n count.0 top_is there (rw (← count.1) beyond))
 
   none_within : out side (head_at table (n + 1)) ≤ℤ out side (end table side n)
@@ -203,9 +204,13 @@ module _ (after : Runner) (p : ℤ) {l g : ℤ} {cells : ℕ} (around : (l ≤�
   beyond : position_of after ≡ p → (side : Side) → TellsWidening after cells (Some side)
       → (out side (end_of side l g) <ℤ out side p)
       × (out (other side) p ≤ℤ out (other side) (end_of (other side) l g))
-  beyond is R told = let above : g <ℤ p = omega (arith, ints, clamps, told.0, told.1, around.0, around.1, had, has) in
+  beyond is R told =
+      let above : g <ℤ p =
+      omega (arith, ints, clamps, told.0, told.1, around.0, around.1, had, has) in
       (above, omega (arith, ints, above, around.0, around.1))
-  beyond is L told = let below : p <ℤ l = omega (arith, ints, clamps, told.0, told.1, around.0, around.1, had, has) in
+  beyond is L told =
+      let below : p <ℤ l =
+      omega (arith, ints, clamps, told.0, told.1, around.0, around.1, had, has) in
       (omega (arith, ints, below), omega (arith, ints, below, around.0, around.1))
 
 -- step n makes a record of this side and of no other; of none
@@ -230,8 +235,11 @@ module _ {table : Table} {before after : Runner} {run_before run_after : TapeVie
   there = subst (Exists table) next (record { here = _; exists = stands.at })
 
   around : (low ≤ℤ pos 0) × (pos 0 ≤ℤ high)
-  around = subst (λ z. (low ≤ℤ z) × (z ≤ℤ high)) (counted_head-at table 0 start (conf-start table))
-      (least_bounds (counted_head table) 0 n (omega arith), greatest_bounds (counted_head table) 0 n (omega arith))
+  around = subst (λ z. (low ≤ℤ z) × (z ≤ℤ high)) (counted_head-at table 0 start (conf-start table)) (
+    least_bounds (counted_head table) 0 n (omega arith),
+    greatest_bounds (counted_head table) 0 n
+        (omega arith),
+  )
 
   -- the position that its step counts
   counted : counted_head table (n + 1) ≡ counted_position (state_of after) (position_of after)
@@ -241,7 +249,8 @@ module _ {table : Table} {before after : Runner} {run_before run_after : TapeVie
   low_is p at = stands.low ∙ ap (least (counted_head table)) next ∙ least-next (counted_head table) n
       ∙ ap (int_min low) (counted ∙ at)
 
-  high_is : (p : ℤ) → counted_position (state_of after) (position_of after) ≡ p → high_of after ≡ int_max high p
+  high_is : (p : ℤ) → counted_position (state_of after) (position_of after) ≡ p → high_of after
+      ≡ int_max high p
   high_is p at = stands.high ∙ ap (greatest (counted_head table)) next ∙ greatest-next (counted_head table) n
       ∙ ap (int_max high) (counted ∙ at)
 
@@ -286,4 +295,5 @@ module _ {table : Table} {before after : Runner} {run_before run_after : TapeVie
       → (side : Side) → TellsWidening after cells (Some side) → ⊥
   none_wider halts cells were side told =
       let at = ap (λ s. counted_position s (position_of after)) halts in
-      is_wider side cells told (same_cells after _ around (low_is _ at) (high_is _ at) (were ∙ cells_were) around)
+      is_wider side cells told (same_cells after _ around (low_is _ at) (high_is _ at)
+      (were ∙ cells_were) around)

@@ -127,7 +127,8 @@ module _ {list : List Rule} {starts : Dir → List ℕ} (known : HasTable list s
   walked_entered table rest {more} fs {tail} {nodes} {levels} rules long comb walked =
       let first = before table (branch_node old.content branch) in
       let left = with_cell new.content frame.position frame.before in
-      let entered : IsWalked table (first ∷ comb_of list rest left fs) (nodes + 1) (max levels (level + 1)) = rw (undone, comb, sym long) (walk_enters walked enters.apart) in
+      let entered : IsWalked table (first ∷ comb_of list rest left fs) (nodes + 1)
+      (max levels (level + 1)) = rw (undone, comb, sym long) (walk_enters walked enters.apart) in
       walk_rearranged (branches_before table rules) entered
 
 -- what a walk from a root knows between its steps

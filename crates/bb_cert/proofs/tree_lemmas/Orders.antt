@@ -49,7 +49,8 @@ grown-flat_map table f (r ∷ rules) i = grown-append table (f r) (flat_map f ru
 
 module _ (table : Table) (f : Rule → List Node) (rules others : List Rule) (same : IsPermutation rules others)
   where
-    below_permuted : (h : ℕ) → grown_below table (flat_map f rules) h ≡ grown_below table (flat_map f others) h
+    below_permuted : (h : ℕ) → grown_below table (flat_map f rules) h ≡ grown_below table
+        (flat_map f others) h
     below_permuted h =
         let sum = is_sum_by (λ rs. grown_below table (flat_map f rs) h) (λ r. grown_below table (f r) h)
         (empty_below table h) (λ r rs. below-append table (f r) (flat_map f rs) h) in

@@ -100,7 +100,8 @@ module _ (content : Content) (position : ℤ) (state : ℕ) (rule : Rule) (write
 
   pub fit_before : (held : ℕ) → held ≡ cell content (position +ℤ left_cell dir)
       → (held ≡ 0) ⊎ (held ≡ write + 1)
-      → before_by (shown_node content position state) rule ≡ from_rule content (position +ℤ left_cell dir) rule ∷ []
+      → before_by (shown_node content position state) rule ≡ from_rule content
+      (position +ℤ left_cell dir) rule ∷ []
   fit_before held shows fits =
       ap (before_by_entry (shown_node content position state) rule.state rule.symbol) is
       ∙ cond-true _ _ _ (may_be-fits _ write (subst (λ h. (h ≡ 0) ⊎ (h ≡ write + 1)) shows fits))
@@ -188,7 +189,8 @@ module _ {list seen : List Rule} (same : seen ≡ list) (content : Content) (f :
         ∙ unfit_before content f.position f.state tried write dir next entry held shows_left known other)
 
     branch_here : (held ≡ 0) ⊎ (held ≡ write + 1)
-        → branches list content f ≡ from_rule content p tried ∷ branches list content (record f { next = index + 1 })
+        → branches list content f ≡ from_rule content p tried ∷ branches list content
+        (record f { next = index + 1 })
     branch_here fits = so_far ∙ branches_first list content (record f { next = index }) d less within
         (from_rule content p tried)
         (ap (before_by (shown_node content f.position f.state)) there

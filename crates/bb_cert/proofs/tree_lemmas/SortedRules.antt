@@ -260,7 +260,8 @@ module _ {table : Table} (machine : IsMachine table) {before list : List Rule} {
         let size = then_size in
         let same = ap (λ to. length (rules_to table to)) there in
         let last =
-        subst (IsRange table then_list (get_or then_starts n 0) (get_or then_starts (n + 1) 0)) there last_range in
+        subst (IsRange table then_list (get_or then_starts n 0) (get_or then_starts (n + 1) 0)) there
+        last_range in
         record {
           added = now.added ++ adds.added;
           is = then_is;

@@ -76,7 +76,8 @@ at_halting table c machine named state in_state halts = record {
 }
 
 -- before a step into Z the entry halts
-pub before_z : (table : Table) (c d : Configuration) → IsMachine table → IsNamed table c → next table c ≡ Some d
+pub before_z : (table : Table) (c d : Configuration) → IsMachine table → IsNamed table c → next table c
+    ≡ Some d
     → d.state ≡ Halt → (state : Next) → c.state ≡ state → IsAtHaltingEntry table c
 unfolding next
 before_z table c d machine named e into (State state) in_state =

@@ -1,4 +1,5 @@
--- What `advance` promises of a call, said once for it and for the half that it calls where no state follows; no
+-- What `advance` promises of a call, said once for it and for the half that it calls where no state follows;
+-- no
 -- public contract cites it.
 use Rattle.std.specs.Prelude.{◌≡◌, Bool, Result, IfOk, IsTrue, OnErr, OnOk}
 use Rattle.bb_machine.specs.Limits.{Bounds}

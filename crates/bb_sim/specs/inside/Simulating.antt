@@ -1,4 +1,5 @@
--- What `simulate` promises of a run, said once for it and for the loop that it calls; no public contract cites it.
+-- What `simulate` promises of a run, said once for it and for the loop that it calls; no public contract
+-- cites it.
 use Rattle.std.specs.Prelude.{◌≡◌, Bool, Result, IfOk, IsTrue, OnErr, OnOk}
 use Rattle.bb_machine.specs.Limits.{Bounds}
 use Rattle.bb_machine.specs.Machine.{Table}

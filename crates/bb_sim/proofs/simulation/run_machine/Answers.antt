@@ -21,7 +21,8 @@ returns-in-Halted g c =
     let here = c.loop-runner.invariant in
     let call = c.in_ok-advance.ensures in
     let stays = rw c.in-Halted.is at call.moves in
-    simulated here.run call.stands _ _ (λ stepped. cc) call.reaches call.moves (call.limit ∙ here.limit ∙ sym c.requires.limit)
+    simulated here.run call.stands _ _ (λ stepped. cc) call.reaches call.moves
+    (call.limit ∙ here.limit ∙ sym c.requires.limit)
     (λ last. halted_end here.run.stands last.inside (rw c.in-Halted.is at call.answers) _ _
     (c.steps.ensures ∙ ap steps_of stays.runner)
     (c.score.ensures ∙ ap (λ (s : TapeView). score s.content) stays.view))
@@ -31,7 +32,8 @@ returns-in-NoSteps g c =
     let here = c.loop-runner.invariant in
     let call = c.in_ok-advance.ensures in
     let asked = rw c.in-NoSteps.is at call.answers in
-    simulated here.run call.stands _ _ (λ stepped. cc) call.reaches call.moves (call.limit ∙ here.limit ∙ sym c.requires.limit)
+    simulated here.run call.stands _ _ (λ stepped. cc) call.reaches call.moves
+    (call.limit ∙ here.limit ∙ sym c.requires.limit)
     (λ last. (no_halt_inside _ _ _ last.inside last asked.0, rw (← asked.1) last.inside.within_cells))
 
 pub returns-in-NoCells : goal.returns-in-NoCells
@@ -39,5 +41,6 @@ returns-in-NoCells g c =
     let here = c.loop-runner.invariant in
     let call = c.in_ok-advance.ensures in
     let asked = rw c.in-NoCells.is at call.answers in
-    simulated here.run call.stands _ _ (λ stepped. cc) call.reaches call.moves (call.limit ∙ here.limit ∙ sym c.requires.limit)
+    simulated here.run call.stands _ _ (λ stepped. cc) call.reaches call.moves
+    (call.limit ∙ here.limit ∙ sym c.requires.limit)
     (λ last. (no_halt_inside _ _ _ last.inside last asked.0, wide_at_end _ _ _ last.inside asked.2 asked.1))

@@ -7,7 +7,8 @@ use Rattle.bb_sim.specs.Meter.{stepped}
 use Rattle.bb_sim.specs.inside.Widening.{StepsTo, GoesNowhere}
 use Rattle.bb_sim.proofs.Outcomes.{halts_last, steps_last}
 use Rattle.bb_sim.proofs.Standing.{near_head, head_inside}
-use Rattle.bb_sim.proofs.Stepping.{halts_undefined, running, moves_on, wanted, made, into_Z, fits_Z, stayed, refused, nothing}
+use Rattle.bb_sim.proofs.Stepping.{halts_undefined, running, moves_on, wanted, made, into_Z, fits_Z, stayed}
+use Rattle.bb_sim.proofs.Stepping.{refused, nothing}
 use Rattle.bb_sim.proofs.Stepping.{cells_stay}
 use Rattle.bb_sim.proofs.runner.Runner.advance_to_halt.Goals as goal
 
@@ -24,7 +25,8 @@ returns-then-self-steps g c =
 pub beside-position-requires : goal.beside-position-requires
 beside-position-requires g c =
     let small = (near_head _ _ _ c.in-Go.dir c.requires.stands
-    (running c.requires.stands (rw c.in-Go.is at c.requires.entry)) (g.met.T.Tape.sound c.args.tape.now)).small in
+    (running c.requires.stands (rw c.in-Go.is at c.requires.entry))
+    (g.met.T.Tape.sound c.args.tape.now)).small in
     record { low = omega (arith, ints, small.0); high = omega (arith, ints, small.1) }
 
 pub step_to-requires-clause-inside : goal.step_to-requires-clause-inside
@@ -55,7 +57,8 @@ returns-in_default-step_to g c =
     (g.met.T.Tape.sound c.args.tape.now) nowhere).0 in
     let wanted_here = wanted c.requires.stands here c.args.limits.now (λ e. c.if-self-steps.false cc)
     c.requires.limit fits in
-    refused wanted_here c.step_to.ensures.limit c.in_default-step_to.ensures.memory c.in_default-step_to.ensures.uncounted
+    refused wanted_here c.step_to.ensures.limit c.in_default-step_to.ensures.memory
+    c.in_default-step_to.ensures.uncounted
 
 pub returns : goal.returns
 returns g c =
