@@ -10,6 +10,7 @@ pub mod Halting
 pub mod OneRun
 pub mod Partners
 pub mod SmallLimits
+pub mod Stops
 pub mod Sure
 pub mod TakingIn
 pub mod Translations
