@@ -8,11 +8,11 @@ pub mod FewCells
 pub mod Fingerprints
 pub mod Halting
 pub mod OneRun
+pub mod OneSide
 pub mod Partners
 pub mod SmallLimits
 pub mod Stops
 pub mod Sure
-pub mod TakingIn
 pub mod Translations
 pub mod Verdicts
 pub mod Watched

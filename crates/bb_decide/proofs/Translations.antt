@@ -28,8 +28,8 @@ use Rattle.bb_decide.specs.Cycle.{CountsSearch}
 use Rattle.bb_decide.specs.Translation.{AgreesWithPartner, FindsTranslation, HasNoTranslation, IsTranslation}
 use Rattle.bb_decide.specs.inside.Follow.{IsReady, IsSearched, Looks, TellsPair, nearest_passed, on_side, with_nearest}
 use Rattle.bb_decide.specs.declared.watching.Nearest.{Nearest}
-use Rattle.bb_decide.proofs.TakingIn.{EndsWith, GoesOn, HasPassed, side_ends, side_goes_on}
-use Rattle.bb_decide.proofs.TakingIn.{side_passes_by, side_ready}
+use Rattle.bb_decide.proofs.OneSide.{EndsWith, GoesOn, HasPassed, side_ends, side_goes_on}
+use Rattle.bb_decide.proofs.OneSide.{side_passes_by, side_ready}
 
 -- step 0 makes no record
 pub none_at_first : (table : Table) (bounds : Bounds) (side : Side) (a b : ℕ) → b ≤ 0

@@ -32,8 +32,8 @@ pub fn larger_limits_keep()
     ensures { LargerLimitsKeep }
 {}
 
-/// What a run finds within small limits, a halt or a pair, is the verdict within larger ones, whether trees are
-/// asked for or not.
+/// What a run finds within small limits, a halt or a pair, is the verdict within larger ones, whether trees
+/// are asked for or not.
 pub fn small_limits_decide()
     ensures { SmallLimitsDecide }
 {}

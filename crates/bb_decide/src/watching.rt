@@ -22,7 +22,8 @@ use bb_machine::{Limits, Machine};
 use bb_sim::{Meter, Moved, Runner};
 use bb_tape::{Memory, Tape};
 
-/// The fingerprint of the run's tape, and that of the configuration that is kept, the partner of the next step.
+/// The fingerprint of the run's tape, and that of the configuration that is kept, the partner of the next
+/// step.
 #[derive(Clone, Copy, Debug)]
 struct Prints {
     print: u64,
@@ -73,8 +74,8 @@ impl Prints {
     }
 }
 
-/// The head's least position since the kept record of the right side, and its greatest since that of the left.
-/// They stand beside the records, which are in memory, so that they stay in registers.
+/// The head's least position since the kept record of the right side, and its greatest since that of the
+/// left. They stand beside the records, which are in memory, so that they stay in registers.
 #[derive(Clone, Copy, Debug)]
 pub struct Nearest {
     right: i64,
@@ -127,13 +128,13 @@ pub fn watch<T: Tape, K: Keys>(
     ensures path { bench.new.path ≡ bench.old.path }
 {
     let limits = *limits;
-    run(machine, &limits, keys, bench, meter)
+    run_watched(machine, &limits, keys, bench, meter)
 }
 
 /// `watch`, inlined there, so that the limits, which are its local, stay in registers. The runner counts its
 /// steps and cells; the meter takes them over where the run ends.
 #[inline(always)]
-fn run<T: Tape, K: Keys>(
+fn run_watched<T: Tape, K: Keys>(
     machine: &Machine,
     limits: &Limits,
     keys: &K,
@@ -249,8 +250,8 @@ fn look<T: Tape>(
     requires limit { (T.view saved.old).limit ≡ (T.view run.now).limit }
     requires ready { IsReady (with_nearest records.old nearest.old) runner.now (T.view saved.old)
         (T.view run.now) }
-    ensures compared { IfOk result (ComparesTo (with_nearest records.old nearest.old) runner.now (T.view run.now)
-        (T.view saved.old) records.new (T.view saved.new)) }
+    ensures compared { IfOk result (ComparesTo (with_nearest records.old nearest.old) runner.now
+        (T.view run.now) (T.view saved.old) records.new (T.view saved.new)) }
     ensures nearest { OnOk result (nearest.new ≡ records.new.nearest) }
     ensures side { OnOk result (records.new.side ≡ records.old.side) }
     ensures limit { (T.view saved.new).limit ≡ (T.view saved.old).limit }

@@ -56,7 +56,8 @@ pub record EndsPromised (table : Table) (grows : Bool) (result : Result Ending M
   pub memory : OnErr result (IsTrue grows)
 
 -- what the watched run promises of its result
-pub record WatchPromised (table : Table) (grows : Bool) (result : Result (Option Ending) Memory) : Type 0 where
+pub record WatchPromised (table : Table) (grows : Bool) (result : Result (Option Ending) Memory)
+    : Type 0 where
   pub claim : IfOk result (λ found. IfSome found (λ ending. IfSome (found_of ending) (Claim table)))
   pub numbers : IfOk result (λ found. IfSome found (λ ending. IfSome (found_of ending) HasNumbers))
   pub memory : OnErr result (IsTrue grows)
@@ -73,8 +74,8 @@ abbrev pub RanAs : Table → Bounds → Ending → Type 0
 RanAs table bounds (Ran outcome) = IsOutcome table bounds outcome
 RanAs table bounds (Found verdict) = Unit {0}
 
--- a run was stopped at step n: no cycle is before, nor records that agree; configuration n has state, position
--- and fingerprint of an earlier one, with which it makes a cycle if the tapes are the same
+-- a run was stopped at step n: no cycle is before, nor records that agree; configuration n has state,
+-- position and fingerprint of an earlier one, with which it makes a cycle if the tapes are the same
 pub record IsSuspected (table : Table) (bounds : Bounds) (key : ℤ → ℕ) (n : ℕ) : Type 0 where
   pub inside : Inside table bounds n
   pub no_cycle : (a t : ℕ) → t < n → IsCycle table bounds a t → ⊥

@@ -1,7 +1,7 @@
 -- What the deciders that are on find, as the functions of this crate tell one another; no public contract
 -- cites it.
-use Rattle.std.specs.Prelude.{◌≡◌, ℕ, ◌+◌, ◌*◌, ◌≤◌, max, Bool, IfOk, IfSome, IsTrue, OnErr, Option, Some, None}
-use Rattle.std.specs.Prelude.{Result}
+use Rattle.std.specs.Prelude.{◌≡◌, ℕ, ◌+◌, ◌*◌, ◌≤◌, max, Bool, IfOk, IfSome, IsTrue, OnErr, Option, Some}
+use Rattle.std.specs.Prelude.{None, Result}
 use Rattle.bb_machine.specs.Limits.{Bounds}
 use Rattle.bb_machine.specs.Machine.{Table}
 use Rattle.bb_tape.specs.declared.tape.Memory.{Memory}

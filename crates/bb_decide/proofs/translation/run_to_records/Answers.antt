@@ -7,11 +7,11 @@ use Rattle.bb_decide.proofs.Benches.{tapes_keep}
 use Rattle.bb_decide.proofs.Counted.{begins, counts_on, has_counted, taken_over, within_here}
 use Rattle.bb_decide.proofs.Endings.{ran_as, ran_into_Z}
 use Rattle.bb_decide.proofs.Halting.{in_no_state, is_none}
-use Rattle.bb_decide.proofs.TakingIn.{searched_at_first}
+use Rattle.bb_decide.proofs.OneSide.{searched_at_first}
 use Rattle.bb_decide.proofs.Translations.{counts_as, goes_on_from, goes_past, is_found, is_ready}
 use Rattle.bb_decide.proofs.Translations.{none_at_first}
 use Rattle.bb_decide.proofs.Translations.{none_in_Z, takes_in}
-use Rattle.bb_decide.proofs.translation.run.Goals as goal
+use Rattle.bb_decide.proofs.translation.run_to_records.Goals as goal
 
 pub loop-moved-init : goal.loop-moved-init
 loop-moved-init g c =

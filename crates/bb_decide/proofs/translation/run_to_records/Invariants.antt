@@ -3,7 +3,7 @@ use Rattle.bb_sim.specs.Runner.{steps_of}
 use Rattle.bb_decide.specs.Bench.{BenchHasCells}
 use Rattle.bb_decide.proofs.Counted.{counted_to}
 use Rattle.bb_decide.proofs.Translations.{IsSearching}
-use Rattle.bb_decide.proofs.translation.run.Given as goal
+use Rattle.bb_decide.proofs.translation.run_to_records.Given as goal
 
 -- no record up to where the runner stands agrees with its partner
 abbrev pub invariant-loop-moved : goal.invariant-loop-moved

@@ -3,7 +3,7 @@ use Rattle.bb_sim.specs.Runner.{steps_of}
 use Rattle.bb_decide.specs.Bench.{BenchHasCells}
 use Rattle.bb_decide.proofs.Counted.{counted_to}
 use Rattle.bb_decide.proofs.Cycles.{IsSearching}
-use Rattle.bb_decide.proofs.cycle.run.Given as goal
+use Rattle.bb_decide.proofs.cycle.run_to_cycle.Given as goal
 
 -- no step up to where the runner stands is a cycle; what is kept stays up to the step that is twice its own
 abbrev pub invariant-loop-moved : goal.invariant-loop-moved

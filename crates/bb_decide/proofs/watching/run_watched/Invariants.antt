@@ -5,7 +5,7 @@ use Rattle.bb_decide.specs.inside.Follow.{with_nearest}
 use Rattle.bb_decide.proofs.Counted.{counted_to}
 use Rattle.bb_decide.proofs.Translations.{IsSearching}
 use Rattle.bb_decide.proofs.Watched.{IsWatched}
-use Rattle.bb_decide.proofs.watching.run.Given as goal
+use Rattle.bb_decide.proofs.watching.run_watched.Given as goal
 
 -- no record up to where the runner stands agrees with its partner, and no step up to there is a cycle
 abbrev pub invariant-loop-moved : goal.invariant-loop-moved

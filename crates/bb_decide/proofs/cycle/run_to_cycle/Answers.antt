@@ -7,7 +7,7 @@ use Rattle.bb_decide.proofs.Cycles.{comes_again, first_cycle, kept_earlier, no_c
 use Rattle.bb_decide.proofs.Endings.{ran_as, ran_into_Z}
 use Rattle.bb_decide.proofs.Halting.{in_no_state}
 use Rattle.bb_decide.proofs.Partners.{kept_at_first, keeps_next, keeps_on}
-use Rattle.bb_decide.proofs.cycle.run.Goals as goal
+use Rattle.bb_decide.proofs.cycle.run_to_cycle.Goals as goal
 
 pub loop-moved-init : goal.loop-moved-init
 loop-moved-init g c =

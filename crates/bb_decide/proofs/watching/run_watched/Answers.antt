@@ -13,15 +13,15 @@ use Rattle.bb_decide.proofs.Cycles.{no_cycle_in_Z}
 use Rattle.bb_decide.proofs.Endings.{ran_as, ran_into_Z}
 use Rattle.bb_decide.proofs.Halting.{in_no_state, is_none, not_in_Z}
 use Rattle.bb_decide.proofs.Stops.{HasStopped, stopped_by_end, stopped_by_pair, stopped_by_suspicion, within_reach}
-use Rattle.bb_decide.proofs.TakingIn.{searched_at_first}
+use Rattle.bb_decide.proofs.OneSide.{searched_at_first}
 use Rattle.bb_decide.proofs.Translations.{counts_as, goes_on_from, goes_past, is_pair, is_ready}
 use Rattle.bb_decide.proofs.Translations.{none_at_first, none_in_Z, takes_in_beside}
 use Rattle.bb_decide.proofs.Watched.{not_both}
 use Rattle.bb_decide.proofs.Watched.{print_known, readable_here, still_inside, suspected, watched_at_first}
 use Rattle.bb_decide.proofs.Watched.{watched_on}
 use Rattle.bb_decide.specs.inside.Follow.{TellsPair}
-use Rattle.bb_decide.proofs.watching.run.Given as given
-use Rattle.bb_decide.proofs.watching.run.Goals as goal
+use Rattle.bb_decide.proofs.watching.run_watched.Given as given
+use Rattle.bb_decide.proofs.watching.run_watched.Goals as goal
 
 pub loop-moved-init : goal.loop-moved-init
 loop-moved-init g c =
