@@ -1,5 +1,6 @@
 pub mod Benches
 pub mod Claims
+pub mod Costs
 pub mod Counted
 pub mod Cycles
 pub mod Endings
@@ -15,4 +16,3 @@ pub mod TakingIn
 pub mod Translations
 pub mod Verdicts
 pub mod Watched
-pub mod Works

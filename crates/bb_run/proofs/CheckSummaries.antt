@@ -9,11 +9,11 @@ use Rattle.bb_sim.specs.Meter.{zero_meter}
 use Rattle.bb_cert.specs.declared.checker.answer.Answer.{Answer}
 use Rattle.bb_cert.specs.declared.checker.answer.Answer.TheVariants as answer
 use Rattle.bb_cert.specs.declared.verdict.reader.Line.TheVariants.{Claim}
-use Rattle.bb_cert.specs.checker.Answer.{answer_text}
+use Rattle.bb_cert.specs.checker.Answer.{answer_text, is_fine}
 use Rattle.bb_cert.specs.checker.ClaimMeter.{last_step, levels_of, nodes_of}
 use Rattle.bb_run.specs.declared.summary.Summary.{Summary}
 use Rattle.bb_run.specs.CheckReply.{IsCheckReply, unread_text}
-use Rattle.bb_run.specs.CheckSeen.{CheckSaw, SawAnswer, SawOpen, SawUnread, is_fine}
+use Rattle.bb_run.specs.CheckSeen.{CheckSaw, SawAnswer, SawOpen, SawUnread}
 use Rattle.bb_run.specs.CheckSummary.{AreOksWithin, IsCheckSummary, IsFine, IsOkOf, IsWithinBounds}
 use Rattle.bb_run.proofs.CheckReplies.{check_reply_is_unique, never_both, one_answer, one_verdict}
 
@@ -81,9 +81,9 @@ module _ (bounds : Bounds) where
     within = λ e. e;
   }
 
-  module _ (line : List ℕ) (lines : List (List ℕ)) (old mid new : Summary) (effort : ℕ)
+  module _ (line : List ℕ) (lines : List (List ℕ)) (old mid new : Summary) (cost : ℕ)
       (rest : Sums bounds lines mid new) where
-    sums_answer : SawAnswer bounds old line mid effort → Sums bounds (line ∷ lines) old new
+    sums_answer : SawAnswer bounds old line mid cost → Sums bounds (line ∷ lines) old new
     sums_answer saw = record {
       all_clean = λ e.
           let r = rest.all_clean e in
@@ -104,16 +104,16 @@ module _ (bounds : Bounds) where
         nodes = let a = w.nodes in let b = saw.within.nodes in omega (arith, a, b, nodes_now);
       });
     } where
-      steps_now : mid.peak.steps ≡ max old.peak.steps saw.cost.steps
+      steps_now : mid.peak.steps ≡ max old.peak.steps saw.meter.steps
       steps_now = ap (λ (m : Meter). m.steps) saw.peak
 
-      cells_now : mid.peak.most_cells ≡ max old.peak.most_cells saw.cost.most_cells
+      cells_now : mid.peak.most_cells ≡ max old.peak.most_cells saw.meter.most_cells
       cells_now = ap (λ (m : Meter). m.most_cells) saw.peak
 
-      levels_now : mid.peak.most_levels ≡ max old.peak.most_levels saw.cost.most_levels
+      levels_now : mid.peak.most_levels ≡ max old.peak.most_levels saw.meter.most_levels
       levels_now = ap (λ (m : Meter). m.most_levels) saw.peak
 
-      nodes_now : mid.peak.nodes ≡ max old.peak.nodes saw.cost.nodes
+      nodes_now : mid.peak.nodes ≡ max old.peak.nodes saw.meter.nodes
       nodes_now = ap (λ (m : Meter). m.nodes) saw.peak
 
       replied : IsCheckReply bounds line (answer_text saw.given)
@@ -151,7 +151,7 @@ module _ (bounds : Bounds) where
             omega (arith, nodes_are, nodes_from, nodes_now),
           )
 
-    sums_open : SawOpen old line mid effort → Sums bounds (line ∷ lines) old new
+    sums_open : SawOpen old line mid cost → Sums bounds (line ∷ lines) old new
     sums_open saw = record {
       all_clean = λ e. let r = rest.all_clean e in (sym clean_now ∙ r.0, (fine, r.1));
       stays_clean = λ e all. rest.stays_clean (clean_now ∙ e) all.1;
@@ -176,7 +176,7 @@ module _ (bounds : Bounds) where
         is_fine = inr refl;
       }
 
-    sums_unread : SawUnread old line mid effort → Sums bounds (line ∷ lines) old new
+    sums_unread : SawUnread old line mid cost → Sums bounds (line ∷ lines) old new
     sums_unread saw = record {
       all_clean = λ e. let r = rest.all_clean e in let wrong : false ≡ true = sym saw.clean ∙ r.0 in cc;
       stays_clean = λ e all. absurd (unread_is_apart (fine_reply bounds line unread_text unread all.0));
@@ -191,11 +191,11 @@ module _ (bounds : Bounds) where
 
 -- what a checker with these limits and this summary saw of a line
 abbrev pub CheckSawLine : {D : Type 0} → (D → Bounds) → (D → Summary) → (D → ℕ) → D → List ℕ → D → Type 0
-CheckSawLine bounds summary effort a line b =
-    (bounds b ≡ bounds a) × CheckSaw (bounds a) (summary a) line (summary b) (effort b)
+CheckSawLine bounds summary cost a line b =
+    (bounds b ≡ bounds a) × CheckSaw (bounds a) (summary a) line (summary b) (cost b)
 
-module _ {D : Type 0} (bounds : D → Bounds) (summary : D → Summary) (effort : D → ℕ) where
-  sums : (lines : List (List ℕ)) (a b : D) → FoldsTo (CheckSawLine bounds summary effort) a lines b
+module _ {D : Type 0} (bounds : D → Bounds) (summary : D → Summary) (cost : D → ℕ) where
+  sums : (lines : List (List ℕ)) (a b : D) → FoldsTo (CheckSawLine bounds summary cost) a lines b
       → Sums (bounds a) lines (summary a) (summary b)
   sums [] a b e = subst (λ d. Sums (bounds a) [] (summary a) (summary d)) e (sums_none _ _)
   sums (line ∷ lines) a b folds =
@@ -213,7 +213,7 @@ module _ {D : Type 0} (bounds : D → Bounds) (summary : D → Summary) (effort 
   -- a run that begins with nothing counted is summed up
   pub check_summed : (lines : List (List ℕ)) (a b : D)
       → summary a ≡ record { clean = true; peak = zero_meter }
-      → FoldsTo (CheckSawLine bounds summary effort) a lines b → IsCheckSummary (bounds a) lines (summary b)
+      → FoldsTo (CheckSawLine bounds summary cost) a lines b → IsCheckSummary (bounds a) lines (summary b)
   check_summed lines a b begin folds =
       let all = sums lines a b folds in
       let s = subst (λ (old : Summary). Sums (bounds a) lines old (summary b)) begin all in record {

@@ -12,11 +12,11 @@ use Rattle.bb_sim.proofs.Facts.{last_step_is_unique}
 use Rattle.bb_cert.specs.declared.verdict.Verdict.TheVariants.{Backward}
 use Rattle.bb_machine.specs.declared.plan.Plan.{Plan}
 use Rattle.bb_decide.specs.Verdict.{IsVerdict}
-use Rattle.bb_decide.specs.Work.{CountsWalk, IsWithinWork, IsWork, MakesWalk}
-use Rattle.bb_decide.proofs.Facts.{work_is_bounded, work_is_unique}
+use Rattle.bb_decide.specs.Cost.{CountsWalk, IsWithinCost, DecisionSteps, MakesWalk}
+use Rattle.bb_decide.proofs.Facts.{steps_are_bounded, steps_are_unique}
 use Rattle.bb_run.specs.declared.summary.Summary.{Summary}
 use Rattle.bb_run.specs.Seen.{CountsExactly, CountsInOneRun, SawBy, SawMachine, SawRefusal}
-use Rattle.bb_run.specs.Summary.{AreTreesWithin, IsOneRunSummary, IsSpanOf, IsSummary, IsTreeOf, IsWorkOf}
+use Rattle.bb_run.specs.Summary.{AreTreesWithin, IsOneRunSummary, IsSpanOf, IsSummary, IsTreeOf, AreStepsOf}
 use Rattle.bb_run.proofs.Peaks.{Rises, Rises-none, Rises-past, Rises-over, IsPeak-risen}
 
 -- two machines of one line are the same
@@ -27,13 +27,13 @@ same_table one line a b first second =
 -- what an answerer with these limits, this plan and this summary saw of a line
 abbrev pub SawLine : {D : Type 0} → (Bounds → Plan → Table → Meter → Type 0) → (D → Bounds) → (D → Plan)
     → (D → Summary) → (D → ℕ) → D → List ℕ → D → Type 0
-SawLine Counts bounds plan summary effort a line b =
+SawLine Counts bounds plan summary cost a line b =
     (bounds b ≡ bounds a) × (plan b ≡ plan a)
-    × SawBy (Counts (bounds a) (plan a)) (summary a) line (summary b) (effort b)
+    × SawBy (Counts (bounds a) (plan a)) (summary a) line (summary b) (cost b)
 
 -- what is known of a machine's cost, however it was decided
 record IsBounded (bounds : Bounds) (plan : Plan) (table : Table) (meter : Meter) : Type 0 where
-  within : IsWithinWork bounds meter
+  within : IsWithinCost bounds meter
   walk : CountsWalk (MakesWalk table bounds plan) table bounds meter
 
 -- what the lines from here on do to a summary, however their machines are decided
@@ -43,11 +43,11 @@ record Tells (bounds : Bounds) (plan : Plan) (lines : List (List ℕ)) (old new 
   trees : AreTreesWithin bounds plan lines new.peak.most_levels new.peak.nodes
   nodes_from : old.peak.nodes ≤ new.peak.nodes
   levels_from : old.peak.most_levels ≤ new.peak.most_levels
-  within : IsWithinWork bounds old.peak → IsWithinWork bounds new.peak
+  within : IsWithinCost bounds old.peak → IsWithinCost bounds new.peak
 
 -- what they do to the peaks of steps and cells where all is counted
 record Peaks (bounds : Bounds) (plan : Plan) (lines : List (List ℕ)) (old new : Summary) : Type 0 where
-  steps : Rises (IsWorkOf bounds plan) lines old.peak.steps new.peak.steps
+  steps : Rises (AreStepsOf bounds plan) lines old.peak.steps new.peak.steps
   cells : Rises (IsSpanOf bounds) lines old.peak.most_cells new.peak.most_cells
 
 module _ (one : TextsDiffer) (bounds : Bounds) (plan : Plan) where
@@ -64,11 +64,11 @@ module _ (one : TextsDiffer) (bounds : Bounds) (plan : Plan) where
   peaks_none : (s : Summary) → Peaks bounds plan [] s s
   peaks_none s = record { steps = Rises-none _ _ _ refl; cells = Rises-none _ _ _ refl }
 
-  module _ (line : List ℕ) (lines : List (List ℕ)) (old mid new : Summary) (effort : ℕ) where
+  module _ (line : List ℕ) (lines : List (List ℕ)) (old mid new : Summary) (cost : ℕ) where
     tells_machine : {Counts : Table → Meter → Type 0}
         → ((table : Table) (meter : Meter) → Counts table meter → IsBounded bounds plan table meter)
         → Tells bounds plan lines mid new
-        → SawMachine Counts old line mid effort → Tells bounds plan (line ∷ lines) old new
+        → SawMachine Counts old line mid cost → Tells bounds plan (line ∷ lines) old new
     tells_machine {Counts} bounded rest saw = record {
       all_clean = λ e. let r = rest.all_clean e in (sym saw.clean ∙ r.0, ((saw.table, saw.of), r.1));
       stays_clean = λ e all. rest.stays_clean (saw.clean ∙ e) all.1;
@@ -76,27 +76,27 @@ module _ (one : TextsDiffer) (bounds : Bounds) (plan : Plan) where
       nodes_from = let from = rest.nodes_from in omega (arith, from, nodes_now);
       levels_from = let from = rest.levels_from in omega (arith, from, levels_now);
       within = λ w. rest.within (record {
-        steps = let a = w.steps in let b = cost.within.steps in omega (arith, a, b, steps_now);
-        most_cells = let a = w.most_cells in let b = cost.within.most_cells in
+        steps = let a = w.steps in let b = limited.within.steps in omega (arith, a, b, steps_now);
+        most_cells = let a = w.most_cells in let b = limited.within.most_cells in
             omega (arith, a, b, cells_now);
-        nodes = let a = w.nodes in let b = cost.within.nodes in omega (arith, a, b, nodes_now);
-        most_levels = let a = w.most_levels in let b = cost.within.most_levels in
+        nodes = let a = w.nodes in let b = limited.within.nodes in omega (arith, a, b, nodes_now);
+        most_levels = let a = w.most_levels in let b = limited.within.most_levels in
             omega (arith, a, b, levels_now);
       });
     } where
-      cost : IsBounded bounds plan saw.table saw.cost
-      cost = bounded saw.table saw.cost saw.counts
+      limited : IsBounded bounds plan saw.table saw.meter
+      limited = bounded saw.table saw.meter saw.counts
 
-      steps_now : mid.peak.steps ≡ max old.peak.steps saw.cost.steps
+      steps_now : mid.peak.steps ≡ max old.peak.steps saw.meter.steps
       steps_now = ap (λ (m : Meter). m.steps) saw.peak
 
-      cells_now : mid.peak.most_cells ≡ max old.peak.most_cells saw.cost.most_cells
+      cells_now : mid.peak.most_cells ≡ max old.peak.most_cells saw.meter.most_cells
       cells_now = ap (λ (m : Meter). m.most_cells) saw.peak
 
-      nodes_now : mid.peak.nodes ≡ max old.peak.nodes saw.cost.nodes
+      nodes_now : mid.peak.nodes ≡ max old.peak.nodes saw.meter.nodes
       nodes_now = ap (λ (m : Meter). m.nodes) saw.peak
 
-      levels_now : mid.peak.most_levels ≡ max old.peak.most_levels saw.cost.most_levels
+      levels_now : mid.peak.most_levels ≡ max old.peak.most_levels saw.meter.most_levels
       levels_now = ap (λ (m : Meter). m.most_levels) saw.peak
 
       is_tree_within : (levels nodes : ℕ) → IsTreeOf bounds plan line levels nodes
@@ -104,7 +104,7 @@ module _ (one : TextsDiffer) (bounds : Bounds) (plan : Plan) where
       is_tree_within levels nodes other =
           let e = same_table one line other.table saw.table other.of saw.of in
           let verdict = subst (λ t. IsVerdict t bounds plan (Backward levels nodes)) e other.is_verdict in
-          let counted = cost.walk.of_tree (verdict.0, verdict.1, verdict.2, verdict.3) levels nodes
+          let counted = limited.walk.of_tree (verdict.0, verdict.1, verdict.2, verdict.3) levels nodes
           verdict.4 in
           let levels_are = counted.0 in
           let nodes_are = counted.1 in
@@ -114,7 +114,7 @@ module _ (one : TextsDiffer) (bounds : Bounds) (plan : Plan) where
             omega (arith, nodes_are, nodes_from, nodes_now),
           )
 
-    tells_refusal : Tells bounds plan lines mid new → SawRefusal old line mid effort
+    tells_refusal : Tells bounds plan lines mid new → SawRefusal old line mid cost
         → Tells bounds plan (line ∷ lines) old new
     tells_refusal rest saw = record {
       all_clean = λ e. let r = rest.all_clean e in let wrong : false ≡ true = sym saw.clean ∙ r.0 in cc;
@@ -122,19 +122,19 @@ module _ (one : TextsDiffer) (bounds : Bounds) (plan : Plan) where
       trees = (λ levels nodes tree. absurd (saw.no_machine (tree.table, tree.of)), rest.trees);
       nodes_from = subst (λ (m : Meter). m.nodes ≤ new.peak.nodes) saw.peak rest.nodes_from;
       levels_from = subst (λ (m : Meter). m.most_levels ≤ new.peak.most_levels) saw.peak rest.levels_from;
-      within = λ w. rest.within (subst (λ (m : Meter). IsWithinWork bounds m) (sym saw.peak) w);
+      within = λ w. rest.within (subst (λ (m : Meter). IsWithinCost bounds m) (sym saw.peak) w);
     }
 
     peaks_machine : Peaks bounds plan lines mid new
-        → SawMachine (CountsExactly bounds plan) old line mid effort
+        → SawMachine (CountsExactly bounds plan) old line mid cost
         → Peaks bounds plan (line ∷ lines) old new
     peaks_machine rest saw = record {
-      steps = Rises-over _ line lines _ saw.cost.steps _ _
-          (record { table = saw.table; of = saw.of; is_work = saw.counts.steps })
-          (λ n other. same_work n other)
+      steps = Rises-over _ line lines _ saw.meter.steps _ _
+          (record { table = saw.table; of = saw.of; are_steps = saw.counts.steps })
+          (λ n other. same_steps n other)
           (ap (λ (m : Meter). m.steps) saw.peak)
           rest.steps;
-      cells = Rises-over _ line lines _ saw.cost.most_cells _ _
+      cells = Rises-over _ line lines _ saw.meter.most_cells _ _
           (record {
             table = saw.table;
             of = saw.of;
@@ -146,13 +146,13 @@ module _ (one : TextsDiffer) (bounds : Bounds) (plan : Plan) where
           (ap (λ (m : Meter). m.most_cells) saw.peak)
           rest.cells;
     } where
-      same_work : (n : ℕ) → IsWorkOf bounds plan line n → n ≡ saw.cost.steps
-      same_work n other =
+      same_steps : (n : ℕ) → AreStepsOf bounds plan line n → n ≡ saw.meter.steps
+      same_steps n other =
           let e = same_table one line other.table saw.table other.of saw.of in
-          work_is_unique saw.table bounds plan n saw.cost.steps
-          (subst (λ t. IsWork t bounds plan n) e other.is_work) saw.counts.steps
+          steps_are_unique saw.table bounds plan n saw.meter.steps
+          (subst (λ t. DecisionSteps t bounds plan n) e other.are_steps) saw.counts.steps
 
-      same_span : (n : ℕ) → IsSpanOf bounds line n → n ≡ saw.cost.most_cells
+      same_span : (n : ℕ) → IsSpanOf bounds line n → n ≡ saw.meter.most_cells
       same_span n other =
           let e = same_table one line other.table saw.table other.of saw.of in
           let last = last_step_is_unique saw.table bounds other.last saw.counts.last
@@ -160,7 +160,7 @@ module _ (one : TextsDiffer) (bounds : Bounds) (plan : Plan) where
           other.is_span ∙ ap (λ t. span t other.last) e ∙ ap (λ k. span saw.table k) last
           ∙ sym saw.counts.most_cells
 
-    peaks_refusal : Peaks bounds plan lines mid new → SawRefusal old line mid effort
+    peaks_refusal : Peaks bounds plan lines mid new → SawRefusal old line mid cost
         → Peaks bounds plan (line ∷ lines) old new
     peaks_refusal rest saw = record {
       steps = Rises-past _ line lines _ _ _ (λ n has. saw.no_machine (has.table, has.of))
@@ -173,7 +173,7 @@ exactly_bounded : (bounds : Bounds) (plan : Plan) (table : Table) (meter : Meter
     → CountsExactly bounds plan table meter → IsBounded bounds plan table meter
 exactly_bounded bounds plan table meter counts = record {
   within = record {
-    steps = work_is_bounded table bounds plan meter.steps counts.steps;
+    steps = steps_are_bounded table bounds plan meter.steps counts.steps;
     most_cells = subst (λ n. n ≤ bounds.cells) (sym counts.most_cells) counts.is_last.inside.within_cells;
     nodes = counts.walk.within_nodes;
     most_levels = counts.walk.within_levels;
@@ -185,7 +185,7 @@ in_one_run_bounded : (bounds : Bounds) (plan : Plan) (table : Table) (meter : Me
     → CountsInOneRun bounds plan table meter → IsBounded bounds plan table meter
 in_one_run_bounded bounds plan table meter counts = record { within = counts.within; walk = counts.walk }
 
-zero_within : (bounds : Bounds) → IsWithinWork bounds zero_meter
+zero_within : (bounds : Bounds) → IsWithinCost bounds zero_meter
 zero_within bounds = record {
   steps = omega arith;
   most_cells = omega arith;
@@ -193,12 +193,12 @@ zero_within bounds = record {
   most_levels = omega arith;
 }
 
-module _ {D : Type 0} (bounds : D → Bounds) (plan : D → Plan) (summary : D → Summary) (effort : D → ℕ) where
+module _ {D : Type 0} (bounds : D → Bounds) (plan : D → Plan) (summary : D → Summary) (cost : D → ℕ) where
   tells : {Counts : Bounds → Plan → Table → Meter → Type 0}
       → ((b : Bounds) (p : Plan) (table : Table) (meter : Meter) → Counts b p table meter
       → IsBounded b p table meter)
       → TextsDiffer → (lines : List (List ℕ)) (a b : D)
-      → FoldsTo (SawLine Counts bounds plan summary effort) a lines b
+      → FoldsTo (SawLine Counts bounds plan summary cost) a lines b
       → Tells (bounds a) (plan a) lines (summary a) (summary b)
   tells bounded one [] a b e =
       subst (λ d. Tells (bounds a) (plan a) [] (summary a) (summary d)) e (tells_none one _ _ _)
@@ -215,7 +215,7 @@ module _ {D : Type 0} (bounds : D → Bounds) (plan : D → Plan) (summary : D �
       ]
 
   peaks : TextsDiffer → (lines : List (List ℕ)) (a b : D)
-      → FoldsTo (SawLine CountsExactly bounds plan summary effort) a lines b
+      → FoldsTo (SawLine CountsExactly bounds plan summary cost) a lines b
       → Peaks (bounds a) (plan a) lines (summary a) (summary b)
   peaks one [] a b e =
       subst (λ d. Peaks (bounds a) (plan a) [] (summary a) (summary d)) e (peaks_none one _ _ _)
@@ -234,7 +234,7 @@ module _ {D : Type 0} (bounds : D → Bounds) (plan : D → Plan) (summary : D �
   -- a run that begins with nothing counted is summed up
   pub summed : TextsDiffer → (lines : List (List ℕ)) (a b : D)
       → summary a ≡ record { clean = true; peak = zero_meter }
-      → FoldsTo (SawLine CountsExactly bounds plan summary effort) a lines b
+      → FoldsTo (SawLine CountsExactly bounds plan summary cost) a lines b
       → IsSummary (bounds a) (plan a) lines (summary b)
   summed one lines a b begin folds =
       let told = subst (λ (old : Summary). Tells (bounds a) (plan a) lines old (summary b)) begin
@@ -253,7 +253,7 @@ module _ {D : Type 0} (bounds : D → Bounds) (plan : D → Plan) (summary : D �
   -- so is one that decides each machine in one run
   pub summed_in_one_run : TextsDiffer → (lines : List (List ℕ)) (a b : D)
       → summary a ≡ record { clean = true; peak = zero_meter }
-      → FoldsTo (SawLine CountsInOneRun bounds plan summary effort) a lines b
+      → FoldsTo (SawLine CountsInOneRun bounds plan summary cost) a lines b
       → IsOneRunSummary (bounds a) (plan a) lines (summary b)
   summed_in_one_run one lines a b begin folds =
       let told = subst (λ (old : Summary). Tells (bounds a) (plan a) lines old (summary b)) begin

@@ -47,9 +47,9 @@ impl<T: Tape> Responder for OneRunDecider<'_, T> {
 
     ghost saw = { λ a line b. (b.limits ≡ a.limits) × (b.plan ≡ a.plan)
         × SawBy (CountsInOneRun a.limits a.plan) a.tally.summary line b.tally.summary
-        b.tally.last_effort };
+        b.tally.last_cost };
 
-    ghost work = { λ d. d.tally.last_effort };
+    ghost cost = { λ d. d.tally.last_cost };
 
     ghost keeps = { λ a b. (b.limits ≡ a.limits) × (b.plan ≡ a.plan)
         × (b.bench.ghost_name ≡ a.bench.ghost_name) };
@@ -78,7 +78,7 @@ impl<T: Tape> Responder for OneRunDecider<'_, T> {
       saw.0,
       saw.1,
       saw_of_kept (CountsInOneRun a.limits a.plan) line
-          a.tally.summary b.tally.summary b.tally.last_effort saw.2,
+          a.tally.summary b.tally.summary b.tally.last_cost saw.2,
     ) };
 
     fn bytes_kept(&self) -> usize {

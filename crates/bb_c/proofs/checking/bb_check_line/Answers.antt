@@ -49,7 +49,7 @@ returns-in-Ok-answer-clause-not_fine c = λ is fine.
     let of = rw c.in-Some-Claim.field-0-is at c.in-Some-Claim.ensures.found in
     let answer = rw c.in-Ok.ensures.given at c.in-Ok-answer.ensures in
     let word = fine_reply _ _ _ (answered _ _ _ _ _ of answer) fine in
-    let fine_too = c.leaves_clean.ensures ∙ fine_by_word c.in-Ok-answer.answer word in
+    let fine_too = c.is_fine.ensures ∙ fine_by_word c.in-Ok-answer.answer word in
     c.give-in-Ok-answer.ensures.not_clean is fine_too
 
 -- a refusal's line is answered `open`

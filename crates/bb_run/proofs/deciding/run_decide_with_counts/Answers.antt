@@ -6,7 +6,7 @@ use Rattle.bb_run.proofs.deciding.run_decide_with_counts.Goals as goal
 pub returns-clause-ends : goal.returns-clause-ends
 returns-clause-ends g c =
     let ends = c.in_ok-run.ensures.ends in
-    let sums = summed (λ d. d.limits) (λ d. d.plan) (λ d. d.tally.summary) (λ d. d.tally.last_effort)
+    let sums = summed (λ d. d.limits) (λ d. d.plan) (λ d. d.tally.summary) (λ d. d.tally.last_cost)
     c.texts_differ.ensures _ _ _ c.new.ensures ends.2.2 in
     (ends.0, ends.1, (ends.2.0, ends.2.1, sums))
 

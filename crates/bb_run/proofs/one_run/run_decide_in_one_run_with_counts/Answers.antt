@@ -7,7 +7,7 @@ pub returns-clause-ends : goal.returns-clause-ends
 returns-clause-ends g c =
     let ends = c.in_ok-run.ensures.ends in
     let sums = summed_in_one_run (λ d. d.limits) (λ d. d.plan) (λ d. d.tally.summary)
-    (λ d. d.tally.last_effort)
+    (λ d. d.tally.last_cost)
     c.texts_differ.ensures _ _ _ c.new.ensures ends.2.2 in
     (ends.0, ends.1, (ends.2.0, ends.2.1, sums))
 
