@@ -1,10 +1,11 @@
 -- What one line does to the summary so far, and what it cost: the steps and the nodes that deciding it
 -- made.
-use Rattle.std.specs.Prelude.{◌≡◌, ℕ, ◌+◌, ◌⊎◌, false, List}
+use Rattle.std.specs.Prelude.{◌≡◌, ℕ, ◌+◌, ◌⊎◌, false, true, List}
+use Rattle.std.specs.List.{FoldsTo}
 use Rattle.bb_machine.specs.Limits.{Bounds}
 use Rattle.bb_machine.specs.Machine.{Table, IsMachineLine, IsTextOf}
 use Rattle.bb_sim.specs.declared.meter.Meter.{Meter}
-use Rattle.bb_sim.specs.Meter.{greatest_of}
+use Rattle.bb_sim.specs.Meter.{greatest_of, zero_meter}
 use Rattle.bb_machine.specs.declared.plan.Plan.{Plan}
 use Rattle.bb_decide.specs.Cost.{CountsWalk, CountsCost, IsWithinCost, MakesWalk}
 use Rattle.bb_run.specs.declared.summary.Summary.{Summary}
@@ -39,3 +40,15 @@ pub record SawRefusal (old : Summary) (line : List ℕ) (new : Summary) (cost : 
 -- one line was answered: a machine's or another
 abbrev pub SawBy : (Table → Meter → Type 0) → Summary → List ℕ → Summary → ℕ → Type 0
 SawBy Counts old line new cost = SawMachine Counts old line new cost ⊎ SawRefusal old line new cost
+
+-- before any line
+abbrev pub none_seen : Summary
+none_seen = record { clean = true; peak = zero_meter }
+
+-- one line was answered, at some cost
+abbrev pub SawLine : (Table → Meter → Type 0) → Summary → List ℕ → Summary → Type 0
+SawLine Counts old line new = (cost : ℕ) × SawBy Counts old line new cost
+
+-- these lines were answered, one after another
+abbrev pub SawLines : (Table → Meter → Type 0) → List (List ℕ) → Summary → Type 0
+SawLines Counts lines summary = FoldsTo (SawLine Counts) none_seen lines summary
