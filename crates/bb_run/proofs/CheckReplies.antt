@@ -8,7 +8,7 @@ use Rattle.bb_cert.specs.declared.verdict.Verdict.{Verdict}
 use Rattle.bb_cert.specs.checker.Answer.{IsAnswer, answer_text}
 use Rattle.bb_cert.specs.verdict.Line.{IsLineOf}
 use Rattle.bb_cert.proofs.Facts.{answer_is_unique, line_unique}
-use Rattle.bb_run.specs.CheckKept.{long_line}
+use Rattle.bb_run.specs.CheckKeptBytes.{long_line}
 use Rattle.bb_run.specs.Laws.{CheckReplyIsUnique, LongLinesAreUnread}
 
 same_table : (s t : Table) (v w : Verdict) → Claim s v ≡ Claim t w → s ≡ t

@@ -41,7 +41,7 @@ impl<T: Tape> Responder for Checker<'_, T> {
     ghost use Rattle.bb_cert.specs.tree.Path.{depth_of};
     ghost use Rattle.bb_run.specs.CheckReply.{IsCheckReply};
     ghost use Rattle.bb_run.specs.CheckSeen.{CheckSaw};
-    ghost use Rattle.bb_run.specs.CheckKept.{check_reply_kept, check_reply_of_kept, check_saw_of_kept};
+    ghost use Rattle.bb_run.specs.CheckKeptBytes.{check_reply_kept, check_reply_of_kept, check_saw_of_kept};
 
     ghost replies_with = { λ c line reply. IsCheckReply c.limits line reply };
 
