@@ -87,7 +87,7 @@ module _ {X : Type 0} (make : ℕ → ℕ → Entry → X) (weight : X → ℕ) 
       (λ i j. let e : k + suc i ≡ (k + 1) + i = omega arith in each (suc i) j ∙ ap (λ q. entry q j) e) in
       ap weigh (more k group groups) ∙ weigh-append (row k group) (rules (k + 1) groups) ∙ ap₂ ◌+◌ first rest
 
-groups_long : (table : Table) → IsMachine table → (i : ℕ) → i < length table
+pub groups_long : (table : Table) → IsMachine table → (i : ℕ) → i < length table
     → length (get_or table i []) ≡ symbols_of table
 groups_long table machine i h =
     (All-from_recursion (IsGroup (length table) (symbols_of table)) table machine.groups i [] h).full

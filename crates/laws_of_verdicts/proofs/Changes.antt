@@ -1,13 +1,12 @@
 -- Why a changed machine has the changed verdict, claims and answers.
 use Rattle.std.proofs.Common.{◌≡◌, ℕ, zero, suc, ◌<◌, ◌≤◌, Bool, true, false, Option, List, [], ◌∷◌, length}
 use Rattle.std.proofs.Common.{get_or, refl, ap, sym, subst, ◌∙◌, arith}
-use Rattle.std.proofs.lemmas.List.Elements.{All-from_recursion}
 use Rattle.bb_machine.specs.declared.entry.Entry.{Entry}
 use Rattle.bb_machine.specs.declared.entry.Entry.TheVariants.{Undefined, Go}
 use Rattle.bb_machine.specs.declared.entry.Next.TheVariants as to
 use Rattle.bb_machine.specs.declared.plan.Plan.{Plan}
 use Rattle.bb_machine.specs.Limits.{Bounds}
-use Rattle.bb_machine.specs.Machine.{Table, IsGroup, IsMachine, entry_of, symbols_of}
+use Rattle.bb_machine.specs.Machine.{Table, IsMachine, entry_of, symbols_of}
 use Rattle.bb_tape.specs.Content.{cell}
 use Rattle.bb_sim.specs.Configuration.{Configuration, start}
 use Rattle.bb_sim.specs.Outcome.{HaltsInside, HaltsNowhere}
@@ -40,7 +39,7 @@ use Rattle.laws_of_verdicts.proofs.ChangedNotions.{same_image, says_image, score
 use Rattle.laws_of_verdicts.proofs.ChangedNotions.{tells_image, translation_image}
 use Rattle.laws_of_verdicts.proofs.ChangedRuns.{IsImage, after_image, back, changed_back, cell_at, image_of}
 use Rattle.laws_of_verdicts.proofs.ChangedRuns.{conf_image, start_image}
-use Rattle.laws_of_verdicts.proofs.ChangedTrees.{level_length, nodes_alike}
+use Rattle.laws_of_verdicts.proofs.ChangedTrees.{groups_long, level_length, nodes_alike}
 
 side-twice : (mirrored : Bool) (side : Side) → turned_side mirrored (turned_side mirrored side) ≡ side
 side-twice false side = refl
@@ -68,15 +67,6 @@ in_states (group ∷ groups) (suc q) n h = let less = in_states groups q n h in 
 
 module _ (change : Change) (table changed : Table) (machine : IsMachine table)
     (machine_too : IsMachine changed) (is : IsChanged change table changed) where
-  group_long : (q : ℕ) → q < length table → length (get_or table q []) ≡ symbols_of table
-  group_long q h = (All-from_recursion (IsGroup (length table) (symbols_of table)) table machine.groups q
-      [] h).full
-
-  group_long_too : (q : ℕ) → q < length changed → length (get_or changed q []) ≡ symbols_of changed
-  group_long_too q h =
-      (All-from_recursion (IsGroup (length changed) (symbols_of changed)) changed machine_too.groups q
-      [] h).full
-
   goes_changed : (entry : Entry) → goes_to entry ≡ to.Halt → goes_to (changed_entry change entry) ≡ to.Halt
   goes_changed Undefined e = refl
   goes_changed (Go write dir then) e = ap (changed_next change) e
@@ -85,10 +75,10 @@ module _ (change : Change) (table changed : Table) (machine : IsMachine table)
       → change.symbols.new s < length (get_or changed (change.states.new q) [])
   named_too q s h =
       let in_table = in_states table q s h in
-      let long = group_long q in_table in
+      let long = groups_long table machine q in_table in
       let new_in_table = (is.states_named q).0 in_table in
       let states = is.states in
-      let long_too = group_long_too (change.states.new q) (omega (arith, states, new_in_table)) in
+      let long_too = groups_long changed machine_too (change.states.new q) (omega (arith, states, new_in_table)) in
       let new = (is.symbols_named s).0 (omega (arith, long, h)) in
       let symbols = is.symbols in
       omega (arith, long_too, new, symbols)
