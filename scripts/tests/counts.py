@@ -27,6 +27,10 @@ class Counts:
     def __str__(self) -> str:
         return "%d passed, %d failed, %d skipped" % (self.passed, self.failed, self.skipped)
 
+    def told(self) -> str:
+        """The line of one script, which tells of what was skipped only where something was."""
+        return str(self) if self.skipped else "%d passed, %d failed" % (self.passed, self.failed)
+
     def status(self) -> int:
         """The exit status: 1 where something failed, or where nothing was checked or skipped."""
         return 1 if self.failed or not self.passed + self.skipped else 0
