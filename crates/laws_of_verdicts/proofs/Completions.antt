@@ -31,7 +31,8 @@ use Rattle.laws_of_verdicts.specs.Completion.{CompletionsKeepClaims, Completions
 use Rattle.laws_of_verdicts.specs.Completion.{CompletionsNeverHalt}
 use Rattle.laws_of_verdicts.specs.Change.{Change, Renaming, changed_next}
 use Rattle.laws_of_verdicts.proofs.ChangedNotions.{AreImagesTo, cycle_image, inside_image, pair_image}
-use Rattle.laws_of_verdicts.proofs.ChangedNotions.{says_image, span_image, tells_image, translation_image}
+use Rattle.laws_of_verdicts.proofs.ChangedNotions.{same_image, says_image, score_image, span_image}
+use Rattle.laws_of_verdicts.proofs.ChangedNotions.{tells_image, translation_image}
 use Rattle.laws_of_verdicts.proofs.ChangedRuns.{AreImages}
 
 -- nothing is changed
@@ -155,22 +156,13 @@ module _ (table filled : Table) (completion : IsCompletion table filled) where
   }
 
   claim_kept : (verdict : Verdict) → MeetsNoGap table verdict → Claim table verdict → Claim filled verdict
-  claim_kept (Halt n ones) at claim = (
-    halts_kept n at,
-    record {
-      here = claim.1.here;
-      exists = conf_kept n claim.1.here claim.1.exists;
-      counted = claim.1.counted;
-    },
-  )
-  claim_kept (Cycler a b) at claim = (
-    claim.0,
-    record {
-      here = claim.1.here;
-      at_first = conf_kept a claim.1.here claim.1.at_first;
-      at_second = conf_kept b claim.1.here claim.1.at_second;
-    },
-  )
+  claim_kept (Halt n ones) at claim =
+      let alike = alike_to n (record { here = at.here; exists = at.exists }) in
+      (halts_kept n at, score_image unchanged table filled n alike ones claim.1)
+  claim_kept (Cycler a b) at claim =
+      let alike = alike_to b (record { here = claim.1.here; exists = claim.1.at_second }) in
+      let less = claim.0 in
+      (less, same_image unchanged table filled b alike a (omega (arith, less)) claim.1)
   claim_kept (Translated side a b extent) at claim =
       let in_order = claim.0.in_order in
       let alike = alike_to b (record { here = claim.0.agree.second; exists = claim.0.agree.at_second }) in (
