@@ -31,71 +31,67 @@ use Rattle.laws_of_verdicts.proofs.Sums.{sum_from-each, sum_from-renamed}
 abbrev pub over : (states symbols : ℕ) → (ℕ → ℕ → ℕ) → ℕ
 over states symbols f = sum_from 0 states (λ q. sum_from 0 symbols (f q))
 
--- The rules of a table, whose type is another crate's own: lists with an element for each entry.
-module _ {X : Type 0} (make : ℕ → ℕ → Entry → X) (weight : X → ℕ) (p : X → Bool) where
-  abbrev pub weigh : List X → ℕ
-  weigh xs = sum_by weight (filter p xs)
+-- what an element counts, if it passes
+abbrev given : {X : Type 0} → (X → ℕ) → (X → Bool) → X → ℕ
+given weight p x = cond (p x) (weight x) 0
 
-  -- what the element for an entry weighs
-  abbrev given : ℕ → ℕ → Entry → ℕ
-  given q s entry = cond (p (make q s entry)) (weight (make q s entry)) 0
-
-  weigh-cons : (x : X) (xs : List X) → weigh (x ∷ xs) ≡ cond (p x) (weight x) 0 + weigh xs
+module _ {X : Type 0} (weight : X → ℕ) (p : X → Bool) where
+  weigh-cons : (x : X) (xs : List X)
+      → sum_by weight (filter p (x ∷ xs)) ≡ given weight p x + sum_by weight (filter p xs)
   weigh-cons x xs = chosen (p x) where
     chosen : (b : Bool) → sum_by weight (cond b (x ∷ filter p xs) (filter p xs))
-        ≡ cond b (weight x) 0 + weigh xs
+        ≡ cond b (weight x) 0 + sum_by weight (filter p xs)
     chosen true = sum_by-cons weight x (filter p xs)
     chosen false = omega arith
 
-  weigh-append : (xs ys : List X) → weigh (xs ++ ys) ≡ weigh xs + weigh ys
+  weigh-append : (xs ys : List X) → sum_by weight (filter p (xs ++ ys))
+      ≡ sum_by weight (filter p xs) + sum_by weight (filter p ys)
   weigh-append xs ys = ap (sum_by weight) (filter-append p xs ys)
       ∙ sum_by-append weight (filter p xs) (filter p ys)
 
-  over_group : (rules : ℕ → ℕ → List Entry → List X) → ((q k : ℕ) → rules q k [] ≡ [])
-      → ((q k : ℕ) (x : Entry) (xs : List Entry) → rules q k (x ∷ xs) ≡ make q k x ∷ rules q (k + 1) xs)
-      → (q k : ℕ) (group : List Entry) (entry : ℕ → Entry)
-      → ((i : ℕ) → get_or group i Undefined ≡ entry (k + i))
-      → weigh (rules q k group) ≡ sum_from k (length group) (λ s. given q s (entry s))
-  over_group rules none more q k [] entry each = ap weigh (none q k)
-  over_group rules none more q k (x ∷ xs) entry each =
-      let k_is : k + 0 ≡ k = omega arith in
-      let first : x ≡ entry k = each 0 ∙ ap entry k_is in
-      let rest = over_group rules none more q (k + 1) xs entry (λ i.
-      let e : k + suc i ≡ (k + 1) + i = omega arith in each (suc i) ∙ ap entry e) in
-      ap weigh (more q k x xs) ∙ weigh-cons (make q k x) (rules q (k + 1) xs)
-      ∙ ap₂ ◌+◌ (ap (given q k) first) rest
+-- the rules of a group, from a symbol on
+weigh_group : (weight : _ → ℕ) (p : _ → Bool) (q k : ℕ) (group : List Entry) (entry : ℕ → Entry)
+    → ((i : ℕ) → get_or group i Undefined ≡ entry (k + i))
+    → sum_by weight (filter p (rules_in q k group))
+    ≡ sum_from k (length group) (λ s. given weight p (record { state = q; symbol = s; entry = entry s }))
+weigh_group weight p q k [] entry each = refl
+weigh_group weight p q k (x ∷ xs) entry each =
+    let k_is : k + 0 ≡ k = omega arith in
+    let rest = weigh_group weight p q (k + 1) xs entry (λ i.
+    let e : k + suc i ≡ (k + 1) + i = omega arith in each (suc i) ∙ ap entry e) in
+    weigh-cons weight p (record { state = q; symbol = k; entry = x }) (rules_in q (k + 1) xs)
+    ∙ ap₂ ◌+◌ (ap (λ e. given weight p (record { state = q; symbol = k; entry = e }))
+    (each 0 ∙ ap entry k_is)) rest
 
-  over_table : (rules : ℕ → Table → List X) (row : ℕ → List Entry → List X) → ((k : ℕ) → rules k [] ≡ [])
-      → ((k : ℕ) (group : List Entry) (groups : Table)
-      → rules k (group ∷ groups) ≡ row k group ++ rules (k + 1) groups)
-      → (symbols : ℕ)
-      → ((k : ℕ) (group : List Entry) (entry : ℕ → Entry) → length group ≡ symbols
-      → ((i : ℕ) → get_or group i Undefined ≡ entry i)
-      → weigh (row k group) ≡ sum_from 0 symbols (λ s. given k s (entry s)))
-      → (k : ℕ) (groups : Table) (entry : ℕ → ℕ → Entry)
-      → ((i : ℕ) → i < length groups → length (get_or groups i []) ≡ symbols)
-      → ((i j : ℕ) → entry_of groups i j ≡ entry (k + i) j)
-      → weigh (rules k groups)
-      ≡ sum_from k (length groups) (λ q. sum_from 0 symbols (λ s. given q s (entry q s)))
-  over_table rules row none more symbols in_row k [] entry long each = ap weigh (none k)
-  over_table rules row none more symbols in_row k (group ∷ groups) entry long each =
-      let k_is : k + 0 ≡ k = omega arith in
-      let first = in_row k group (entry k) (long 0 (omega arith)) (λ i. each 0 i
-      ∙ ap (λ q. entry q i) k_is) in
-      let rest = over_table rules row none more symbols in_row (k + 1) groups entry
-      (λ i h. long (suc i) (omega (arith, h)))
-      (λ i j. let e : k + suc i ≡ (k + 1) + i = omega arith in each (suc i) j ∙ ap (λ q. entry q j) e) in
-      ap weigh (more k group groups) ∙ weigh-append (row k group) (rules (k + 1) groups) ∙ ap₂ ◌+◌ first rest
+-- the rules of the groups from a state on
+weigh_table : (weight : _ → ℕ) (p : _ → Bool) (symbols k : ℕ) (groups : Table) (entry : ℕ → ℕ → Entry)
+    → ((i : ℕ) → i < length groups → length (get_or groups i []) ≡ symbols)
+    → ((i j : ℕ) → entry_of groups i j ≡ entry (k + i) j)
+    → sum_by weight (filter p (rules_from k groups)) ≡ sum_from k (length groups)
+    (λ q. sum_from 0 symbols (λ s. given weight p (record { state = q; symbol = s; entry = entry q s })))
+weigh_table weight p symbols k [] entry long each = refl
+weigh_table weight p symbols k (group ∷ groups) entry long each =
+    let k_is : k + 0 ≡ k = omega arith in
+    let first = weigh_group weight p k 0 group (entry k)
+    (λ i. let e : i ≡ 0 + i = omega arith in each 0 i ∙ ap₂ entry k_is e) in
+    let rest = weigh_table weight p symbols (k + 1) groups entry (λ i h. long (suc i) (omega (arith, h)))
+    (λ i j. let e : k + suc i ≡ (k + 1) + i = omega arith in each (suc i) j ∙ ap (λ q. entry q j) e) in
+    weigh-append weight p (rules_in k 0 group) (rules_from (k + 1) groups)
+    ∙ ap₂ ◌+◌ (first ∙ ap (λ n. sum_from 0 n
+    (λ s. given weight p (record { state = k; symbol = s; entry = entry k s }))) (long 0 (omega arith))) rest
 
 pub groups_long : (table : Table) → IsMachine table → (i : ℕ) → i < length table
     → length (get_or table i []) ≡ symbols_of table
 groups_long table machine i h =
     (All-from_recursion (IsGroup (length table) (symbols_of table)) table machine.groups i [] h).full
 
-from_zero : (entry : ℕ → Entry) (group : List Entry) → ((i : ℕ) → get_or group i Undefined ≡ entry i)
-    → (i : ℕ)
-    → get_or group i Undefined ≡ entry (0 + i)
-from_zero entry group each i = let e : i ≡ 0 + i = omega arith in each i ∙ ap entry e
+-- the rules of a machine that lead to a state
+weigh_rules : (weight : _ → ℕ) (then : Next) (table : Table) → IsMachine table
+    → sum_by weight (rules_to table then) ≡ over (length table) (symbols_of table)
+    (λ q s. given weight (leads_to then) (record { state = q; symbol = s; entry = entry_of table q s }))
+weigh_rules weight then table machine = weigh_table weight (leads_to then) (symbols_of table) 0 table
+    (entry_of table) (groups_long table machine)
+    (λ i j. let e : i ≡ 0 + i = omega arith in ap (λ q. entry_of table q j) e)
 
 -- what comes before a node by an entry counts, if the entry leads to it
 abbrev before_cell : (Node → ℕ) → Node → ℕ → ℕ → Entry → ℕ
@@ -112,30 +108,12 @@ before_over : (table : Table) → IsMachine table → (count : Node → ℕ) (no
     ≡ over (length table) (symbols_of table) (λ q s. before_cell count node q s (entry_of table q s))
 before_over table machine count node =
     sum_by-flat_map count (before_by node) (rules_to table (State node.state))
-    ∙ over_table (λ q s e. record { state = q; symbol = s; entry = e })
-    (λ rule. sum_by count (before_by node rule)) (leads_to (State node.state)) rules_from
-    (λ q group. rules_in q 0 group) (λ k. refl) (λ k group groups. refl) (symbols_of table)
-    (λ k group entry full each.
-    over_group (λ q s e. record { state = q; symbol = s; entry = e })
-    (λ rule. sum_by count (before_by node rule)) (leads_to (State node.state)) rules_in (λ q k. refl)
-    (λ q k x xs. refl) k 0 group entry (from_zero entry group each)
-    ∙ ap (λ n. sum_from 0 n (λ s. before_cell count node k s (entry s))) full)
-    0 table (entry_of table) (groups_long table machine)
-    (λ i j. let e : i ≡ 0 + i = omega arith in ap (λ q. entry_of table q j) e)
+    ∙ weigh_rules (λ rule. sum_by count (before_by node rule)) (State node.state) table machine
 
 halting_over : (table : Table) → IsMachine table → (count : Node → ℕ) → sum_by count (level table 0)
     ≡ over (length table) (symbols_of table) (λ q s. halting_cell count q s (entry_of table q s))
 halting_over table machine count = sum_by-map count halting_node (rules_to table Halt)
-    ∙ over_table (λ q s e. record { state = q; symbol = s; entry = e })
-    (λ rule. count (halting_node rule)) (leads_to Halt) rules_from (λ q group. rules_in q 0 group)
-    (λ k. refl) (λ k group groups. refl) (symbols_of table)
-    (λ k group entry full each.
-    over_group (λ q s e. record { state = q; symbol = s; entry = e }) (λ rule. count (halting_node rule))
-    (leads_to Halt) rules_in (λ q k. refl) (λ q k x xs. refl) k 0 group entry
-    (from_zero entry group each)
-    ∙ ap (λ n. sum_from 0 n (λ s. halting_cell count k s (entry s))) full)
-    0 table (entry_of table) (groups_long table machine)
-    (λ i j. let e : i ≡ 0 + i = omega arith in ap (λ q. entry_of table q j) e)
+    ∙ weigh_rules (λ rule. count (halting_node rule)) Halt table machine
 
 map-cond : {X Y : Type 0} (f : X → Y) (b : Bool) (xs : List X) → map f (cond b xs []) ≡ cond b (map f xs) []
 map-cond f true xs = refl
