@@ -78,7 +78,8 @@ module _ (change : Change) (table changed : Table) (machine : IsMachine table)
       let long = groups_long table machine q in_table in
       let new_in_table = (is.states_named q).0 in_table in
       let states = is.states in
-      let long_too = groups_long changed machine_too (change.states.new q) (omega (arith, states, new_in_table)) in
+      let long_too = groups_long changed machine_too (change.states.new q)
+      (omega (arith, states, new_in_table)) in
       let new = (is.symbols_named s).0 (omega (arith, long, h)) in
       let symbols = is.symbols in
       omega (arith, long_too, new, symbols)
