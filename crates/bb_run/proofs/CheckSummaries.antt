@@ -3,6 +3,7 @@ use Rattle.std.proofs.Common.{◌≡◌, ℕ, ◌≤◌, ◌&&◌, ◌⊎◌, ma
 use Rattle.std.proofs.Common.{subst, ap, ◌∙◌, inl, inr, arith}
 use Rattle.std.specs.Prelude.{slice_index_or}
 use Rattle.std.specs.List.{FoldsTo}
+use Rattle.std.proofs.lemmas.Bool.{and_from, and_parts}
 use Rattle.std.proofs.lemmas.Fn.{chained_keeps}
 use Rattle.bb_machine.specs.Limits.{Bounds}
 use Rattle.bb_sim.specs.declared.meter.Meter.{Meter}
@@ -17,18 +18,8 @@ use Rattle.bb_run.specs.CheckSeen.{CheckSaw, SawAnswer, SawOpen, SawUnread}
 use Rattle.bb_run.specs.Seen.{none_seen}
 use Rattle.bb_run.specs.CheckSummary.{IsCheckSummary, IsFine, IsOkOf}
 use Rattle.bb_run.proofs.Peaks.{all_more, clean_more}
-use Rattle.bb_run.proofs.CheckReplies.{check_reply_is_unique, never_both, one_answer, one_verdict}
-
-both_left : (a b : Bool) → (a && b) ≡ true → a ≡ true
-both_left true b e = refl
-both_left false b e = cc
-
-both_right : (a b : Bool) → (a && b) ≡ true → b ≡ true
-both_right true b e = e
-both_right false b e = cc
-
-both : (a b : Bool) → a ≡ true → b ≡ true → (a && b) ≡ true
-both a b p q = rw (p, q) refl
+use Rattle.bb_run.proofs.CheckReplies.{answered, check_reply_is_unique, never_both, one_answer, one_verdict}
+use Rattle.bb_run.proofs.CheckReplies.{opened}
 
 -- the words of answers that leave a run clean, and of those that don't
 word_if_fine : (given : Answer) → is_fine given ≡ true
@@ -66,9 +57,8 @@ module _ (bounds : Bounds) (lines : List (List ℕ)) (line : List ℕ) (old new 
   answer_summed : SawAnswer bounds old line new cost → IsCheckSummary bounds (lines ++ line ∷ []) new
   answer_summed saw = record {
     clean = clean_more (IsFine bounds) lines before.clean (
-      λ e. let now = sym saw.clean ∙ e in
-          (both_left old.clean (is_fine saw.given) now, fine (both_right old.clean (is_fine saw.given) now)),
-      λ are. saw.clean ∙ both old.clean (is_fine saw.given) are.0 (given_fine are.1),
+      λ e. let now = and_parts old.clean (is_fine saw.given) (sym saw.clean ∙ e) in (now.0, fine now.1),
+      λ are. saw.clean ∙ and_from old.clean (is_fine saw.given) are.0 (given_fine are.1),
     );
     oks = all_more (λ other within n l k ok. let few = within n l k ok in
         (omega (arith, few.0, steps), omega (arith, few.1, levels), omega (arith, few.2, nodes)))
@@ -90,14 +80,7 @@ module _ (bounds : Bounds) (lines : List (List ℕ)) (line : List ℕ) (old new 
     nodes = ap (λ (m : Meter). m.nodes) saw.peak
 
     replied : IsCheckReply bounds line (answer_text saw.given)
-    replied = inl (record {
-      table = saw.table;
-      verdict = saw.verdict;
-      of = saw.of;
-      given = saw.given;
-      is_answer = saw.is_answer;
-      is_reply = refl;
-    })
+    replied = answered bounds line saw.table saw.verdict saw.given saw.of saw.is_answer
 
     fine : is_fine saw.given ≡ true → IsFine bounds line
     fine e = record { reply = answer_text saw.given; is_reply = replied; is_fine = word_if_fine saw.given e }
@@ -127,7 +110,7 @@ module _ (bounds : Bounds) (lines : List (List ℕ)) (line : List ℕ) (old new 
     fine : IsFine bounds line
     fine = record {
       reply = answer_text answer.Open;
-      is_reply = inr (inl (record { column = saw.column; of = saw.of; is_reply = refl }));
+      is_reply = opened bounds line saw.column saw.of;
       is_fine = inr refl;
     }
 
