@@ -1,5 +1,6 @@
 pub mod Benches
 pub mod Claims
+pub mod Costs
 pub mod Counted
 pub mod Cycles
 pub mod Endings
@@ -16,4 +17,3 @@ pub mod Sure
 pub mod Translations
 pub mod Verdicts
 pub mod Watched
-pub mod Works

@@ -7,7 +7,7 @@ use crate::support::streams::{Pieces, Sink};
 use arrayvec::ArrayVec;
 use bb_lines::fault::Fault;
 use bb_lines::lines::run;
-use bb_lines::responder::{LONG_WORK, REPLY, Responder};
+use bb_lines::responder::{HIGH_COST, REPLY, Responder};
 use bb_lines::watched::Watched;
 use std::alloc::AllocError;
 use std::io::{ErrorKind, Read, Result};
@@ -34,7 +34,7 @@ impl Responder for Shout<'_> {
 
     ghost saw = { λ a _ b. b.seen.now ≡ min (a.seen.now + 1) (2 ^ 64 - 1) };
 
-    ghost work = { λ a. a.last_work };
+    ghost cost = { λ a. a.last_work };
 
     ghost keeps = { λ a b. b.seen.ghost_name ≡ a.seen.ghost_name };
 
@@ -205,7 +205,7 @@ fn writes_the_replies_before_a_failed_allocation(rt: HostRuntime) {
 
 #[test]
 fn writes_long_work_at_once(rt: HostRuntime) {
-    for (work, writes) in [(0, 2), (LONG_WORK, 2), (LONG_WORK + 1, 3)] {
+    for (work, writes) in [(0, 2), (HIGH_COST, 2), (HIGH_COST + 1, 3)] {
         let ended = shout_all(pieces_of(14, 14), Sink::of(64, 64), 9, work);
         assert_eq!(rt; ended.end, Ok(()));
         assert_eq!(rt; ended.sink.writes, writes);

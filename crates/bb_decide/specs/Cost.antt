@@ -42,7 +42,7 @@ TranslationSteps table bounds n = SearchSteps table bounds
 
 -- the steps that deciding a machine makes: those of the simulation, up to the last step inside, and those of
 -- the two searches
-pub record IsWork (table : Table) (bounds : Bounds) (plan : Plan) (work : ℕ) : Type 0 where
+pub record DecisionSteps (table : Table) (bounds : Bounds) (plan : Plan) (steps : ℕ) : Type 0 where
   pub run : ℕ
   pub is_run : IsLastInside table bounds run
   pub cycles : ℕ
@@ -50,7 +50,7 @@ pub record IsWork (table : Table) (bounds : Bounds) (plan : Plan) (work : ℕ) :
   pub translations : ℕ
   pub is_translations :
       StepsIfMade (MakesTranslationSearch table bounds plan) (TranslationSteps table bounds) translations
-  pub sum : work ≡ run + (cycles + translations)
+  pub sum : steps ≡ run + (cycles + translations)
 
 -- backward reasoning is reached where, besides, no record agreed with its partner
 abbrev pub MakesWalk : Table → Bounds → Plan → Type 0
@@ -68,15 +68,15 @@ pub record CountsWalk (Made : Type 0) (table : Table) (bounds : Bounds) (meter :
 
 -- deciding a machine has counted its steps, the span at the last step inside as its widest window, and the
 -- nodes and levels of its walk
-pub record CountsWork (table : Table) (bounds : Bounds) (plan : Plan) (meter : Meter) : Type 0 where
-  pub steps : IsWork table bounds plan meter.steps
+pub record CountsCost (table : Table) (bounds : Bounds) (plan : Plan) (meter : Meter) : Type 0 where
+  pub steps : DecisionSteps table bounds plan meter.steps
   pub last : ℕ
   pub is_last : IsLastInside table bounds last
   pub most_cells : meter.most_cells ≡ span table last
   pub walk : CountsWalk (MakesWalk table bounds plan) table bounds meter
 
 -- deciding a machine has counted no more than it may
-pub record IsWithinWork (bounds : Bounds) (meter : Meter) : Type 0 where
+pub record IsWithinCost (bounds : Bounds) (meter : Meter) : Type 0 where
   pub steps : meter.steps ≤ 3 * bounds.steps
   pub most_cells : meter.most_cells ≤ bounds.cells
   pub nodes : meter.nodes ≤ bounds.nodes

@@ -22,7 +22,7 @@ use Rattle.bb_decide.specs.Verdict.{IsVerdict, PassesCycles, PassesTranslations}
 use Rattle.bb_decide.specs.inside.Search.{Adds, DecidersCount, DecidersFind}
 use Rattle.bb_decide.specs.inside.Search.{ReachesWalk}
 use Rattle.bb_decide.specs.inside.Search.{SearchesCount, SearchesFind}
-use Rattle.bb_decide.specs.Work.{CountsWalk, CountsWork, CycleSteps, MakesWalk, StepsIfMade, TranslationSteps}
+use Rattle.bb_decide.specs.Cost.{CountsWalk, CountsCost, CycleSteps, MakesWalk, StepsIfMade, TranslationSteps}
 
 -- what the simulation has counted, from a meter that was begun at 0
 record Simulated (table : Table) (bounds : Bounds) (meter : Meter) : Type 0 where
@@ -60,8 +60,8 @@ module _ {table : Table} {bounds : Bounds} (plan : Plan) {begin mid : Meter} (ze
       }
 
   -- no search is made where the machine halts
-  pub work_of_halt : (n : ℕ) → HaltsInside table bounds n → CountsWork table bounds plan mid
-  work_of_halt n halts = let s = simulated in record {
+  pub cost_of_halt : (n : ℕ) → HaltsInside table bounds n → CountsCost table bounds plan mid
+  cost_of_halt n halts = let s = simulated in record {
     steps = record {
       run = s.last;
       is_run = s.is_last;
@@ -79,10 +79,10 @@ module _ {table : Table} {bounds : Bounds} (plan : Plan) {begin mid : Meter} (ze
   }
 
   -- else the deciders that are on are asked
-  pub work_of_deciders : HaltsNowhere table bounds → (meter : Meter)
+  pub cost_of_deciders : HaltsNowhere table bounds → (meter : Meter)
       → DecidersCount table bounds plan mid meter
-      → CountsWork table bounds plan meter
-  work_of_deciders nowhere meter deciders =
+      → CountsCost table bounds plan meter
+  cost_of_deciders nowhere meter deciders =
       let s = simulated in
       let counts = deciders.searches in
       let ran = s.steps in

@@ -42,15 +42,15 @@ module _ (line : List ℕ) where
   reply_of_long bounds reply long (inr (inr unread)) =
       inr (inr (record { no_line = long.whole; is_reply = unread.is_reply }))
 
-  saw_of_long : (bounds : Bounds) (old new : Summary) (effort : ℕ) → IsTooLong
-      → CheckSaw bounds old (take (LINE_BUFFER + 1) line) new effort → CheckSaw bounds old line new effort
-  saw_of_long bounds old new effort long (inl saw) = absurd (long.kept (Claim saw.table saw.verdict) saw.of)
-  saw_of_long bounds old new effort long (inr (inl saw)) = absurd (long.kept (Refusal saw.column) saw.of)
-  saw_of_long bounds old new effort long (inr (inr saw)) = inr (inr (record {
+  saw_of_long : (bounds : Bounds) (old new : Summary) (cost : ℕ) → IsTooLong
+      → CheckSaw bounds old (take (LINE_BUFFER + 1) line) new cost → CheckSaw bounds old line new cost
+  saw_of_long bounds old new cost long (inl saw) = absurd (long.kept (Claim saw.table saw.verdict) saw.of)
+  saw_of_long bounds old new cost long (inr (inl saw)) = absurd (long.kept (Refusal saw.column) saw.of)
+  saw_of_long bounds old new cost long (inr (inr saw)) = inr (inr (record {
     no_line = long.whole;
     clean = saw.clean;
     peak = saw.peak;
-    no_effort = saw.no_effort;
+    no_cost = saw.no_cost;
   }))
 
 -- a reply stays one where the limits do
@@ -66,10 +66,10 @@ check_reply_of_kept bounds line reply is = elim (all_or_too_long line) [
   | inr long ↦ reply_of_long line bounds reply long is
 ]
 
--- what the kept bytes of a line do to the summary, the line does, and it is the same effort
-pub check_saw_of_kept : (bounds : Bounds) (line : List ℕ) (old new : Summary) (effort : ℕ)
-    → CheckSaw bounds old (take (LINE_BUFFER + 1) line) new effort → CheckSaw bounds old line new effort
-check_saw_of_kept bounds line old new effort saw = elim (all_or_too_long line) [
-  | inl all ↦ subst (λ bytes. CheckSaw bounds old bytes new effort) all saw
-  | inr long ↦ saw_of_long line bounds old new effort long saw
+-- what the kept bytes of a line do to the summary, the line does, and it costs the same
+pub check_saw_of_kept : (bounds : Bounds) (line : List ℕ) (old new : Summary) (cost : ℕ)
+    → CheckSaw bounds old (take (LINE_BUFFER + 1) line) new cost → CheckSaw bounds old line new cost
+check_saw_of_kept bounds line old new cost saw = elim (all_or_too_long line) [
+  | inl all ↦ subst (λ bytes. CheckSaw bounds old bytes new cost) all saw
+  | inr long ↦ saw_of_long line bounds old new cost long saw
 ]
