@@ -62,7 +62,6 @@ same_images (Some c) p e = subst (AreImages unchanged (Some c)) (sym e) (record 
   scores = refl;
 })
 
-
 module _ (table filled : Table) (completion : IsCompletion table filled) where
   same_entry : (to : Next) (symbol : ℕ) (entry : Entry) → entry_at table to symbol ≡ entry → entry ≢ Undefined
       → entry_at filled to symbol ≡ entry
