@@ -13,6 +13,7 @@ from typing import Any, Iterator, List
 
 import budlarem
 from budlarem import Answer, Limits, Plan
+from budlarem._library import CLEAN, Room
 
 CHAMPION = "1RB1LB_1LA1RZ"
 MACHINES = [CHAMPION, "0RB---_0LA---", "1RA1RA", "1rB1LB", ""]
@@ -144,6 +145,25 @@ class BytesTest(unittest.TestCase):
         twice = [b"1RZ------" * 100_000, b"\n1RZ---\n"]
         self.assertEqual(b"".join(budlarem.decide_bytes(twice)), b"refused 31\n1RZ--- halt 1 1\n")
         self.assertEqual(b"".join(budlarem.check_bytes([b"refused 1", b" " * 5_000, b"\n"])), b"unread\n")
+
+    def test_replies_longer_than_their_room(self) -> None:
+        self.assertEqual(b"".join(budlarem.check_bytes(b"\n" * 1_000)), b"unread\n" * 1_000)
+        asked = (*Limits().numbers(), *Plan().switches())
+        room = Room()
+        for given in (1, 22, 23, 1_000_000):
+            room.call("bb_decide", asked, b"1RB1LB_1LA1RZ\n", given)
+            self.assertEqual(room.reply(), (CLEAN, 23, b"1RB1LB_1LA1RZ halt 6 4\n"))
+
+    def test_lists_of_many_batches(self) -> None:
+        lines = b"".join(b"1RZ---%s\n" % (b"x" * (place % 700)) for place in range(5_000))
+        lines += b"1" * 2_000_000 + b"\n1RA1RA\n" + b"\n" * 5_000 + lines
+        expected = b"".join(budlarem.decide_bytes([lines], Limits(steps=0)))
+        self.assertEqual(expected.count(b"\n"), lines.count(b"\n"))
+        view = memoryview(lines)
+        cut = [view[begin : begin + 99_991] for begin in range(0, len(lines), 99_991)]
+        for blocks in (lines, bytearray(lines), view, io.BytesIO(lines), cut):
+            found = b"".join(budlarem.decide_bytes(blocks, Limits(steps=0)))  # type: ignore[arg-type]
+            self.assertEqual(found, expected)
 
     def test_what_are_no_bytes(self) -> None:
         for wrong in ("1RZ---", ["1RZ---"], [1], 7, None):

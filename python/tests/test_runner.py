@@ -186,7 +186,7 @@ class JournalTest(RunnerTest):
         self.journal = journal.Journal(self.path, "key")
         self.addCleanup(self.journal.close)
         self.records = [
-            journal.Record.of(10 * place, KINDS, b"x" * place, place / 3, place % 2 == 1)
+            journal.Record.of(10 * place, 10, KINDS, b"x" * place, place / 3, place % 2 == 1)
             for place in range(6)
         ]
         for place in (0, 1, 4, 5):
@@ -229,18 +229,18 @@ class LookTest(unittest.TestCase):
     def test_verdicts_of_a_list(self) -> None:
         for limits in PASSES:
             verdicts = expected(LIST, [limits])
-            counts = look.look_at_verdicts(LIST, verdicts)
+            counts = look.look_at_verdicts(LIST, verdicts, LIST.count(b"\n"))
             self.assertEqual(sum(counts.values()), LIST.count(b"\n"))
             for kind in ("halt", "cycler", "translated", "refused"):
                 self.assertGreater(counts[kind], 0)
 
     def wrong(self, given: bytes, verdicts: bytes) -> None:
         with self.assertRaises(ReplyError):
-            look.look_at_verdicts(given, verdicts)
+            look.look_at_verdicts(given, verdicts, given.count(b"\n"))
 
     def test_what_is_wrong(self) -> None:
         good = expected(KINDS)
-        look.look_at_verdicts(KINDS, good)
+        look.look_at_verdicts(KINDS, good, KINDS.count(b"\n"))
         lines = good.splitlines(keepends=True)
         for changed in (
             b"",
@@ -271,10 +271,10 @@ class LookTest(unittest.TestCase):
         for text in (b"refused 3", b"refused 0", b"refused 2 ", b"refused", b"refused 2\n"):
             self.wrong(b"1rB1LB\n", text + b"\n")
         self.wrong(b"1RA1RA translated\n", b"1RA1RA translated R 1 2 1 1\n")
-        look.look_at_verdicts(b"1RA1RA translated\n", b"refused 7\n")
+        look.look_at_verdicts(b"1RA1RA translated\n", b"refused 7\n", 1)
         self.wrong(b"1RZ---\n", b"refused 7\n")
         self.wrong(b"refused\n", b"refused 5\n")
-        look.look_at_verdicts(b"refused\n", b"refused 1\n")
+        look.look_at_verdicts(b"refused\n", b"refused 1\n", 1)
 
     def test_answers(self) -> None:
         verdicts = expected(KINDS)
@@ -342,7 +342,7 @@ class WholeTest(RunnerTest):
         left = first["counts"]["undecided steps"] + first["counts"]["undecided cells"]
         self.assertEqual((first["lines"], second["lines"]), (370, left))
         self.assertEqual((sum(first["counts"].values()), sum(second["counts"].values())), (370, left))
-        self.assertEqual(told["counts"], look.counts_of(self.verdicts()))
+        self.assertEqual(told["counts"], look.counts_of(self.verdicts(), 370))
         self.assertEqual((first["checked"], told["version"]), (True, budlarem.__version__))
         self.assertEqual((told["commit"], len(told["library"])), (budlarem.COMMIT, 64))
 

@@ -1,7 +1,7 @@
 #!/usr/bin/python3
 """Measures what runs outside the program: the module for JavaScript, the page, and the Python package.
 
-    scripts/speed/outside.py [crates/bb/out/bb] [--runs N] [--only PART]
+    scripts/speed/outside.py [crates/bb/out/bb] [--runs N] [--part PART]
 
 PART is `node`, `trace`, `page` or `python`; all of them where not said. It builds the module, the page and
 the library first, where they aren't up to date, by `scripts/web` and `scripts/library`. A time is the least
@@ -14,12 +14,11 @@ as passed; the status is 1 where one doesn't.
 import contextlib
 import itertools
 import os
-import resource
 import subprocess
 import sys
 import tempfile
 import time
-from typing import Any, Callable, Dict, Iterator, List, Optional
+from typing import Any, Callable, Iterator, List, Optional
 
 TOP = os.path.dirname(os.path.dirname(os.path.dirname(os.path.abspath(__file__))))
 sys.path.insert(0, os.path.join(TOP, "scripts", "tests"))
@@ -27,6 +26,8 @@ sys.path.insert(0, os.path.join(TOP, "python", "src"))
 
 from library_built import LIBRARY, has_library  # noqa: E402
 from machine_list import has_lister, listed  # noqa: E402
+from program import processor_time  # noqa: E402
+from program import words_of_plan as options  # noqa: E402
 from tally import Tally, end_with, words  # noqa: E402
 
 os.environ["BB_LIBRARY"] = LIBRARY
@@ -97,10 +98,9 @@ def processed(work: Callable[[], object]) -> float:
 
 def spent(command: List[str], path: str) -> float:
     """The processor time that a command takes over a file, in seconds."""
-    before = resource.getrusage(resource.RUSAGE_CHILDREN)
+    before = processor_time()
     clocked_over(command, path)
-    after = resource.getrusage(resource.RUSAGE_CHILDREN)
-    return after.ru_utime + after.ru_stime - before.ru_utime - before.ru_stime
+    return processor_time() - before
 
 
 def clocked_over(command: List[str], path: str) -> float:
@@ -109,10 +109,6 @@ def clocked_over(command: List[str], path: str) -> float:
         began = time.monotonic()
         subprocess.run(command, stdin=given, stdout=subprocess.DEVNULL)
         return time.monotonic() - began
-
-
-def options(plan: Dict[str, int]) -> List[str]:
-    return ["--%s=%d" % pair for pair in plan.items()]
 
 
 def four_states(folder: str) -> str:
@@ -183,8 +179,8 @@ def measure_trace(figures: Figures, program: str, folder: str) -> None:
     lines: List[int] = []
 
     def trace() -> None:
-        told = room.tried("bb_trace", (steps, cells, 0, every), machine, 1 << 26)[2]
-        lines.append(told.count(b"\n"))
+        room.call("bb_trace", (steps, cells, 0, every), machine, 1 << 26)
+        lines.append(room.reply().text.count(b"\n"))
 
     def decide(on: bool) -> None:
         room.call("bb_decide", (steps, cells, 300, 1_000_000, on, on, on), machine + b"\n", 1_000)
@@ -406,16 +402,13 @@ PARTS = {"node": measure_node, "trace": measure_trace, "page": measure_page, "py
 
 
 def main() -> int:
-    parser = words(__doc__)
-    parser.add_argument("--runs", type=int, default=3, help="of each (default: 3)")
-    parser.add_argument("--only", choices=sorted(PARTS), action="append", help="this part; may be repeated")
-    asked = parser.parse_args()
+    asked = words(__doc__, runs=3, parts=sorted(PARTS)).parse_args()
     figures = Figures(Tally(), asked.runs)
     if not has_lister(figures.tally, "the list of four states"):
         return figures.tally.end()
     with tempfile.TemporaryDirectory() as folder:
         for name, measure in PARTS.items():
-            if not asked.only or name in asked.only:
+            if not asked.part or name in asked.part:
                 measure(figures, asked.program, folder)
     print()
     return figures.tally.end()

@@ -16,7 +16,7 @@ none is named:
 - `memory`: of the runner over a list, and over one of ten times as many lines.
 """
 
-import argparse
+import functools
 import json
 import os
 import pathlib
@@ -33,8 +33,10 @@ sys.path.insert(0, os.path.join(HERE, "..", "tests"))
 from cluster import Cluster, changed_package, cluster  # noqa: E402
 from library_built import has_library  # noqa: E402
 from machine_list import has_lister, listed  # noqa: E402
+from machines import uniform  # noqa: E402
+from program import joined, options  # noqa: E402
 from runs import Case, most_memory, words_of  # noqa: E402
-from tally import PROGRAM, Tally, end_with  # noqa: E402
+from tally import Tally, end_with, from_one, words  # noqa: E402
 
 RANDOM = 200_000
 # Limits: those of a first pass, and those of a run that looks further.
@@ -58,11 +60,7 @@ CHAMPION = b"1RB1LC_1RC1RB_1RD0LE_1LA1LD_1RZ0LA\n"
 def random_machines(count: int) -> bytes:
     """Random machines of five states and two symbols."""
     source = random.Random(5)
-    entries = [write + move + state for write in "01" for move in "LR" for state in "ABCDEZ"]
-    lines = (
-        "_".join(source.choice(entries) + source.choice(entries) for _ in range(5)) for _ in range(count)
-    )
-    return "".join(line + "\n" for line in lines).encode()
+    return joined(uniform(source, 5) for _ in range(count))
 
 
 def whole_list(most: int) -> bytes:
@@ -79,17 +77,18 @@ def timed(once: Callable[[], bytes]) -> Tuple[bytes, float]:
 
 def by_program(program: str, limits: Sequence[int], given: pathlib.Path, before: List[str]) -> bytes:
     """What the program writes, called by the words before it."""
-    names = ("--steps", "--cells", "--depth", "--nodes")
-    asked = [word for name, number in zip(names, limits) for word in (name, str(number))]
+    command = [*before, program, "decide", *options(limits)]
     with open(given, "rb") as file:
-        return subprocess.run([*before, program, "decide", *asked], stdin=file, stdout=subprocess.PIPE).stdout
+        return subprocess.run(command, stdin=file, stdout=subprocess.PIPE).stdout
 
 
 def by_runner(case: Case, limits: Sequence[int], more: List[str]) -> bytes:
-    """What the runner writes."""
+    """What the runner writes. Its modules are compiled by the first run, as those of an installed package
+    are."""
     case.clear()
     case.words = ["--pass", words_of(limits), *more]
-    case.run()
+    compiled = {"PYTHONDONTWRITEBYTECODE": "", "PYTHONPYCACHEPREFIX": str(case.list.parent / "compiled")}
+    case.run(more_environment=compiled)
     return case.verdicts()
 
 
@@ -136,8 +135,8 @@ def measure_threads(
     }
     for block in BLOCKS:
         parallel = ["parallel", "-j", str(threads), "--pipe", "-k", "--block", block]
-        ways["GNU parallel, %s" % block] = lambda parallel=parallel: timed(
-            lambda: by_program(program, limits, case.list, parallel)
+        ways["GNU parallel, %s" % block] = functools.partial(
+            timed, functools.partial(by_program, program, limits, case.list, parallel)
         )
     times = least_times(tally, limits, runs, ways)
     parallel_time = min(times["GNU parallel, %s" % block] for block in BLOCKS)
@@ -210,24 +209,13 @@ def measure_memory(top: pathlib.Path) -> None:
 PARTS = ("memory", "threads", "dask", "waiting")
 
 
-def words() -> argparse.Namespace:
-    """What the command line asks for."""
-    shape = argparse.RawDescriptionHelpFormatter
-    parser = argparse.ArgumentParser(description=__doc__, formatter_class=shape)
-    parser.add_argument("program", nargs="?", default=PROGRAM, type=os.path.abspath)
-    parser.add_argument("--threads", type=int, default=len(os.sched_getaffinity(0)), metavar="N")
-    parser.add_argument(
-        "--runs", type=int, default=5, metavar="N", help="of which the least counts (default: 5)"
-    )
-    parser.add_argument(
-        "--lines", type=int, default=10**6, metavar="N", help="of each half of the list at most"
-    )
-    parser.add_argument("--part", action="append", choices=PARTS, help="one part alone, or some")
-    return parser.parse_args()
-
-
 def main() -> int:
-    asked = words()
+    parser = words(__doc__, runs=5, parts=PARTS)
+    cores = len(os.sched_getaffinity(0))
+    parser.add_argument("--threads", type=from_one, default=cores, metavar="N", help="default: all cores")
+    told = "of each half of the list at most"
+    parser.add_argument("--lines", type=from_one, default=10**6, metavar="N", help=told)
+    asked = parser.parse_args()
     parts = asked.part or PARTS
     tally = Tally()
     what = "the runner's speed"

@@ -9,6 +9,8 @@ from selenium import webdriver
 from selenium.webdriver.chrome.service import Service
 from selenium.webdriver.common.by import By
 
+from program import LIMITS, SWITCHES
+
 # What tells of tasks that kept the page from answering.
 WATCH = """
 window.longest = 0;
@@ -25,8 +27,6 @@ dispatchEvent(new DragEvent("drop", { dataTransfer: moved, bubbles: true, cancel
 """
 # After so many seconds something that is waited for counts as lost.
 PATIENCE = 1_800
-LIMITS = ("steps", "cells", "depth", "nodes")
-SWITCHES = ("cyclers", "translated", "backward")
 
 
 def is_whole(path: str) -> bool:
@@ -87,7 +87,8 @@ class Page:
 
     def state(self) -> Optional[str]:
         """Whether the work is over: done, stopped, ended."""
-        return self.js("return document.getElementById('results').dataset.state")
+        state: Optional[str] = self.js("return document.getElementById('results').dataset.state")
+        return state
 
     def ended(self) -> str:
         """Waits until the work is over."""
@@ -97,7 +98,10 @@ class Page:
     def drawn(self) -> Dict[str, Any]:
         """Waits until the diagram is drawn, and gives where it stands."""
         script = "return {...document.getElementById('diagram').dataset}"
-        return self.until(lambda: (found := self.js(script)).get("state") == "drawn" and found)
+        drawn: Dict[str, Any] = self.until(
+            lambda: (found := self.js(script)).get("state") == "drawn" and found
+        )
+        return drawn
 
     def plan(self, plan: Dict[str, Any], mode: str, clean: bool = False) -> None:
         """Sets the fields; those that aren't named get their defaults."""

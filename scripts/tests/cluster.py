@@ -15,7 +15,6 @@ failed`, with `, K skipped` where something isn't installed; the status is 1 whe
 
 import contextlib
 import importlib.util
-import os
 import pathlib
 import random
 import shutil
@@ -23,13 +22,12 @@ import signal
 import socket
 import subprocess
 import sys
-import tempfile
 import time
 from typing import Dict, Iterator, List, Optional, Tuple
 
 from library_built import has_library
-from runs import LONG_MACHINE, PASSES, SOURCE, Case, decided, environment, expected
-from runs import hold_interrupted, is_at_work, kill_often, random_list, seen, words_of
+from runs import LONG_MACHINE, PASSES, SOURCE, Case, Process, decided, environment, expected, folder
+from runs import hold_interrupted, is_at_work, kill_often, random_list, seen
 from tally import Tally, end_with, words
 
 # A run of LONG_MACHINE at these limits takes seconds.
@@ -49,7 +47,6 @@ WRONG_WORKERS: Dict[str, Tuple[str, List[Tuple[str, str]], str]] = {
         "AttributeError: ",
     ),
 }
-Process = "subprocess.Popen[bytes]"
 
 
 class Cluster:
@@ -105,12 +102,6 @@ class Cluster:
     def end(self) -> None:
         self.kill_workers()
         self.kill_scheduler()
-
-
-@contextlib.contextmanager
-def folder() -> Iterator[pathlib.Path]:
-    with tempfile.TemporaryDirectory() as name:
-        yield pathlib.Path(name)
 
 
 @contextlib.contextmanager
@@ -344,16 +335,9 @@ def hold_large_pieces(tally: Tally, program: str) -> None:
         tally.hold("the verdicts of large pieces", case.verdicts() == expected(program, given, (QUICK_PASS,)))
 
 
-def asked() -> Tuple[str, bool, int]:
-    parser = words(__doc__)
-    parser.add_argument("--quick", action="store_true", help="a short run with one killed worker")
-    parser.add_argument("--seed", type=int, default=1, help="of what is random (default: 1)")
-    found = parser.parse_args()
-    return found.program, found.quick, found.seed
-
-
 def main() -> int:
-    program, is_quick, seed = asked()
+    asked = words(__doc__, quick="a short run with one killed worker", seed=1).parse_args()
+    program, is_quick, seed = asked.program, asked.quick, asked.seed
     tally = Tally()
     if importlib.util.find_spec("distributed") is None:
         tally.skip("the runner on a cluster: dask isn't installed (package python3-distributed)")

@@ -11,19 +11,21 @@ opened is a failed read, and what reaches standard error. It takes a few seconds
 import os
 import subprocess
 import tempfile
+from typing import Iterator, List, Tuple, Union
 
+from program import ended
 from tally import Tally, end_with, words
 
 MACHINES = b"1RB1LB_1LA1RZ\n0RB---_0LA---\n1RA1RA\n"
 VERDICTS = b"1RB1LB_1LA1RZ halt 6 4\n0RB---_0LA--- cycler 2 4\n1RA1RA translated R 1 2 1 1\n"
 BY_TREES = b"1RB1LB_1LA1RZ halt 6 4\n0RB---_0LA--- backward 2 4\n1RA1RA backward 0 0\n"
-
-
 CLAIMS = VERDICTS + b"1RA1RA undecided cells\nrefused 14\n"
 ANSWERS = b"ok\nok\nok\nopen\nopen\n"
 
+Case = Tuple[str, List[Union[str, bytes]], bytes, int, bytes, bytes]
 
-def cases(folder):
+
+def cases(folder: str) -> List[Case]:
     """Name, words, standard input, status, standard output, a part of standard error."""
     listed = os.path.join(folder, "machines.txt")
     with open(listed, "wb") as file:
@@ -83,32 +85,30 @@ def cases(folder):
     ]
 
 
-def helps(program):
+def helps(program: str) -> Iterator[Tuple[str, bool]]:
     """Help goes to standard output, with status 0."""
-    for command in ([], ["decide"], ["check"], ["trace"]):
-        words = [*command, "--help"]
-        ended = subprocess.run([program, *words], capture_output=True)
-        yield " ".join(words), ended.returncode == 0 and b"Usage" in ended.stdout and not ended.stderr
-        words = ["help", *command]
-        same = subprocess.run([program, *words], capture_output=True)
-        yield " ".join(words), same.returncode == 0 and same.stdout == ended.stdout and not same.stderr
+    commands: List[List[str]] = [[], ["decide"], ["check"], ["trace"]]
+    for command in commands:
+        status, told, error = ended([program, *command, "--help"])
+        yield " ".join([*command, "--help"]), status == 0 and b"Usage" in told and not error
+        yield " ".join(["help", *command]), ended([program, "help", *command]) == (0, told, b"")
 
 
-def full_output(program):
+def full_output(program: str) -> bool:
     """A write that fails is told on standard error."""
     with open("/dev/full", "wb") as full:
-        ended = subprocess.run([program, "decide"], input=MACHINES, stdout=full, stderr=subprocess.PIPE)
-    return ended.returncode == 3 and ended.stderr == b"bb: write failed\n"
+        done = subprocess.run([program, "decide"], input=MACHINES, stdout=full, stderr=subprocess.PIPE)
+    return done.returncode == 3 and done.stderr == b"bb: write failed\n"
 
 
-def main():
+def main() -> int:
     program = words(__doc__).parse_args().program
     tally = Tally()
     with tempfile.TemporaryDirectory() as folder:
         for name, asked, given, status, output, error in cases(folder):
-            ended = subprocess.run([program, *asked], input=given, capture_output=True)
-            told = ended.stderr == error if status in (0, 1, 3) else error in ended.stderr
-            tally.hold(name, ended.returncode == status and ended.stdout == output and told)
+            done = subprocess.run([program, *asked], input=given, capture_output=True)
+            told = done.stderr == error if status in (0, 1, 3) else error in done.stderr
+            tally.hold(name, done.returncode == status and done.stdout == output and told)
     for name, holds in helps(program):
         tally.hold(name, holds)
     tally.hold("a full device", full_output(program))

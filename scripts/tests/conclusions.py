@@ -20,8 +20,8 @@ import itertools
 import random
 from typing import Dict, Iterator, List, NamedTuple, Optional, Sequence, Tuple
 
-from closed_loop import PLANS, machine, options, run
-from few_cells import LETTERS, entries, texts
+from machines import LETTERS, all_machines, entries_of, machine, table_of, text_of
+from program import PLANS, options, replies, verdict_of
 from tally import Tally, end_with, words
 
 Entry = str
@@ -52,15 +52,6 @@ class Now(NamedTuple):
     tape: Dict[int, int]
 
 
-def table_of(text: str) -> Table:
-    """The entries of a machine, by state and symbol."""
-    return [[group[k : k + 3] for k in range(0, len(group), 3)] for group in text.split("_")]
-
-
-def text_of(table: Table) -> str:
-    return "_".join("".join(group) for group in table)
-
-
 def padded(text: str) -> str:
     """A machine with one state and one symbol more, of which each entry is `---`."""
     table = [[*group, "---"] for group in table_of(text)]
@@ -83,11 +74,6 @@ def changed(text: str, change: Change) -> str:
         for symbol, entry in enumerate(group):
             new[change.states[state]][change.symbols[symbol]] = changed_entry(entry, change)
     return text_of(new)
-
-
-def said(line: str) -> str:
-    """The verdict of a line, without its machine."""
-    return line.partition(" ")[2]
 
 
 def changed_words(verdict: str, change: Change) -> str:
@@ -129,14 +115,14 @@ def decided(
     program: str, machines: Sequence[str], plan: Sequence[str] = (), limits: Sequence[str] = LIMITS
 ) -> List[str]:
     """The verdict of each machine, without its text."""
-    return [said(line) for line in run(program, ["decide", *limits, *plan], machines)]
+    return [verdict_of(line) for line in replies([program, "decide", *limits, *plan], machines)]
 
 
 def answers(
     program: str, machines: Sequence[str], claims: Sequence[str], limits: Sequence[str] = LIMITS
 ) -> List[str]:
     """The checker's answers to these claims of these machines."""
-    return run(program, ["check", *limits], ["%s %s" % pair for pair in zip(machines, claims)])
+    return replies([program, "check", *limits], ["%s %s" % pair for pair in zip(machines, claims)])
 
 
 class Pair(NamedTuple):
@@ -224,7 +210,7 @@ def completions(text: str) -> Iterator[Tuple[str, Tuple[int, ...]]]:
     """The machines that a machine of two symbols becomes where its `---` are filled, and the entries that
     are: state and symbol in one number."""
     old = [entry for group in table_of(text) for entry in group]
-    choices = [entries(len(old) // 2, 2) if entry == "---" else [entry] for entry in old]
+    choices = [entries_of(len(old) // 2, 2) if entry == "---" else [entry] for entry in old]
     for new in itertools.product(*choices):
         filled = tuple(k for k, entry in enumerate(new) if entry != old[k])
         if filled:
@@ -365,13 +351,9 @@ def hold_starts(tally: Tally, machines: Sequence[str], by_tree: Sequence[str]) -
 
 
 def main() -> int:
-    parser = words(__doc__)
-    parser.add_argument("--quick", action="store_true", help="every seventh machine")
-    parser.add_argument("--machines", type=int, default=12_000, help="random ones (default: 12,000)")
-    parser.add_argument("--seed", type=int, default=1, help="of the random machines (default: 1)")
-    asked = parser.parse_args()
+    asked = words(__doc__, quick="every seventh machine", machines=12_000, seed=1).parse_args()
     every = 7 if asked.quick else 1
-    machines = list(texts(2, 2))[::every]
+    machines = list(all_machines(2, 2))[::every]
     tally = Tally()
     verdicts = decided(asked.program, machines)
     hold_two_states(tally, asked.program, machines)

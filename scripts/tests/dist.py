@@ -36,7 +36,8 @@ def without_date(text: str) -> str:
 def hold_contents(tally: Tally, folder: pathlib.Path) -> None:
     """Each file is there, with the sha256 that CONTENTS says."""
     text = (folder / "CONTENTS").read_text(encoding="utf-8")
-    told = dict(reversed(line.split("  ")) for line in text.splitlines() if line.count("  ") == 1)
+    rows = [line.split("  ") for line in text.splitlines() if line.count("  ") == 1]
+    told = {name: digest for digest, name in rows}
     files = {path.name: path for path in folder.iterdir() if path.name != "CONTENTS"}
     tally.hold("CONTENTS names %s of %s" % (sorted(told), sorted(files)), sorted(told) == sorted(files))
     for name, path in files.items():
@@ -46,7 +47,7 @@ def hold_contents(tally: Tally, folder: pathlib.Path) -> None:
 
 
 def main() -> int:
-    words(__doc__).parse_args()
+    words(__doc__, needs_program=False).parse_args()
     tally = Tally()
     asked = ["git", "rev-parse", "HEAD"]
     commit = subprocess.run(asked, cwd=TOP, stdout=subprocess.PIPE, text=True, check=True).stdout.strip()

@@ -6,8 +6,8 @@
 It looks at README.md, CHANGELOG.md, `docs/`, the manual page and the examples' README. Of each it takes the
 links and the words in backquotes, and tells by their form what they are: files, names of the crates, lemmas,
 clauses of contracts, edits, options, lines of the program. What isn't there is told with document and line.
-It is also tried on a document in which one of each is broken. It takes a second. The last line is `N passed, M
-failed`; the status is 1 where any failed.
+It is also tried on a document in which one of each is broken. It takes a second. The last line is `N passed,
+M failed`; the status is 1 where any failed.
 """
 
 from __future__ import annotations
@@ -23,8 +23,9 @@ from tally import PACKAGES, TOP, Tally, end_with, words
 
 # What the documents name that stands elsewhere, by where it does.
 ELSEWHERE = {
-    "Rust, its library and its crates": "Clone Err Global Ok Option Vec Some None clone collect default flush usize"
-    " get_flag get_one fault_of subcommand_of arrayvec clap itoa linked_list_allocator memchr thiserror",
+    "Rust, its library and its crates": "Clone Err Global Ok Option Vec Some None clone collect default"
+    " flush usize get_flag get_one fault_of subcommand_of arrayvec clap itoa linked_list_allocator memchr"
+    " thiserror",
     "C and its library": "free malloc realloc int bool size_t",
     "the system's commands": "cut git rustc sh split wait",
     "the kit": "rt requires ensures FoldsTo rattle-kit-13b rattle-kit-13f --anew --minutes",
@@ -66,7 +67,7 @@ LANGUAGES = {
 BROKEN = [
     ("", ""),
     (
-        "A [link](proved.md), one [to a heading](proved.md#checking), one [elsewhere](https://bbchallenge.org).",
+        "A [link](proved.md), [to a heading](proved.md#checking), [elsewhere](https://bbchallenge.org).",
         "",
     ),
     ("A [link](missing.md) to no file.", "the link to missing.md"),
@@ -214,7 +215,7 @@ class Document:
                 yield "the link to %s" % target
 
     def wrong_word(self, word: str) -> str:
-        """What a word should be that isn't there, by its form; '' where it is, or where it has no such form."""
+        """What a word should be that isn't there, by its form; '' where it is, or has no such form."""
         if word.startswith(COMMANDS) and " " in word:
             return self.wrong_command(word)
         if re.fullmatch(r"--[a-z-]+( .*)?", word):
@@ -259,7 +260,7 @@ class Document:
         return "" if there else "the edit" if path.endswith(".edit") else "the file"
 
     def places(self, path: str) -> List[str]:
-        """The files and folders that end so; where the section or the row is about some crates, only theirs."""
+        """The files and folders that end so; where the section or the row is about crates, only theirs."""
         found = self.sources.ending_with(path)
         if not self.place or path.split("/")[0] in self.sources.by_crate or path in found:
             return found
@@ -372,7 +373,7 @@ def findings_of(sources: Sources, path: str) -> Iterator[Finding]:
 
 
 def main() -> int:
-    words(__doc__).parse_args()
+    words(__doc__, needs_program=False).parse_args()
     sources = sources_of(TOP)
     tally = Tally(most_told=1000)
     for what, holds in tried(sources):

@@ -14,16 +14,16 @@ The last line is `N passed, M failed`, with `, K skipped` where some were; the s
 import itertools
 import os
 import random
-import resource
 import shutil
-import subprocess
 import tempfile
 from typing import Any, Dict, Iterator, List, Tuple
 
-from closed_loop import LIMITS, machines
 from machine_list import has_lister, listed
+from machines import mixed
+from program import LIMITS, ROWS, SWITCHES, ended, joined, processor_time, words_of_plan
+from run_examples import EXAMPLES, content
 from tally import TOP, Tally, end_with, words
-from web_engine import MODULE, SWITCHES, Engine, Reply, built, documented, plan_of, words_of
+from web_engine import MODULE, Engine, Reply, built, documented, plan_of
 
 FOUR = {"steps": 200, "cells": 256, "depth": 20, "nodes": 1_000}
 SMALL = {"steps": 100, "cells": 64, "depth": 20, "nodes": 100}
@@ -51,9 +51,7 @@ class Held:
 
     def written(self, name: str, plan: Dict[str, Any], given: bytes) -> Tuple[int, bytes]:
         """The status of the program and what it writes."""
-        command = [self.program, name, *words_of(plan)]
-        ended = subprocess.run(command, input=given, stdout=subprocess.PIPE, stderr=subprocess.DEVNULL)
-        return ended.returncode, ended.stdout
+        return ended([self.program, name, *words_of_plan(plan)], given)[:2]
 
     def same(self, what: str, name: str, plan: Dict[str, Any], given: bytes) -> Reply:
         """Holds that a call's reply is the program's."""
@@ -63,30 +61,21 @@ class Held:
         return reply
 
 
-def content(folder: str, name: str) -> bytes:
-    """What a file of an example has; nothing where there is none."""
-    path = os.path.join(folder, name)
-    if not os.path.exists(path):
-        return b""
-    with open(path, "rb") as file:
-        return file.read()
-
-
 def examples() -> Iterator[Tuple[str, str, Dict[str, Any], bytes]]:
     """Each example that decides or checks: its name, command, plan and input."""
-    top = os.path.join(TOP, "examples")
-    for name in sorted(os.listdir(top)):
-        asked = content(os.path.join(top, name), "command").decode().split()
+    for name in sorted(os.listdir(EXAMPLES)):
+        folder = os.path.join(EXAMPLES, name)
+        asked = content(folder, "command").decode().split()
         if asked and asked[0] in ("decide", "check"):
             files = [word for word in asked if word.startswith("examples/")]
-            given = content(TOP, files[0]) if files else content(os.path.join(top, name), "lines.txt")
+            given = content(TOP, files[0]) if files else content(folder, "lines.txt")
             yield name, asked[0], plan_of([word for word in asked[1:] if word not in files]), given
 
 
 def plans() -> Iterator[Dict[str, Any]]:
     """Every plan at every row of limits."""
-    for numbers, switches in itertools.product(LIMITS, itertools.product([True, False], repeat=3)):
-        plan: Dict[str, Any] = dict(zip(("steps", "cells", "depth", "nodes"), numbers))
+    for numbers, switches in itertools.product(ROWS, itertools.product([True, False], repeat=3)):
+        plan: Dict[str, Any] = dict(zip(LIMITS, numbers))
         yield {**plan, **dict(zip(SWITCHES, switches))}
 
 
@@ -104,7 +93,7 @@ def random_plan(source: random.Random) -> Dict[str, Any]:
 
 def random_machines(count: int, source: random.Random) -> List[str]:
     """Machines of 1 to 25 states and 2 to 10 symbols."""
-    return list(machines(count, source.randrange(2**32)))
+    return list(mixed(count, source.randrange(2**32)))
 
 
 def forged(line: str, source: random.Random) -> str:
@@ -136,11 +125,14 @@ def hold_random(held: Held, count: int, seed: int) -> None:
     listed = random_machines(count, source)
     for k in range(0, count, 100):
         plan = random_plan(source)
-        given = "".join(line + "\n" for line in listed[k : k + 100]).encode()
-        decided = held.same("random machines", "decide", plan, given).reply.decode().splitlines()
+        decided = (
+            held.same("random machines", "decide", plan, joined(listed[k : k + 100]))
+            .reply.decode()
+            .splitlines()
+        )
         claims = [forged(line, source) if source.random() < 0.5 else line for line in decided]
         limits = {name: value for name, value in random_plan(source).items() if name not in SWITCHES}
-        held.same("claims", "check", limits, "".join(line + "\n" for line in claims).encode())
+        held.same("claims", "check", limits, joined(claims))
 
 
 def hold_four_states(held: Held) -> None:
@@ -149,10 +141,9 @@ def hold_four_states(held: Held) -> None:
         return
     given = listed(4)
     held.tally.hold("858909 machines of four states", given.count(b"\n") == 858_909)
-    before = resource.getrusage(resource.RUSAGE_CHILDREN)
+    before = processor_time()
     wanted = held.written("decide", FOUR, given)
-    after = resource.getrusage(resource.RUSAGE_CHILDREN)
-    taken = after.ru_utime + after.ru_stime - before.ru_utime - before.ru_stime
+    taken = processor_time() - before
     reply = held.engine.call("decide", FOUR, given)
     held.tally.hold("machines of four states", (reply.status, reply.reply) == wanted)
     seconds = reply.told.get("seconds", 0)
@@ -176,17 +167,17 @@ def hold_limits(held: Held) -> None:
     """Refused limits, whose error has the program's words and names the limit; the greatest accepted ones."""
     for plan in REFUSED:
         reply = held.engine.call("decide", plan, b"1RA1RA\n")
-        command = [held.program, "decide", *words_of(plan)]
-        said = subprocess.run(command, input=b"", stderr=subprocess.PIPE).stderr.decode()
+        said = ended([held.program, "decide", *words_of_plan(plan)]).error.decode()
         named = reply.told.get("error") == "LimitsError" and reply.told.get("limit") == said[4:].split(" ")[0]
         held.tally.hold(
             "%s: %s" % (plan, reply.told), named and said == "bb: %s\n" % reply.told.get("message")
         )
-    for plan, error in (
+    wrong: List[Tuple[Dict[str, Any], str]] = [
         ({"cells": 2.5}, "LimitsError"),
         ({"cell": 5}, "TypeError"),
         ({"backward": 1}, "TypeError"),
-    ):
+    ]
+    for plan, error in wrong:
         told = held.engine.call("decide", plan, b"1RA1RA\n").told
         held.tally.hold("%s: %s" % (plan, told), told.get("error") == error)
     for name in ("decide", "check"):
@@ -200,12 +191,11 @@ def hold_document(held: Held, folder: str) -> None:
     os.symlink(os.path.join(TOP, "web"), os.path.join(folder, "web"))
     with open(script, "w", encoding="utf-8") as file:
         file.write(documented("A script"))
-    command = ["node", script]
-    ended = subprocess.run(command, input=README, stdout=subprocess.PIPE, cwd=folder)
+    found = ended(["node", script], README, cwd=folder).output
     limits = {"steps": 100_000, "cells": 4096}
     decided = held.written("decide", limits, README)[1]
     wanted = decided + held.written("check", limits, decided)[1]
-    held.tally.hold("the script of docs/web.md: %r" % ended.stdout, ended.stdout == wanted)
+    held.tally.hold("the script of docs/web.md: %r" % found, found == wanted)
 
 
 def hold_memory(held: Held) -> None:
@@ -239,21 +229,14 @@ def hold_traces(held: Held, count: int, source: random.Random) -> None:
     """Traces of random machines from each step by each interval, and at the greatest limits."""
     for machine in random_machines(count, source):
         plan = {"steps": source.randint(0, 200), "cells": source.randint(1, 60)}
-        command = [
-            held.program,
-            "trace",
-            "--upto=%(steps)d" % plan,
-            "--cells=%(cells)d" % plan,
-            "--",
-            machine,
-        ]
-        lines = subprocess.run(command, stdout=subprocess.PIPE).stdout.splitlines()
+        asked = ["trace", "--upto=%(steps)d" % plan, "--cells=%(cells)d" % plan, "--", machine]
+        lines = ended([held.program, *asked]).output.splitlines()
         reply = held.engine.call("samples", {**plan, "from": 50, "every": 50}, machine.encode())
         held.tally.hold("traces of %s at %s" % (machine, plan), reply.reply == sampled(lines, 50))
     most = {"steps": 10**12, "cells": 67_108_864, "from": 0, "every": 1}
     reply = held.engine.call("trace", most, b"1RB1LB_1LA1RZ")
     command = [held.program, "trace", "--upto=%d" % 10**12, "--cells=67108864", "1RB1LB_1LA1RZ"]
-    wanted = subprocess.run(command, stdout=subprocess.PIPE).stdout
+    wanted = ended(command).output
     held.tally.hold("a trace at the greatest limits", (reply.status, reply.reply) == (0, wanted))
     for plan in ({"every": 0}, {"cells": 0}, {"steps": 10**12 + 1}):
         told = held.engine.call("trace", {**most, **plan}, b"1RB1LB_1LA1RZ").told
@@ -269,21 +252,21 @@ def hold_narrowing(tally: Tally, folder: str) -> None:
         module = file.read()
     head, memory = module[:8], bytes([5, 3, 1, 4, 0])
     cases = [("its own module", module), ("a table", head + bytes([4, 4, 1, 0x70, 0, 1]) + memory)]
-    for what, content in cases:
+    for what, wide in cases:
         with open(given, "wb") as file:
-            file.write(content)
+            file.write(wide)
         command = ["python3", os.path.join(TOP, "web", "narrow.py"), given, made]
-        ended = subprocess.run(command, stderr=subprocess.PIPE, text=True)
-        told = ended.returncode == 1 and ended.stderr.startswith("narrow: ") and ended.stderr.count("\n") == 1
-        tally.hold("%s: %s" % (what, ended.stderr), told and not os.path.exists(made))
+        refused = ended(command)
+        told = refused.error.startswith(b"narrow: ") and refused.error.count(b"\n") == 1
+        tally.hold("%s: %r" % (what, refused), refused.status == 1 and told and not os.path.exists(made))
 
 
 def hold_types(tally: Tally) -> None:
     """The modules of `web/` pass the checks of types."""
     if not tally.has("types of web/", "tsc"):
         return
-    ended = subprocess.run(["tsc", "-p", os.path.join(TOP, "web")], stdout=subprocess.PIPE, text=True)
-    tally.hold("types of web/:\n" + ended.stdout, ended.returncode == 0)
+    status, told, _ = ended(["tsc", "-p", os.path.join(TOP, "web")])
+    tally.hold("types of web/:\n" + told.decode(), status == 0)
 
 
 def hold_all(program: str, tally: Tally, quick: bool, seed: int) -> None:
@@ -312,10 +295,7 @@ def hold_all(program: str, tally: Tally, quick: bool, seed: int) -> None:
 
 
 def main() -> int:
-    parser = words(__doc__)
-    parser.add_argument("--quick", action="store_true", help="leave out what takes more than some seconds")
-    parser.add_argument("--seed", type=int, default=1, help="of the random machines (default: 1)")
-    asked = parser.parse_args()
+    asked = words(__doc__, quick="leave out what takes more than some seconds", seed=1).parse_args()
     tally = Tally()
     hold_types(tally)
     if tally.has("the engine in Node", "node"):

@@ -13,12 +13,12 @@ the status is 1 where any failed.
 
 import itertools
 import random
-import subprocess
-from typing import Iterator, List, Sequence
+from typing import Dict, FrozenSet, Iterator, List, Optional, Sequence, Tuple
 
+from machines import LETTERS, all_machines, seldom_halting, table_of
+from program import replies, verdict_of
 from tally import Tally, end_with, words
 
-LETTERS = "ABCDEFGHIJKLMNOPQRSTUVWXY"
 # A machine of two states and two symbols, and the options under which its first cycle is just found, or not.
 LATEST = "1LB1RB_1RA1LA"
 EDGES = [
@@ -27,39 +27,12 @@ EDGES = [
 ]
 
 
-def configurations(states, symbols, cells):
+def configurations(states: int, symbols: int, cells: int) -> int:
     """How many configurations there are: a state, a position, and a symbol for each cell."""
-    return states * cells * symbols**cells
+    return states * cells * int(symbols**cells)
 
 
-def entries(states: int, symbols: int) -> List[str]:
-    """The texts of all entries that such a machine may have."""
-    digits, nexts = "0123456789"[:symbols], LETTERS[:states] + "Z"
-    return ["---"] + ["".join(parts) for parts in itertools.product(digits, "LR", nexts)]
-
-
-def texts(states: int, symbols: int) -> Iterator[str]:
-    """All machines of so many states and symbols."""
-    for table in itertools.product(entries(states, symbols), repeat=states * symbols):
-        yield text(table, symbols)
-
-
-def random_texts(states, symbols, count, source):
-    """So many random machines; few of their entries halt."""
-    inner = [entry for entry in entries(states, symbols) if entry[2] not in "-Z"]
-    outer = [entry for entry in entries(states, symbols) if entry[2] in "-Z"]
-    for _ in range(count):
-        table = [source.choice(outer if source.random() < 0.1 else inner) for _ in range(states * symbols)]
-        yield text(table, symbols)
-
-
-def text(table: Sequence[str], symbols: int) -> str:
-    """A machine's text, from its entries."""
-    groups = range(0, len(table), symbols)
-    return "_".join("".join(table[k : k + symbols]) for k in groups)
-
-
-def partner(number):
+def partner(number: int) -> int:
     """The greatest power of two below a number."""
     power = 1
     while 2 * power < number:
@@ -67,12 +40,13 @@ def partner(number):
     return power
 
 
-def worked(machine, steps, cells):
+def worked(machine: str, steps: int, cells: int) -> str:
     """What is said of a machine by simulation and cyclers alone, from the definitions."""
-    table = [[group[k : k + 3] for k in range(0, len(group), 3)] for group in machine.split("_")]
-    state, head, tape = 0, 0, {}
-    low, high = 0, 0
-    run = []
+    table = table_of(machine)
+    state: Optional[int] = 0
+    head, low, high = 0, 0, 0
+    tape: Dict[int, int] = {}
+    run: List[Tuple[Optional[int], int, FrozenSet[Tuple[int, int]]]] = []
     for step in itertools.count():
         here = (state, head, frozenset(tape.items()))
         if step >= 2 and state is not None and here == run[partner(step)]:
@@ -93,17 +67,17 @@ def worked(machine, steps, cells):
         if entry[0] != "0":
             tape[head] = int(entry[0])
         state, head = after, there
+    raise AssertionError
 
 
-def decided(program, options, machines):
+def decided(program: str, options: Sequence[str], machines: Sequence[str]) -> List[str]:
     """What the program says of each machine, the machine's text left out."""
-    given = "".join(machine + "\n" for machine in machines).encode()
-    ended = subprocess.run([program, "decide", *options], input=given, stdout=subprocess.PIPE)
-    lines = ended.stdout.decode().splitlines()
-    return [line[len(machine) + 1 :] for machine, line in zip(machines, lines)]
+    return [verdict_of(line) for line in replies([program, "decide", *options], machines)]
 
 
-def held(program, tally, name, machines, steps, cells, most):
+def held(
+    program: str, tally: Tally, name: str, machines: Sequence[str], steps: int, cells: int, most: int
+) -> Tuple[int, str]:
     """Holds the program against what is worked out for each machine of a list; gives the greatest second
     step of a cycle, with its machine."""
     options = ["--steps=%d" % steps, "--cells=%d" % cells, "--depth=%d" % (cells // 2)]
@@ -128,25 +102,22 @@ def held(program, tally, name, machines, steps, cells, most):
     return latest
 
 
-def lists(count, seed):
+def lists(count: int, seed: int) -> Iterator[Tuple[int, int, int, int, List[str]]]:
     """The lists: states, symbols, cells, steps, and the machines. The last is at the default steps."""
     source = random.Random(seed)
-    yield 2, 2, 4, 3 * configurations(2, 2, 4), list(texts(2, 2))
+    yield 2, 2, 4, 3 * configurations(2, 2, 4), list(all_machines(2, 2))
     for states, symbols, cells in ((3, 2, 6), (4, 2, 6), (2, 3, 4)):
         steps = 3 * configurations(states, symbols, cells)
-        yield states, symbols, cells, steps, list(random_texts(states, symbols, count, source))
-    yield 5, 2, 12, 1_000_000, list(random_texts(5, 2, count // 10, source))
+        yield states, symbols, cells, steps, [seldom_halting(source, states, symbols) for _ in range(count)]
+    yield 5, 2, 12, 1_000_000, [seldom_halting(source, 5, 2) for _ in range(count // 10)]
 
 
-def main():
-    parser = words(__doc__)
-    parser.add_argument("--machines", type=int, default=10_000, help="of each random list (default: 10,000)")
-    parser.add_argument("--seed", type=int, default=1, help="of the random machines (default: 1)")
-    asked = parser.parse_args()
+def main() -> int:
+    asked = words(__doc__, machines=10_000, seed=1).parse_args()
     tally = Tally()
     for options, line in EDGES:
         said = decided(asked.program, options, [LATEST])
-        tally.hold("%s, not %s" % (line, said), said == [line[len(LATEST) + 1 :]])
+        tally.hold("%s, not %s" % (line, said), said == [verdict_of(line)])
     for states, symbols, cells, steps, machines in lists(asked.machines, asked.seed):
         most = configurations(states, symbols, cells)
         name = "%d machines of %d states and %d symbols in %d cells" % (len(machines), states, symbols, cells)

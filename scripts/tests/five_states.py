@@ -4,8 +4,9 @@
     scripts/tests/five_states.py crates/bb/out/bb
 
 The sample goes through the passes of the whole list, and each verdict is checked. Each count of the sample is
-held exactly, the machines that are left are decided by the program too, and the share that halts is held to
-be that of the whole list, within what a sample allows. Over all machines of four states the script is
+held exactly, the machines that are left are decided by the program too, and the share of each kind is held to
+be that of the whole list, within what a sample allows. docs/five-states.md is held to state each figure of
+docs/five-states.json, which the run over the whole list wrote. Over all machines of four states the script is
 interrupted, ended and killed, goes on each time, and gives what docs/four-states.md has; it refuses folders
 that aren't its own. It takes a minute or two, half of it for the sample. Without `rustc` it is skipped. The
 last line is `N passed, M failed`; the status is 1 where any failed.
@@ -21,16 +22,18 @@ import signal
 import subprocess
 import tempfile
 import time
-from typing import Any, Dict, List, Tuple
+from typing import Any, Dict, Iterator, List, Tuple
 
 from library_built import LIBRARY, has_library
 from machine_list import has_lister
+from program import ended, options_of_pass
 from tally import TOP, Tally, end_with, heed_interruption, words
 
 SCRIPT = os.path.join(TOP, "scripts", "five_states")
+DOCUMENTS = pathlib.Path(TOP) / "docs"
 SAMPLE = ["--every", "1000", "--parts", "8"]
-# Of the whole list: how many machines there are, and how many halt, as bbchallenge.org counts them.
-MACHINES, HALTING = 181_385_789, 48_379_711
+# How many machines the whole list has, as bbchallenge.org counts them.
+MACHINES = 181_385_789
 KINDS = ("halt", "cycler", "translated", "backward", "undecided steps", "undecided cells", "refused")
 # The sample's lines and what came of them, by kind, in each pass.
 PASSES = [
@@ -39,11 +42,12 @@ PASSES = [
 ]
 FOUR_STATES = (858_909, (249_693, 87_754, 500_902, 12_105, 8_455, 0, 0))
 FOUR_STATES_GREATEST = {"halt steps": 106, "cycler second": 102, "backward levels": 11, "backward nodes": 14}
+Process = subprocess.Popen[bytes]
 # Within so many seconds something must come that must.
 PATIENCE = 600
 
 
-def start(out: pathlib.Path, *asked: str) -> "subprocess.Popen[bytes]":
+def start(out: pathlib.Path, *asked: str) -> Process:
     """Starts the script, in a group of processes of its own."""
     command = [SCRIPT, "--library", LIBRARY, "--out", str(out), *asked]
     return subprocess.Popen(
@@ -51,7 +55,7 @@ def start(out: pathlib.Path, *asked: str) -> "subprocess.Popen[bytes]":
     )
 
 
-def ended(process: "subprocess.Popen[bytes]") -> Tuple[int, str]:
+def ending(process: Process) -> Tuple[int, str]:
     """The status of a process, and what it told."""
     told = process.communicate()[1].decode()
     return process.returncode, told
@@ -72,21 +76,73 @@ def passes(told: Dict[str, Any]) -> List[Tuple[int, Tuple[int, ...]]]:
 def hold_sample(tally: Tally, program: str, top: pathlib.Path) -> None:
     """The sample, and what is left of it."""
     out, began = top / "sample", time.monotonic()
-    status, told = ended(start(out, *SAMPLE))
+    status, told = ending(start(out, *SAMPLE))
     print("the sample took %.0f s" % (time.monotonic() - began), flush=True)
     tally.hold("the sample: status %d: %s" % (status, told), status == 0)
     found = summary(out)
     tally.hold("passes: %s" % passes(found), passes(found) == PASSES)
-    share, count = HALTING / MACHINES, PASSES[0][0]
-    allowed = 4 * math.sqrt(share * (1 - share) / count)
-    halting = found.get("counts", {}).get("halt", 0) / count
-    told = "%.4f of the sample halt, %.4f of the list, %.4f allowed" % (halting, share, allowed)
-    tally.hold(told, abs(halting - share) < allowed)
+    hold_shares(tally, found.get("counts", {}))
     left = (out / "left.txt").read_bytes()
-    limits = [word for pair in found["passes"][-1]["limits"].split(",") for word in ("--" + pair,)]
-    decided = subprocess.run([program, "decide", *limits], input=left, stdout=subprocess.PIPE).stdout
+    limits = options_of_pass(found["passes"][-1]["limits"])
+    decided = ended([program, "decide", *limits], left).output
     undecided = b"".join(machine + b" undecided steps\n" for machine in left.splitlines())
     tally.hold("the program decides none of what is left", decided == undecided)
+
+
+def hold_shares(tally: Tally, counts: Dict[str, int]) -> None:
+    """The share of each kind in the sample is about that in the whole list."""
+    whole = written()["counts"]
+    for kind in KINDS:
+        share, found = whole[kind] / MACHINES, counts.get(kind, 0) / PASSES[0][0]
+        allowed = 4 * math.sqrt(share * (1 - share) / PASSES[0][0])
+        told = "%s: %.4f of the sample, %.4f of the list, %.4f allowed" % (kind, found, share, allowed)
+        tally.hold(told, abs(found - share) <= allowed)
+
+
+def written() -> Dict[str, Any]:
+    """What the run over the whole list wrote."""
+    told: Dict[str, Any] = json.loads((DOCUMENTS / "five-states.json").read_text())
+    return told
+
+
+def figures_of(told: Dict[str, Any]) -> Iterator[str]:
+    """What the document must state of a run, in its own words."""
+    first, second = told["passes"]
+    for kind in KINDS:
+        counts = first["counts"][kind], second["counts"][kind], told["counts"][kind]
+        if any(counts):
+            yield "| `%s` | %s | %.4f |" % (
+                kind,
+                " | ".join("{:,}".format(count) for count in counts),
+                counts[2] / told["machines"],
+            )
+    lines = [one["lines"] for one in (first, second, first)]
+    yield "| all | %s | |" % " | ".join("{:,}".format(count) for count in lines)
+    yield "| Limits | `%s` | `%s` |" % (first["limits"], second["limits"])
+    yield "| By the clock | %.0f s | %.0f s |" % (first["seconds"], second["seconds"])
+    work = first["work_seconds"], second["work_seconds"]
+    yield "together | {:,.0f} s | {:,.0f} s |".format(*work)
+    for number, line in told["greatest"].values():
+        yield "| {:,} | `{}` |".format(number, line)
+    for _, line in told["longest"]:
+        yield "\n| `%s` |" % line
+    for steps, cells in told["left"]["visited"].items():
+        row = ["{:,}".format(count) for most, count in cells.items() if int(most) <= 1_024]
+        yield "| {:,} | {} |".format(int(steps), " | ".join(row))
+    left = told["counts"]["undecided steps"] + told["counts"]["undecided cells"]
+    decided, share = told["machines"] - left, 100 * left / told["machines"]
+    yield "So {:,} machines are decided and {:,} are left, {:.2f} %".format(decided, left, share)
+    yield "each {}rd of the machines that are left, {:,} in all".format(
+        told["left"]["every"], told["left"]["machines"]
+    )
+
+
+def hold_document(tally: Tally) -> None:
+    """The document states each figure of the whole run."""
+    told, document = written(), (DOCUMENTS / "five-states.md").read_text()
+    tally.hold("the whole list has %d machines" % told["machines"], told["machines"] == MACHINES)
+    for figure in figures_of(told):
+        tally.hold("docs/five-states.md says otherwise: %s" % figure, figure in document)
 
 
 def hold_four_states(tally: Tally, out: pathlib.Path) -> None:
@@ -114,17 +170,17 @@ def hold_interruptions(tally: Tally, out: pathlib.Path) -> None:
         process = start(out, *asked)
         while parts_of(out) == seen and time.monotonic() < began + PATIENCE:
             time.sleep(0.02)
-        second, told = ended(start(out, *asked))
+        second, told = ending(start(out, *asked))
         is_refused = second == 2 and "other work goes on" in told
         tally.hold("a second one: status %d: %s" % (second, told), is_refused)
         (os.killpg if number == signal.SIGKILL else os.kill)(process.pid, number)
-        found, told = ended(process)
+        found, told = ending(process)
         tally.hold("signal %d: status %d: %s" % (number, found, told), found == status)
         is_told = "interrupted; the same command goes on" in told
         tally.hold("signal %d: %s" % (number, told), is_told == (number == signal.SIGINT))
         if number != signal.SIGKILL:
             tally.hold("signal %d: nothing that it ran is left" % number, not is_left(process.pid))
-    found, told = ended(start(out, *asked))
+    found, told = ending(start(out, *asked))
     tally.hold("gone on with: status %d: %s" % (found, told), found == 0 and " parts stand" in told)
     hold_four_states(tally, out)
 
@@ -141,7 +197,7 @@ def is_left(group: int) -> bool:
 def hold_refusals(tally: Tally, top: pathlib.Path) -> None:
     """Commands and folders that are refused, by a sentence; nothing is changed."""
     small = ["--states", "2", "--parts", "2"]
-    status, told = ended(start(top / "small", *small))
+    status, told = ending(start(top / "small", *small))
     tally.hold("two states: status %d: %s" % (status, told), status == 0)
     (top / "foreign").mkdir()
     (top / "foreign" / "letter.txt").write_text("Dear reader\n")
@@ -153,7 +209,7 @@ def hold_refusals(tally: Tally, top: pathlib.Path) -> None:
     )
     for name, asked, sentence in rows:
         before = sorted(top.rglob("*"))
-        status, told = ended(start(top / name, *asked))
+        status, told = ending(start(top / name, *asked))
         is_right = status == 2 and sentence in told and sorted(top.rglob("*")) == before
         tally.hold("%s %s: status %d: %s" % (name, asked, status, told), is_right)
 
@@ -166,6 +222,7 @@ def main() -> int:
         return tally.end()
     with tempfile.TemporaryDirectory() as name:
         top = pathlib.Path(name)
+        hold_document(tally)
         hold_refusals(tally, top)
         hold_interruptions(tally, top / "four")
         hold_sample(tally, program, top)

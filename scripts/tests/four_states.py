@@ -10,14 +10,12 @@ one or two minutes. The last line is `N passed, M failed`; the status is 1 where
 
 import collections
 import os
-import resource
-import subprocess
-import tempfile
+from typing import List, Mapping, Sequence, Tuple, Union
 
 from machine_list import LISTER, has_lister
+from program import SIMULATION, ended, joined, kind_of, processor_time, words_of_plan
 from tally import TOP, Tally, end_with, words
 
-SIMULATION = ["--no-cyclers", "--no-translated", "--no-backward"]
 FIRST = {"steps": 200, "cells": 256, "depth": 20, "nodes": 1_000}
 LATER = [
     {"steps": 1_000, "cells": 1_024, "depth": 40, "nodes": 10_000},
@@ -29,64 +27,54 @@ with open(os.path.join(TOP, "docs", "four-states.md"), encoding="utf-8") as read
     DOCUMENT = read.read()
 
 
-def told(figure):
+def told(figure: str) -> None:
     """Holds that the document has a figure in these words."""
     print("  ", figure)
     tally.hold("docs/four-states.md says otherwise: %s" % figure, figure in DOCUMENT)
 
 
-def row(*cells):
+def row(*cells: Union[int, str]) -> str:
     """A table's row, or its beginning; numbers as the document writes them."""
     shown = ("{:,}".format(cell) if isinstance(cell, int) else cell for cell in cells)
     return "\n| %s |" % " | ".join(shown)
 
 
-def options(limits):
-    """The options that ask for these limits."""
-    return ["--%s=%d" % pair for pair in limits.items()]
+def run(command: Sequence[str], lines: Sequence[str]) -> Tuple[List[str], float]:
+    """What a command writes, given these lines, and the processor time that it took, in seconds."""
+    before = processor_time()
+    status, output, _ = ended(command, joined(lines))
+    tally.hold("%s: status %d" % (command, status), status == 0)
+    return output.decode().splitlines(), processor_time() - before
 
 
-def run(command, lines):
-    """What a command writes, given these lines, and the processor time that it took."""
-    with tempfile.TemporaryFile() as given:
-        given.write("".join(line + "\n" for line in lines).encode())
-        given.seek(0)
-        before = resource.getrusage(resource.RUSAGE_CHILDREN)
-        ended = subprocess.run(command, stdin=given, stdout=subprocess.PIPE)
-        after = resource.getrusage(resource.RUSAGE_CHILDREN)
-    tally.hold("%s: status %d" % (command, ended.returncode), ended.returncode == 0)
-    taken = after.ru_utime + after.ru_stime - before.ru_utime - before.ru_stime
-    return ended.stdout.decode().splitlines(), taken
-
-
-def kind(line):
+def kind(line: str) -> str:
     """The kind of a verdict line; with the cause where it is undecided."""
-    fields = line.split(" ")
-    return " ".join(fields[1:3]) if fields[1] == "undecided" else fields[1]
+    found = kind_of(line)
+    return " ".join(line.split(" ")[1:3]) if found == "undecided" else found
 
 
-def decided(program, limits, machines):
+def decided(program: str, limits: Mapping[str, int], machines: Sequence[str]) -> List[str]:
     """The verdict lines of these machines, confirmed by the checker."""
-    lines, deciding = run([program, "decide", *options(limits)], machines)
+    lines, deciding = run([program, "decide", *words_of_plan(limits)], machines)
     tally.hold("a line for each machine", [line.split(" ")[0] for line in lines] == machines)
-    answers, checking = run([program, "check", *options(limits)], lines)
+    answers, checking = run([program, "check", *words_of_plan(limits)], lines)
     for line, answer in zip(lines, answers):
         expected = "open" if kind(line).startswith("undecided") else "ok"
         tally.hold("%s: %s" % (line, answer), answer == expected)
     tally.hold("an answer for each line", len(answers) == len(lines))
-    print(" ".join(options(limits)), "over %d machines" % len(machines))
+    print(" ".join(words_of_plan(limits)), "over %d machines" % len(machines))
     print("  deciding %.2f s, checking %.2f s" % (deciding, checking))
     return lines
 
 
-def tell_kinds(lines):
+def tell_kinds(lines: Sequence[str]) -> None:
     """How many verdicts there are of each kind."""
     for name, count in sorted(collections.Counter(map(kind, lines)).items()):
         told(row("`%s`" % name, count))
     told(row("all", len(lines)))
 
 
-def tell_greatest(lines):
+def tell_greatest(lines: Sequence[str]) -> None:
     """The greatest numbers of each kind of verdict."""
     fields = [line.split(" ") for line in lines]
     halts = [verdict for verdict in fields if verdict[1] == "halt"]
@@ -107,7 +95,7 @@ def tell_greatest(lines):
     told("at most %d levels and %d nodes" % (levels, nodes))
 
 
-def tell_later(limits, before, lines):
+def tell_later(limits: Mapping[str, int], before: int, lines: Sequence[str]) -> None:
     """What larger limits decide of what was left."""
     new = [line.split(" ") for line in lines if not kind(line).startswith("undecided")]
     steps = [int(verdict[4]) for verdict in new if verdict[1] == "translated"]
@@ -117,18 +105,18 @@ def tell_later(limits, before, lines):
     told(row(*limits.values(), before, found, len(lines) - len(new)))
 
 
-def tell_widths(program, machines):
+def tell_widths(program: str, machines: Sequence[str]) -> None:
     """How many of these machines have visited at most so many cells after so many steps."""
     for steps in (1_000, 10_000, 100_000):
         counts = []
         for cells in (16, 32, 64, 128, 256, 512, 1_024):
             limits = {"steps": steps, "cells": cells, "depth": 0, "nodes": 0}
-            lines, _ = run([program, "decide", *options(limits), *SIMULATION], machines)
+            lines, _ = run([program, "decide", *words_of_plan(limits), *SIMULATION], machines)
             counts.append(sum(kind(line) == "undecided steps" for line in lines))
         told(row(steps, *counts))
 
 
-def main():
+def main() -> int:
     program = words(__doc__).parse_args().program
     if not has_lister(tally, "machines of four states"):
         return tally.end()

@@ -15,9 +15,15 @@ import re
 import subprocess
 import sys
 import tempfile
+from typing import Sequence, Tuple
 
 from machine_list import has_lister, listed
+from program import ended, joined, replies
 from tally import TOP, Tally, end_with, words
+
+SOURCE = os.path.join(TOP, "python", "src")
+sys.path.insert(0, SOURCE)
+import budlarem  # noqa: E402
 
 LIMITS = ["--steps", "1000", "--cells", "200", "--depth", "60"]
 SMALL = ["--steps", "1000", "--cells", "64", "--depth", "30", "--nodes", "1000"]
@@ -38,17 +44,17 @@ C_WORDS = ["-Wall", "-Wextra", "-Werror", "-O2", "-pthread", "-I", os.path.join(
 VALGRIND = ["valgrind", "-q", "--error-exitcode=9", "--leak-check=full"]
 
 
-def output(command, given=b"", **more):
+def output(command: Sequence[str], given: bytes = b"") -> Tuple[int, bytes]:
     """The status of a command and what it writes."""
-    ended = subprocess.run(command, input=given, stdout=subprocess.PIPE, **more)
-    return ended.returncode, ended.stdout
+    return ended(command, given)[:2]
 
 
-def compiled(tally, command):
+def compiled(tally: Tally, command: Sequence[str]) -> None:
+    """Holds that a command compiles."""
     tally.hold("compiles: " + " ".join(command), subprocess.run(command).returncode == 0)
 
 
-def hold_c(tally, program, archive, folder):
+def hold_c(tally: Tally, program: str, archive: str, folder: str) -> None:
     """The C examples and tests, compiled as C and the tests as C++ too."""
     if not tally.has("C and C++", "gcc", "g++", "valgrind"):
         return
@@ -62,9 +68,9 @@ def hold_c(tally, program, archive, folder):
     for command in ([made[0]], [made[1]], [*VALGRIND, made[0]], [*VALGRIND, made[2], *MACHINES]):
         status, told = output(command)
         counts = re.search(rb"(\d+) passed, 0 failed\n$", told)
-        wanted = 1 if command[-1] == MACHINES[-1] else 0
-        tally.hold("%s: status %d" % (" ".join(command), status), status == wanted)
-        tally.hold("all of its tests: %s" % told.decode(), counts or wanted)
+        is_unclean = command[-1] == MACHINES[-1]
+        tally.hold("%s: status %d" % (" ".join(command), status), status == int(is_unclean))
+        tally.hold("all of its tests: %s" % told.decode(), counts or is_unclean)
     lines = output([made[3], "lines"])[1].splitlines()[:-5]
     given = b"".join(line.split()[0] + b"\n" for line in lines)
     wanted = output([program, "decide", *SMALL], given)[1].splitlines()
@@ -76,15 +82,14 @@ def hold_c(tally, program, archive, folder):
     tally.hold("and no step", output([*VALGRIND, made[4], MACHINES[0], "5", "0"]) == (2, b""))
 
 
-def hold_words(tally, program, decide):
+def hold_words(tally: Tally, program: str, decide: str) -> None:
     """An example that decides its arguments writes what the program does with a list of them."""
-    given = "".join(machine + "\n" for machine in MACHINES).encode()
-    wanted = output([program, "decide"], given)
+    wanted = output([program, "decide"], joined(MACHINES))
     tally.hold("%s and the program" % decide, output([decide, *MACHINES]) == wanted)
     tally.hold("%s and a limit of one word" % decide, output([decide, "1RZ---"]) == (0, b"1RZ--- halt 1 1\n"))
 
 
-def hold_rust(tally, program, archive, folder):
+def hold_rust(tally: Tally, program: str, archive: str, folder: str) -> None:
     if not tally.has("Rust", "rustc"):
         return
     made = os.path.join(folder, "decide_rust")
@@ -93,41 +98,36 @@ def hold_rust(tally, program, archive, folder):
     hold_words(tally, program, made)
 
 
-def hold_python(tally, program, shared):
+def hold_python(tally: Tally, program: str, shared: str) -> None:
     """The Python package over this library: lists and traces beside the program's, and its example."""
     os.environ["BB_LIBRARY"] = shared
-    os.environ["PYTHONPATH"] = os.path.join(TOP, "python", "src")
-    sys.path.insert(0, os.environ["PYTHONPATH"])
-    import budlarem
-
+    os.environ["PYTHONPATH"] = SOURCE
     script = [sys.executable, os.path.join(TOP, "examples", "python", "list.py")]
     tally.hold("the script", output(script, b"1RZ---\nx\n")[1] == b"ok 1RZ--- halt 1 1\nopen refused 1\n")
     limits = budlarem.Limits(steps=1000, cells=200, depth=60)
-    hold_answers(tally, program, budlarem, CLAIMS, limits)
+    hold_answers(tally, program, CLAIMS, limits)
     if has_lister(tally, "machines of four states"):
-        hold_list(tally, program, budlarem, limits)
+        hold_list(tally, program, limits)
 
 
-def hold_list(tally, program, budlarem, limits):
+def hold_list(tally: Tally, program: str, limits: budlarem.Limits) -> None:
     """Verdicts, answers and traces of machines of four states."""
     machines = listed(4).decode().splitlines()[:100_000]
-    given = "".join(machine + "\n" for machine in machines).encode()
-    verdicts = output([program, "decide", *LIMITS], given)[1].decode().splitlines()
+    verdicts = replies([program, "decide", *LIMITS], machines)
     tally.hold("100000 machines of four states", len(verdicts) == 100_000)
     told = [str(verdict) for verdict in budlarem.decide(machines, limits)]
     tally.hold("their verdicts", told == verdicts)
-    hold_answers(tally, program, budlarem, verdicts, limits)
-    hold_traces(tally, program, budlarem, machines[::1000])
+    hold_answers(tally, program, verdicts, limits)
+    hold_traces(tally, program, machines[::1000])
 
 
-def hold_answers(tally, program, budlarem, lines, limits):
+def hold_answers(tally: Tally, program: str, lines: Sequence[str], limits: budlarem.Limits) -> None:
     """The answers to verdict lines."""
-    given = "".join(line + "\n" for line in lines).encode()
-    wanted = output([program, "check", *LIMITS], given)[1].decode().splitlines()
+    wanted = replies([program, "check", *LIMITS], lines)
     tally.hold("answers", [str(answer) for answer in budlarem.check(lines, limits)] == wanted)
 
 
-def hold_traces(tally, program, budlarem, machines):
+def hold_traces(tally: Tally, program: str, machines: Sequence[str]) -> None:
     """Lines of traces, at every first step and every distance up to 50, are those of the program's traces."""
     for cells in (200, 5):
         limits = ["--upto", "120", "--cells", str(cells), "--"]
@@ -142,19 +142,19 @@ def hold_traces(tally, program, budlarem, machines):
         tally.hold("traces in %d cells of 100 machines" % cells, held == len(machines) == 100)
     whole = output([program, "trace", "--upto", "3000", MACHINES[1]])[1].decode().splitlines()
     tally.hold("a long trace", [str(now) for now in budlarem.trace(MACHINES[1], 3000)] == whole)
-    no_machine = raises(budlarem.MachineError, next, budlarem.trace("1RZ", 9, start=2**64 - 1))
-    tally.hold("a trace of no machine", no_machine)
+    tally.hold("a trace of no machine", is_no_machine("1RZ"))
 
 
-def raises(error, call, *given, **more):
+def is_no_machine(text: str) -> bool:
+    """Whether the package refuses to trace a text, from the greatest first step there is."""
     try:
-        call(*given, **more)
-    except error:
+        next(budlarem.trace(text, 9, start=2**64 - 1))
+    except budlarem.MachineError:
         return True
     return False
 
 
-def main():
+def main() -> int:
     program = words(__doc__).parse_args().program
     tally = Tally()
     if not tally.has("the library", "rt", "cc", "ar", "ld", "objcopy", "nm"):

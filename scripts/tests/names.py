@@ -51,10 +51,10 @@ def sets() -> Dict[str, Set[str]]:
 class Sources:
     """All that the documents may name.
 
-    Names stand by their crate (`below` has what a crate stands on), and by what they are members of: a type, a
-    record, a module or a crate. Those of other languages stand by the language: `python`, `script` (JavaScript,
-    HTML) or `header` (C). `options` are those of all commands, `program_options` those of `bb`; `texts` has the
-    words of the scripts that make files, `words` those of the lines that the program writes.
+    Names stand by their crate (`below` has what a crate stands on), and by what they are members of: a type,
+    a record, a module or a crate. Those of other languages stand by the language: `python`, `script`
+    (JavaScript, HTML) or `header` (C). `options` are those of all commands, `program_options` those of `bb`;
+    `texts` has the words of the scripts that make files, `words` those of the lines that the program writes.
     """
 
     files: Set[str] = dataclasses.field(default_factory=set)
@@ -103,8 +103,8 @@ def read(top: str, path: str) -> str:
 
 
 def definitions(text: str) -> Iterator[Tuple[str, str]]:
-    """The names that a file of definitions or proofs has, those in its modules too, each with the record that it
-    is a field of, or ''."""
+    """The names that a file of definitions or proofs has, those in its modules too, each with the record that
+    it is a field of, or ''."""
     record = ""
     columns = [0]
     for line in text.split("\n"):
@@ -179,7 +179,7 @@ def read_crate(sources: Sources, top: str, crate: str) -> None:
 
 
 def names_of_python(text: str) -> Iterator[str]:
-    """The names that a file of Python defines: functions, classes, arguments, fields; and its words of text."""
+    """The names that a file of Python defines: functions, classes, arguments, fields; and its texts."""
     for node in ast.walk(ast.parse(text)):
         if isinstance(node, (ast.FunctionDef, ast.ClassDef)):
             yield node.name

@@ -19,7 +19,6 @@ import os
 import random
 import re
 import shutil
-import subprocess
 import tempfile
 import threading
 import time
@@ -27,8 +26,9 @@ from typing import Any, Dict, List, Tuple
 
 from engine import FOUR, README, examples, forged, plans, random_machines, random_plan
 from machine_list import has_lister, listed
+from program import SWITCHES, ended, joined, words_of_plan
 from tally import TOP, Tally, end_with, words
-from web_engine import MODULE, PAGE, SWITCHES, built, documented, words_of
+from web_engine import MODULE, PAGE, built, documented
 
 CHAMPION = "1RB1LB_1LA0LC_1RZ1LD_1RD0RA"
 TRANSLATED = "1LB0LA_1RA---"
@@ -54,8 +54,7 @@ class Held:
 
     def written(self, name: str, plan: Dict[str, Any], given: bytes) -> bytes:
         """What the program writes."""
-        command = [self.program, name, *words_of(plan)]
-        return subprocess.run(command, input=given, stdout=subprocess.PIPE, stderr=subprocess.DEVNULL).stdout
+        return ended([self.program, name, *words_of_plan(plan)], given).output
 
     def same(self, what: str, name: str, plan: Dict[str, Any], given: bytes, drop: bool = False) -> bytes:
         """Holds that the page saves what the program writes."""
@@ -117,13 +116,13 @@ def hold_random(held: Held, count: int, seed: int) -> None:
     listed = random_machines(count, source)
     for k in range(0, count, 200):
         plan = random_plan(source)
-        given = "".join(line + "\n" for line in listed[k : k + 200]).encode()
-        decided = held.same("random machines", "decide", plan, given).decode().splitlines()
-        claims = [forged(line, source) if source.random() < 0.5 else line for line in decided]
+        decided = held.same("random machines", "decide", plan, joined(listed[k : k + 200]))
+        lines = decided.decode().splitlines()
+        claims = [forged(line, source) if source.random() < 0.5 else line for line in lines]
         limits = {name: value for name, value in random_plan(source).items() if name not in SWITCHES}
-        held.same("claims", "check", limits, "".join(line + "\n" for line in claims).encode())
+        held.same("claims", "check", limits, joined(claims))
     held.page.plan({}, "auto")
-    held.page.file(("\n".join(decided) + "\n").encode())
+    held.page.file(decided)
     held.page.ended()
     held.tally.hold("verdict lines are told", "so they are checked" in held.page.text("status"))
 
@@ -185,7 +184,7 @@ def traced(program: str, machine: str, upto: int) -> List[Tuple[int, int, int, s
     """For each step the head's position, the least one visited, and the cells."""
     command = [program, "trace", "--upto", str(upto), "--", machine]
     rows, low = [], 0
-    for line in subprocess.run(command, stdout=subprocess.PIPE, text=True).stdout.splitlines():
+    for line in ended(command).output.decode().splitlines():
         step, state, head, cells = line.split()
         low = min(low, int(head)) if state != "Z" else low
         rows.append((int(step), int(head), low, cells))
@@ -393,10 +392,7 @@ def has_selenium(tally: Tally) -> bool:
 
 
 def main() -> int:
-    parser = words(__doc__)
-    parser.add_argument("--quick", action="store_true", help="the short part")
-    parser.add_argument("--seed", type=int, default=1, help="of the random machines (default: 1)")
-    asked = parser.parse_args()
+    asked = words(__doc__, quick="the short part", seed=1).parse_args()
     tally = Tally()
     if tally.has("the page", "chromium", "chromedriver") and has_selenium(tally):
         if shutil.which("rt") is None and not os.path.exists(PAGE):

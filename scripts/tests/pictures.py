@@ -9,11 +9,11 @@ seconds. The last line is `N passed, M failed`; the status is 1 where any failed
 
 import os
 import struct
-import subprocess
 import sys
 import zlib
-from typing import Dict, List, Tuple
+from typing import Dict, Iterator, List, Optional, Tuple
 
+from program import ended
 from tally import TOP, Tally, end_with, words
 
 PICTURE = os.path.join(TOP, "scripts", "tools", "picture.py")
@@ -22,8 +22,13 @@ GOES_RIGHT = "1RA1RA"
 WHITE, BLACK, GREY, RED = (255, 255, 255), (20, 20, 20), (225, 225, 225), (220, 30, 30)
 
 
-def pixels(data: bytes) -> List[List[Tuple[int, ...]]]:
-    """The rows of a picture with a palette, each pixel as its colour."""
+# The rows of a picture, each pixel as its colour.
+Rows = List[List[Tuple[int, ...]]]
+Held = Iterator[Tuple[str, bool]]
+
+
+def pixels(data: bytes) -> Rows:
+    """The rows of a picture with a palette."""
     place = 8
     chunks: Dict[bytes, bytes] = {}
     while place < len(data):
@@ -36,14 +41,21 @@ def pixels(data: bytes) -> List[List[Tuple[int, ...]]]:
     return [[palette[at] for at in raw[row * (wide + 1) + 1 :][:wide]] for row in range(high)]
 
 
-def picture(program, machine, upto, *options):
-    """The pixels of a trace's picture, and what standard error says."""
-    trace = subprocess.run([program, "trace", "--upto", str(upto), machine], stdout=subprocess.PIPE).stdout
-    made = subprocess.run([sys.executable, PICTURE, *options], input=trace, capture_output=True)
-    return pixels(made.stdout) if made.returncode == 0 else None, made.stderr.decode()
+def asked_for(program: str, machine: str, upto: int, *options: str) -> Tuple[Optional[Rows], str]:
+    """The pixels of a trace's picture, none where it is refused, and what standard error says."""
+    trace = ended([program, "trace", "--upto", str(upto), machine]).output
+    status, made, told = ended([sys.executable, PICTURE, *options], trace)
+    return pixels(made) if status == 0 else None, told.decode()
 
 
-def champion(program):
+def picture(program: str, machine: str, upto: int, *options: str) -> Tuple[Rows, str]:
+    """The pixels of a trace's picture that is made, and what standard error says."""
+    rows, said = asked_for(program, machine, upto, *options)
+    assert rows is not None, said
+    return rows, said
+
+
+def champion(program: str) -> Held:
     """The whole run of the champion of four states: 107 steps over 14 cells, from -10 to 3."""
     rows, said = picture(program, FOUR_STATES, 107, "--scale", "2")
     yield "two pixels a place", len(rows) == 216 and all(len(row) == 28 for row in rows)
@@ -53,7 +65,7 @@ def champion(program):
     yield "13 cells aren't 0 at the halt, the head on the one that is", rows[-1][::2].count(BLACK) == 13
 
 
-def sampling(program):
+def sampling(program: str) -> Held:
     """A head that goes right: step n has n cells written and the head at n."""
     rows, said = picture(program, GOES_RIGHT, 100, "--rows", "30")
     yield "every fourth step of 101 fits in 30 rows", len(rows) == 26 and said == "picture: every 4 steps\n"
@@ -72,22 +84,22 @@ def sampling(program):
     yield "positions that are asked for alone", rows[2][1:] == [BLACK, BLACK]
 
 
-def refusals(program):
+def refusals(program: str) -> Held:
     """Sizes below 1 are refused, and pictures that are too large, in one line that says what would do."""
     for option in ("--every", "--rows", "--columns", "--scale"):
-        rows, said = picture(program, GOES_RIGHT, 3, option, "0")
+        rows, said = asked_for(program, GOES_RIGHT, 3, option, "0")
         yield "%s 0 is refused" % option, rows is None and option in said
-    rows, said = picture(program, GOES_RIGHT, 3, "--scale", "100000")
+    rows, said = asked_for(program, GOES_RIGHT, 3, "--scale", "100000")
     fine = said.count("\n") == 1 and "160,000,000,000 pixels" in said and "--scale to 2500" in said
     yield "a scale that is too great is refused: %r" % said, rows is None and fine
-    rows, said = picture(program, GOES_RIGHT, 3, "--scale", "2501")
+    rows, said = asked_for(program, GOES_RIGHT, 3, "--scale", "2501")
     yield "one above the greatest scale is refused", rows is None and "--scale to 2500" in said
     wide = ["--columns", "100000001", "--left", "0", "--right", "100000000"]
-    rows, said = picture(program, GOES_RIGHT, 0, *wide)
+    rows, said = asked_for(program, GOES_RIGHT, 0, *wide)
     yield "too many columns are refused: %r" % said, rows is None and "lower --rows or --columns" in said
 
 
-def main():
+def main() -> int:
     program = words(__doc__).parse_args().program
     tally = Tally()
     for part in (champion, sampling, refusals):

@@ -19,24 +19,22 @@ import sys
 import time
 from typing import Iterator, List, Sequence, Tuple
 
-from closed_loop import LIMITS, PLANS, machines, options
 from library_built import LIBRARY, has_library
 from machine_list import has_lister, listed
+from machines import mixed
+from program import PLANS, ROWS, SIMULATION, ended, joined, options
+from runs import LONG_MACHINE, PATIENCE, SOURCE, environment, is_at_work, seen
 from tally import TOP, Tally, end_with, heed_interruption, words
 
-SOURCE = os.path.join(TOP, "python", "src")
 sys.path.insert(0, SOURCE)
 
 import budlarem  # noqa: E402
 from budlarem import Limits, Plan  # noqa: E402
 
 Row = Tuple[int, int, int, int]
-SWITCHES = ("--no-cyclers", "--no-translated", "--no-backward")
-# In so many seconds an interruption is heard, on a quiet machine; after so many the process counts as hung.
-HEARD, PATIENCE = 0.2, 600
+# In so many seconds an interruption is heard, on a quiet machine.
+HEARD = 0.2
 WHERE = ("list", "machine", "trace")
-# It grows as the root of its steps, and no decider finds anything.
-LONG_MACHINE = "0RB1LD_0RC1RD_0RD---_1LA0RB"
 WAITS = """
 import sys, budlarem
 def machines():
@@ -63,15 +61,11 @@ print(resource.getrusage(resource.RUSAGE_SELF).ru_maxrss)
 
 def told(program: str, asked: Sequence[str], given: bytes) -> bytes:
     """What the program writes."""
-    return subprocess.run([program, *asked], input=given, stdout=subprocess.PIPE).stdout
-
-
-def joined(lines: Sequence[str]) -> bytes:
-    return "".join(line + "\n" for line in lines).encode("utf-8", "surrogatepass")
+    return ended([program, *asked], given).output
 
 
 def plan_of(switches: Sequence[str]) -> Plan:
-    return Plan(*(switch not in switches for switch in SWITCHES))
+    return Plan(*(switch not in switches for switch in SIMULATION))
 
 
 def random_row(source: random.Random) -> Row:
@@ -98,10 +92,9 @@ def hold_deciding(
 
 
 def hold_rows(tally: Tally, program: str, lists: List[str]) -> None:
-    for row, switches in itertools.product(LIMITS, itertools.product((0, 1), repeat=3)):
-        hold_deciding(
-            tally, program, row, [name for name, on in zip(SWITCHES, switches) if on], lists[:300], 1
-        )
+    for row, switches in itertools.product(ROWS, itertools.product((0, 1), repeat=3)):
+        off = [word for word, is_off in zip(SIMULATION, switches) if is_off]
+        hold_deciding(tally, program, row, off, lists[:300], 1)
 
 
 def forged(source: random.Random, line: str) -> str:
@@ -215,15 +208,15 @@ def hold_traces(tally: Tally, program: str, lists: List[str]) -> None:
         source = random.Random(place)
         upto, cells = source.choice((0, 1, 50, 300, 2_000)), source.choice((1, 5, 64, 65_536))
         asked = ["trace", "--upto", str(upto), "--cells", str(cells), "--", machine]
-        ended = subprocess.run([program, *asked], stdout=subprocess.PIPE)
-        lines = ended.stdout.decode().splitlines()
+        status, written, _ = ended([program, *asked])
+        lines = written.decode().splitlines()
         start, every = source.choice((0, 0, 3, 40)), source.choice((1, 2, 7))
         what = "%s upto %d, cells %d, from %d by %d" % (machine, upto, cells, start, every)
         trace = budlarem.trace(machine, upto, cells, start, every)
         tally.hold("trace of %s" % what, [str(now) for now in trace] == lines[start::every])
-        tally.hold("the end of the trace of %s" % what, trace.cut is (ended.returncode == 1))
+        tally.hold("the end of the trace of %s" % what, trace.cut is (status == 1))
         rows = source.choice((1, 2, 30, 300))
-        drawn = subprocess.run([*script, "--rows", str(rows)], input=ended.stdout, capture_output=True).stdout
+        drawn = ended([*script, "--rows", str(rows)], written).output
         picture = budlarem.picture(machine, upto, cells=cells, rows=rows, columns=50)
         tally.hold("picture of %s in %d rows" % (what, rows), picture.png == drawn)
 
@@ -251,33 +244,32 @@ def hold_lists(tally: Tally, program: str, lists: List[str], seed: int) -> None:
     tally.hold("a normal form begins to the right", all(right))
 
 
-def environment() -> dict:
-    return {**os.environ, "PYTHONPATH": SOURCE, "BB_LIBRARY": LIBRARY}
-
-
 def hold_memory(tally: Tally, count: int) -> None:
     """The most memory that a long list takes is that of a short one."""
     for how in ("decide", "bytes"):
-        peaks = []
+        peaks: List[int] = []
         for lines in (100_000, count):
             command = [sys.executable, "-c", MEMORY, str(lines), how]
-            ended = subprocess.run(command, stdout=subprocess.PIPE, env=environment())
-            peaks.append(int(ended.stdout or 0))
-        what = "%s: %d KB for 100,000 lines, %d KB for %d" % (how, *peaks, count)
+            done = subprocess.run(command, stdout=subprocess.PIPE, env=environment())
+            peaks.append(int(done.stdout or 0))
+        what = "%s: %d KB for 100,000 lines, %d KB for %d" % (how, peaks[0], peaks[1], count)
         tally.hold(what, 0 < peaks[1] < 1.1 * peaks[0] + 2_000)
 
 
 def interrupted(where: str) -> Tuple[int, bytes, float]:
     """How a process ends that is interrupted in a list, in one long machine or in a trace: its status, what
     it said, and after how many seconds."""
-    command = [sys.executable, "-c", WAITS, where, LONG_MACHINE]
-    pipes = {"stdout": subprocess.PIPE, "stderr": subprocess.PIPE, "env": environment()}
-    with subprocess.Popen(command, preexec_fn=heed_interruption, **pipes) as process:
+    command = [sys.executable, "-c", WAITS, where, LONG_MACHINE.decode().strip()]
+    pipe = subprocess.PIPE
+    with subprocess.Popen(
+        command, preexec_fn=heed_interruption, stdout=pipe, stderr=pipe, env=environment()
+    ) as process:
+        assert process.stdout is not None
         process.stdout.readline()
         if where == "list":
             process.stdout.readline()
         else:
-            wait_for_work(process)
+            seen(process, lambda: is_at_work(process.pid))
         began = time.monotonic()
         process.send_signal(signal.SIGINT)
         try:
@@ -297,36 +289,13 @@ def hold_interruption(tally: Tally) -> None:
         tally.within("SIGINT in a %s was heard, and the process ended" % where, seconds, HEARD)
 
 
-def wait_for_work(process: "subprocess.Popen[bytes]") -> None:
-    """Waits until a process has made a second of work in another thread than its first, or has ended."""
-    ticks, tasks = os.sysconf("SC_CLK_TCK"), "/proc/%d/task" % process.pid
-    while process.poll() is None:
-        for task in os.listdir(tasks):
-            if int(task) != process.pid and work_of("%s/%s/stat" % (tasks, task)) > ticks:
-                return
-        time.sleep(0.01)
-
-
-def work_of(path: str) -> int:
-    """The processor time of a thread, in ticks; 0 where it has ended."""
-    try:
-        with open(path) as file:
-            fields = file.read().rpartition(")")[2].split()
-    except OSError:
-        return 0
-    return int(fields[11]) + int(fields[12])
-
-
 def main() -> int:
-    parser = words(__doc__)
-    parser.add_argument("--quick", action="store_true", help="fewer machines")
-    parser.add_argument("--seed", type=int, default=1, help="of what is random (default: 1)")
-    asked = parser.parse_args()
+    asked = words(__doc__, quick="fewer machines", seed=1).parse_args()
     tally = Tally()
     if not has_library(tally, "the Python package"):
         return tally.end()
     os.environ["BB_LIBRARY"] = LIBRARY
-    lists = list(machines(2_000 if asked.quick else 20_000, asked.seed))
+    lists = list(mixed(2_000 if asked.quick else 20_000, asked.seed))
     hold_rows(tally, asked.program, lists)
     hold_random(tally, asked.program, lists, asked.seed)
     hold_noise(tally, asked.program, 2_000 if asked.quick else 20_000, asked.seed)

@@ -16,9 +16,8 @@ import pathlib
 import re
 import shutil
 import subprocess
-import sys
 import tempfile
-from typing import Dict, List, Tuple
+from typing import Dict, List, Mapping, Optional, Tuple
 
 from library_built import LIBRARY, has_library
 from runs import expected, words_of
@@ -63,16 +62,24 @@ RUN_PASSES = ((5, 16, 3, 10), (1_000, 1_024, 40, 1_000))
 RUN_LEFT = [4, 1]
 
 
-def bare(**more: str) -> Dict[str, str]:
-    """The environment, without what says where the package or the library is."""
+def bare(variables: Optional[Mapping[str, str]] = None) -> Dict[str, str]:
+    """The environment without what says where the package or the library is, and with these variables."""
     hidden = ("PYTHONPATH", "BB_LIBRARY", "PYTHONHOME", "VIRTUAL_ENV")
-    return {**{name: value for name, value in os.environ.items() if name not in hidden}, **more}
+    kept = {name: value for name, value in os.environ.items() if name not in hidden}
+    return {**kept, **(variables or {})}
 
 
-def run(command: List[str], **more: str) -> Tuple[int, str]:
-    """The status of a command and all that it writes."""
-    kept = {"stdout": subprocess.PIPE, "stderr": subprocess.STDOUT, "text": True}
-    ended = subprocess.run(command, cwd=PACKAGE, env=bare(**more), **kept)
+def run(
+    command: List[str],
+    variables: Optional[Mapping[str, str]] = None,
+    cwd: pathlib.Path = PACKAGE,
+    given: Optional[str] = None,
+) -> Tuple[int, str]:
+    """The status of a command and all that it writes, in an environment with these variables."""
+    written, both = subprocess.PIPE, subprocess.STDOUT
+    ended = subprocess.run(
+        command, cwd=cwd, env=bare(variables), input=given, stdout=written, stderr=both, text=True
+    )
     return ended.returncode, ended.stdout
 
 
@@ -80,7 +87,7 @@ def pythons() -> List[str]:
     """A command for each version of Python from 3.9 on that starts."""
     asked = ["/usr/bin/python3", *("python3.%d" % minor for minor in range(9, 20))]
     folders = sorted(pathlib.Path.home().glob(".pyenv/versions/3.*/bin/python3"))
-    found = {}
+    found: Dict[Tuple[int, int], str] = {}
     for command in [*asked, *map(str, folders)]:
         if shutil.which(command) is None:
             continue
@@ -100,7 +107,7 @@ def hold_sources(tally: Tally, found: List[str]) -> None:
         status, told = run(["black", "--check", "--quiet", "src", "tests", "setup.py"])
         tally.hold("black --check: %s" % told, status == 0)
     sources = {"PYTHONPATH": str(PACKAGE / "src"), "BB_LIBRARY": LIBRARY}
-    status, told = run(["/usr/bin/python3", "-c", DOCTESTS, *MODULES], **sources)
+    status, told = run(["/usr/bin/python3", "-c", DOCTESTS, *MODULES], sources)
     counts = re.search(r"(\d+) 0\n$", told)
     tally.hold("doctests: %s" % told, status == 0 and counts and int(counts.group(1)) > 15)
     for python in found:
@@ -109,7 +116,7 @@ def hold_sources(tally: Tally, found: List[str]) -> None:
 
 def hold_units(tally: Tally, python: str, variables: Dict[str, str]) -> None:
     """The unit tests, by one Python."""
-    status, told = run([python, "-m", "unittest", "-q"], **variables)
+    status, told = run([python, "-m", "unittest", "-q"], variables)
     counts = re.search(r"Ran (\d+) tests", told)
     tally.hold("unit tests by %s:\n%s" % (python, told), status == 0 and counts and int(counts.group(1)) > 30)
 
@@ -137,11 +144,10 @@ def hold_wheel(tally: Tally, program: str, wheel: pathlib.Path, python: str, fol
     tally.hold("the first run by %s: %s" % (python, told), told.splitlines()[1:] == EXPECTED)
     tally.hold("the version %s names the commit %s" % (version, commit), "+g" + commit[:12] in version)
     shutil.copytree(PACKAGE / "tests", folder / "tests")
-    kept = {"stdout": subprocess.PIPE, "stderr": subprocess.STDOUT, "text": True, "cwd": folder}
-    ended = subprocess.run([inside, "-m", "unittest", "-q"], env=bare(), **kept)
-    tally.hold("the wheel's unit tests by %s:\n%s" % (python, ended.stdout), ended.returncode == 0)
-    ended = subprocess.run([command, "decide"], input="1RZ---, x\n", env=bare(), **kept)
-    tally.hold("the command: %s" % ended.stdout, ended.stdout == "1RZ--- halt 1 1\tx\n")
+    status, told = run([inside, "-m", "unittest", "-q"], cwd=folder)
+    tally.hold("the wheel's unit tests by %s:\n%s" % (python, told), status == 0)
+    _, told = run([command, "decide"], cwd=folder, given="1RZ---, x\n")
+    tally.hold("the command: %s" % told, told == "1RZ--- halt 1 1\tx\n")
     hold_runner(tally, program, command, folder)
 
 
@@ -149,11 +155,10 @@ def hold_runner(tally: Tally, program: str, command: str, folder: pathlib.Path) 
     """The command `run` of the wheel: begun, and gone on with a pass that decides what is left."""
     (folder / "list.txt").write_bytes(RUN_LIST)
     words = [command, "run", "list.txt", "--out", "out", "--check"]
-    kept = {"stderr": subprocess.PIPE, "text": True, "cwd": folder, "env": bare()}
     for count, left in enumerate(RUN_LEFT, 1):
         words += ["--pass", words_of(RUN_PASSES[count - 1])]
-        ended = subprocess.run(words, **kept)
-        tally.hold("the runner, status %d: %s" % (ended.returncode, ended.stderr), ended.returncode == 1)
+        status, told = run(words, cwd=folder)
+        tally.hold("the runner, status %d: %s" % (status, told), status == 1)
         right = expected(program, RUN_LIST, RUN_PASSES[:count])
         found = (folder / "out" / "verdicts.txt").read_bytes()
         tally.hold("the verdicts of %d passes: %r" % (count, found), found == right)
@@ -178,9 +183,7 @@ def hold_wheels(tally: Tally, program: str, found: List[str], folder: pathlib.Pa
 
 
 def main() -> int:
-    parser = words(__doc__)
-    parser.add_argument("--quick", action="store_true", help="the sources alone, by one Python")
-    asked = parser.parse_args()
+    asked = words(__doc__, quick="the sources alone, by one Python").parse_args()
     tally = Tally()
     if not has_library(tally, "the Python package"):
         return tally.end()

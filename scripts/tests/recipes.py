@@ -19,9 +19,10 @@ import tempfile
 import time
 from typing import Callable, Dict, Iterator, List, Tuple, Union
 
-from closed_loop import machines as random_machines
 from library_built import has_library
+from machines import mixed
 from pictures import pixels
+from program import ended, options_of_pass
 from tally import TOP, Tally, end_with, heed_interruption, words
 
 DOCUMENT = os.path.join(TOP, "docs", "recipes.md")
@@ -121,15 +122,11 @@ class Folder:
     def run(self, commands: str) -> Tuple[int, bytes, bytes]:
         """The status of these commands, and what they write to standard output and standard error."""
         environment = dict(os.environ, PATH=self.path + os.pathsep + os.environ["PATH"])
-        ended = subprocess.run(
-            ["sh", "-e", "-c", commands], cwd=self.path, env=environment, capture_output=True
-        )
-        return ended.returncode, ended.stdout, ended.stderr
+        return ended(["sh", "-e", "-c", commands], cwd=self.path, env=environment)
 
     def decided(self, content: bytes, *options: str) -> bytes:
         """What one run of the program writes to a list."""
-        command = [self.program, "decide", *options]
-        return subprocess.run(command, input=content, stdout=subprocess.PIPE).stdout
+        return ended([self.program, "decide", *options], content).output
 
 
 def words_of(commands: str) -> List[str]:
@@ -173,7 +170,7 @@ def preparing(folder: Folder, blocks: List[str]) -> Held:
 
 def counting_more(folder: Folder, blocks: List[str]) -> Held:
     """An undefined entry counts as a step where it is written as one."""
-    machines = [machine.encode() for machine in random_machines(2_000, 5)]
+    machines = [machine.encode() for machine in mixed(2_000, 5)]
     folder.write("machines.txt", b"\n".join(machines) + b"\n1RB1LB_1LA---\n")
     status, _, _ = folder.run(blocks[0])
     limits = ["--cells=1000", "--depth=20", "--nodes=1000"]
@@ -389,9 +386,8 @@ def from_python(folder: Folder, blocks: List[str], tally: Tally) -> Held:
     if not has_library(tally, "the recipe in Python"):
         return
     package = {**os.environ, "PYTHONPATH": os.path.join(TOP, "python", "src")}
-    command = [sys.executable, "-c", blocks[0]]
-    ended = subprocess.run(command, cwd=folder.path, capture_output=True, env=package)
-    yield "the library from Python", ended.stdout == folder.decided(b"1RB1LB_1LA1RZ\n1RA1RA\n")
+    found = ended([sys.executable, "-c", blocks[0]], cwd=folder.path, env=package).output
+    yield "the library from Python", found == folder.decided(b"1RB1LB_1LA1RZ\n1RA1RA\n")
 
 
 def any_length(folder: Folder, blocks: List[str], tally: Tally) -> Held:
@@ -406,17 +402,12 @@ def any_length(folder: Folder, blocks: List[str], tally: Tally) -> Held:
         folder.write("machines.txt", content)
         status, _, error = folder.run("rm -rf decided\n" + blocks[0])
         wanted = b""
-        for line in folder.decided(content, *options_of(first)).splitlines(keepends=True):
+        for line in folder.decided(content, *options_of_pass(first)).splitlines(keepends=True):
             is_left = b" undecided " in line
-            again = folder.decided(line.split()[0], *options_of(second)) if is_left else line
+            again = folder.decided(line.split()[0], *options_of_pass(second)) if is_left else line
             wanted += again
         held = status == 0 and folder.read("decided/verdicts.txt") == wanted
         yield "the runner over %s: %r" % (name, error), held
-
-
-def options_of(limits: str) -> List[str]:
-    """The program's words for limits of a pass."""
-    return ["--" + word for word in limits.split(",")]
 
 
 def elsewhere(folder: Folder, blocks: List[str]) -> Held:

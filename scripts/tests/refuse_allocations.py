@@ -15,7 +15,9 @@ where any failed. Needs cc and Linux.
 import os
 import subprocess
 import tempfile
+from typing import Iterator, List, Mapping, Sequence, Tuple
 
+from program import Ended, ended
 from tally import Tally, end_with, words
 
 REFUSER = r"""
@@ -94,15 +96,14 @@ RUNS = [
 ]
 
 
-def run(program, asked, environment):
-    given = CLAIMS if asked[0] == "check" else LINES
-    end = subprocess.run([program, *asked], input=given, capture_output=True, env=environment)
-    return end.returncode, end.stdout, end.stderr
+def run(program: str, asked: Sequence[str], environment: Mapping[str, str]) -> Ended:
+    """How the program ends with these words, in this environment."""
+    return ended([program, *asked], CLAIMS if asked[0] == "check" else LINES, env=environment)
 
 
-def ends_of(program, asked, library, folder):
+def ends_of(program: str, asked: Sequence[str], library: str, folder: str) -> List[Ended]:
     """How it ends with each allocation refused in turn."""
-    ends = []
+    ends: List[Ended] = []
     told = os.path.join(folder, "told")
     while True:
         refusal = {"LD_PRELOAD": library, "REFUSE_AT": str(len(ends) + 1), "REFUSE_TOLD": told}
@@ -113,7 +114,7 @@ def ends_of(program, asked, library, folder):
         ends.append(end)
 
 
-def judged(ends, fine, made):
+def judged(ends: Sequence[Ended], fine: Ended, made: int) -> Iterator[Tuple[str, bool]]:
     """What must hold of these ends, and whether it does."""
     asking = len(ends) - made
     yield "%d refused, %d of them for tapes and path" % (len(ends), made), asking > 0
@@ -126,7 +127,7 @@ def judged(ends, fine, made):
         yield "the %d-th: %r" % (k + 1, end), holds
 
 
-def main():
+def main() -> int:
     program = words(__doc__).parse_args().program
     tally = Tally()
     if not tally.has("each allocation refused", "cc"):

@@ -12,6 +12,7 @@ import os
 import re
 import subprocess
 import tempfile
+from typing import Iterator, Sequence, Tuple
 
 from tally import TOP, Tally, end_with, words
 
@@ -20,7 +21,7 @@ CHECKED = ["-Wall", "-Wextra", "-Werror", "-fsanitize=undefined", "-fno-sanitize
 COMPILERS = {"C": ["gcc", "-std=c99"], "C++": ["g++", "-x", "c++"]}
 
 
-def held(compiler, made):
+def held(compiler: Sequence[str], made: str) -> Iterator[Tuple[str, object]]:
     """What must hold of the test, compiled so, and whether it does."""
     include = os.path.join(TOP, "include")
     compiled = subprocess.run([*compiler, *CHECKED, "-I", include, SOURCE, "-o", made])
@@ -32,8 +33,8 @@ def held(compiler, made):
         yield "compiled by %s, it ends with status %d and %r" % (compiler[0], ended.returncode, told), fine
 
 
-def main():
-    words(__doc__).parse_args()
+def main() -> int:
+    words(__doc__, needs_program=False).parse_args()
     tally = Tally()
     with tempfile.TemporaryDirectory() as folder:
         for name, compiler in COMPILERS.items():

@@ -10,12 +10,15 @@ The last line is `N passed, M failed`; the status is 1 where any failed.
 """
 
 import os
-import subprocess
+from typing import Optional
 
+from program import ended
 from tally import TOP, Tally, end_with, words
 
+EXAMPLES = os.path.join(TOP, "examples")
 
-def content(folder, name, otherwise):
+
+def content(folder: str, name: str, otherwise: bytes = b"") -> bytes:
     """What a file of an example has, where there is one."""
     path = os.path.join(folder, name)
     if not os.path.exists(path):
@@ -24,32 +27,31 @@ def content(folder, name, otherwise):
         return file.read()
 
 
-def wrong(program, folder):
+def wrong(program: str, folder: str) -> Optional[str]:
     """What is wrong with an example, or None."""
-    asked = content(folder, "command", b"").decode().split()
-    given = content(folder, "lines.txt", b"")
+    asked = content(folder, "command").decode().split()
+    given = content(folder, "lines.txt")
     status = int(content(folder, "status", b"0"))
-    ended = subprocess.run([program, *asked], input=given, capture_output=True, cwd=TOP)
-    if ended.returncode != status:
-        return "status %d" % ended.returncode
-    expected = content(folder, "expected.txt", None)
-    if expected is None:
+    found, output, _ = ended([program, *asked], given, cwd=TOP)
+    if found != status:
+        return "status %d" % found
+    if not os.path.exists(os.path.join(folder, "expected.txt")):
         return "no expected.txt"
-    if ended.stdout == expected:
+    expected = content(folder, "expected.txt")
+    if output == expected:
         return None
-    pairs = zip(ended.stdout.split(b"\n"), expected.split(b"\n"))
+    pairs = zip(output.split(b"\n"), expected.split(b"\n"))
     for number, (line, other) in enumerate(pairs, 1):
         if line != other:
             return "line %d: %r, not %r" % (number, line.decode(), other.decode())
-    return "%d bytes, not %d" % (len(ended.stdout), len(expected))
+    return "%d bytes, not %d" % (len(output), len(expected))
 
 
-def main():
+def main() -> int:
     program = words(__doc__).parse_args().program
-    examples = os.path.join(TOP, "examples")
     tally = Tally()
-    for name in sorted(os.listdir(examples)):
-        folder = os.path.join(examples, name)
+    for name in sorted(os.listdir(EXAMPLES)):
+        folder = os.path.join(EXAMPLES, name)
         if os.path.exists(os.path.join(folder, "command")):
             found = wrong(program, folder)
             tally.hold("%s: %s" % (name, found), found is None)

@@ -12,7 +12,6 @@ where that isn't there. It takes a minute; `--quick`, with one kill, some second
 M failed`, with `, K skipped` where something can't be tried here; the status is 1 where any failed.
 """
 
-import contextlib
 import gzip
 import json
 import os
@@ -21,11 +20,8 @@ import random
 import resource
 import signal
 import subprocess
-import tempfile
-from typing import Iterator, Tuple
-
 from library_built import has_library
-from runs import LONG_MACHINE, PASSES, Case, expected, hold_interrupted, is_at_work, kill_often
+from runs import LONG_MACHINE, PASSES, Case, expected, folder, hold_interrupted, is_at_work, kill_often
 from runs import killed, most_memory, random_list, seen
 from tally import Tally, end_with, words
 
@@ -178,22 +174,9 @@ def hold_memory(tally: Tally, top: pathlib.Path) -> None:
     tally.hold(what, 0 < peaks[1] < 1.5 * peaks[0])
 
 
-@contextlib.contextmanager
-def folder() -> Iterator[pathlib.Path]:
-    with tempfile.TemporaryDirectory() as name:
-        yield pathlib.Path(name)
-
-
-def asked() -> Tuple[str, bool, int]:
-    parser = words(__doc__)
-    parser.add_argument("--quick", action="store_true", help="a short run with one kill")
-    parser.add_argument("--seed", type=int, default=1, help="of what is random (default: 1)")
-    found = parser.parse_args()
-    return found.program, found.quick, found.seed
-
-
 def main() -> int:
-    program, is_quick, seed = asked()
+    asked = words(__doc__, quick="a short run with one kill", seed=1).parse_args()
+    program, is_quick, seed = asked.program, asked.quick, asked.seed
     tally = Tally()
     if not has_library(tally, "the runner"):
         return tally.end()

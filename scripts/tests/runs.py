@@ -1,5 +1,6 @@
 """What the checks of `budlarem run` share: lists, what must come of them, and runs as processes."""
 
+import contextlib
 import os
 import pathlib
 import random
@@ -7,19 +8,29 @@ import shutil
 import signal
 import subprocess
 import sys
+import tempfile
 import time
-from typing import Callable, Dict, List, Optional, Sequence
+from typing import Any, Callable, Dict, Iterator, List, Optional, Sequence
 
-from closed_loop import machines
 from library_built import LIBRARY
+from machines import mixed
+from program import LIMITS, ended, joined, options
 from tally import TOP, Tally, heed_interruption
 
 SOURCE = os.path.join(TOP, "python", "src")
 PASSES = ((300, 64, 10, 100), (20_000, 1_024, 40, 10_000))
 # It grows as the root of its steps, and no decider finds anything.
 LONG_MACHINE = b"0RB1LD_0RC1RD_0RD---_1LA0RB\n"
+Process = subprocess.Popen[bytes]
 # How long something may take that must come, in seconds, before it is called missing.
 PATIENCE = 600
+
+
+@contextlib.contextmanager
+def folder() -> Iterator[pathlib.Path]:
+    """A folder that goes with what is in it."""
+    with tempfile.TemporaryDirectory() as name:
+        yield pathlib.Path(name)
 
 
 def environment() -> Dict[str, str]:
@@ -28,22 +39,20 @@ def environment() -> Dict[str, str]:
 
 
 def words_of(limits: Sequence[int]) -> str:
-    return ",".join("%s=%d" % pair for pair in zip(("steps", "cells", "depth", "nodes"), limits))
+    """The value of `--pass` for limits of steps, cells, levels and nodes."""
+    return ",".join("%s=%d" % pair for pair in zip(LIMITS, limits))
 
 
 def random_list(count: int, seed: int) -> bytes:
     """Machines of all sizes, and some lines that are none."""
-    lines = list(machines(count, seed))
+    lines = list(mixed(count, seed))
     lines[count // 2], lines[count // 3] = "1rB1LB", lines[count // 3] + " halt 6 4"
-    return "".join(line + "\n" for line in lines).encode()
+    return joined(lines)
 
 
 def decided(program: str, given: bytes, limits: Sequence[int]) -> List[bytes]:
     """The program's verdict lines."""
-    names = ("--steps", "--cells", "--depth", "--nodes")
-    asked = [word for name, number in zip(names, limits) for word in (name, str(number))]
-    ended = subprocess.run([program, "decide", *asked], input=given, stdout=subprocess.PIPE)
-    return ended.stdout.splitlines(keepends=True)
+    return ended([program, "decide", *options(limits)], given).output.splitlines(keepends=True)
 
 
 def expected(program: str, given: bytes, passes: Sequence[Sequence[int]]) -> bytes:
@@ -71,8 +80,8 @@ class Case:
         *more: str,
         words: Optional[List[str]] = None,
         more_environment: Optional[Dict[str, str]] = None,
-        **how: object,
-    ) -> "subprocess.Popen[bytes]":
+        **how: Any,
+    ) -> Process:
         """Starts a run, which heeds interruptions; standard error is a file."""
         how.setdefault("preexec_fn", heed_interruption)
         command = [sys.executable, "-m", "budlarem", "run", "--out", str(self.out)]
@@ -81,7 +90,7 @@ class Case:
             variables = {**environment(), **(more_environment or {})}
             return subprocess.Popen(command, stdout=errors, stderr=errors, env=variables, **how)
 
-    def run(self, *more: str, **how: object) -> int:
+    def run(self, *more: str, **how: Any) -> int:
         """The status of a whole run."""
         with self.start(*more, **how) as process:
             return process.wait()
@@ -101,7 +110,7 @@ class Case:
         shutil.rmtree(self.out, ignore_errors=True)
 
 
-def seen(process: "subprocess.Popen[bytes]", what: Callable[[], bool]) -> bool:
+def seen(process: Process, what: Callable[[], bool]) -> bool:
     """Waits until something is seen; whether it was while the process ran."""
     until = time.monotonic() + PATIENCE
     while process.poll() is None and time.monotonic() < until:
@@ -121,7 +130,7 @@ def killed(case: Case, more: int, *words: str) -> bool:
     return was_seen and process.returncode == -signal.SIGKILL and not (case.out / "verdicts.txt").exists()
 
 
-def hold_interrupted(tally: Tally, case: Case, process: "subprocess.Popen[bytes]") -> None:
+def hold_interrupted(tally: Tally, case: Case, process: Process) -> None:
     """SIGINT ends a run at once, with its status and a sentence."""
     began = time.monotonic()
     process.send_signal(signal.SIGINT)
@@ -158,7 +167,7 @@ def most_memory(case: Case, count: int, limits: Sequence[int]) -> int:
         _, status, used = os.wait4(process.pid, 0)
         process.returncode = os.waitstatus_to_exitcode(status)
     case.clear()
-    return used.ru_maxrss if process.returncode == 0 else 0
+    return int(used.ru_maxrss) if process.returncode == 0 else 0
 
 
 def work_of(folder: str) -> float:

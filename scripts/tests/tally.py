@@ -1,11 +1,17 @@
-"""What the scripts of this folder share: their words, the count of what held, and how they end."""
+"""What all scripts of checks share: their words, the count of what held, and how they end.
+
+The status is 0 where all passed, 1 where a check failed or nothing was tried, 2 for wrong words, and 130
+after an interruption.
+"""
 
 import argparse
 import os
 import shutil
 import signal
 import sys
-from typing import Callable, NoReturn
+from typing import Callable, NoReturn, Sequence
+
+from counts import Counts
 
 TOP = os.path.dirname(os.path.dirname(os.path.dirname(os.path.abspath(__file__))))
 PROGRAM = os.path.join(TOP, "crates", "bb", "out", "bb")
@@ -43,37 +49,75 @@ class Tally:
         print(told, flush=True)
         self.hold(told, seconds <= FAR * bar)
 
-    def skip(self, what: str) -> None:
-        """Counts one thing that can't be tried here, and tells why."""
-        self.skipped += 1
+    def skip(self, what: str, count: int = 1) -> None:
+        """Counts what can't be tried here, one thing or more, and tells why."""
+        self.skipped += count
         print("skipped:", what, flush=True)
 
-    def has(self, what: str, *programs: str) -> bool:
-        """Whether these programs are installed; else what needs them is skipped."""
+    def has(self, what: str, *programs: str, count: int = 1) -> bool:
+        """Whether these programs are installed; else what needs them, one thing or more, is skipped."""
         for program in programs:
             if shutil.which(program) is None:
-                self.skip("%s: %s isn't installed (%s)" % (what, program, source_of(program)))
+                self.skip("%s: %s isn't installed (%s)" % (what, program, source_of(program)), count)
                 return False
         return True
 
     def end(self) -> int:
         """Prints the counts, and gives the status: 1 where something failed, or nothing was tried at all."""
-        skipped = ", %d skipped" % self.skipped if self.skipped else ""
-        print("%d passed, %d failed%s" % (self.passed, self.failed, skipped))
-        return 1 if self.failed or not self.passed + self.skipped else 0
+        counts = Counts(self.passed, self.failed, self.skipped)
+        print(counts.told())
+        return counts.status()
 
 
-def words(text: str) -> argparse.ArgumentParser:
-    """A reader of the command line, whose help is this text; its first argument is the program."""
+def program_at(path: str) -> str:
+    """The whole path of a program that is there."""
+    found = os.path.abspath(path)
+    if not os.path.isfile(found) or not os.access(found, os.X_OK):
+        raise argparse.ArgumentTypeError("there is no program %s; ./bb builds it" % path)
+    return found
+
+
+def from_one(word: str) -> int:
+    """A number from 1 on."""
+    if not word.isdecimal() or int(word) < 1:
+        raise argparse.ArgumentTypeError("%s is no whole number from 1 on" % word)
+    return int(word)
+
+
+def words(
+    text: str,
+    *,
+    needs_program: bool = True,
+    quick: str = "",
+    machines: int = 0,
+    seed: int = 0,
+    runs: int = 0,
+    parts: Sequence[str] = (),
+) -> argparse.ArgumentParser:
+    """A reader of the command line, whose help is this text.
+
+    Its argument is the program, which has to be there where it is needed. It takes those of the options that
+    are given here: `quick` says what `--quick` leaves out, `machines`, `seed` and `runs` are the numbers
+    where none is asked for, `parts` the names of which `--part` picks some. Wrong words end the process with
+    status 2.
+    """
     shape = argparse.RawDescriptionHelpFormatter
     parser = argparse.ArgumentParser(description=text, formatter_class=shape)
-    parser.add_argument(
-        "program",
-        nargs="?",
-        default=PROGRAM,
-        type=lambda path: os.path.abspath(path),
-        help="default: crates/bb/out/bb",
-    )
+    path = program_at if needs_program else os.path.abspath
+    parser.add_argument("program", nargs="?", default=PROGRAM, type=path, help="default: crates/bb/out/bb")
+    if quick:
+        parser.add_argument("--quick", action="store_true", help=quick)
+    if machines:
+        told = "how many random machines (default: {:,})".format(machines)
+        parser.add_argument("--machines", type=from_one, default=machines, metavar="N", help=told)
+    if seed:
+        told = "of what is random (default: %d)" % seed
+        parser.add_argument("--seed", type=int, default=seed, metavar="S", help=told)
+    if runs:
+        told = "runs of each, of which the least time counts (default: %d)" % runs
+        parser.add_argument("--runs", type=from_one, default=runs, metavar="N", help=told)
+    if parts:
+        parser.add_argument("--part", action="append", choices=parts, help="this part; may be repeated")
     return parser
 
 

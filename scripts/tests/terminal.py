@@ -16,7 +16,9 @@ import subprocess
 import tempfile
 import threading
 import time
+from typing import IO, Callable, Iterator, List, Optional, Sequence, Tuple, Union
 
+from program import kind_of
 from tally import Tally, end_with, words
 
 LIST = b"1RB1LB_1LA1RZ\n0RB---_0LA---\n1RA1RA\n1rB1LB\n1RB---_1LA---\n"
@@ -29,14 +31,16 @@ PATIENCE = 1_800
 # A list is so many times as long as before where it was decided before two lines of progress were shown.
 LONGER, LONGEST = 4, 4**6
 ANSWERS = ["ok", "bad", "over", "open", "unread"]
+# What must hold, and whether it does.
+Held = Iterator[Tuple[str, object]]
 
 
-def on_terminal(command, given, output):
+def on_terminal(command: Sequence[str], given: bytes, output: Union[int, IO[bytes]]) -> Tuple[int, str]:
     """The status and what the terminal shows, with standard output in this file."""
     reader, terminal = pty.openpty()
-    shown = []
+    shown: List[bytes] = []
 
-    def collect():
+    def collect() -> None:
         while True:
             try:
                 piece = os.read(reader, 4096)
@@ -55,7 +59,7 @@ def on_terminal(command, given, output):
     return ended.returncode, b"".join(shown).decode().replace("\r\n", "\n")
 
 
-def causes(program, folder):
+def causes(folder: str) -> Iterator[Tuple[str, List[str], Optional[str], int, str]]:
     """Name, words, standard output, status, the whole of standard error."""
     missing = os.path.join(folder, "missing.txt")
     most = 10**12
@@ -84,7 +88,7 @@ def causes(program, folder):
     yield "help for a full device", ["--help"], "/dev/full", 3, "bb: write failed\n"
 
 
-def broken_pipe(program):
+def broken_pipe(program: str) -> bool:
     """A pipe that nobody reads leaves the fixed line alone."""
     reader, writer = os.pipe()
     os.close(reader)
@@ -93,30 +97,31 @@ def broken_pipe(program):
     return status == 3 and shown.endswith("bb: write failed\n") and "standard output" not in shown
 
 
-def kind(reply):
-    """Which kind a reply of `decide` is of."""
-    fields = reply.split()
-    return fields[0] if fields[0] == "refused" else fields[1]
-
-
-def long_list(times=1):
+def long_list(times: int = 1) -> bytes:
     """A list that takes a second, or so many, in several reads."""
     undecided = b"1RB0LA_0RC---_1RD0LD_1LA1RZ\n1RB1LC_1RC1RB_1RD0LE_1LA1LD_1RZ0LA\n"
     return (LIST + undecided) * 200 * times
 
 
-def shown_lines(shown, names):
+def shown_lines(shown: str, names: Sequence[str]) -> Iterator[Tuple[Optional[int], List[int]]]:
     """The lines of progress that a terminal showed: the percent, none where it has none, and each count."""
     for line in re.findall(r"\r([^\r\x1b]+)\x1b\[K", shown):
-        percent, told = re.fullmatch(r"(?:(\d+)% ?)?(.*)", line).groups()
+        percent, told = parts_of(r"(?:(\d+)% ?)?(.*)", line)
         counts = dict.fromkeys(names, 0)
         for part in told.split(", ") if told else []:
-            count, name = re.fullmatch(r"([1-9]\d*) (\w+)", part).groups()
+            count, name = parts_of(r"([1-9]\d*) (\w+)", part)
             counts[name] += int(count)
-        yield percent and int(percent), list(counts.values())
+        yield (int(percent) if percent else None), list(counts.values())
 
 
-def progress(program, folder):
+def parts_of(form: str, text: str) -> List[str]:
+    """The groups of a form that a whole text has, '' for those that it lacks."""
+    found = re.fullmatch(form, text)
+    assert found is not None, "%r isn't of the form %s" % (text, form)
+    return list(found.groups(default=""))
+
+
+def progress(program: str, folder: str) -> Held:
     """The line of progress over a list that takes so long that there are two of them."""
     listed, written = os.path.join(folder, "list"), os.path.join(folder, "out")
     times, shown = 1, ""
@@ -134,25 +139,28 @@ def progress(program, folder):
     lines = list(shown_lines(shown, SHORT))
     yield "a line that is rewritten", len(lines) >= 2
     yield "lines grow", all(sum(a[1]) <= sum(b[1]) for a, b in zip(lines, lines[1:]))
-    kinds = [kind(reply) for reply in plain.stdout.decode().splitlines()]
+    kinds = [kind_of(reply) for reply in plain.stdout.decode().splitlines()]
     yield "the kinds are those of the first lines", all(
         counts == [kinds[: sum(counts)].count(name) for name in KINDS] for _, counts in lines
     )
     sizes = [len(line) + 1 for line in given.split(b"\n")[:-1]]
     answered = [100 * sum(sizes[: sum(counts)]) // sum(sizes) for _, counts in lines]
-    holds = all(percent <= most for (percent, _), most in zip(lines, answered))
+    holds = all(percent is not None and percent <= most for (percent, _), most in zip(lines, answered))
     yield "no more is told than was answered: %s of %s" % ([line[0] for line in lines], answered), holds
     yield "it goes at the end", shown.endswith("\r\x1b[K") and shown.count("\n") == 0
     yield "within 79 columns", max(len(line) for line in re.split(r"[\r\x1b]", shown)) <= 79
 
 
-def fed(program, words, batch, is_enough):
+def fed(
+    program: str, words: Sequence[str], batch: bytes, is_enough: Callable[[bytes], bool]
+) -> Tuple[bytes, int]:
     """What a terminal shows of a list that comes by a pipe, a batch after another until that is enough, and
     how many batches there were. Standard output is the null device."""
     reader, terminal = pty.openpty()
     with subprocess.Popen(
         [program, *words], stdin=subprocess.PIPE, stdout=subprocess.DEVNULL, stderr=terminal
     ) as process:
+        assert process.stdin is not None
         shown, batches, end = b"", 0, time.monotonic() + PATIENCE
         while not is_enough(shown) and time.monotonic() < end:
             process.stdin.write(batch)
@@ -169,12 +177,12 @@ def fed(program, words, batch, is_enough):
     return shown, batches
 
 
-def told_twice(shown):
+def told_twice(shown: bytes) -> bool:
     """Whether two lines with a count of some kind stand there."""
     return len(re.findall(rb"\r\d[^\r\x1b]*\x1b", shown)) >= 2
 
 
-def piped(program):
+def piped(program: str) -> Held:
     """The progress of a list that comes by a pipe: its size isn't known."""
     batch = long_list()
     shown, batches = fed(program, ["decide", *SLOW], batch, told_twice)
@@ -196,11 +204,11 @@ def piped(program):
     shown, batches = fed(program, ["check", "--steps", "100000"], b"\n".join(claims * 40) + b"\n", told_twice)
     lines = list(shown_lines(shown.decode(), ANSWERS))
     first = answers * (batches * 40)
-    told = [[first[: sum(counts)].count(answer) for answer in ANSWERS] for _, counts in lines]
-    yield "answers are counted: %s" % lines, len(lines) >= 2 and told == [counts for _, counts in lines]
+    right = [[first[: sum(counts)].count(answer) for answer in ANSWERS] for _, counts in lines]
+    yield "answers are counted: %s" % lines, len(lines) >= 2 and right == [counts for _, counts in lines]
 
 
-def large_counts(program):
+def large_counts(program: str) -> Held:
     """Counts from 100,000 on are in thousands, and from 10,000,000 on in millions."""
     batch = b"------\n" * 100_000
     shown, batches = fed(program, ["decide", "--steps", "1"], batch, lambda shown: b"M halt" in shown)
@@ -212,7 +220,7 @@ def large_counts(program):
     yield "no more than 99,999 is told to the digit", max(units[b""], default=0) < 100_000
 
 
-def elsewhere(program):
+def elsewhere(program: str) -> Held:
     """No progress where somebody looks on at standard output: a pipe, a terminal, a device."""
     reader, writer = os.pipe()
     with open(reader, "rb") as end:
@@ -227,15 +235,15 @@ def elsewhere(program):
     yield "none into another device: %r" % shown, shown.startswith("bb: write failed\n")
     reader, terminal = pty.openpty()
     subprocess.run([program, "decide", "--steps", "9"], input=LIST, stdout=terminal, stderr=terminal)
-    shown = os.read(reader, 65536)
-    yield "none where standard output is a terminal too", b"%" not in shown and b"\x1b" not in shown
+    both = os.read(reader, 65536)
+    yield "none where standard output is a terminal too", b"%" not in both and b"\x1b" not in both
 
 
-def main():
+def main() -> int:
     program = words(__doc__).parse_args().program
     tally = Tally()
     with tempfile.TemporaryDirectory() as folder:
-        for name, asked, output, status, error in causes(program, folder):
+        for name, asked, output, status, error in causes(folder):
             with open(output or os.devnull, "wb") as file:
                 ended = on_terminal([program, *asked], b"1RA1RA halt 1 1\n", file)
             told = ended[1].split("\x1b[K")[-1]

@@ -206,9 +206,8 @@ def hold_compiling(tally: Tally) -> None:
 
 
 def main() -> int:
-    parser = words(__doc__)
-    parser.add_argument("--quick", action="store_true", help="no list of five states, fewer second lists")
-    asked = parser.parse_args()
+    quick = "no list of five states, fewer second lists"
+    asked = words(__doc__, needs_program=False, quick=quick).parse_args()
     tally = Tally()
     if not has_lister(tally, "lists in tree normal form"):
         return tally.end()

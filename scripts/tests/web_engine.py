@@ -4,7 +4,6 @@ import itertools
 import json
 import os
 import subprocess
-import tempfile
 from typing import Any, Dict, List, NamedTuple, Optional
 
 from tally import TOP
@@ -12,8 +11,6 @@ from tally import TOP
 JOBS = os.path.join(TOP, "scripts", "tests", "engine.mjs")
 MODULE = os.path.join(TOP, "web", "out", "bb.wasm")
 PAGE = os.path.join(TOP, "web", "out", "bb.html")
-DEFAULTS = {"steps": 1_000_000, "cells": 65_536, "depth": 300, "nodes": 1_000_000}
-SWITCHES = ("cyclers", "translated", "backward")
 
 
 def built() -> bool:
@@ -52,13 +49,14 @@ class Engine:
     def line(self) -> Dict[str, Any]:
         """The next line of the process; empty where it ended."""
         assert self.process.stdout
-        return json.loads(self.process.stdout.readline() or "{}")
+        told: Dict[str, Any] = json.loads(self.process.stdout.readline() or "{}")
+        return told
 
     def call(self, name: str, plan: Dict[str, Any], given: bytes, **more: int) -> Reply:
         """One call, with limits and switches by name."""
         with open(self.given, "wb") as file:
             file.write(given)
-        job = {"call": name, "plan": plan, "given": self.given, "out": self.out, **more}
+        job: Dict[str, Any] = {"call": name, "plan": plan, "given": self.given, "out": self.out, **more}
         assert self.process.stdin
         self.process.stdin.write(json.dumps(job) + "\n")
         self.process.stdin.flush()
@@ -70,14 +68,9 @@ class Engine:
 
     def end(self) -> None:
         """Ends the process."""
+        assert self.process.stdin
         self.process.stdin.close()
         self.process.wait()
-
-
-def words_of(plan: Dict[str, Any]) -> List[str]:
-    """The program's words for limits and switches by name."""
-    limits = ["--%s=%d" % (name, value) for name, value in plan.items() if name not in SWITCHES]
-    return limits + ["--no-" + name for name in SWITCHES if plan.get(name) is False]
 
 
 def plan_of(words: List[str]) -> Dict[str, Any]:

@@ -11,33 +11,29 @@ takes about a second. Needs nothing but Python; it uses the package in `python/s
 """
 
 import argparse
-import os
 import pathlib
 import sys
 
-sys.path.insert(0, str(pathlib.Path(__file__).resolve().parents[2] / "python" / "src"))
+TOP = pathlib.Path(__file__).resolve().parents[2]
+sys.path[:0] = [str(TOP / "python" / "src"), str(TOP / "scripts" / "tests")]
 
-from budlarem.pictures import PictureError, drawn, rows_of_lines, sampled, taken  # noqa: E402
-
-
-def size(word):
-    """A size that is asked for: a number from 1 on."""
-    number = int(word)
-    if number < 1:
-        raise ValueError
-    return number
+from budlarem.pictures import Picture, PictureError, drawn, rows_of_lines, sampled, taken  # noqa: E402
+from tally import end_with, from_one  # noqa: E402
 
 
-def words():
+def words() -> argparse.ArgumentParser:
     """The reader of the command line."""
     shape = argparse.RawDescriptionHelpFormatter
     parser = argparse.ArgumentParser(description=__doc__, formatter_class=shape)
     parser.add_argument(
-        "--every", type=size, metavar="N", help="show each Nth step (default: as many as ROWS has room for)"
+        "--every",
+        type=from_one,
+        metavar="N",
+        help="show each Nth step (default: as many as ROWS has room for)",
     )
-    parser.add_argument("--rows", type=size, default=2_000, help="at most so many rows (default: 2,000)")
+    parser.add_argument("--rows", type=from_one, default=2_000, help="at most so many rows (default: 2,000)")
     parser.add_argument(
-        "--columns", type=size, default=2_000, help="at most so many columns (default: 2,000)"
+        "--columns", type=from_one, default=2_000, help="at most so many columns (default: 2,000)"
     )
     parser.add_argument(
         "--left", type=int, metavar="P", help="the first position shown (default: the lowest)"
@@ -45,11 +41,11 @@ def words():
     parser.add_argument(
         "--right", type=int, metavar="P", help="the last position shown (default: the highest)"
     )
-    parser.add_argument("--scale", type=size, default=1, help="pixels of a place (default: 1)")
+    parser.add_argument("--scale", type=from_one, default=1, help="pixels of a place (default: 1)")
     return parser
 
 
-def made(asked):
+def made(asked: argparse.Namespace) -> Picture:
     """The picture that is asked for, of the trace in standard input."""
     rows = rows_of_lines(sys.stdin)
     if asked.every is None:
@@ -62,7 +58,7 @@ def made(asked):
     return drawn(chosen, every, is_cut, **shown)
 
 
-def main():
+def main() -> int:
     try:
         picture = made(words().parse_args())
     except PictureError as error:
@@ -79,12 +75,8 @@ def main():
     if picture.is_part:
         print("picture: positions %d to %d" % (picture.left, picture.right), file=sys.stderr)
     sys.stdout.buffer.write(picture.png)
-    sys.stdout.flush()
+    return 0
 
 
 if __name__ == "__main__":
-    try:
-        main()
-    except BrokenPipeError:
-        os.dup2(os.open(os.devnull, os.O_WRONLY), sys.stdout.fileno())
-        sys.exit(1)
+    end_with(main)

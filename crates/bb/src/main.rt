@@ -1,7 +1,7 @@
 //! `bb`: verdicts on small Turing machines. `docs/model.md` says what a verdict is.
 #![tactic(auto)]
 
-ghost use Rattle.std.specs.Prelude.{IfErr, IfOk, map};
+ghost use Rattle.std.specs.Prelude.{◌≡◌, IfErr, IfOk, map};
 ghost use Rattle.std.specs.String.{string_bytes};
 ghost use Rattle.bb_command.specs.Command.{AreGivenBy, IsAskedBy, IsStopOf, words_meant};
 
@@ -17,7 +17,7 @@ use bb_lines::watched::Watched;
 use bb_run::Summary;
 use progress::{Counts, Progress};
 use serve::{serve, status};
-use std::alloc::Global;
+use std::alloc::{AllocError, Global};
 use std::io::{ErrorKind, IsTerminal, Read};
 use std::process::ExitCode;
 use std::{env, fs, io};
@@ -29,7 +29,7 @@ fn main(rt: HostRuntime) -> ExitCode {
         Err(stop) => return ExitCode::from(tell_stop(&rt, &stop, None)),
     };
     let status = match asked(rt.alloc(), arguments.as_slice()) {
-        Ok(asked) => work(&rt, &asked),
+        Ok(asked) => answer_request(&rt, &asked),
         Err(stop) => {
             let numbers = given(rt.alloc(), arguments.as_slice()).ok();
             tell_stop(&rt, &stop, numbers)
@@ -50,26 +50,42 @@ fn arguments(rt: &HostRuntime) -> Result<Vec<String>, Stop> {
     }
 }
 
+/// The arguments as words.
+fn words_of<'a>(alloc: Global, arguments: &'a [String]) -> Result<Vec<&'a str>, AllocError>
+    ensures { IfOk result (λ words. map (λ word. word.now) words.items ≡ map string_bytes arguments.now) }
+{
+    arguments.iter().map(|word| word.as_str()).collect(alloc)
+}
+
 /// What the arguments ask for.
 fn asked(alloc: Global, arguments: &[String]) -> Result<Asked, Stop>
     ensures asked { IfOk result (IsAskedBy (words_meant (map string_bytes arguments.now))) }
     ensures stop { IfErr result (IsStopOf (words_meant (map string_bytes arguments.now))) }
 {
-    let words: Vec<&str> = arguments.iter().map(|word| word.as_str()).collect(alloc)?;
-    ask(alloc, words.as_slice())
+    ask(alloc, words_of(alloc, arguments)?.as_slice())
 }
 
 /// The numbers that the arguments give for the limits.
 fn given(alloc: Global, arguments: &[String]) -> Result<Numbers, Stop>
     ensures given { IfOk result (AreGivenBy (map string_bytes arguments.now)) }
 {
-    let words: Vec<&str> = arguments.iter().map(|word| word.as_str()).collect(alloc)?;
-    numbers_given(alloc, words.as_slice())
+    numbers_given(alloc, words_of(alloc, arguments)?.as_slice())
 }
 
-/// Does the work, tells a fault, and gives the exit status.
-fn work(rt: &HostRuntime, asked: &Asked) -> u8 {
-    let (end, error) = served(rt, asked);
+/// Does what is asked for, tells a fault, and gives the exit status. A file that can't be opened is a failed
+/// read.
+fn answer_request(rt: &HostRuntime, asked: &Asked) -> u8 {
+    let counts = Counts::default();
+    let (end, error) = match &asked.file {
+        Some(file) => match fs::open(rt, file) {
+            Ok(file) => {
+                let size = file.metadata().ok().filter(|data| data.is_file());
+                serve_input(rt, asked, size.map(|data| data.len()), file, &counts)
+            }
+            Err(error) => (Err(Fault::Read), Some(error)),
+        },
+        None => serve_input(rt, asked, None, rt.stdin(), &counts),
+    };
     if let Err(fault) = &end {
         let _ = eprintln!(rt; "{fault}");
         if let Some(error) = error {
@@ -79,51 +95,28 @@ fn work(rt: &HostRuntime, asked: &Asked) -> u8 {
     status(&end)
 }
 
-/// Opens the input and does the work. A file that can't be opened is a failed read. Beside the end comes the
-/// error that made it one, where there is one.
-fn served(rt: &HostRuntime, asked: &Asked) -> (Result<Summary, Fault>, Option<io::Error>) {
-    match &asked.file {
-        Some(file) => match fs::open(rt, file) {
-            Ok(file) => {
-                let size = file.metadata().ok().filter(|data| data.is_file());
-                served_from(rt, asked, size.map(|data| data.len()), file)
-            }
-            Err(error) => (Err(Fault::Read), Some(error)),
-        },
-        None => served_from(rt, asked, None, rt.stdin()),
-    }
-}
-
-/// Does the work with this input, which has so many bytes where that is known, and shows the progress.
-fn served_from<R: Read + Drop>(
-    rt: &HostRuntime,
+/// Does what is asked for with this input, which has so many bytes where that is known, and shows the
+/// progress. Beside the end comes the error that made it a fault, where there is one.
+fn serve_input<'a, R: Read + Drop>(
+    rt: &'a HostRuntime,
     asked: &Asked,
     size: Option<u64>,
     input: R,
+    counts: &'a Counts,
 ) -> (Result<Summary, Fault>, Option<io::Error>) {
-    let counts = Counts::default();
-    let progress = Progress::of(rt, &asked.work, size, &counts);
-    let ended = served_with(rt, asked, input, &counts, progress.as_ref());
-    if let Some(progress) = &progress {
+    let progress = Progress::of(rt, &asked.request, size, counts);
+    let shown = progress.as_ref();
+    let mut reader = Watched::new(Observed::new(input, shown));
+    let mut writer = Watched::new(Observed::new(rt.stdout(), shown));
+    let end = serve(rt.alloc(), asked, &mut reader, &mut writer, counts);
+    if let Some(progress) = shown {
         progress.end();
     }
-    ended
-}
-
-/// Does the work with this input, and tells the progress of it.
-fn served_with<R: Read + Drop>(
-    rt: &HostRuntime,
-    asked: &Asked,
-    input: R,
-    counts: &Counts,
-    progress: Option<&Progress<'_>>,
-) -> (Result<Summary, Fault>, Option<io::Error>) {
-    let mut reader = Watched::new(Observed::new(input, progress));
-    let mut writer = Watched::new(Observed::new(rt.stdout(), progress));
-    let end = serve(rt.alloc(), asked, &mut reader, &mut writer, counts);
+    let read_error = reader.into_inner().into_error();
+    let write_error = writer.into_inner().into_error();
     let error = match &end {
-        Err(Fault::Read) => reader.into_inner().into_error(),
-        Err(Fault::Write) => writer.into_inner().into_error(),
+        Err(Fault::Read) => read_error,
+        Err(Fault::Write) => write_error,
         _ => None,
     };
     (end, error)
@@ -141,7 +134,7 @@ fn tell_error(rt: &HostRuntime, asked: &Asked, fault: &Fault, error: &io::Error)
     }
 }
 
-/// Tells why there is no work, and gives the exit status: that of the stop, or 3 where help or the version
+/// Tells why nothing is done, and gives the exit status: that of the stop, or 3 where help or the version
 /// can't be written.
 fn tell_stop(rt: &HostRuntime, stop: &Stop, numbers: Option<Numbers>) -> u8 {
     match (tell(rt, stop, numbers), stop) {

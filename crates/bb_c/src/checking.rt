@@ -5,7 +5,6 @@ ghost use Rattle.bb_lines.specs.Lines.{AreReplies, lines};
 ghost use Rattle.bb_machine.specs.Limits.{IsAccepted};
 ghost use Rattle.bb_cert.specs.checker.Answer.{IsAnswer};
 ghost use Rattle.bb_run.specs.CheckReply.{IsCheckReply};
-ghost use Rattle.bb_run.specs.CheckSeen.{is_fine};
 ghost use Rattle.bb_run.specs.CheckSummary.{IsFine};
 ghost use Rattle.bb_c.specs.Buffer.{IsFilled, IsTooShort, IsUntouched};
 ghost use Rattle.bb_c.specs.Call.{bounds_of};
@@ -111,7 +110,7 @@ pub extern "C" fn bb_check_line(
         None => give(b"unread", false, out, count),
         Some(Line::Refusal(_)) => give(Answer::Open.word(), true, out, count),
         Some(Line::Claim(machine, verdict)) => match answer(alloc, &limits, &machine, &verdict) {
-            Ok(answer) => give(answer.word(), leaves_clean(answer), out, count),
+            Ok(answer) => give(answer.word(), answer.is_fine(), out, count),
             Err(_) => MEMORY,
         },
     }
@@ -129,14 +128,4 @@ fn answer(
     let (mut pair, mut path) = ring_pair(alloc, limits)?;
     let mut meter = Meter::new();
     check(machine, verdict, limits, &mut pair, &mut path, &mut meter)
-}
-
-/// Whether a list stays clean with this answer.
-fn leaves_clean(answer: Answer) -> bool
-    ensures { result ≡ is_fine answer }
-{
-    match answer {
-        Answer::Ok | Answer::Open => true,
-        Answer::Bad | Answer::Over => false,
-    }
 }

@@ -9,7 +9,7 @@ ghost use Rattle.bb_decide.specs.Fingerprint.{CostsWhatItNames};
 ghost use Rattle.bb_decide.specs.Keys.{spread};
 ghost use Rattle.bb_decide.specs.Sure.{IsFoundByRun, NoneIsSmaller};
 ghost use Rattle.bb_decide.specs.Verdict.{IsVerdict};
-ghost use Rattle.bb_decide.specs.Work.{IsWithinWork};
+ghost use Rattle.bb_decide.specs.Cost.{IsWithinCost};
 ghost use Rattle.bb_run.specs.BorneOut.{VerdictsAreBorneOut};
 ghost use Rattle.bb_run.specs.Reply.{IsReply};
 ghost use Rattle.bb_c.specs.Buffer.{IsFilled, IsTooShort, IsUntouched};
@@ -255,7 +255,7 @@ fn verdict_within(
     ensures verdict { IfOk result (IsVerdict machine.now limits.now plan) }
     ensures numbers { IfOk result HasNumbers }
     ensures bound { IfOk result (CostsWhatItNames spread machine.now limits.now meter.new.steps) }
-    ensures within { OnOk result (IsWithinWork limits.now meter.new) }
+    ensures within { OnOk result (IsWithinCost limits.now meter.new) }
 {
     let mut bench = ring_bench(alloc, limits)?;
     decide_in_one_run(machine, limits, plan, &SpreadKeys, &mut bench, meter)

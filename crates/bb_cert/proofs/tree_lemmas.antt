@@ -3,7 +3,7 @@ pub mod OneOf
 pub mod RuleEntries
 pub mod Levels
 pub mod TreeEnds
-pub mod Comb
+pub mod Walked
 pub mod Orders
 pub mod Shown
 pub mod Entering

@@ -7,9 +7,9 @@ pub mod records;
 pub mod tree;
 pub mod verdict;
 
+pub use bb_sim::is_same;
 pub use checker::answer::Answer;
 pub use checker::checking::{Pair, check};
-pub use claims::configurations::is_same;
 pub use claims::laws;
 pub use tree::path::Path;
 pub use tree::walk::walk;

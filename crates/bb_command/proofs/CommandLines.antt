@@ -18,10 +18,12 @@ use Rattle.clap.specs.declared.error.kind.ErrorKind.{ErrorKind}
 use Rattle.clap.specs.declared.parser.matches.ArgMatches.{ArgMatches}
 use Rattle.clap.specs.declared.parser.matches.ArgMatches.TheViews.{out-ArgMatches, out-SubCommand}
 use Rattle.clap.proofs.OnLiterals.{clap_on_literals}
+use Rattle.bb_machine.specs.declared.limits.LimitFault.{LimitFault}
+use Rattle.bb_machine.specs.Limits.{Bounds, IsFirstFault}
 use Rattle.bb_command.specs.declared.command.Stop.{Stop}
 use Rattle.bb_command.specs.declared.command.Stop.TheVariants.{Help, Words, Limits, Memory}
-use Rattle.bb_command.specs.Command.{Gives, IsKindStop, IsLimitsStop, IsNumbersStop, IsStopOf}
-use Rattle.bb_command.specs.Command.{list_bounds, trace_bounds, words_meant}
+use Rattle.bb_command.specs.Command.{Gives, IsKindStop, IsLimitsStop, IsNumbersStop, IsRefused, IsStopOf}
+use Rattle.bb_command.specs.Command.{words_meant}
 use Rattle.bb_command.specs.CommandLine.{check_shape, command_line, decide_shape, trace_shape}
 
 simple_and_free : is_simple_and_free command_line ≡ true
@@ -111,35 +113,17 @@ pub names_decide : (words : List Text) (name : Text) (rows : List Row) → Gives
 names_decide words name rows given not_trace not_check =
     elim (names_a_list words name rows given not_trace) [ inl is ↦ is | inr is ↦ absurd (not_check is) ]
 
-pub stops_deciding : (words : List Text) (rows : List Row) → Gives words (codes "decide") rows → (stop : Stop)
-    → (stop ≡ Memory) ⊎ IsLimitsStop (list_bounds rows) stop → IsStopOf words stop
-stops_deciding words rows given (Help text) (inl h) = cc
-stops_deciding words rows given (Help text) (inr h) = absurd h
-stops_deciding words rows given (Words text) (inl h) = cc
-stops_deciding words rows given (Words text) (inr h) = absurd h
-stops_deciding words rows given (Limits fault) (inl h) = cc
-stops_deciding words rows given (Limits fault) (inr h) = record { rows = rows; refused = inl (given, h) }
-stops_deciding words rows given Memory h = tt
-
-pub stops_a_check : (words : List Text) (rows : List Row) → Gives words (codes "check") rows → (stop : Stop)
-    → (stop ≡ Memory) ⊎ IsLimitsStop (list_bounds rows) stop → IsStopOf words stop
-stops_a_check words rows given (Help text) (inl h) = cc
-stops_a_check words rows given (Help text) (inr h) = absurd h
-stops_a_check words rows given (Words text) (inl h) = cc
-stops_a_check words rows given (Words text) (inr h) = absurd h
-stops_a_check words rows given (Limits fault) (inl h) = cc
-stops_a_check words rows given (Limits fault) (inr h) = record { rows = rows; refused = inr (inl (given, h)) }
-stops_a_check words rows given Memory h = tt
-
-pub stops_a_trace : (words : List Text) (rows : List Row) → Gives words (codes "trace") rows → (stop : Stop)
-    → (stop ≡ Memory) ⊎ IsLimitsStop (trace_bounds rows) stop → IsStopOf words stop
-stops_a_trace words rows given (Help text) (inl h) = cc
-stops_a_trace words rows given (Help text) (inr h) = absurd h
-stops_a_trace words rows given (Words text) (inl h) = cc
-stops_a_trace words rows given (Words text) (inr h) = absurd h
-stops_a_trace words rows given (Limits fault) (inl h) = cc
-stops_a_trace words rows given (Limits fault) (inr h) = record { rows = rows; refused = inr (inr (given, h)) }
-stops_a_trace words rows given Memory h = tt
+-- limits that are refused, as a stop
+pub stops_by_limits : (words : List Text) (bounds : Bounds)
+    → ((fault : LimitFault) → IsFirstFault bounds fault → IsRefused words (Limits fault)) → (stop : Stop)
+    → (stop ≡ Memory) ⊎ IsLimitsStop bounds stop → IsStopOf words stop
+stops_by_limits words bounds refused (Help text) (inl h) = cc
+stops_by_limits words bounds refused (Help text) (inr h) = absurd h
+stops_by_limits words bounds refused (Words text) (inl h) = cc
+stops_by_limits words bounds refused (Words text) (inr h) = absurd h
+stops_by_limits words bounds refused (Limits fault) (inl h) = cc
+stops_by_limits words bounds refused (Limits fault) (inr h) = refused fault h
+stops_by_limits words bounds refused Memory h = tt
 
 -- an error of a parse, as a stop
 pub stops_by_kind : (app : App) → app ≡ command_line → (words : List Text) (error : Error)

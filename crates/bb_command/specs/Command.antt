@@ -1,4 +1,4 @@
--- What a command line asks for, and why one leads to no work: this project's own.
+-- What a command line asks for, and why one asks for nothing that can be done: this project's own.
 use Rattle.std.specs.Prelude.{◌≡◌, ◌≢◌, ◌⊎◌, ℕ, Bool, false, true, not, List, [], ◌∷◌, Some, None, codes}
 use Rattle.std.specs.Prelude.{unwrap_or}
 use Rattle.std.specs.Prelude.{option_map, if◌then◌else◌}
@@ -16,8 +16,8 @@ use Rattle.bb_command.specs.declared.command.Asked.{Asked}
 use Rattle.bb_command.specs.declared.command.Numbers.{Numbers}
 use Rattle.bb_command.specs.declared.command.Stop.{Stop}
 use Rattle.bb_command.specs.declared.command.Stop.TheVariants.{Help, Words, Limits, Memory}
-use Rattle.bb_command.specs.declared.command.Work.{Work}
-use Rattle.bb_command.specs.declared.command.Work.TheVariants.{Decide, Check, Trace}
+use Rattle.bb_command.specs.declared.command.Request.{Request}
+use Rattle.bb_command.specs.declared.command.Request.TheVariants.{Decide, Check, Trace}
 use Rattle.bb_command.specs.CommandLine.{command_line}
 
 -- ---- what the words say
@@ -81,25 +81,25 @@ trace_bounds rows = record {
 
 -- verdicts for a list, by this plan, under these limits, from this file
 pub record AsksToDecide (rows : List Row) (asked : Asked) : Type 0 where
-  pub work : asked.work ≡ Decide (decide_plan rows)
+  pub request : asked.request ≡ Decide (decide_plan rows)
   pub limits : asked.limits ≡ list_bounds rows
   pub file : option_map string_bytes asked.file ≡ first_of (codes "file") rows
 
 -- answers to a list, under these limits, from this file
 pub record AsksToCheck (rows : List Row) (asked : Asked) : Type 0 where
-  pub work : asked.work ≡ Check
+  pub request : asked.request ≡ Check
   pub limits : asked.limits ≡ list_bounds rows
   pub file : option_map string_bytes asked.file ≡ first_of (codes "file") rows
 
 -- a trace of the machine with this text
-abbrev pub IsTraceOf : Text → Work → Type 0
+abbrev pub IsTraceOf : Text → Request → Type 0
 IsTraceOf text (Trace machine) = string_bytes machine ≡ text
 IsTraceOf text (Decide plan) = ⊥
 IsTraceOf text Check = ⊥
 
 -- a trace of the machine with the text that is given, under these limits; it reads no file
 pub record AsksToTrace (rows : List Row) (asked : Asked) : Type 0 where
-  pub work : IsTraceOf (unwrap_or (first_of (codes "machine") rows) []) asked.work
+  pub request : IsTraceOf (unwrap_or (first_of (codes "machine") rows) []) asked.request
   pub limits : asked.limits ≡ trace_bounds rows
   pub file : asked.file ≡ None
 
@@ -130,9 +130,9 @@ AreGivenBy words numbers = GivesNumbers words (codes "decide") list_bounds false
     ⊎ (GivesNumbers words (codes "check") list_bounds false numbers
     ⊎ GivesNumbers words (codes "trace") trace_bounds true numbers)
 
--- ---- why there is no work
+-- ---- why nothing is done
 
--- why work under these limits is refused: their first fault
+-- why these limits are refused: their first fault
 abbrev pub IsLimitsStop : Bounds → Stop → Type 0
 IsLimitsStop bounds (Limits fault) = IsFirstFault bounds fault
 IsLimitsStop bounds (Help text) = ⊥
@@ -146,7 +146,7 @@ pub record IsRefused (words : List Text) (stop : Stop) : Type 0 where
       ⊎ ((Gives words (codes "check") rows × IsLimitsStop (list_bounds rows) stop)
       ⊎ (Gives words (codes "trace") rows × IsLimitsStop (trace_bounds rows) stop))
 
--- why the words lead to no work: help or the version is asked for, or they are no command line, or what they
+-- why nothing is done: help or the version is asked for, or they are no command line, or what they
 -- ask for is refused, or an allocation failed
 abbrev pub IsStopOf : List Text → Stop → Type 0
 IsStopOf words (Help text) =
@@ -172,7 +172,7 @@ IsKindStop kind (Words text) = (kind ≢ DisplayHelp) × (kind ≢ DisplayVersio
 IsKindStop kind (Limits fault) = ⊥
 IsKindStop kind Memory = kind ≡ OutOfMemory
 
--- the exit status of a command line that leads to no work
+-- the exit status where nothing is done
 abbrev pub stop_status : Stop → ℕ
 stop_status (Help text) = 0
 stop_status (Words text) = 2

@@ -1,4 +1,4 @@
-//! The command line: which work is asked for, under which limits.
+//! The command line: what is asked for, under which limits.
 ghost use Rattle.std.specs.Prelude.{◌≡◌, ◌⊎◌, false, true, IfErr, IfOk, Some, codes, map, option_map};
 ghost use Rattle.std.specs.String.{string_bytes};
 ghost use Rattle.clap.specs.declared.builder.command.Command.TheViews.{out-Command as fields_of};
@@ -45,7 +45,7 @@ use std::alloc::{AllocError, Global};
 
 /// What is to be done.
 #[derive(Debug, Drop)]
-pub enum Work {
+pub enum Request {
     /// A verdict for each machine of a list, by these deciders.
     Decide(Plan),
     /// An answer to each verdict line of a list.
@@ -58,14 +58,14 @@ pub enum Work {
 #[derive(Debug, Drop)]
 pub struct Asked {
     /// What is to be done.
-    pub work: Work,
+    pub request: Request,
     /// Under which limits.
     pub limits: Limits,
     /// Where the list is read from; standard input where there is none. A trace reads none.
     pub file: Option<String>,
 }
 
-/// Why a command line leads to no work.
+/// Why a command line asks for nothing that can be done.
 #[derive(Debug, Drop)]
 pub enum Stop {
     /// Help or the version was asked for; this is its text.
@@ -489,7 +489,7 @@ fn decide_of(alloc: Global, matches: &ArgMatches<'_>) -> Result<Asked, Stop>
     let limits = list_limits(matches)?;
     let file = list_file(alloc, matches)?;
     Ok(Asked {
-        work: Work::Decide(plan),
+        request: Request::Decide(plan),
         limits,
         file,
     })
@@ -503,7 +503,7 @@ fn check_of(alloc: Global, matches: &ArgMatches<'_>) -> Result<Asked, Stop>
     let limits = list_limits(matches)?;
     let file = list_file(alloc, matches)?;
     Ok(Asked {
-        work: Work::Check,
+        request: Request::Check,
         limits,
         file,
     })
@@ -544,7 +544,7 @@ fn trace_of(alloc: Global, matches: &ArgMatches<'_>) -> Result<Asked, Stop>
     let limits = accepted(&trace_numbers(matches))?;
     let text = matches.get_str("machine").unwrap_or("");
     Ok(Asked {
-        work: Work::Trace(String::from_str(alloc, text)?),
+        request: Request::Trace(String::from_str(alloc, text)?),
         limits,
         file: None,
     })

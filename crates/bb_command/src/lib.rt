@@ -1,4 +1,4 @@
-//! The program's command line: which work its words ask for, under which limits, and what would do where
+//! The program's command line: what its words ask for, under which limits, and what would do where
 //! limits are refused.
 #![tactic(auto)]
 
@@ -6,4 +6,4 @@ pub mod advice;
 pub mod command;
 
 pub use advice::Advice;
-pub use command::{Asked, Numbers, Stop, Work, ask, numbers_given};
+pub use command::{Asked, Numbers, Request, Stop, ask, numbers_given};

@@ -1,5 +1,6 @@
 pub mod Benches
 pub mod Claims
+pub mod Costs
 pub mod Counted
 pub mod Cycles
 pub mod Endings
@@ -8,11 +9,11 @@ pub mod FewCells
 pub mod Fingerprints
 pub mod Halting
 pub mod OneRun
+pub mod OneSide
 pub mod Partners
 pub mod SmallLimits
+pub mod Stops
 pub mod Sure
-pub mod TakingIn
 pub mod Translations
 pub mod Verdicts
 pub mod Watched
-pub mod Works

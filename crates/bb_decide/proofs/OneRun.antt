@@ -27,10 +27,10 @@ use Rattle.bb_decide.specs.inside.Ending.{EndingCosts, EndsBoth, EndsSearches, I
 use Rattle.bb_decide.specs.inside.Ending.{found_of, is_settled, verdict_of_outcome}
 use Rattle.bb_decide.specs.Backward.{CountsTree, FindsTree}
 use Rattle.bb_decide.specs.Verdict.{IsVerdict}
-use Rattle.bb_decide.specs.Work.{CountsWalk, MakesWalk}
+use Rattle.bb_decide.specs.Cost.{CountsWalk, MakesWalk}
 use Rattle.bb_decide.specs.inside.Search.{SearchesFind}
 use Rattle.bb_decide.proofs.Translations.{pair_agrees}
-use Rattle.bb_decide.proofs.Works.{counts_walk, no_walk_counted, not_reached}
+use Rattle.bb_decide.proofs.Costs.{counts_walk, no_walk_counted, not_reached}
 
 module _ (table : Table) (bounds : Bounds) where
   -- where records agree, no configuration comes again

@@ -1,4 +1,4 @@
--- Why no machine has two verdicts, nor two counts of work.
+-- Why no machine has two verdicts, nor two counts of steps.
 use Rattle.std.proofs.Common.{◌≡◌, ℕ, ◌≤◌, ◌<◌, Option, ℤ, pos, neg_ℤ, inl, inr, refl, sym, subst, ◌∙◌, arith}
 use Rattle.std.proofs.lemmas.Int.{ints}
 use Rattle.bb_machine.specs.Limits.{Bounds}
@@ -16,9 +16,9 @@ use Rattle.bb_cert.proofs.Facts.{record_has_one_step, stands_on, told_is_one, tr
 use Rattle.bb_decide.specs.Cycle.{IsFirstCycle}
 use Rattle.bb_decide.specs.Partner.{IsPartner}
 use Rattle.bb_decide.specs.Translation.{IsFirstTranslation}
-use Rattle.bb_decide.specs.Laws.{VerdictIsUnique, WorkIsBounded, WorkIsUnique}
-use Rattle.bb_decide.specs.Work.{CycleSteps, MakesCycleSearch, MakesTranslationSearch, StepsIfMade}
-use Rattle.bb_decide.specs.Work.{TranslationSteps}
+use Rattle.bb_decide.specs.Laws.{VerdictIsUnique, StepsAreBounded, StepsAreUnique}
+use Rattle.bb_decide.specs.Cost.{CycleSteps, MakesCycleSearch, MakesTranslationSearch, StepsIfMade}
+use Rattle.bb_decide.specs.Cost.{TranslationSteps}
 use Rattle.bb_decide.proofs.Partners.{partner_is_unique}
 
 -- there is one first cycle
@@ -190,8 +190,8 @@ steps_if_made_are_one Made Cost one n m (inl first) (inr second) = absurd (secon
 steps_if_made_are_one Made Cost one n m (inr first) (inl second) = absurd (first.0 second.0)
 steps_if_made_are_one Made Cost one n m (inr first) (inr second) = first.1 ∙ sym second.1
 
-pub work_is_unique : WorkIsUnique
-work_is_unique table bounds plan a b first second =
+pub steps_are_unique : StepsAreUnique
+steps_are_unique table bounds plan a b first second =
     let run = last_step_is_unique table bounds first.run second.run first.is_run second.is_run in
     let cycles = steps_if_made_are_one (MakesCycleSearch table bounds plan) (CycleSteps table bounds)
     (cycle_steps_are_one table bounds) first.cycles second.cycles first.is_cycles second.is_cycles in
@@ -208,8 +208,8 @@ few_if_made : (Made : Type 0) (Cost : ℕ → Type 0) (most : ℕ) → ((n : ℕ
 few_if_made Made Cost most few n (inl made) = few n made.1
 few_if_made Made Cost most few n (inr not_made) = let none = not_made.1 in omega (arith, none)
 
-pub work_is_bounded : WorkIsBounded
-work_is_bounded table bounds plan work is =
+pub steps_are_bounded : StepsAreBounded
+steps_are_bounded table bounds plan steps is =
     let run = is.is_run.inside.within_steps in
     let cycles = few_if_made (MakesCycleSearch table bounds plan) (CycleSteps table bounds) bounds.steps
     few_cycle_steps

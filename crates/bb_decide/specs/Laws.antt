@@ -16,7 +16,7 @@ use Rattle.bb_decide.specs.Cycle.{IsCycle}
 use Rattle.bb_decide.specs.Sure.{IsFoundByRun, IsLeastPower, NoneIsSmaller, StaysAs}
 use Rattle.bb_decide.specs.Translation.{IsTranslation}
 use Rattle.bb_decide.specs.Verdict.{IsVerdict}
-use Rattle.bb_decide.specs.Work.{IsWork}
+use Rattle.bb_decide.specs.Cost.{DecisionSteps}
 
 -- two verdicts on one machine, within the same bounds and by the same plan, are the same
 abbrev pub VerdictIsUnique : Type 0
@@ -24,14 +24,14 @@ VerdictIsUnique = (table : Table) (bounds : Bounds) (plan : Plan) (a b : Verdict
     → IsVerdict table bounds plan a → IsVerdict table bounds plan b → a ≡ b
 
 -- and it costs as many steps each time
-abbrev pub WorkIsUnique : Type 0
-WorkIsUnique = (table : Table) (bounds : Bounds) (plan : Plan) (a b : ℕ)
-    → IsWork table bounds plan a → IsWork table bounds plan b → a ≡ b
+abbrev pub StepsAreUnique : Type 0
+StepsAreUnique = (table : Table) (bounds : Bounds) (plan : Plan) (a b : ℕ)
+    → DecisionSteps table bounds plan a → DecisionSteps table bounds plan b → a ≡ b
 
 -- no more than three runs' steps
-abbrev pub WorkIsBounded : Type 0
-WorkIsBounded = (table : Table) (bounds : Bounds) (plan : Plan) (work : ℕ) → IsWork table bounds plan work
-    → work ≤ 3 * bounds.steps
+abbrev pub StepsAreBounded : Type 0
+StepsAreBounded = (table : Table) (bounds : Bounds) (plan : Plan) (steps : ℕ)
+    → DecisionSteps table bounds plan steps → steps ≤ 3 * bounds.steps
 
 -- what a verdict claims holds
 abbrev pub VerdictsHold : Type 0

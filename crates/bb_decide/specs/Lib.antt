@@ -1,6 +1,7 @@
 pub mod inside
 pub mod Backward
 pub mod Bench
+pub mod Cost
 pub mod Cycle
 pub mod FewCells
 pub mod Fingerprint
@@ -10,4 +11,3 @@ pub mod Partner
 pub mod Sure
 pub mod Translation
 pub mod Verdict
-pub mod Work

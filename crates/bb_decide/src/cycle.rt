@@ -70,13 +70,13 @@ pub(crate) fn seek_cycle<T: Tape>(
     ensures path { bench.new.path ≡ bench.old.path }
 {
     let limits = *limits;
-    run(machine, &limits, bench, meter)
+    run_to_cycle(machine, &limits, bench, meter)
 }
 
 /// `seek_cycle`, inlined there, so that the limits, which are its local, stay in registers. The runner counts
 /// its steps and cells; the meter takes them over where the run ends.
 #[inline(always)]
-fn run<T: Tape>(
+fn run_to_cycle<T: Tape>(
     machine: &Machine,
     limits: &Limits,
     bench: &mut Bench<T>,

@@ -15,7 +15,7 @@ ghost use Rattle.bb_decide.specs.inside.Search.{IsWithinDeciders, IsWithinSearch
 ghost use Rattle.bb_decide.specs.inside.Search.{SearchesCount, SearchesFind};
 ghost use Rattle.bb_decide.specs.Sure.{KeepsEarlier};
 ghost use Rattle.bb_decide.specs.Verdict.{IsVerdict};
-ghost use Rattle.bb_decide.specs.Work.{CountsWork, IsWithinWork};
+ghost use Rattle.bb_decide.specs.Cost.{CountsCost, IsWithinCost};
 
 use crate::bench::Bench;
 use crate::cycle::cyclers;
@@ -49,8 +49,8 @@ pub fn decide<T: Tape>(
         → IsAnswer machine.now limits.now verdict Answer.Ok) }
     ensures line { IfOk result (λ verdict.
         IsLineOf (Line.Claim machine.now verdict) (line_text machine.now verdict)) }
-    ensures counted { OnOk result (CountsWork machine.now limits.now plan meter.new) }
-    ensures within { IsWithinWork limits.now meter.new }
+    ensures counted { OnOk result (CountsCost machine.now limits.now plan meter.new) }
+    ensures within { IsWithinCost limits.now meter.new }
     ensures tapes { BenchHasCells T.view limits.now.cells bench.new }
     ensures path { depth_of bench.new.path ≡ depth_of bench.old.path }
     ensures memory { OnErr result (IsTrue T.GROWS) }

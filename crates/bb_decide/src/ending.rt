@@ -29,7 +29,8 @@ impl Ending {
         }
     }
 
-    /// Whether it is a verdict, whatever else might be searched for: something was found, or the machine halts.
+    /// Whether it is a verdict, whatever else might be searched for: something was found, or the machine
+    /// halts.
     pub fn is_settled(&self) -> bool
         ensures { result ≡ is_settled self.now }
     {

@@ -1,18 +1,18 @@
 //! Laws of verdicts, as contracts: a call of each does nothing.
 ghost use Rattle.bb_decide.specs.FewCells.{FewCellsAreDecided};
 ghost use Rattle.bb_decide.specs.Laws.{AgreeingRecordsAreFound, LargerLimitsKeep, RepeatsAreFound};
-ghost use Rattle.bb_decide.specs.Laws.{VerdictIsUnique, VerdictsAreConfirmed, VerdictsHold, WorkIsBounded};
-ghost use Rattle.bb_decide.specs.Laws.{SmallLimitsDecide, WorkIsUnique};
+ghost use Rattle.bb_decide.specs.Laws.{VerdictIsUnique, VerdictsAreConfirmed, VerdictsHold, StepsAreBounded};
+ghost use Rattle.bb_decide.specs.Laws.{SmallLimitsDecide, StepsAreUnique};
 
 /// No machine has two verdicts under one set of limits and one plan.
 pub fn verdict_is_unique()
     ensures { VerdictIsUnique }
 {}
 
-/// Deciding it has no two counts of work, and costs at most three times the limit of steps.
-pub fn work_is_unique()
-    ensures unique { WorkIsUnique }
-    ensures bounded { WorkIsBounded }
+/// Deciding it has no two counts of steps, and costs at most three times the limit of steps.
+pub fn steps_are_unique()
+    ensures unique { StepsAreUnique }
+    ensures bounded { StepsAreBounded }
 {}
 
 /// What a verdict claims holds, so the checker confirms it under the same limits.
@@ -32,8 +32,8 @@ pub fn larger_limits_keep()
     ensures { LargerLimitsKeep }
 {}
 
-/// What a run finds within small limits, a halt or a pair, is the verdict within larger ones, whether trees are
-/// asked for or not.
+/// What a run finds within small limits, a halt or a pair, is the verdict within larger ones, whether trees
+/// are asked for or not.
 pub fn small_limits_decide()
     ensures { SmallLimitsDecide }
 {}

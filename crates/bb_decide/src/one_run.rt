@@ -15,7 +15,7 @@ ghost use Rattle.bb_decide.specs.inside.Ending.{EndingCosts, EndsBoth, EndsPromi
 ghost use Rattle.bb_decide.specs.inside.Ending.{IsWithinThreeRuns};
 ghost use Rattle.bb_decide.specs.Sure.{KeepsEarlier};
 ghost use Rattle.bb_decide.specs.Verdict.{IsVerdict};
-ghost use Rattle.bb_decide.specs.Work.{CountsWalk, IsWithinWork, MakesWalk};
+ghost use Rattle.bb_decide.specs.Cost.{CountsWalk, IsWithinCost, MakesWalk};
 
 use crate::bench::Bench;
 use crate::cycle::seek_cycle;
@@ -60,7 +60,7 @@ pub fn decide_in_one_run<T: Tape, K: Keys>(
         (CostsWhatItNames (K.key_of keys.now) machine.now limits.now meter.new.steps) }
     ensures walk { OnOk result
         (CountsWalk (MakesWalk machine.now limits.now plan) machine.now limits.now meter.new) }
-    ensures within { IsWithinWork limits.now meter.new }
+    ensures within { IsWithinCost limits.now meter.new }
     ensures tapes { BenchHasCells T.view limits.now.cells bench.new }
     ensures path { depth_of bench.new.path ≡ depth_of bench.old.path }
     ensures memory { OnErr result (IsTrue T.GROWS) }
@@ -88,7 +88,7 @@ fn settle<T: Tape, K: Keys>(
         (CostsWhatItNames (K.key_of keys.now) machine.now limits.now meter.new.steps) }
     ensures walk { OnOk result
         (CountsWalk (MakesWalk machine.now limits.now plan) machine.now limits.now meter.new) }
-    ensures within { IsWithinWork limits.now meter.new }
+    ensures within { IsWithinCost limits.now meter.new }
     ensures tapes { BenchHasCells T.view limits.now.cells bench.new }
     ensures path { depth_of bench.new.path ≡ depth_of bench.old.path }
     ensures memory { OnErr result (IsTrue T.GROWS) }

@@ -69,13 +69,13 @@ pub(crate) fn seek_translation<T: Tape>(
     ensures path { bench.new.path ≡ bench.old.path }
 {
     let limits = *limits;
-    run(machine, &limits, bench, meter)
+    run_to_records(machine, &limits, bench, meter)
 }
 
 /// `seek_translation`, inlined there, so that the limits, which are its local, stay in registers. The runner
 /// counts its steps and cells; the meter takes them over where the run ends.
 #[inline(always)]
-fn run<T: Tape>(
+fn run_to_records<T: Tape>(
     machine: &Machine,
     limits: &Limits,
     bench: &mut Bench<T>,

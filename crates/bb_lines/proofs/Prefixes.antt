@@ -5,11 +5,11 @@ use Rattle.std.specs.Prelude.{◌==◌}
 use Rattle.std.proofs.Math.Seq.{drop-cons}
 use Rattle.std.proofs.Math.Numerals.{add-one}
 use Rattle.std.proofs.lemmas.Bool.{eqb-true}
-use Rattle.std.proofs.lemmas.List.{append-nil, map-append, take-append-drop, take-take}
-use Rattle.bb_lines.specs.Lines.{complete, unfinished, lines, unless_empty}
+use Rattle.std.proofs.lemmas.List.{append-nil, map-append, take-append-drop, take_all, take-take}
+use Rattle.bb_lines.specs.Lines.{complete, unfinished, lines, pieces, unless_empty}
 use Rattle.bb_lines.specs.inside.Progress.{HasNoNewline, none, other, prefixes}
-use Rattle.bb_lines.proofs.Pieces.{LinesAre-newline, LinesAre-other, LinesAre-one, LinesAre-line}
-use Rattle.bb_lines.proofs.Pieces.{LinesAre-more, lines-parts}
+use Rattle.bb_lines.proofs.Pieces.{LinesAre-from_pieces, LinesAre-line, LinesAre-more, LinesAre-one}
+use Rattle.bb_lines.proofs.Pieces.{lines-parts, pieces-append, pieces_end}
 
 pub HasNoNewline-append : {xs ys : List ℕ} → HasNoNewline xs → HasNoNewline ys → HasNoNewline (xs ++ ys)
 HasNoNewline-append none more = more
@@ -85,76 +85,43 @@ pub record AfterPiece (keep : ℕ) (past piece kept : List ℕ) : Type 0 where
       ++ prefixes keep (complete (kept ++ piece))
   pub is_kept : take keep (unfinished (kept ++ piece)) ≡ take keep (unfinished (past ++ piece))
 
--- the same of one byte, with what is kept after it
-record AfterByte (keep : ℕ) (past kept : List ℕ) (byte : ℕ) : Type 0 where
-  now : List ℕ
-  is_now : now ≡ take keep (unfinished (past ++ byte ∷ []))
-  is_same : now ≡ take keep (unfinished (kept ++ byte ∷ []))
-  one_line : HasNoNewline now
-  is_complete : prefixes keep (complete (past ++ byte ∷ [])) ≡ prefixes keep (complete past)
-      ++ prefixes keep (complete (kept ++ byte ∷ []))
-
-after_byte : (keep : ℕ) (past kept : List ℕ) (byte : ℕ) (b : Bool) → (byte == 10) ≡ b
-    → kept ≡ take keep (unfinished past) → HasNoNewline kept → AfterByte keep past kept byte
-after_byte keep past kept byte true is was others =
-    let one = LinesAre-one kept others in
-    let newline = LinesAre-newline past byte is in
-    let same = LinesAre-newline kept byte is in
-    let ended : complete (kept ++ byte ∷ []) ≡ kept ∷ [] = same.is_complete
-    ∙ rw (one.is_complete, one.is_unfinished) refl in
-    record {
-      now = [];
-      is_now = take_none keep ∙ ap (take keep) (sym newline.is_unfinished);
-      is_same = take_none keep ∙ ap (take keep) (sym same.is_unfinished);
-      one_line = none;
-      is_complete = ap (prefixes keep) newline.is_complete
-          ∙ prefixes-append keep (complete past) (unfinished past ∷ [])
-          ∙ ap (λ line. prefixes keep (complete past) ++ line ∷ [])
-          (sym (ap (take keep) was ∙ take-take keep keep (unfinished past) (omega arith)))
-          ∙ sym (ap (λ l. prefixes keep (complete past) ++ prefixes keep l) ended);
-    }
-after_byte keep past kept byte false is was others =
-    let one = LinesAre-one kept others in
-    let more = LinesAre-other past byte is in
-    let same = LinesAre-other kept byte is in record {
-      now = take keep (kept ++ byte ∷ []);
-      is_now = kept_more keep (unfinished past) (byte ∷ []) was refl
-          ∙ ap (take keep) (sym more.is_unfinished);
-      is_same = ap (take keep) (sym (same.is_unfinished ∙ ap (λ b. b ++ byte ∷ []) one.is_unfinished));
-      one_line = HasNoNewline-take keep (HasNoNewline-append others (other is none));
-      is_complete = ap (prefixes keep) more.is_complete ∙ sym (append-nil (prefixes keep (complete past)))
-          ∙ sym (ap (λ l. prefixes keep (complete past) ++ prefixes keep l) (same.is_complete
-          ∙ one.is_complete));
-    }
-
 pub after_piece : (keep : ℕ) (piece past : List ℕ) {kept : List ℕ} → kept ≡ take keep (unfinished past)
     → HasNoNewline kept → AfterPiece keep past piece kept
-after_piece keep [] past {kept} was others = let one = LinesAre-one kept others in record {
-  is_complete = ap (λ b. prefixes keep (complete b)) (append-nil past)
-      ∙ sym (append-nil (prefixes keep (complete past)))
-      ∙ sym (ap (λ l. prefixes keep (complete past) ++ prefixes keep l) (ap complete (append-nil kept)
-      ∙ one.is_complete));
-  is_kept = ap (λ b. take keep (unfinished b)) (append-nil kept) ∙ ap (take keep) (one.is_unfinished ∙ was)
-      ∙ take-take keep keep (unfinished past) (omega arith)
-      ∙ ap (λ b. take keep (unfinished b)) (sym (append-nil past));
-}
-after_piece keep (byte ∷ rest) past {kept} was others =
-    let next = after_byte keep past kept byte (byte == 10) refl was others in
-    let all = after_piece keep rest (past ++ byte ∷ []) next.is_now next.one_line in
-    let same = after_piece keep rest (kept ++ byte ∷ []) next.is_same next.one_line in
-    let past_parts : past ++ (byte ∷ rest) ≡ (past ++ byte ∷ []) ++ rest =
-    sym (append_assoc past (byte ∷ []) rest) in
-    let kept_parts : kept ++ (byte ∷ rest) ≡ (kept ++ byte ∷ []) ++ rest =
-    sym (append_assoc kept (byte ∷ []) rest) in
-    let later = prefixes keep (complete (next.now ++ rest)) in record {
-      is_complete = ap (λ b. prefixes keep (complete b)) past_parts ∙ all.is_complete
-          ∙ ap (λ l. l ++ later) next.is_complete
-          ∙ append_assoc (prefixes keep (complete past)) (prefixes keep (complete (kept ++ byte ∷ []))) later
-          ∙ ap (λ l. prefixes keep (complete past) ++ l)
-          (sym (ap (λ b. prefixes keep (complete b)) kept_parts ∙ same.is_complete));
-      is_kept = ap (λ b. take keep (unfinished b)) kept_parts ∙ sym same.is_kept ∙ all.is_kept
-          ∙ ap (λ b. take keep (unfinished b)) (sym past_parts);
-    }
+after_piece keep piece past {kept} was others =
+    let end = pieces_end piece in by_pieces end.0 end.1 end.2
+  where
+    -- all pieces, after what was kept
+    kept_pieces : (first : List ℕ) (later : List (List ℕ)) → pieces piece ≡ first ∷ later
+        → pieces (kept ++ piece) ≡ (kept ++ first) ∷ later
+    kept_pieces first later is = let one = LinesAre-one kept others in
+        pieces-append kept piece first later is
+        ∙ ap (λ before. before ++ (unfinished kept ++ first) ∷ later) one.is_complete
+        ∙ ap (λ line. (line ++ first) ∷ later) one.is_unfinished
+
+    by_pieces : (before : List (List ℕ)) (last : List ℕ) → pieces piece ≡ before ++ last ∷ []
+        → AfterPiece keep past piece kept
+    by_pieces [] last is =
+        let all = LinesAre-from_pieces _ _ _ (pieces-append past piece last [] is) in
+        let same = LinesAre-from_pieces (kept ++ piece) [] (kept ++ last) (kept_pieces last [] is) in record {
+          is_complete = ap (prefixes keep) all.is_complete ∙ sym (append-nil (prefixes keep (complete past)))
+              ∙ sym (ap (λ l. prefixes keep (complete past) ++ prefixes keep l) same.is_complete);
+          is_kept = ap (take keep) same.is_unfinished ∙ kept_more keep (unfinished past) last was refl
+              ∙ sym (ap (take keep) all.is_unfinished);
+        }
+    by_pieces (first ∷ middle) last is =
+        let line = unfinished past ++ first in
+        let all = LinesAre-from_pieces (past ++ piece) (complete past ++ line ∷ middle) last
+        (pieces-append past piece first (middle ++ last ∷ []) is
+        ∙ sym (append_assoc (complete past) (line ∷ middle) (last ∷ []))) in
+        let same = LinesAre-from_pieces (kept ++ piece) ((kept ++ first) ∷ middle) last
+        (kept_pieces first (middle ++ last ∷ []) is) in record {
+          is_complete = ap (prefixes keep) all.is_complete
+              ∙ prefixes-append keep (complete past) (line ∷ middle)
+              ∙ ap (λ x. prefixes keep (complete past) ++ x ∷ prefixes keep middle)
+              (sym (kept_more keep (unfinished past) first was refl))
+              ∙ sym (ap (λ l. prefixes keep (complete past) ++ prefixes keep l) same.is_complete);
+          is_kept = ap (take keep) same.is_unfinished ∙ sym (ap (take keep) all.is_unfinished);
+        }
 
 -- before any byte of a piece
 pub kept_at_first : (keep : ℕ) {kept : List ℕ} → length kept ≤ keep → HasNoNewline kept
@@ -162,15 +129,9 @@ pub kept_at_first : (keep : ℕ) {kept : List ℕ} → length kept ≤ keep → 
 kept_at_first keep {kept} few others =
     let one = LinesAre-one kept others in (
       sym (ap (λ b. take keep (unfinished b)) (append-nil kept) ∙ ap (take keep) one.is_unfinished
-          ∙ take-all keep kept few),
+          ∙ take_all keep kept few),
       ap (λ b. prefixes keep (complete b)) (append-nil kept) ∙ ap (prefixes keep) one.is_complete,
     )
-  where
-    take-all : (n : ℕ) (xs : List ℕ) → length xs ≤ n → take n xs ≡ xs
-    take-all zero [] h = refl
-    take-all zero (x ∷ xs) h = absurd (omega arith)
-    take-all (suc n) [] h = refl
-    take-all (suc n) (x ∷ xs) h = ap (λ l. x ∷ l) (take-all n xs (omega arith))
 
 module _ (keep : ℕ) (past : List ℕ) {piece kept : List ℕ} (others : HasNoNewline piece)
     (is : kept ≡ take keep (unfinished past ++ piece)) where

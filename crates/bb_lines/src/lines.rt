@@ -14,7 +14,7 @@ ghost use Rattle.arrayvec.specs.ArrayVec.{array_vec_len};
 
 use crate::fault::Fault;
 use crate::output::{Waiting, add_line, write_and_flush, write_waiting};
-use crate::responder::{LONG_WORK, MAX_KEPT, REPLY, Responder};
+use crate::responder::{HIGH_COST, MAX_KEPT, REPLY, Responder};
 use crate::watched::{Failed, Watched};
 use arrayvec::ArrayVec;
 use memchr::memchr;
@@ -25,7 +25,7 @@ const CHUNK: usize = 16384;
 
 /// Replies to each line of the reader and writes the replies, in order, each as a line. The reader is read to
 /// its end. Replies are buffered: they are written before the next read, when there is no room for one more,
-/// or at once after long work. The writer is flushed once, at the end of a run without fault.
+/// or at once where the cost was high. The writer is flushed once, at the end of a run without fault.
 ///
 /// After a fault the reader and the writer are not to be used again.
 pub fn run<R: Read, W: Write, A: Responder>(
@@ -189,7 +189,7 @@ impl<'a, R: Read, W: Write, A: Responder> Engine<'a, R, W, A> {
         requires ready { A.is_ready self.old.responder.now }
         requires kept { length self.old.kept.items ≤ A.KEEP }
         requires one_line { HasNoNewline self.old.kept.items }
-        requires prompt { LONG_WORK < A.work self.old.responder.now → self.old.waiting.items ≡ [] }
+        requires prompt { HIGH_COST < A.cost self.old.responder.now → self.old.waiting.items ≡ [] }
         ensures ends { let held = W.contents (watched_inner self.old.writer.now) in
             let held_then = W.contents (watched_inner self.new.writer.now) in
             let Reply = A.replies_with self.old.responder.now in
@@ -203,7 +203,7 @@ impl<'a, R: Read, W: Write, A: Responder> Engine<'a, R, W, A> {
         ensures kept { let left = unfinished (self.old.kept.items ++ piece.now) in
             OnOk result (self.new.kept.items ≡ take A.KEEP left) }
         ensures one_line { OnOk result (HasNoNewline self.new.kept.items) }
-        ensures prompt { LONG_WORK < A.work self.new.responder.now
+        ensures prompt { HIGH_COST < A.cost self.new.responder.now
             → OnOk result (self.new.waiting.items ≡ []) }
         ensures memory { result ≡ Err Fault.Memory → IsTrue A.GROWS }
         ensures write { (result ≡ Err Fault.Write) ↔ (is_marked self.new.writer.now ≡ true) }
@@ -224,12 +224,12 @@ impl<'a, R: Read, W: Write, A: Responder> Engine<'a, R, W, A> {
         Ok(())
     }
 
-    // Answers the line whose first bytes are kept. No reply to long work waits meanwhile.
+    // Answers the line whose first bytes are kept. No reply of a high cost waits meanwhile.
     fn answer_kept(&mut self) -> Result<(), Fault>
         requires writer { is_marked self.old.writer.now ≡ false }
         requires ready { A.is_ready self.old.responder.now }
         requires kept { length self.old.kept.items ≤ A.KEEP }
-        requires prompt { LONG_WORK < A.work self.old.responder.now → self.old.waiting.items ≡ [] }
+        requires prompt { HIGH_COST < A.cost self.old.responder.now → self.old.waiting.items ≡ [] }
         ensures ends { let held = W.contents (watched_inner self.old.writer.now) in
             let held_then = W.contents (watched_inner self.new.writer.now) in
             let Reply = A.replies_with self.old.responder.now in
@@ -241,7 +241,7 @@ impl<'a, R: Read, W: Write, A: Responder> Engine<'a, R, W, A> {
             ⊥
             (WritesPrefix Reply held held_then self.old.waiting.items (line ∷ [])) }
         ensures kept { OnOk result (self.new.kept.items ≡ []) }
-        ensures prompt { LONG_WORK < A.work self.new.responder.now
+        ensures prompt { HIGH_COST < A.cost self.new.responder.now
             → OnOk result (self.new.waiting.items ≡ []) }
         ensures memory { result ≡ Err Fault.Memory → IsTrue A.GROWS }
         ensures write { (result ≡ Err Fault.Write) ↔ (is_marked self.new.writer.now ≡ true) }
@@ -252,8 +252,8 @@ impl<'a, R: Read, W: Write, A: Responder> Engine<'a, R, W, A> {
         ensures references { KeepsReferences self.old self.new }
     {
         self.text.clear();
-        let work = match self.responder.respond(self.kept.as_slice(), &mut self.text) {
-            Ok(work) => work,
+        let cost = match self.responder.respond(self.kept.as_slice(), &mut self.text) {
+            Ok(cost) => cost,
             Err(_) => {
                 write_waiting(self.writer, &mut self.waiting)?;
                 return Err(Fault::Memory);
@@ -261,7 +261,7 @@ impl<'a, R: Read, W: Write, A: Responder> Engine<'a, R, W, A> {
         };
         self.kept.clear();
         add_line(self.writer, &mut self.waiting, self.text.as_slice())?;
-        if work > LONG_WORK {
+        if cost > HIGH_COST {
             return write_waiting(self.writer, &mut self.waiting);
         }
         Ok(())

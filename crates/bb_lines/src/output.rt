@@ -43,6 +43,7 @@ pub fn add<W: Write>(
 
 /// Lets a text of at most `REPLY` bytes wait, with a newline. What waits is written before, if there is no
 /// room for both. After an error the text is lost.
+#[inline(always)]
 pub fn add_line<W: Write>(
     writer: &mut Watched<W>,
     waiting: &mut Waiting,

@@ -12,8 +12,8 @@ pub const REPLY: usize = 1023;
 /// The most bytes of a line that are kept for any responder.
 pub const MAX_KEPT: usize = 1024;
 
-/// More work than this is long: its reply is written before the next line is begun.
-pub const LONG_WORK: u64 = 100_000;
+/// A cost above this is high: the reply is written before the next line is begun.
+pub const HIGH_COST: u64 = 100_000;
 
 /// What replies to the lines of an input, to each with one line.
 pub trait Responder {
@@ -23,8 +23,8 @@ pub trait Responder {
     // What one line does to the responder's own state, as the summary that it keeps.
     ghost saw: { Self → List ℕ → Self → Type 0 };
 
-    // How much work the last reply was.
-    ghost work: { Self → ℕ };
+    // What the last reply cost.
+    ghost cost: { Self → ℕ };
 
     // What no reply changes, as the limits, or which value a reference of the responder points to.
     ghost keeps: { Self → Self → Type 0 };
@@ -42,7 +42,7 @@ pub trait Responder {
     fn bytes_kept(&self) -> usize
         ensures { result ≡ KEEP };
 
-    /// Puts the reply to `line` into `text`, which is empty, and tells how much work it was.
+    /// Puts the reply to `line` into `text`, which is empty, and tells what it cost.
     ///
     /// `Err` is an allocation failure: nothing is said of `text` then.
     fn respond(&mut self, line: &[u8], text: &mut ArrayVec<u8, REPLY>) -> Result<u64, AllocError>
@@ -51,7 +51,7 @@ pub trait Responder {
         requires empty { text.old.items ≡ [] }
         ensures reply { OnOk result (replies_with self.old line.now text.new.items) }
         ensures saw { OnOk result (saw self.old line.now self.new) }
-        ensures work { IfOk result (λ told. told ≡ work self.new) }
+        ensures cost { IfOk result (λ told. told ≡ cost self.new) }
         ensures keeps { keeps self.old self.new }
         ensures ready { is_ready self.new }
         ensures grows { OnErr result (IsTrue GROWS) };

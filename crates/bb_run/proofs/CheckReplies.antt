@@ -1,14 +1,16 @@
 -- Why no line has two answers.
-use Rattle.std.proofs.Common.{◌≡◌, ℕ, List, inl, inr, sym, subst, ap, ◌∙◌}
+use Rattle.std.proofs.Common.{◌≡◌, ℕ, List, inl, inr, refl, sym, subst, ap, ◌∙◌}
 use Rattle.bb_machine.specs.Limits.{Bounds}
 use Rattle.bb_machine.specs.Machine.{Table}
 use Rattle.bb_cert.specs.declared.checker.answer.Answer.{Answer}
+use Rattle.bb_cert.specs.declared.checker.answer.Answer.TheVariants.{Open}
 use Rattle.bb_cert.specs.declared.verdict.reader.Line.TheVariants.{Claim, Refusal}
 use Rattle.bb_cert.specs.declared.verdict.Verdict.{Verdict}
 use Rattle.bb_cert.specs.checker.Answer.{IsAnswer, answer_text}
 use Rattle.bb_cert.specs.verdict.Line.{IsLineOf}
 use Rattle.bb_cert.proofs.Facts.{answer_is_unique, line_unique}
-use Rattle.bb_run.specs.CheckKept.{long_line}
+use Rattle.bb_run.specs.CheckKeptBytes.{long_line}
+use Rattle.bb_run.specs.CheckReply.{IsCheckReply}
 use Rattle.bb_run.specs.Laws.{CheckReplyIsUnique, LongLinesAreUnread}
 
 same_table : (s t : Table) (v w : Verdict) → Claim s v ≡ Claim t w → s ≡ t
@@ -34,6 +36,23 @@ module _ (line : List ℕ) (s t : Table) (v w : Verdict) (first : IsLineOf (Clai
   one_answer bounds a b is_a is_b =
       let moved = subst (λ (x : Table). IsAnswer x bounds v a) one_table is_a in
       answer_is_unique t bounds w a b (subst (λ (x : Verdict). IsAnswer t bounds x a) one_verdict moved) is_b
+
+-- a claim's line gets the word of its answer, a refusal's `open`
+pub answered : (bounds : Bounds) (line : List ℕ) (table : Table) (verdict : Verdict) (given : Answer)
+    → IsLineOf (Claim table verdict) line → IsAnswer table bounds verdict given
+    → IsCheckReply bounds line (answer_text given)
+answered bounds line table verdict given of is_answer = inl (record {
+  table = table;
+  verdict = verdict;
+  of = of;
+  given = given;
+  is_answer = is_answer;
+  is_reply = refl;
+})
+
+pub opened : (bounds : Bounds) (line : List ℕ) (column : ℕ) → IsLineOf (Refusal column) line
+    → IsCheckReply bounds line (answer_text Open)
+opened bounds line column of = inr (inl (record { column = column; of = of; is_reply = refl }))
 
 -- no line is both a claim and a refusal
 pub never_both : (line : List ℕ) (t : Table) (v : Verdict) (column : ℕ)

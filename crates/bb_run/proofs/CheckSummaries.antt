@@ -1,42 +1,25 @@
 -- What checking the lines of a list is summed up in, from what each line did to it.
-use Rattle.std.proofs.Common.{◌≡◌, ℕ, ◌≤◌, ◌&&◌, ◌⊎◌, max, Bool, true, false, List, [], ◌∷◌, refl, sym, subst}
-use Rattle.std.proofs.Common.{ap, ◌∙◌, inl, inr, arith}
+use Rattle.std.proofs.Common.{◌≡◌, ℕ, ◌≤◌, ◌&&◌, ◌⊎◌, max, Bool, true, false, List, [], ◌∷◌, ◌++◌, refl, sym}
+use Rattle.std.proofs.Common.{subst, ap, ◌∙◌, inl, inr, arith}
 use Rattle.std.specs.Prelude.{slice_index_or}
-use Rattle.std.specs.List.{AllByRecursion, FoldsTo}
+use Rattle.std.specs.List.{FoldsTo}
+use Rattle.std.proofs.lemmas.Bool.{and_from, and_parts}
+use Rattle.std.proofs.lemmas.Fn.{chained_keeps}
 use Rattle.bb_machine.specs.Limits.{Bounds}
 use Rattle.bb_sim.specs.declared.meter.Meter.{Meter}
-use Rattle.bb_sim.specs.Meter.{zero_meter}
 use Rattle.bb_cert.specs.declared.checker.answer.Answer.{Answer}
 use Rattle.bb_cert.specs.declared.checker.answer.Answer.TheVariants as answer
 use Rattle.bb_cert.specs.declared.verdict.reader.Line.TheVariants.{Claim}
-use Rattle.bb_cert.specs.checker.Answer.{answer_text}
+use Rattle.bb_cert.specs.checker.Answer.{answer_text, is_fine}
 use Rattle.bb_cert.specs.checker.ClaimMeter.{last_step, levels_of, nodes_of}
 use Rattle.bb_run.specs.declared.summary.Summary.{Summary}
 use Rattle.bb_run.specs.CheckReply.{IsCheckReply, unread_text}
-use Rattle.bb_run.specs.CheckSeen.{CheckSaw, SawAnswer, SawOpen, SawUnread, is_fine}
-use Rattle.bb_run.specs.CheckSummary.{AreOksWithin, IsCheckSummary, IsFine, IsOkOf, IsWithinBounds}
-use Rattle.bb_run.proofs.CheckReplies.{check_reply_is_unique, never_both, one_answer, one_verdict}
-
--- what the lines from here on do to a summary
-record Sums (bounds : Bounds) (lines : List (List ℕ)) (old new : Summary) : Type 0 where
-  all_clean : new.clean ≡ true → (old.clean ≡ true) × AllByRecursion (IsFine bounds) lines
-  stays_clean : old.clean ≡ true → AllByRecursion (IsFine bounds) lines → new.clean ≡ true
-  oks : AreOksWithin bounds lines new.peak
-  steps_from : old.peak.steps ≤ new.peak.steps
-  levels_from : old.peak.most_levels ≤ new.peak.most_levels
-  nodes_from : old.peak.nodes ≤ new.peak.nodes
-  within : IsWithinBounds bounds old.peak → IsWithinBounds bounds new.peak
-
-both_left : (a b : Bool) → (a && b) ≡ true → a ≡ true
-both_left true b e = refl
-both_left false b e = cc
-
-both_right : (a b : Bool) → (a && b) ≡ true → b ≡ true
-both_right true b e = e
-both_right false b e = cc
-
-both : (a b : Bool) → a ≡ true → b ≡ true → (a && b) ≡ true
-both a b p q = rw (p, q) refl
+use Rattle.bb_run.specs.CheckSeen.{CheckSaw, SawAnswer, SawOpen, SawUnread}
+use Rattle.bb_run.specs.Seen.{none_seen}
+use Rattle.bb_run.specs.CheckSummary.{IsCheckSummary, IsFine, IsOkOf}
+use Rattle.bb_run.proofs.Peaks.{all_more, clean_more}
+use Rattle.bb_run.proofs.CheckReplies.{answered, check_reply_is_unique, never_both, one_answer, one_verdict}
+use Rattle.bb_run.proofs.CheckReplies.{opened}
 
 -- the words of answers that leave a run clean, and of those that don't
 word_if_fine : (given : Answer) → is_fine given ≡ true
@@ -69,160 +52,113 @@ fine_reply bounds line reply is fine =
     let same = check_reply_is_unique bounds line fine.reply reply fine.is_reply is in
     subst (λ r. (r ≡ answer_text answer.Ok) ⊎ (r ≡ answer_text answer.Open)) same fine.is_fine
 
-module _ (bounds : Bounds) where
-  sums_none : (s : Summary) → Sums bounds [] s s
-  sums_none s = record {
-    all_clean = λ e. (e, tt);
-    stays_clean = λ e all. e;
-    oks = tt;
-    steps_from = omega arith;
-    levels_from = omega arith;
-    nodes_from = omega arith;
-    within = λ e. e;
-  }
+module _ (bounds : Bounds) (lines : List (List ℕ)) (line : List ℕ) (old new : Summary) (cost : ℕ)
+    (before : IsCheckSummary bounds lines old) where
+  answer_summed : SawAnswer bounds old line new cost → IsCheckSummary bounds (lines ++ line ∷ []) new
+  answer_summed saw = record {
+    clean = clean_more (IsFine bounds) lines before.clean (
+      λ e. let now = and_parts old.clean (is_fine saw.given) (sym saw.clean ∙ e) in (now.0, fine now.1),
+      λ are. saw.clean ∙ and_from old.clean (is_fine saw.given) are.0 (given_fine are.1),
+    );
+    oks = all_more (λ other within n l k ok. let few = within n l k ok in
+        (omega (arith, few.0, steps), omega (arith, few.1, levels), omega (arith, few.2, nodes)))
+        lines before.oks is_within;
+    within = let w = before.within in record {
+      steps = omega (arith, w.steps, saw.within.steps, steps);
+      cells = omega (arith, w.cells, saw.within.cells, ap (λ (m : Meter). m.most_cells) saw.peak);
+      levels = omega (arith, w.levels, saw.within.levels, levels);
+      nodes = omega (arith, w.nodes, saw.within.nodes, nodes);
+    };
+  } where
+    steps : new.peak.steps ≡ max old.peak.steps saw.meter.steps
+    steps = ap (λ (m : Meter). m.steps) saw.peak
 
-  module _ (line : List ℕ) (lines : List (List ℕ)) (old mid new : Summary) (effort : ℕ)
-      (rest : Sums bounds lines mid new) where
-    sums_answer : SawAnswer bounds old line mid effort → Sums bounds (line ∷ lines) old new
-    sums_answer saw = record {
-      all_clean = λ e.
-          let r = rest.all_clean e in
-          let now = sym saw.clean ∙ r.0 in
-          let given = fine (both_right old.clean (is_fine saw.given) now) in
-          (both_left old.clean (is_fine saw.given) now, (given, r.1));
-      stays_clean = λ e all.
-          let now = both old.clean (is_fine saw.given) e (given_fine all.0) in
-          rest.stays_clean (saw.clean ∙ now) all.1;
-      oks = (is_within, rest.oks);
-      steps_from = let from = rest.steps_from in omega (arith, from, steps_now);
-      levels_from = let from = rest.levels_from in omega (arith, from, levels_now);
-      nodes_from = let from = rest.nodes_from in omega (arith, from, nodes_now);
-      within = λ w. rest.within (record {
-        steps = let a = w.steps in let b = saw.within.steps in omega (arith, a, b, steps_now);
-        cells = let a = w.cells in let b = saw.within.cells in omega (arith, a, b, cells_now);
-        levels = let a = w.levels in let b = saw.within.levels in omega (arith, a, b, levels_now);
-        nodes = let a = w.nodes in let b = saw.within.nodes in omega (arith, a, b, nodes_now);
-      });
-    } where
-      steps_now : mid.peak.steps ≡ max old.peak.steps saw.cost.steps
-      steps_now = ap (λ (m : Meter). m.steps) saw.peak
+    levels : new.peak.most_levels ≡ max old.peak.most_levels saw.meter.most_levels
+    levels = ap (λ (m : Meter). m.most_levels) saw.peak
 
-      cells_now : mid.peak.most_cells ≡ max old.peak.most_cells saw.cost.most_cells
-      cells_now = ap (λ (m : Meter). m.most_cells) saw.peak
+    nodes : new.peak.nodes ≡ max old.peak.nodes saw.meter.nodes
+    nodes = ap (λ (m : Meter). m.nodes) saw.peak
 
-      levels_now : mid.peak.most_levels ≡ max old.peak.most_levels saw.cost.most_levels
-      levels_now = ap (λ (m : Meter). m.most_levels) saw.peak
+    replied : IsCheckReply bounds line (answer_text saw.given)
+    replied = answered bounds line saw.table saw.verdict saw.given saw.of saw.is_answer
 
-      nodes_now : mid.peak.nodes ≡ max old.peak.nodes saw.cost.nodes
-      nodes_now = ap (λ (m : Meter). m.nodes) saw.peak
+    fine : is_fine saw.given ≡ true → IsFine bounds line
+    fine e = record { reply = answer_text saw.given; is_reply = replied; is_fine = word_if_fine saw.given e }
 
-      replied : IsCheckReply bounds line (answer_text saw.given)
-      replied = inl (record {
-        table = saw.table;
-        verdict = saw.verdict;
-        of = saw.of;
-        given = saw.given;
-        is_answer = saw.is_answer;
-        is_reply = refl;
-      })
+    given_fine : IsFine bounds line → is_fine saw.given ≡ true
+    given_fine f = fine_by_word saw.given (fine_reply bounds line (answer_text saw.given) replied f)
 
-      fine : is_fine saw.given ≡ true → IsFine bounds line
-      fine e =
-          record { reply = answer_text saw.given; is_reply = replied; is_fine = word_if_fine saw.given e }
+    is_within : (n l k : ℕ) → IsOkOf bounds line n l k
+        → (n ≤ new.peak.steps) × (l ≤ new.peak.most_levels) × (k ≤ new.peak.nodes)
+    is_within n l k ok =
+        let verdict = one_verdict line ok.table saw.table ok.verdict saw.verdict ok.of saw.of in
+        let given = one_answer line saw.table ok.table saw.verdict ok.verdict saw.of ok.of bounds saw.given
+        answer.Ok saw.is_answer ok.is_ok in
+        let counted = saw.counted given in
+        let n_is = ok.steps_are ∙ ap last_step verdict ∙ sym counted.steps in
+        let l_is = ok.levels_are ∙ ap levels_of verdict ∙ sym counted.levels in
+        let k_is = ok.nodes_are ∙ ap nodes_of verdict ∙ sym counted.nodes in
+        (omega (arith, n_is, steps), omega (arith, l_is, levels), omega (arith, k_is, nodes))
 
-      given_fine : IsFine bounds line → is_fine saw.given ≡ true
-      given_fine f = fine_by_word saw.given (fine_reply bounds line (answer_text saw.given) replied f)
+  open_summed : SawOpen old line new cost → IsCheckSummary bounds (lines ++ line ∷ []) new
+  open_summed saw = rw saw.same (record {
+    clean = clean_more (IsFine bounds) lines before.clean (λ e. (e, fine), λ are. are.0);
+    oks = all_more (λ other within. within) lines before.oks
+        (λ n l k ok. absurd (never_both line ok.table ok.verdict saw.column ok.of saw.of));
+    within = before.within;
+  }) where
+    fine : IsFine bounds line
+    fine = record {
+      reply = answer_text answer.Open;
+      is_reply = opened bounds line saw.column saw.of;
+      is_fine = inr refl;
+    }
 
-      is_within : (steps levels nodes : ℕ) → IsOkOf bounds line steps levels nodes
-          → (steps ≤ new.peak.steps) × (levels ≤ new.peak.most_levels) × (nodes ≤ new.peak.nodes)
-      is_within steps levels nodes ok =
-          let verdict = one_verdict line ok.table saw.table ok.verdict saw.verdict ok.of saw.of in
-          let given = one_answer line saw.table ok.table saw.verdict ok.verdict saw.of ok.of bounds saw.given
-          answer.Ok saw.is_answer ok.is_ok in
-          let counted = saw.counted given in
-          let steps_are = ok.steps_are ∙ ap last_step verdict ∙ sym counted.steps in
-          let levels_are = ok.levels_are ∙ ap levels_of verdict ∙ sym counted.levels in
-          let nodes_are = ok.nodes_are ∙ ap nodes_of verdict ∙ sym counted.nodes in
-          let steps_from = rest.steps_from in
-          let levels_from = rest.levels_from in
-          let nodes_from = rest.nodes_from in (
-            omega (arith, steps_are, steps_from, steps_now),
-            omega (arith, levels_are, levels_from, levels_now),
-            omega (arith, nodes_are, nodes_from, nodes_now),
-          )
+  unread_summed : SawUnread old line new cost → IsCheckSummary bounds (lines ++ line ∷ []) new
+  unread_summed saw = record {
+    clean = clean_more (IsFine bounds) lines before.clean (
+      λ e. (let wrong = sym saw.clean ∙ e in cc),
+      λ are. absurd (unread_is_apart (fine_reply bounds line unread_text unread are.1)),
+    );
+    oks = rw saw.peak (all_more (λ other within. within) lines before.oks
+        (λ n l k ok. absurd (saw.no_line (Claim ok.table ok.verdict) ok.of)));
+    within = rw saw.peak before.within;
+  } where
+    unread : IsCheckReply bounds line unread_text
+    unread = inr (inr (record { no_line = saw.no_line; is_reply = refl }))
 
-    sums_open : SawOpen old line mid effort → Sums bounds (line ∷ lines) old new
-    sums_open saw = record {
-      all_clean = λ e. let r = rest.all_clean e in (sym clean_now ∙ r.0, (fine, r.1));
-      stays_clean = λ e all. rest.stays_clean (clean_now ∙ e) all.1;
-      oks = (
-        λ steps levels nodes ok.
-            absurd (never_both line ok.table ok.verdict saw.column ok.of saw.of),
-        rest.oks,
-      );
-      steps_from = subst (λ (s : Summary). s.peak.steps ≤ new.peak.steps) saw.same rest.steps_from;
-      levels_from =
-          subst (λ (s : Summary). s.peak.most_levels ≤ new.peak.most_levels) saw.same rest.levels_from;
-      nodes_from = subst (λ (s : Summary). s.peak.nodes ≤ new.peak.nodes) saw.same rest.nodes_from;
-      within = λ w. rest.within (subst (λ (s : Summary). IsWithinBounds bounds s.peak) (sym saw.same) w);
-    } where
-      clean_now : mid.clean ≡ old.clean
-      clean_now = ap (λ (s : Summary). s.clean) saw.same
+  line_summed : CheckSaw bounds old line new cost → IsCheckSummary bounds (lines ++ line ∷ []) new
+  line_summed (inl saw) = answer_summed saw
+  line_summed (inr (inl saw)) = open_summed saw
+  line_summed (inr (inr saw)) = unread_summed saw
 
-      fine : IsFine bounds line
-      fine = record {
-        reply = answer_text answer.Open;
-        is_reply = inr (inl (record { column = saw.column; of = saw.of; is_reply = refl }));
-        is_fine = inr refl;
-      }
+-- a run that begins with nothing counted is summed up
+module _ {D : Type 0} (bounds : D → Bounds) (summary : D → Summary) (cost : D → ℕ) where
+  abbrev pub CheckSawOwn : D → List ℕ → D → Type 0
+  CheckSawOwn a line b = (bounds b ≡ bounds a) × CheckSaw (bounds a) (summary a) line (summary b) (cost b)
 
-    sums_unread : SawUnread old line mid effort → Sums bounds (line ∷ lines) old new
-    sums_unread saw = record {
-      all_clean = λ e. let r = rest.all_clean e in let wrong : false ≡ true = sym saw.clean ∙ r.0 in cc;
-      stays_clean = λ e all. absurd (unread_is_apart (fine_reply bounds line unread_text unread all.0));
-      oks = (λ steps levels nodes ok. absurd (saw.no_line (Claim ok.table ok.verdict) ok.of), rest.oks);
-      steps_from = subst (λ (m : Meter). m.steps ≤ new.peak.steps) saw.peak rest.steps_from;
-      levels_from = subst (λ (m : Meter). m.most_levels ≤ new.peak.most_levels) saw.peak rest.levels_from;
-      nodes_from = subst (λ (m : Meter). m.nodes ≤ new.peak.nodes) saw.peak rest.nodes_from;
-      within = λ w. rest.within (subst (λ (m : Meter). IsWithinBounds bounds m) (sym saw.peak) w);
-    } where
-      unread : IsCheckReply bounds line unread_text
-      unread = inr (inr (record { no_line = saw.no_line; is_reply = refl }))
-
--- what a checker with these limits and this summary saw of a line
-abbrev pub CheckSawLine : {D : Type 0} → (D → Bounds) → (D → Summary) → (D → ℕ) → D → List ℕ → D → Type 0
-CheckSawLine bounds summary effort a line b =
-    (bounds b ≡ bounds a) × CheckSaw (bounds a) (summary a) line (summary b) (effort b)
-
-module _ {D : Type 0} (bounds : D → Bounds) (summary : D → Summary) (effort : D → ℕ) where
-  sums : (lines : List (List ℕ)) (a b : D) → FoldsTo (CheckSawLine bounds summary effort) a lines b
-      → Sums (bounds a) lines (summary a) (summary b)
-  sums [] a b e = subst (λ d. Sums (bounds a) [] (summary a) (summary d)) e (sums_none _ _)
-  sums (line ∷ lines) a b folds =
-      let c = folds.0 in
-      let later = sums lines c b folds.2 in
-      let rest = subst (λ (l : Bounds). Sums l lines (summary c) (summary b)) folds.1.0 later in
-      elim folds.1.1 [
-        | inl answered ↦ sums_answer _ line lines _ _ _ _ rest answered
-        | inr other ↦ elim other [
-          | inl refusal ↦ sums_open _ line lines _ _ _ _ rest refusal
-          | inr unread ↦ sums_unread _ line lines _ _ _ _ rest unread
-        ]
-      ]
-
-  -- a run that begins with nothing counted is summed up
-  pub check_summed : (lines : List (List ℕ)) (a b : D)
-      → summary a ≡ record { clean = true; peak = zero_meter }
-      → FoldsTo (CheckSawLine bounds summary effort) a lines b → IsCheckSummary (bounds a) lines (summary b)
-  check_summed lines a b begin folds =
-      let all = sums lines a b folds in
-      let s = subst (λ (old : Summary). Sums (bounds a) lines old (summary b)) begin all in record {
-        clean = (λ e. (s.all_clean e).1, λ all. s.stays_clean refl all);
-        oks = s.oks;
-        within = s.within (record {
+  pub check_summed : (lines : List (List ℕ)) (a b : D) → summary a ≡ none_seen → FoldsTo CheckSawOwn a lines b
+      → IsCheckSummary (bounds a) lines (summary b)
+  check_summed lines a b begin folds = (chained_keeps CheckSawOwn (λ past d. (bounds d ≡ bounds a)
+      × IsCheckSummary (bounds a) past (summary d)) more lines a b (refl, rw begin none) folds).1
+    where
+      none : IsCheckSummary (bounds a) [] none_seen
+      none = record {
+        clean = (λ e. tt, λ all. refl);
+        oks = tt;
+        within = record {
           steps = omega arith;
           cells = omega arith;
           levels = omega arith;
           nodes = omega arith;
-        });
+        };
       }
+
+      more : (past : List (List ℕ)) (d : D) (line : List ℕ) (e : D)
+          → (bounds d ≡ bounds a) × IsCheckSummary (bounds a) past (summary d) → CheckSawOwn d line e
+          → (bounds e ≡ bounds a) × IsCheckSummary (bounds a) (past ++ line ∷ []) (summary e)
+      more past d line e before saw = (
+        saw.0 ∙ before.0,
+        line_summed (bounds a) past line (summary d) (summary e) (cost e) before.1
+            (subst (λ (l : Bounds). CheckSaw l (summary d) line (summary e) (cost e)) before.0 saw.1),
+      )

@@ -5,7 +5,8 @@ use Rattle.bb_machine.proofs.Facts.{column_unique, text_unique}
 use Rattle.bb_cert.specs.verdict.Line.{line_text, refusal_text}
 use Rattle.bb_machine.specs.declared.plan.Plan.{Plan}
 use Rattle.bb_decide.specs.Verdict.{IsVerdict}
-use Rattle.bb_decide.proofs.Facts.{verdict_is_unique, verdicts_are_confirmed, verdicts_hold, work_is_bounded}
+use Rattle.bb_decide.proofs.Facts.{steps_are_bounded, verdict_is_unique, verdicts_are_confirmed}
+use Rattle.bb_decide.proofs.Facts.{verdicts_hold}
 use Rattle.bb_cert.proofs.Facts.{claims_never_halt}
 use Rattle.bb_run.specs.Laws.{AllVerdictsAreBorneOut, ReplyIsUnique}
 use Rattle.bb_run.specs.Reply.{IsVerdictReply, IsRefusal}
@@ -41,5 +42,5 @@ verdicts_are_borne_out bounds plan = record {
     never = λ says. claims_never_halt table verdict machine says (verdicts_hold table bounds plan verdict is);
     confirmed = verdicts_are_confirmed table bounds plan verdict is;
   };
-  work = λ table n is. work_is_bounded table bounds plan n is;
+  steps = λ table n is. steps_are_bounded table bounds plan n is;
 }

@@ -9,7 +9,7 @@ use Rattle.bb_cert.specs.checker.Answer.{IsAnswer, IsUndecided}
 use Rattle.bb_cert.specs.claims.Claim.{SaysNever}
 use Rattle.bb_machine.specs.declared.plan.Plan.{Plan}
 use Rattle.bb_decide.specs.Verdict.{IsVerdict}
-use Rattle.bb_decide.specs.Work.{IsWork}
+use Rattle.bb_decide.specs.Cost.{DecisionSteps}
 
 -- where the verdict says that the machine never halts, no number of steps halts it; and unless the verdict is
 -- undecided, a checker under the same bounds answers ok to it
@@ -21,4 +21,4 @@ pub record IsBorneOut (table : Table) (bounds : Bounds) (verdict : Verdict) : Ty
 pub record VerdictsAreBorneOut (bounds : Bounds) (plan : Plan) : Type 0 where
   pub verdicts : (table : Table) (verdict : Verdict) → IsMachine table → IsVerdict table bounds plan verdict
       → IsBorneOut table bounds verdict
-  pub work : (table : Table) (n : ℕ) → IsWork table bounds plan n → n ≤ 3 * bounds.steps
+  pub steps : (table : Table) (n : ℕ) → DecisionSteps table bounds plan n → n ≤ 3 * bounds.steps

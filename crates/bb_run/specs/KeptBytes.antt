@@ -44,23 +44,23 @@ module _ (line : List ℕ) (kept : ℕ) (enough : PrefixIsEnough line kept) wher
     })
   ]
 
-  saw_of_prefix : (Counts : Table → Meter → Type 0) (old new : Summary) (effort : ℕ)
-      → SawBy Counts old (take kept line) new effort → SawBy Counts old line new effort
-  saw_of_prefix Counts old new effort is = elim is [
+  saw_of_prefix : (Counts : Table → Meter → Type 0) (old new : Summary) (cost : ℕ)
+      → SawBy Counts old (take kept line) new cost → SawBy Counts old line new cost
+  saw_of_prefix Counts old new cost is = elim is [
     | inl m ↦ inl (record {
       table = m.table;
       of = text_of_prefix m.table m.of;
-      cost = m.cost;
+      meter = m.meter;
       counts = m.counts;
       clean = m.clean;
       peak = m.peak;
-      is_effort = m.is_effort;
+      is_cost = m.is_cost;
     })
     | inr r ↦ inr (record {
       no_machine = no_machine_of_prefix r.no_machine;
       clean = r.clean;
       peak = r.peak;
-      no_effort = r.no_effort;
+      no_cost = r.no_cost;
     })
   ]
 
@@ -77,8 +77,8 @@ pub reply_of_kept : (bounds : Bounds) (plan : Plan) (line reply : List ℕ)
 reply_of_kept bounds plan line reply is =
     reply_of_prefix line (LINE + 1) (prefix_enough line (LINE + 1) (omega arith)) bounds plan reply is
 
--- what the kept bytes of a line do to the summary, the line does, and it is the same effort
-pub saw_of_kept : (Counts : Table → Meter → Type 0) (line : List ℕ) (old new : Summary) (effort : ℕ)
-    → SawBy Counts old (take (LINE + 1) line) new effort → SawBy Counts old line new effort
-saw_of_kept Counts line old new effort saw =
-    saw_of_prefix line (LINE + 1) (prefix_enough line (LINE + 1) (omega arith)) Counts old new effort saw
+-- what the kept bytes of a line do to the summary, the line does, and it costs the same
+pub saw_of_kept : (Counts : Table → Meter → Type 0) (line : List ℕ) (old new : Summary) (cost : ℕ)
+    → SawBy Counts old (take (LINE + 1) line) new cost → SawBy Counts old line new cost
+saw_of_kept Counts line old new cost saw =
+    saw_of_prefix line (LINE + 1) (prefix_enough line (LINE + 1) (omega arith)) Counts old new cost saw

@@ -1,7 +1,7 @@
 pub mod inside
 pub mod BorneOut
 pub mod CheckEnds
-pub mod CheckKept
+pub mod CheckKeptBytes
 pub mod CheckReply
 pub mod CheckSeen
 pub mod CheckSummary

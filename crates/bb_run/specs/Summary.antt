@@ -7,14 +7,14 @@ use Rattle.bb_sim.specs.Span.{span, IsLastInside}
 use Rattle.bb_cert.specs.declared.verdict.Verdict.TheVariants.{Backward}
 use Rattle.bb_machine.specs.declared.plan.Plan.{Plan}
 use Rattle.bb_decide.specs.Verdict.{IsVerdict}
-use Rattle.bb_decide.specs.Work.{IsWithinWork, IsWork}
+use Rattle.bb_decide.specs.Cost.{IsWithinCost, DecisionSteps}
 use Rattle.bb_run.specs.declared.summary.Summary.{Summary}
 
 -- the line is the text of a machine that is decided by so many steps
-pub record IsWorkOf (bounds : Bounds) (plan : Plan) (line : List ℕ) (work : ℕ) : Type 0 where
+pub record AreStepsOf (bounds : Bounds) (plan : Plan) (line : List ℕ) (steps : ℕ) : Type 0 where
   pub table : Table
   pub of : IsTextOf table line
-  pub is_work : IsWork table bounds plan work
+  pub are_steps : DecisionSteps table bounds plan steps
 
 -- the line is the text of a machine whose run inside the bounds has this span
 pub record IsSpanOf (bounds : Bounds) (line : List ℕ) (width : ℕ) : Type 0 where
@@ -50,7 +50,7 @@ pub record IsPeak (Count : List ℕ → ℕ → Type 0) (lines : List (List ℕ)
 pub record IsSummary (bounds : Bounds) (plan : Plan) (lines : List (List ℕ)) (summary : Summary)
     : Type 0 where
   pub clean : IsTrue summary.clean ↔ AllByRecursion IsMachineLine lines
-  pub peak_steps : IsPeak (IsWorkOf bounds plan) lines summary.peak.steps
+  pub peak_steps : IsPeak (AreStepsOf bounds plan) lines summary.peak.steps
   pub peak_cells : IsPeak (IsSpanOf bounds) lines summary.peak.most_cells
   pub trees : AreTreesWithin bounds plan lines summary.peak.most_levels summary.peak.nodes
   pub within_levels : summary.peak.most_levels ≤ bounds.depth
@@ -63,4 +63,4 @@ pub record IsOneRunSummary (bounds : Bounds) (plan : Plan) (lines : List (List �
     : Type 0 where
   pub clean : IsTrue summary.clean ↔ AllByRecursion IsMachineLine lines
   pub trees : AreTreesWithin bounds plan lines summary.peak.most_levels summary.peak.nodes
-  pub within : IsWithinWork bounds summary.peak
+  pub within : IsWithinCost bounds summary.peak

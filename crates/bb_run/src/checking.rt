@@ -4,7 +4,6 @@ ghost use Rattle.bb_cert.specs.checker.Pair.{PairHasCells};
 ghost use Rattle.bb_cert.specs.tree.Path.{depth_of};
 ghost use Rattle.bb_lines.specs.Watched.{is_marked, watched_inner};
 ghost use Rattle.bb_run.specs.CheckEnds.{CheckEnds};
-ghost use Rattle.bb_run.specs.CheckSeen.{is_fine};
 
 use crate::counts::AnswerCounts;
 use crate::summary::Summary;
@@ -30,7 +29,7 @@ struct Checker<'a, T> {
     machine: Machine,
     summary: Summary,
     // The steps and the nodes that the last line cost; 0 where nothing was run, and before the first line.
-    last_effort: u64,
+    last_cost: u64,
     counts: &'a AnswerCounts,
 }
 
@@ -42,14 +41,14 @@ impl<T: Tape> Responder for Checker<'_, T> {
     ghost use Rattle.bb_cert.specs.tree.Path.{depth_of};
     ghost use Rattle.bb_run.specs.CheckReply.{IsCheckReply};
     ghost use Rattle.bb_run.specs.CheckSeen.{CheckSaw};
-    ghost use Rattle.bb_run.specs.CheckKept.{check_reply_kept, check_reply_of_kept, check_saw_of_kept};
+    ghost use Rattle.bb_run.specs.CheckKeptBytes.{check_reply_kept, check_reply_of_kept, check_saw_of_kept};
 
     ghost replies_with = { λ c line reply. IsCheckReply c.limits line reply };
 
     ghost saw = { λ a line b. (b.limits ≡ a.limits)
-        × CheckSaw a.limits a.summary line b.summary b.last_effort };
+        × CheckSaw a.limits a.summary line b.summary b.last_cost };
 
-    ghost work = { λ c. c.last_effort };
+    ghost cost = { λ c. c.last_cost };
 
     ghost keeps = { λ a b. (b.limits ≡ a.limits) × (b.pair.ghost_name ≡ a.pair.ghost_name)
         × (b.path.ghost_name ≡ a.path.ghost_name) × (depth_of b.path.now ≡ depth_of a.path.now) };
@@ -75,7 +74,7 @@ impl<T: Tape> Responder for Checker<'_, T> {
     ghost reply_by_kept = { λ a line text reply. check_reply_of_kept a.limits line text reply };
 
     ghost saw_by_kept = { λ a line b saw.
-        (saw.0, check_saw_of_kept a.limits line a.summary b.summary b.last_effort saw.1) };
+        (saw.0, check_saw_of_kept a.limits line a.summary b.summary b.last_cost saw.1) };
 
     fn bytes_kept(&self) -> usize {
         LINE_BUFFER + 1
@@ -85,14 +84,14 @@ impl<T: Tape> Responder for Checker<'_, T> {
         let verdict = match read_line_in_place(line, &mut self.machine) {
             Some(LineContent::Claim(verdict)) => verdict,
             Some(LineContent::Refusal(_)) => {
-                self.last_effort = 0;
+                self.last_cost = 0;
                 self.counts.add(Answer::Open);
                 put(Answer::Open.word(), text);
                 return Ok(0);
             }
             None => {
                 self.summary.clean = false;
-                self.last_effort = 0;
+                self.last_cost = 0;
                 self.counts.add_unread();
                 put(b"unread", text);
                 return Ok(0);
@@ -111,21 +110,11 @@ impl<T: Tape> Responder for Checker<'_, T> {
             return Err(AllocError);
         };
         put(answer.word(), text);
-        self.summary.clean = self.summary.clean & leaves_clean(answer);
+        self.summary.clean = self.summary.clean & answer.is_fine();
         self.summary.peak = self.summary.peak.greatest(meter);
-        self.last_effort = meter.steps + meter.nodes;
+        self.last_cost = meter.steps + meter.nodes;
         self.counts.add(answer);
-        Ok(self.last_effort)
-    }
-}
-
-/// Whether a run stays clean with this answer.
-fn leaves_clean(answer: Answer) -> bool
-    ensures { result ≡ is_fine answer }
-{
-    match answer {
-        Answer::Ok | Answer::Open => true,
-        Answer::Bad | Answer::Over => false,
+        Ok(self.last_cost)
     }
 }
 
@@ -209,7 +198,7 @@ pub fn run_check_with_counts<R: Read, W: Write, T: Tape>(
             clean: true,
             peak: Meter::new(),
         },
-        last_effort: 0,
+        last_cost: 0,
         counts,
     };
     run(reader, writer, &mut checker)?;

@@ -4,6 +4,7 @@
 
 mod checking;
 mod counts;
+mod decider;
 mod deciding;
 pub mod laws;
 mod one_run;

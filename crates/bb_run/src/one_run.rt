@@ -8,100 +8,35 @@ ghost use Rattle.bb_run.specs.Ends.{DecideInOneRunEnds};
 ghost use Rattle.bb_run.specs.FewCells.{FewCellsAreReplied};
 
 use crate::counts::VerdictCounts;
+use crate::decider::{Decide, reply_to_lines};
 use crate::summary::Summary;
-use crate::tally::Tally;
-use arrayvec::ArrayVec;
+use bb_cert::Verdict;
 use bb_decide::{Bench, Plan, SpreadKeys, decide_in_one_run};
 use bb_lines::fault::Fault;
-use bb_lines::lines::run;
-use bb_lines::responder::{REPLY, Responder};
 use bb_lines::watched::Watched;
 use bb_machine::laws::texts_differ;
-use bb_machine::{LINE, Limits};
+use bb_machine::{Limits, Machine};
 use bb_sim::Meter;
-use bb_tape::Tape;
-use std::alloc::AllocError;
+use bb_tape::{Memory, Tape};
 use std::io::{Read, Write};
 
-/// What replies to the lines of a list with verdicts, each found in one run.
-#[derive(Drop)]
-struct OneRunDecider<'a, T> {
-    limits: Limits,
-    plan: Plan,
-    bench: &'a mut Bench<T>,
-    tally: Tally<'a>,
-}
+/// In one run, watched for all that a verdict may be.
+struct InOneRun;
 
-impl<T: Tape> Responder for OneRunDecider<'_, T> {
-    ghost use Rattle.std.specs.Prelude.{◌≡◌, ◌+◌};
-    ghost use Rattle.std.proofs.Common.{rules, subst};
-    ghost use Rattle.bb_machine.specs.Limits.{Bounds};
-    ghost use Rattle.bb_machine.specs.declared.machine.TheConstants.{LINE};
-    ghost use Rattle.bb_cert.specs.tree.Path.{depth_of};
-    ghost use Rattle.bb_decide.specs.Bench.{BenchHasCells};
-    ghost use Rattle.bb_run.specs.Reply.{IsReply};
-    ghost use Rattle.bb_run.specs.Seen.{CountsInOneRun, SawBy};
-    ghost use Rattle.bb_run.specs.KeptBytes.{reply_kept, reply_of_kept, saw_of_kept};
+impl Decide for InOneRun {
+    ghost use Rattle.bb_run.specs.Seen.{CountsInOneRun};
 
-    ghost replies_with = { λ d line reply. IsReply d.limits d.plan line reply };
+    ghost counts = { CountsInOneRun };
 
-    ghost saw = { λ a line b. (b.limits ≡ a.limits) × (b.plan ≡ a.plan)
-        × SawBy (CountsInOneRun a.limits a.plan) a.tally.summary line b.tally.summary
-        b.tally.last_effort };
-
-    ghost work = { λ d. d.tally.last_effort };
-
-    ghost keeps = { λ a b. (b.limits ≡ a.limits) × (b.plan ≡ a.plan)
-        × (b.bench.ghost_name ≡ a.bench.ghost_name) };
-
-    ghost is_ready = { λ d. BenchHasCells T.view d.limits.cells d.bench.now
-        × (depth_of d.bench.now.path ≡ d.limits.depth) };
-
-    ghost GROWS = { T.GROWS };
-
-    ghost KEEP = { LINE + 1 };
-
-    ghost keeps_at_first = { Prim.search rules };
-
-    ghost keeps_on = { Prim.search rules };
-
-    ghost keeps_reply = { λ a b keeps line text reply.
-        reply_kept b.limits a.limits b.plan a.plan line text keeps.0 keeps.1 reply };
-
-    ghost keeps_some = { Prim.search rules };
-
-    ghost keeps_few = { Prim.search rules };
-
-    ghost reply_by_kept = { λ a line text reply. reply_of_kept a.limits a.plan line text reply };
-
-    ghost saw_by_kept = { λ a line b saw. (
-      saw.0,
-      saw.1,
-      saw_of_kept (CountsInOneRun a.limits a.plan) line
-          a.tally.summary b.tally.summary b.tally.last_effort saw.2,
-    ) };
-
-    fn bytes_kept(&self) -> usize {
-        LINE + 1
-    }
-
-    fn respond(&mut self, line: &[u8], text: &mut ArrayVec<u8, REPLY>) -> Result<u64, AllocError> {
-        if !self.tally.read(line, text) {
-            return Ok(0);
-        }
-        self.limits.show_accepted();
-        let mut meter = Meter::new();
-        let Ok(verdict) = decide_in_one_run(
-            &self.tally.machine,
-            &self.limits,
-            self.plan,
-            &SpreadKeys,
-            self.bench,
-            &mut meter,
-        ) else {
-            return Err(AllocError);
-        };
-        Ok(self.tally.reply(line, &verdict, meter, text))
+    #[inline(always)]
+    fn decide<T: Tape>(
+        machine: &Machine,
+        limits: &Limits,
+        plan: Plan,
+        bench: &mut Bench<T>,
+        meter: &mut Meter,
+    ) -> Result<Verdict, Memory> {
+        decide_in_one_run(machine, limits, plan, &SpreadKeys, bench, meter)
     }
 }
 
@@ -172,13 +107,6 @@ pub fn run_decide_in_one_run_with_counts<R: Read, W: Write, T: Tape>(
     ensures tapes { BenchHasCells T.view limits.now.cells bench.new }
     ensures path { depth_of bench.new.path ≡ depth_of bench.old.path }
 {
-    let mut decider = OneRunDecider {
-        limits: *limits,
-        plan,
-        bench,
-        tally: Tally::new(counts),
-    };
-    run(reader, writer, &mut decider)?;
     texts_differ();
-    Ok(decider.tally.summary)
+    reply_to_lines::<R, W, T, InOneRun>(reader, writer, limits, plan, bench, counts)
 }

@@ -22,7 +22,7 @@ pub(crate) struct Tally<'a> {
     pub(crate) machine: Machine,
     pub(crate) summary: Summary,
     /// The steps and the nodes that the last line cost; 0 where it was refused, and before the first line.
-    pub(crate) last_effort: u64,
+    pub(crate) last_cost: u64,
     counts: &'a VerdictCounts,
 }
 
@@ -37,7 +37,7 @@ impl<'a> Tally<'a> {
                 clean: true,
                 peak: Meter::new(),
             },
-            last_effort: 0,
+            last_cost: 0,
             counts,
         }
     }
@@ -51,13 +51,13 @@ impl<'a> Tally<'a> {
         ensures stays { IsTrue result → self.new.summary ≡ self.old.summary }
         ensures refused { IsFalse result → IsRefusal line.now text.new.items }
         ensures saw { IsFalse result
-            → SawRefusal self.old.summary line.now self.new.summary self.new.last_effort }
+            → SawRefusal self.old.summary line.now self.new.summary self.new.last_cost }
     {
         match self.machine.read_in_place(line) {
             Ok(()) => true,
             Err(refused) => {
                 self.summary.clean = false;
-                self.last_effort = 0;
+                self.last_cost = 0;
                 self.counts.add_refusal();
                 refusal_into(refused.column, text);
                 false
@@ -66,32 +66,32 @@ impl<'a> Tally<'a> {
     }
 
     /// Puts the line of the machine that was read and its verdict into the text, which is empty, counts it,
-    /// and tells its effort.
+    /// and tells what it cost.
     #[inline(always)]
     pub(crate) fn reply(
         &mut self,
         line: &[u8],
         verdict: &Verdict,
-        cost: Meter,
+        meter: Meter,
         text: &mut ArrayVec<u8, REPLY>,
     ) -> u64
         requires of { IsTextOf self.old.machine line.now }
         requires numbers { HasNumbers verdict.now }
-        requires effort { cost.steps + cost.nodes < 2 ^ 64 }
+        requires cost { meter.steps + meter.nodes < 2 ^ 64 }
         requires empty { text.old.items ≡ [] }
         ensures line { text.new.items ≡ line.now ++ verdict_text verdict.now }
         ensures clean { self.new.summary.clean ≡ self.old.summary.clean }
-        ensures peak { self.new.summary.peak ≡ greatest_of self.old.summary.peak cost }
-        ensures effort { self.new.last_effort ≡ cost.steps + cost.nodes }
-        ensures told { result ≡ self.new.last_effort }
+        ensures peak { self.new.summary.peak ≡ greatest_of self.old.summary.peak meter }
+        ensures cost { self.new.last_cost ≡ meter.steps + meter.nodes }
+        ensures told { result ≡ self.new.last_cost }
     {
         lines_are_short();
         // The line is the machine's text, so it isn't written anew.
         text.try_extend_from_slice(line).unwrap();
         verdict_into(verdict, text);
-        self.summary.peak = self.summary.peak.greatest(cost);
-        self.last_effort = cost.steps + cost.nodes;
+        self.summary.peak = self.summary.peak.greatest(meter);
+        self.last_cost = meter.steps + meter.nodes;
         self.counts.add(verdict);
-        self.last_effort
+        self.last_cost
     }
 }

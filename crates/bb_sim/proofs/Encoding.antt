@@ -1,6 +1,6 @@
 -- A configuration whose head, and whose cells that aren't 0, are in a stretch of cells, as one number.
 use Rattle.std.proofs.Common.{◌≡◌, ◌≢◌, ℕ, zero, suc, ◌+◌, ◌*◌, ◌^◌, ◌<◌, ◌⊎◌, inl, inr, ℤ, pos}
-use Rattle.std.proofs.Common.{negsuc, ◌+ℤ◌, ◌-ℤ◌, ◌<ℤ◌, ◌≤ℤ◌, refl, ap, sym, ◌∙◌, arith}
+use Rattle.std.proofs.Common.{◌+ℤ◌, ◌-ℤ◌, ◌<ℤ◌, ◌≤ℤ◌, refl, ap, sym, ◌∙◌, arith}
 use Rattle.std.proofs.Math.Nat.{pow-succ', pow-zero}
 use Rattle.std.proofs.lemmas.Bool.{cases_lt}
 use Rattle.std.proofs.lemmas.Int.{ints}
@@ -10,7 +10,7 @@ use Rattle.bb_machine.specs.declared.entry.Next.{Next}
 use Rattle.bb_machine.specs.declared.entry.Next.TheVariants.{State, Halt}
 use Rattle.bb_machine.specs.Entry.{IsNextOf}
 use Rattle.bb_tape.specs.Content.{Content, cell}
-use Rattle.bb_tape.proofs.Facts.{same_content}
+use Rattle.bb_tape.proofs.Facts.{abs_is, same_content}
 use Rattle.bb_sim.specs.Configuration.{Configuration}
 use Rattle.bb_sim.proofs.RunLaws.{le_or_gt}
 
@@ -58,10 +58,6 @@ pub record IsIn (low : ℤ) (cells : ℕ) (p : ℤ) : Type 0 where
   pub from : low ≤ℤ p
   pub to : p <ℤ (low +ℤ pos cells)
 
-absolute : (d : ℤ) → pos 0 ≤ℤ d → pos (unsigned_abs d) ≡ d
-absolute (pos n) h = refl
-absolute (negsuc n) h = absurd (omega (arith, ints, h))
-
 -- how far such a position is from low
 pub offset : ℤ → ℤ → ℕ
 offset low p = unsigned_abs (p -ℤ low)
@@ -69,15 +65,11 @@ offset low p = unsigned_abs (p -ℤ low)
 offset-is : (low p : ℤ) (cells : ℕ) → IsIn low cells p → low +ℤ pos (offset low p) ≡ p
 unfolding offset
 offset-is low p cells inside =
-    let from = inside.from in
-    let e = absolute (p -ℤ low) (omega (arith, ints, from)) in
-    omega (arith, ints, e)
+    omega (arith, ints, abs_is (p -ℤ low) (omega (arith, ints, inside.from)))
 
 offset-below : (low p : ℤ) (cells : ℕ) → IsIn low cells p → offset low p < cells
 offset-below low p cells inside =
-    let to = inside.to in
-    let e = offset-is low p cells inside in
-    omega (arith, ints, e, to)
+    omega (arith, ints, offset-is low p cells inside, inside.to)
 
 -- a position is one of them or not
 in_or_out : (low : ℤ) (cells : ℕ) (p : ℤ) → IsIn low cells p ⊎ (IsIn low cells p → ⊥)

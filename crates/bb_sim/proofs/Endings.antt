@@ -1,5 +1,5 @@
 -- What is known where a run ends, whichever way it does.
-use Rattle.std.proofs.Common.{◌≡◌, ℕ, refl, ◌∙◌, ap}
+use Rattle.std.proofs.Common.{◌≡◌, ℕ, Bool, Ok, refl, ◌∙◌, ap}
 use Rattle.bb_machine.specs.declared.entry.Next.TheVariants.{Halt}
 use Rattle.bb_machine.specs.Limits.{Bounds}
 use Rattle.bb_machine.specs.Machine.{Table}
@@ -9,6 +9,9 @@ use Rattle.bb_sim.specs.declared.meter.Meter.{Meter}
 use Rattle.bb_sim.specs.declared.runner.Moved.{Moved}
 use Rattle.bb_sim.specs.declared.runner.Moved.TheVariants.{Halted, NoCells, NoSteps, Stepped}
 use Rattle.bb_sim.specs.declared.runner.Runner.{Runner}
+use Rattle.bb_sim.specs.declared.simulation.Outcome.{Outcome}
+use Rattle.bb_sim.specs.Outcome.{IsOutcome}
+use Rattle.bb_sim.specs.inside.Simulating.{Simulates}
 use Rattle.bb_sim.specs.Configuration.{Configuration, entry_at, followed, next}
 use Rattle.bb_sim.specs.Meter.{CountsRun, CountsTo, IsWithinRun}
 use Rattle.bb_sim.specs.Run.{HaltsAt}
@@ -49,6 +52,22 @@ module _ {table : Table} {bounds : Bounds} {old new : Runner} {view_old view_new
   ends_stopped NoSteps apart last stays = ends_stays last stays
   ends_stopped NoCells apart last stays = ends_stays last stays
   ends_stopped Stepped apart reaches moves = let same : Stepped ≡ Stepped = refl in absurd (apart same)
+
+  -- so ends a simulation that began with such a tape and meter
+  pub simulated : {grows : Bool} {first_view : TapeView} {outcome : Outcome} (moved : Moved)
+      → (moved ≡ Stepped → ⊥) → Reaches table bounds new view_new moved
+      → Moves table old new view_old view_new meter_old meter moved → view_new.limit ≡ first_view.limit
+      → (IsLastInside table bounds (steps_of old) → IsOutcome table bounds outcome)
+      → Simulates grows table bounds first_view view_new first meter (Ok outcome)
+  simulated moved apart reaches moves limit outcome =
+      let end = ends_stopped moved apart reaches moves in
+      record {
+        outcome = outcome end.last;
+        counted = end.counted;
+        within = end.within;
+        limit = limit;
+        memory = tt;
+      }
 
 -- a runner in Z stands where the machine halts
 pub halts_in_Z : (table : Table) (runner : Runner) (run : TapeView) → Stands table runner run

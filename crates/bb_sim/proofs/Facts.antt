@@ -7,10 +7,11 @@ pub use Rattle.bb_sim.proofs.RunLaws.{earlier_exists, earlier_is_inside, halt_is
 pub use Rattle.bb_sim.proofs.RunLaws.{score_is_unique, outcome_is_unique, span_is_reached, count_is_within}
 pub use Rattle.bb_sim.proofs.RunLaws.{least_bounds, greatest_bounds}
 pub use Rattle.bb_sim.proofs.Positions.{least-next, greatest-next, least_last, greatest_last}
-pub use Rattle.bb_sim.proofs.Positions.{cells_between-is}
+pub use Rattle.bb_sim.proofs.Positions.{cells_between-is, max_right, min_right, min-same}
 pub use Rattle.bb_sim.proofs.Standing.{counted_running, head_inside, small_position}
 pub use Rattle.bb_sim.proofs.Steps.{led, conf-start, conf-next, counted_head-at}
 pub use Rattle.bb_sim.proofs.Counting.{HasStepped, RunsWithin, counts_start, counts_next, has_stepped}
 pub use Rattle.bb_sim.proofs.Endings.{IsEnd, ends_in_Z, ends_stopped, halts_in_Z}
 pub use Rattle.bb_sim.proofs.FewCells.{few_cells_repeat_before, running_below}
-pub use Rattle.bb_sim.proofs.RunningOn.{RunsOn, runs_on}
+pub use Rattle.bb_sim.proofs.RunningOn.{RunsOn, conf-suc, runs_on}
+pub use Rattle.bb_sim.proofs.NamedRuns.{IsNamed, next_named, run_named}

@@ -6,10 +6,8 @@ use Rattle.bb_machine.specs.declared.entry.Dir.{Dir}
 use Rattle.bb_machine.specs.declared.entry.Entry.{Entry}
 use Rattle.bb_machine.specs.declared.entry.Entry.TheVariants.{Undefined, Go}
 use Rattle.bb_machine.specs.declared.entry.Next.{Next}
-use Rattle.bb_machine.specs.declared.entry.Next.TheVariants.{State, Halt}
-use Rattle.bb_machine.specs.Entry.{IsEntryOf}
-use Rattle.bb_machine.specs.Machine.{Table, IsMachine, symbols_of, entry_of}
-use Rattle.bb_machine.proofs.Facts.{entry_named}
+use Rattle.bb_machine.specs.declared.entry.Next.TheVariants.{Halt}
+use Rattle.bb_machine.specs.Machine.{Table, IsMachine, symbols_of}
 use Rattle.bb_tape.specs.Content.{cell}
 use Rattle.bb_tape.proofs.Facts.{cell-blank, cell-with_cell-other}
 use Rattle.bb_sim.specs.Configuration.{Configuration, start, entry_at}
@@ -22,7 +20,8 @@ use Rattle.bb_sim.proofs.Pigeonhole.{twins}
 use Rattle.bb_sim.proofs.Positions.{cells_between-is, least_last, greatest_last}
 use Rattle.bb_sim.proofs.RunLaws.{earlier_exists, least_bounds, greatest_bounds}
 use Rattle.bb_sim.proofs.Standing.{counted_running}
-use Rattle.bb_sim.proofs.Stepping.{no_entry_in_Z, symbols_stay}
+use Rattle.bb_sim.proofs.NamedRuns.{run_named}
+use Rattle.bb_sim.proofs.Stepping.{no_entry_in_Z}
 use Rattle.bb_sim.proofs.Steps.{led, conf-start, conf-next, counted_head-at, halts_here}
 
 -- in Z a run is at its end
@@ -40,8 +39,7 @@ running_below table m n less end_there =
       here = there.here;
       exists = there.exists;
       runs = λ halted.
-          let end = ends_in_Z table m there.here there.exists halted n end_there in
-          absurd (omega (arith, less, end));
+          absurd (omega (arith, less, ends_in_Z table m there.here there.exists halted n end_there));
     }
 
 -- a step before one that isn't in Z isn't, either
@@ -68,69 +66,44 @@ module _ (table : Table) (machine : IsMachine table) (n cells : ℕ) (low : ℤ)
   Held : Configuration → Type 0
   Held c = IsHeld (length table) (symbols_of table) low cells c
 
-  held_at_start : Held start
-  unfolding Held
-  held_at_start = record {
-    state = machine.some_state;
-    symbols_named = λ p. let none = cell-blank p in let two = machine.two_symbols in omega (arith, none, two);
-    blank_outside = λ p out. cell-blank p;
-  }
+  abbrev IsBlankOutside : Configuration → Type 0
+  IsBlankOutside c = (p : ℤ) → (IsIn low cells p → ⊥) → cell c.tape p ≡ 0
 
-  -- the entry that applies names states and symbols of the machine
-  named_here : (b : Configuration) → Held b → (entry : Entry)
-      → entry_at table b.state (cell b.tape b.head) ≡ entry
-      → IsEntryOf (length table) (symbols_of table) entry
-  unfolding Held
-  named_here b held entry here = by_state b.state refl where
-    by_state : (state : Next) → b.state ≡ state → IsEntryOf (length table) (symbols_of table) entry
-    by_state Halt e =
-        let none : Undefined ≡ entry = ap (λ s. entry_at table s (cell b.tape b.head)) (sym e) ∙ here in
-        rw (← none) tt
-    by_state (State q) e =
-        let below : q < length table = rw e at held.state in
-        let is : entry_of table q (cell b.tape b.head) ≡ entry =
-        ap (λ s. entry_at table s (cell b.tape b.head)) (sym e) ∙ here in
-        rw (← is) (entry_named _ _ table q (cell b.tape b.head) machine below (held.symbols_named b.head))
+  blank_next : (i : ℕ) → i ≤ n → (b : Configuration) → conf table i ≡ Some b → IsBlankOutside b
+      → (write : ℕ) (dir : Dir) (next : Next) → entry_at table b.state (cell b.tape b.head)
+      ≡ Go write dir next
+      → IsBlankOutside (led b write dir next)
+  blank_next i few b at blank_there write dir next here p out =
+      let inside = in_window i few b at (no_entry_in_Z table b.state _ write dir next (sym here)) in
+      cell-with_cell-other b.tape b.head write p (λ e. out (subst (λ q. IsIn low cells q) (sym e) inside))
+      ∙ blank_there p out
 
-  held_next : (i : ℕ) → i ≤ n → (b : Configuration) → conf table i ≡ Some b → Held b → (write : ℕ) (dir : Dir)
-      (next : Next) → entry_at table b.state (cell b.tape b.head) ≡ Go write dir next
-      → Held (led b write dir next)
-  unfolding Held
-  held_next i few b at held write dir next here =
-      let named = named_here b held (Go write dir next) here in
-      let runs = no_entry_in_Z table b.state _ write dir next (sym here) in
-      let inside = in_window i few b at runs in
-      record {
-        state = named.1;
-        symbols_named = symbols_stay b.tape b.head write (symbols_of table) named.0 held.symbols_named;
-        blank_outside = λ p out.
-            cell-with_cell-other b.tape b.head write p
-            (λ e. out (subst (λ q. IsIn low cells q) (sym e) inside))
-            ∙ held.blank_outside p out;
-      }
-
-  held_at : (i : ℕ) → i ≤ n → (c : Configuration) → conf table i ≡ Some c → Held c
-  held_at zero few c at =
+  blank_at : (i : ℕ) → i ≤ n → (c : Configuration) → conf table i ≡ Some c → IsBlankOutside c
+  blank_at zero few c at =
       let first = conf-start table in
       let same : start ≡ c = cc in
-      subst Held same held_at_start
-  held_at (suc i) few c at =
+      subst IsBlankOutside same (λ p out. cell-blank p)
+  blank_at (suc i) few c at =
       let there = earlier_exists table i (suc i) (omega arith) (record { here = c; exists = at }) in
-      let held = held_at i (omega (arith, few)) there.here there.exists in
-      by_entry there.here there.exists held
+      by_entry there.here there.exists (blank_at i (omega (arith, few)) there.here there.exists)
       (entry_at table there.here.state (cell there.here.tape there.here.head)) refl
     where
-      by_entry : (b : Configuration) → conf table i ≡ Some b → Held b → (entry : Entry)
-          → entry_at table b.state (cell b.tape b.head) ≡ entry → Held c
-      by_entry b before held Undefined here =
-          let last = halt_is_last table i (suc i) c (halts_here table i b before here) at in
-          absurd (omega (arith, last))
-      by_entry b before held (Go write dir next) here =
+      by_entry : (b : Configuration) → conf table i ≡ Some b → IsBlankOutside b → (entry : Entry)
+          → entry_at table b.state (cell b.tape b.head) ≡ entry → IsBlankOutside c
+      by_entry b before blank_there Undefined here =
+          absurd (omega (arith, halt_is_last table i (suc i) c (halts_here table i b before here) at))
+      by_entry b before blank_there (Go write dir next) here =
           let after : conf table (suc i) ≡ Some (led b write dir next) =
           subst (λ k. conf table k ≡ Some (led b write dir next)) (add-one i)
           (conf-next table i b before write dir next here) in
           let same : led b write dir next ≡ c = cc (after, at) in
-          subst Held same (held_next i (omega (arith, few)) b before held write dir next here)
+          subst IsBlankOutside same (blank_next i (omega (arith, few)) b before blank_there write dir next
+          here)
+
+  held_at : (i : ℕ) → i ≤ n → (c : Configuration) → conf table i ≡ Some c → Held c
+  unfolding Held
+  held_at i few c at = let named = run_named table machine i c at in
+      record { state = named.state; symbols_named = named.symbols; blank_outside = blank_at i few c at }
 
   -- the number of a configuration, where there is one
   number : Option Configuration → ℕ
@@ -185,8 +158,7 @@ window_of table n cells narrow i few c at runs =
     let from = least_bounds f i n few in
     let to = greatest_bounds f i n few in
     let below = least_last f n in
-    let above = greatest_last f n in
-    let wide = cells_between-is (least f n) (greatest f n) (omega (arith, ints, below, above)) in
+    let wide = cells_between-is (least f n) (greatest f n) (omega (arith, ints, below, greatest_last f n)) in
     record {
       from = omega (arith, ints, here, from);
       to = omega (arith, ints, here, to, wide, narrow);
@@ -219,6 +191,5 @@ pub few_cells_repeat_before : (table : Table) (cells n : ℕ) → IsMachine tabl
     → configurations_in table cells ≤ n → IsRunning table n → span table n ≤ cells
     → RepeatsBy table (configurations_in table cells)
 few_cells_repeat_before table cells n machine few last narrow =
-    let grows = span_grows table (configurations_in table cells) n few in
     few_cells_repeat table cells machine (running_before table (configurations_in table cells) n few last)
-    (omega (arith, grows, narrow))
+    (omega (arith, span_grows table (configurations_in table cells) n few, narrow))

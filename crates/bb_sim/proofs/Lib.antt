@@ -12,3 +12,4 @@ pub mod Encoding
 pub mod FewCells
 pub mod RunningOn
 pub mod Facts
+mod NamedRuns

@@ -188,8 +188,7 @@ module _ (table : Table) (bounds : Bounds) (n : ℕ) (inside : Inside table boun
   pub wide_at_end : bounds.cells < span table (n + 1) → n ≢ bounds.steps
       → bounds.cells < span table bounds.steps
   wide_at_end wide apart =
-      let grows = span_grows table (n + 1) bounds.steps (omega (arith, apart, inside.within_steps)) in
-      omega (arith, grows, wide)
+      omega (arith, span_grows table (n + 1) bounds.steps (omega (arith, apart, inside.within_steps)), wide)
 
 -- the meter of a run that has not stepped
 pub counted-start : (meter : Meter) (table : Table)

@@ -108,8 +108,7 @@ twins f n below = elim (twins_or_distinct f n) [
   | inr distinct ↦
       let few = length-le_from_distinct_below (values f n) n distinct
       (λ q found. small q (taken_by_list f n q found)) in
-      let many = length-values f n in
-      absurd (omega (arith, few, many))
+      absurd (omega (arith, few, length-values f n))
 ] where
   small : (q : ℕ) → IsTakenBy f n q → q < n
   small q taken = subst (λ v. v < n) taken.is (below taken.at taken.few)

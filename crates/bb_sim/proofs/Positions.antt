@@ -13,10 +13,10 @@ least-next f n = rw add-one refl
 pub greatest-next : (f : ℕ → ℤ) (n : ℕ) → greatest f (n + 1) ≡ int_max (greatest f n) (f (n + 1))
 greatest-next f n = rw add-one refl
 
-min_right : (a b : ℤ) → int_min a b ≤ℤ b
+pub min_right : (a b : ℤ) → int_min a b ≤ℤ b
 min_right a b = omega (arith, ints, clamps)
 
-max_right : (a b : ℤ) → b ≤ℤ int_max a b
+pub max_right : (a b : ℤ) → b ≤ℤ int_max a b
 max_right a b = omega (arith, ints, clamps)
 
 pub min-same : (a b : ℤ) → a ≤ℤ b → int_min a b ≡ a

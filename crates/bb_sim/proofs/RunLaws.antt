@@ -137,16 +137,12 @@ greatest_reached f (suc n) = let old = greatest_reached f n in elim (le_or_gt (f
 pub least_bounds : (f : ℕ → ℤ) (m n : ℕ) → m ≤ n → least f n ≤ℤ f m
 least_bounds f m n few =
     let same : (n - m) + m ≡ n = omega (arith, few) in
-    let falls = least_falls f m (n - m) in
-    let here = least_last f m in
-    subst (λ k. least f k ≤ℤ f m) same (omega (arith, ints, falls, here))
+    subst (λ k. least f k ≤ℤ f m) same (omega (arith, ints, least_falls f m (n - m), least_last f m))
 
 pub greatest_bounds : (f : ℕ → ℤ) (m n : ℕ) → m ≤ n → f m ≤ℤ greatest f n
 greatest_bounds f m n few =
     let same : (n - m) + m ≡ n = omega (arith, few) in
-    let rises = greatest_rises f m (n - m) in
-    let here = greatest_last f m in
-    subst (λ k. f m ≤ℤ greatest f k) same (omega (arith, ints, rises, here))
+    subst (λ k. f m ≤ℤ greatest f k) same (omega (arith, ints, greatest_rises f m (n - m), greatest_last f m))
 
 -- a position that counts is reached at a step not in Z: at this one, or at step 0
 record IsRunningBy (table : Table) (n : ℕ) (position : ℤ) : Type 0 where

@@ -19,7 +19,7 @@ record HaltsBefore (table : Table) (n : ℕ) : Type 0 where
   before : at < n
   halts : HaltsAt table at
 
-conf-suc : (table : Table) (n : ℕ) → conf table (suc n) ≡ option_and_then (next table) (conf table n)
+pub conf-suc : (table : Table) (n : ℕ) → conf table (suc n) ≡ option_and_then (next table) (conf table n)
 unfolding conf
 conf-suc table n = refl
 
@@ -63,14 +63,13 @@ runs_on table bounds nowhere narrow = by_conf (conf table bounds.steps) refl whe
   by_conf : (at : Option Configuration) → conf table bounds.steps ≡ at → RunsOn table bounds
   by_conf None is =
       let earlier = halts_before table bounds.steps is in
-      let before = earlier.before in
-      let grows = span_grows table earlier.at bounds.steps (omega (arith, before)) in
+      let grows = span_grows table earlier.at bounds.steps (omega (arith, earlier.before)) in
       absurd (nowhere earlier.at (record {
         halts = earlier.halts;
         inside = record {
           here = earlier.halts.last;
           exists = earlier.halts.exists;
-          within_steps = omega (arith, before);
+          within_steps = omega (arith, earlier.before);
           within_cells = omega (arith, grows, narrow);
         };
       }))

@@ -1,6 +1,7 @@
 -- A runner's step, from what it stands on to what it stands on next.
 use Rattle.std.proofs.Common.{◌≡◌, ◌≢◌, ℕ, ◌+◌, ◌<◌, ◌≤◌, ℤ, ◌+ℤ◌, ◌≤ℤ◌, pos, Some, length, refl, ap, sym}
-use Rattle.std.proofs.Common.{◌∙◌, arith}
+use Rattle.std.proofs.Common.{◌∙◌, arith, Bool, IsTrue, Ok, Err}
+use Rattle.bb_tape.specs.declared.tape.Memory.{Memory}
 use Rattle.std.specs.Int.{int_min, int_max}
 use Rattle.std.proofs.lemmas.Int.{ints, clamps}
 use Rattle.bb_machine.specs.declared.entry.Dir.{Dir}
@@ -21,11 +22,14 @@ use Rattle.bb_sim.specs.Configuration.{beside, entry_at}
 use Rattle.bb_sim.specs.Run.{HaltsAt}
 use Rattle.bb_sim.specs.CellsBetween.{cells_between}
 use Rattle.bb_sim.specs.Span.{counted_position, counted_head, span}
-use Rattle.bb_sim.specs.Runner.{Stands, Answers, Moves, Reaches, state_of, position_of, steps_of, low_of}
+use Rattle.bb_sim.specs.Runner.{Stands, Answers, Moves, Reaches, Stays, state_of, position_of, steps_of}
+use Rattle.bb_sim.specs.Runner.{low_of}
 use Rattle.bb_sim.specs.Runner.{high_of}
+use Rattle.bb_sim.specs.inside.Advancing.{Advances}
 use Rattle.bb_sim.specs.inside.Widening.{GoesNowhere, IsWidened, StepsTo}
 use Rattle.bb_sim.specs.Meter.{stepped}
 use Rattle.bb_sim.specs.declared.meter.Meter.{Meter}
+use Rattle.bb_sim.specs.declared.runner.Moved.{Moved}
 use Rattle.bb_sim.specs.declared.runner.Moved.TheVariants as moved
 use Rattle.bb_sim.proofs.Positions.{least-next, greatest-next, min-same, max-same}
 use Rattle.bb_sim.proofs.Steps.{counted_head-at, halts_here, conf-next, goes_on, span-next}
@@ -79,13 +83,40 @@ module _ (table : Table) (old : Runner) (view : TapeView) (stands : Stands table
       → HaltsAt table old.steps
   halts_undefined here = halts_here table old.steps _ stands.at (sym here)
 
--- what is to be shown of a call that made a step
-pub record Made (table : Table) (bounds : Bounds) (old new : Runner) (view view_new : TapeView)
-    (meter_old meter_new : Meter) : Type 0 where
-  pub answers : Answers table bounds old.steps moved.Stepped
-  pub moves : Moves table old new view view_new meter_old meter_new moved.Stepped
-  pub reaches : Reaches table bounds new view_new moved.Stepped
-  pub end : Stands table new view_new
+pub nothing : {runner : Runner} {view : TapeView} {meter : Meter} → Stays runner runner view view meter meter
+nothing = record { runner = refl; view = refl; meter = refl }
+
+-- a call that changes nothing, and one that is refused
+module _ {grows : Bool} {table : Table} {bounds : Bounds} {old : Runner} {view : TapeView}
+    {meter : Meter} where
+  pub stayed : (answer : Moved) → Answers table bounds old.steps answer
+      → Moves table old old view view meter meter answer → Reaches table bounds old view answer
+      → Stands table old view → Advances grows table bounds old old view view meter meter (Ok answer)
+  stayed answer answers moves reaches stands = record {
+    answers = answers;
+    moves = moves;
+    reaches = reaches;
+    stands = stands;
+    limit = refl;
+    memory = tt;
+    wanted = tt;
+    uncounted = tt;
+  }
+
+  pub refused : {new : Runner} {view_new : TapeView} {meter_new : Meter} {fault : Memory}
+      → Answers table bounds old.steps moved.Stepped → view_new.limit ≡ view.limit
+      → IsTrue grows → meter_new ≡ meter
+      → Advances grows table bounds old new view view_new meter meter_new (Err fault)
+  refused wanted limit memory uncounted = record {
+    answers = tt;
+    moves = tt;
+    reaches = tt;
+    stands = tt;
+    limit = limit;
+    memory = memory;
+    wanted = wanted;
+    uncounted = uncounted;
+  }
 
 module _ {table : Table} {old : Runner} {view : TapeView} {write : ℕ} {dir : Dir} {next : Next}
     (stands : Stands table old view)
@@ -149,8 +180,7 @@ module _ {table : Table} {old : Runner} {view : TapeView} {write : ℕ} {dir : D
   wanted bounds apart limit fits = (
     moves_on,
     apart,
-    let spans = next-span in
-        omega (arith, spans, fits, limit),
+    omega (arith, next-span, fits, limit),
   )
 
   pub made : (bounds : Bounds) (new : Runner) (view_new : TapeView) (meter_old meter_new : Meter)
@@ -158,7 +188,8 @@ module _ {table : Table} {old : Runner} {view : TapeView} {write : ℕ} {dir : D
       → view.limit ≡ bounds.cells → old.steps ≤ bounds.steps → old.steps ≢ bounds.steps
       → cells_between (int_min view.low counts_for) (int_max view.high counts_for) ≤ view.limit
       → Stepped new view_new → meter_new ≡ stepped meter_old (cells_between (low_of new) (high_of new))
-      → Made table bounds old new view view_new meter_old meter_new
+      → {grows : Bool} → Advances grows table bounds old new view view_new meter_old meter_new
+      (Ok moved.Stepped)
   made bounds new view_new meter_old meter_new sound named limit few apart fits is counts =
       let low : low_of new ≡ int_min view.low counts_for = is.low
       ∙ ap (λ l. int_min l counts_for) (sym stands.window_low) in
@@ -180,7 +211,11 @@ module _ {table : Table} {old : Runner} {view : TapeView} {write : ℕ} {dir : D
           rw is.steps (next_inside table bounds old.steps inside answers.0 answers.1 answers.2),
           rw is.head beside_is,
         );
-        end = stands_next new view_new named is;
+        stands = stands_next new view_new named is;
+        limit = ap (λ (s : TapeView). s.limit) is.tape;
+        memory = tt;
+        wanted = tt;
+        uncounted = tt;
       }
 
 -- a step into Z, which leaves the window as it is

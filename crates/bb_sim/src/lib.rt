@@ -1,11 +1,13 @@
 //! Runs a machine step by step on any tape, within limits, and counts what it does.
 #![tactic(auto)]
 
+pub mod configurations;
 pub mod laws;
 pub mod meter;
 pub mod runner;
 pub mod simulation;
 
+pub use configurations::is_same;
 pub use meter::Meter;
 pub use runner::{Moved, Runner};
 pub use simulation::{Outcome, simulate};

@@ -47,6 +47,7 @@ impl Runner {
     ghost use Rattle.bb_sim.specs.Runner.{Answers, Moves, Reaches, Stands, high_of};
     ghost use Rattle.bb_sim.specs.Runner.{low_of, position_of, state_of, steps_of};
     ghost use Rattle.bb_sim.specs.Span.{Inside};
+    ghost use Rattle.bb_sim.specs.inside.Advancing.{Advances};
     ghost use Rattle.bb_sim.specs.inside.Widening.{GoesNowhere, Widens, StepsTo};
     ghost use Rattle.bb_sim.specs.declared.runner.Moved.{Moved};
 
@@ -93,6 +94,7 @@ impl Runner {
         ensures wanted { OnErr result (Answers machine.now limits.now (steps_of self.old) Moved.Stepped) }
         ensures uncounted { OnErr result (meter.new ≡ meter.old) }
     {
+        self.show_inside(machine, tape, limits);
         let Next::State(state) = self.state else {
             return Ok(Moved::Halted);
         };
@@ -134,16 +136,10 @@ impl Runner {
             (cell (T.view tape.old).content (position_of self.old)) }
         requires nowhere { GoesNowhere machine.now entry }
         requires machine { IsMachine machine.now }
-        ensures answers { IfOk result (Answers machine.now limits.now (steps_of self.old)) }
-        ensures moves { IfOk result (Moves machine.now self.old self.new (T.view tape.old) (T.view tape.new)
-            meter.old meter.new) }
-        ensures reaches { IfOk result (Reaches machine.now limits.now self.new (T.view tape.new)) }
-        ensures stands { OnOk result (Stands machine.now self.new (T.view tape.new)) }
-        ensures limit { (T.view tape.new).limit ≡ (T.view tape.old).limit }
-        ensures memory { OnErr result (IsTrue T.GROWS) }
-        ensures wanted { OnErr result (Answers machine.now limits.now (steps_of self.old) Moved.Stepped) }
-        ensures uncounted { OnErr result (meter.new ≡ meter.old) }
+        ensures { Advances T.GROWS machine.now limits.now self.old self.new (T.view tape.old)
+            (T.view tape.new) meter.old meter.new result }
     {
+        self.show_inside(machine, tape, limits);
         let Entry::Go { write, dir, next } = entry else {
             return Ok(Moved::Halted);
         };
@@ -156,6 +152,15 @@ impl Runner {
         };
         Ok(Moved::Stepped)
     }
+
+    /// Says that the step where a runner stands is inside, where a proof uses it. It does nothing.
+    #[inline(always)]
+    fn show_inside<T: Tape>(&self, machine: &Machine, tape: &T, limits: &Limits)
+        requires stands { Stands machine.now self.now (T.view tape.now) }
+        requires limit { (T.view tape.now).limit ≡ limits.now.cells }
+        requires steps { steps_of self.now ≤ limits.now.steps }
+        ensures { Inside machine.now limits.now (steps_of self.now) }
+    {}
 
     /// Widens the window to a position in it or next to it, if the limit of cells allows it.
     #[inline(always)]

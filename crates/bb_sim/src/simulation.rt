@@ -2,6 +2,7 @@
 ghost use Rattle.std.specs.Prelude.{◌≡◌, ◌+◌, ◌<◌, ◌^◌, IfOk, IsTrue, OnErr, OnOk};
 ghost use Rattle.bb_sim.specs.Meter.{CountsRun, IsWithinRun};
 ghost use Rattle.bb_sim.specs.Outcome.{IsOutcome};
+ghost use Rattle.bb_sim.specs.inside.Simulating.{Simulates};
 
 use crate::meter::Meter;
 use crate::runner::{Moved, Runner};
@@ -39,14 +40,14 @@ pub fn simulate<T: Tape>(
 {
     let limits = *limits;
     let mut spent = *meter;
-    let outcome = run(machine, tape, &limits, &mut spent);
+    let outcome = run_machine(machine, tape, &limits, &mut spent);
     *meter = spent;
     outcome
 }
 
 /// `simulate`, inlined there, so that the limits and the meter, which are its locals, stay in registers.
 #[inline(always)]
-fn run<T: Tape>(
+fn run_machine<T: Tape>(
     machine: &Machine,
     tape: &mut T,
     limits: &Limits,
@@ -54,11 +55,8 @@ fn run<T: Tape>(
 ) -> Result<Outcome, Memory>
     requires limit { (T.view tape.old).limit ≡ limits.now.cells }
     requires room { meter.old.steps + limits.now.steps + 1 < 2 ^ 64 }
-    ensures outcome { IfOk result (IsOutcome machine.now limits.now) }
-    ensures counted { OnOk result (CountsRun machine.now limits.now meter.old meter.new) }
-    ensures within { IsWithinRun limits.now meter.old meter.new }
-    ensures limit { (T.view tape.new).limit ≡ (T.view tape.old).limit }
-    ensures memory { OnErr result (IsTrue T.GROWS) }
+    ensures { Simulates T.GROWS machine.now limits.now (T.view tape.old) (T.view tape.new)
+        meter.old meter.new result }
 {
     let mut runner = Runner::start(machine, tape);
     limits.show_accepted();

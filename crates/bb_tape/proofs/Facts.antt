@@ -1,4 +1,5 @@
--- What users of any tape need to know of its cells and its window. Proofs of other crates cite this file
+-- What users of any tape need to know of its cells, its window and positions. Proofs of other crates cite
+-- this file
 -- alone.
 use Rattle.std.proofs.Common.{◌≡◌, ℤ, ◌≤ℤ◌, arith}
 use Rattle.std.proofs.lemmas.Int.{ints, clamps}
@@ -9,6 +10,7 @@ pub use Rattle.bb_tape.proofs.Content.{same_content, by_position, with_cell-with
 pub use Rattle.bb_tape.proofs.Content.{with_cell-cell, put_back, score-blank, score-with_cell}
 pub use Rattle.bb_tape.proofs.TapeViews.{cell-written-same, cell-written-other, written-cell, written-written}
 pub use Rattle.bb_tape.proofs.TapeViews.{written_back}
+pub use Rattle.bb_tape.proofs.Rings.{abs_is}
 
 -- a position further out, below or above, takes in the one before
 pub visited-visited-low : (s : TapeView) (p q : ℤ) → q ≤ℤ p → p ≤ℤ s.high

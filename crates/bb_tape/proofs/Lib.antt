@@ -4,7 +4,7 @@ mod Content
 mod TapeViews
 mod WiderWindows
 mod Sound
-mod Kept
+mod MapContent
 mod Outcome
 mod Slices
 mod RingIndex
@@ -12,6 +12,6 @@ mod Laying
 mod Rings
 mod RingSteps
 mod Pieces
-mod Wholes
-mod Reaching
+mod FromPieces
+mod AnyPosition
 mod Room

@@ -107,23 +107,20 @@ module _ (cells : List ℕ) (w v : Window) (p : ℤ) (clear : IsClear cells w) (
   clear_beside =
       let pfrom : v.low ≤ℤ p = omega (arith, ints, clamps) in
       let pto : p ≤ℤ v.high = omega (arith, ints, clamps) in
-      let valid = v.valid.within in
-      let zero_low = w.valid.from_zero in
-      let zero_high = w.valid.to_zero in
       elim (index_in v.low v.high v.limit v.valid p pfrom pto) [
         | inl up ↦ elim next [
-          | inl below ↦ absurd (omega (arith, ints, up.0, below, zero_low))
+          | inl below ↦ absurd (omega (arith, ints, up.0, below, w.valid.from_zero))
           | inr above ↦
               clear (ring_index v.limit p)
               (omega (arith, ints, up.1, above))
-              (omega (arith, ints, clamps, up.1, above, limit, low, high, valid))
+              (omega (arith, ints, clamps, up.1, above, limit, low, high, v.valid.within))
         ]
         | inr under ↦ elim next [
           | inl below ↦
               clear (ring_index v.limit p)
-              (omega (arith, ints, clamps, under.1, below, limit, low, high, valid))
+              (omega (arith, ints, clamps, under.1, below, limit, low, high, v.valid.within))
               (omega (arith, ints, under.1, below, limit))
-          | inr above ↦ absurd (omega (arith, ints, under.0, above, zero_high))
+          | inr above ↦ absurd (omega (arith, ints, under.0, above, w.valid.to_zero))
         ]
       ]
 
@@ -235,9 +232,8 @@ pub clear_copied : (cells dells : List ℕ) (w v : Window) (front back : ℕ) �
     → ((k : ℕ) → front ≤ k → k < back → get_or dells k 0 ≡ get_or cells k 0) → IsClear dells v
 clear_copied cells dells w v front back clear wl wh limit ef eb between k above below =
     let up = v.valid.to_zero in
-    let down = v.valid.from_zero in
     between k (omega (arith, ints, ef, above)) (omega (arith, ints, eb, below))
-    ∙ clear k (omega (arith, ints, wh, above, up)) (omega (arith, ints, wl, below, down, limit))
+    ∙ clear k (omega (arith, ints, wh, above, up)) (omega (arith, ints, wl, below, v.valid.from_zero, limit))
 
 -- what is copied of another ring: all before `front`, and all from `back` on
 pub ring_copied : (cells dells : List ℕ) (w : Window) (front back : ℕ) → pos front ≡ w.high +ℤ pos 1

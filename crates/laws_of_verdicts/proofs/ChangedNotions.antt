@@ -1,6 +1,7 @@
--- Why halts, spans, repeats and records of a changed machine are those of the machine.
+-- Why spans, repeats and records of a machine are those of another, where each configuration up to a step is
+-- the image of the other's.
 use Rattle.std.proofs.Common.{◌≡◌, ℕ, zero, suc, ◌+◌, ◌-◌, Bool, true, false, Option, Some, None, ℤ, neg_ℤ}
-use Rattle.std.proofs.Common.{◌+ℤ◌, ◌-ℤ◌, ◌≤ℤ◌, refl, ap, ap₂, sym, ◌∙◌, arith}
+use Rattle.std.proofs.Common.{◌≤◌, ◌+ℤ◌, ◌-ℤ◌, ◌≤ℤ◌, refl, ap, ap₂, sym, ◌∙◌, arith}
 use Rattle.std.proofs.lemmas.Int.{ints, clamps}
 use Rattle.std.specs.Int.{int_min, int_max}
 use Rattle.std.specs.Int.RustNames.{unsigned_abs}
@@ -22,12 +23,29 @@ use Rattle.bb_cert.specs.records.Agree.{Agree, AgreeingRecords}
 use Rattle.bb_cert.specs.records.Record.{out, head_of, head_at, far, IsRecord}
 use Rattle.bb_cert.specs.verdict.Extent.{IsExtent, SaysExtent, TellsExtent}
 use Rattle.bb_decide.specs.Cycle.{IsCycle}
-use Rattle.bb_decide.specs.Translation.{IsTranslation}
+use Rattle.bb_cert.proofs.Facts.{records_in_order}
+use Rattle.bb_decide.specs.Translation.{AgreesWithPartner, IsTranslation}
 use Rattle.laws_of_verdicts.specs.Change.{Change, IsChanged, changed_next, turned_side}
-use Rattle.laws_of_verdicts.proofs.AlikeRuns.{least_alike, greatest_alike}
 use Rattle.laws_of_verdicts.proofs.ChangedRuns.{AreImages, ImageOf, conf_image, image_is_one, image_of}
 use Rattle.laws_of_verdicts.proofs.ChangedRuns.{cell_at, next_image, no_image, placed, placed-add}
 use Rattle.laws_of_verdicts.proofs.ChangedRuns.{placed-subtract, placed-twice, placed-zero}
+
+least_alike : (f g : ℕ → ℤ) (n : ℕ) → ((m : ℕ) → m ≤ n → f m ≡ g m) → least f n ≡ least g n
+least_alike f g zero alike = alike 0 (omega arith)
+least_alike f g (suc n) alike = ap₂ int_min (least_alike f g n (λ m h. alike m (omega (arith, h))))
+    (alike (suc n) (omega arith))
+
+greatest_alike : (f g : ℕ → ℤ) (n : ℕ) → ((m : ℕ) → m ≤ n → f m ≡ g m) → greatest f n ≡ greatest g n
+greatest_alike f g zero alike = alike 0 (omega arith)
+greatest_alike f g (suc n) alike = ap₂ int_max (greatest_alike f g n (λ m h. alike m (omega (arith, h))))
+    (alike (suc n) (omega arith))
+
+-- the first of two records is made no later than the second
+pub partner_before : (table : Table) (side : Side) (a b : ℕ) → AgreesWithPartner table side a b → a ≤ b
+partner_before table side a b pair =
+    let less = (records_in_order table side pair.first_number pair.second_number a b pair.first_record
+    pair.second_record).0 pair.partner.below in
+    omega (arith, less)
 
 out-placed : (mirrored : Bool) (side : Side) (p : ℤ) → out (turned_side mirrored side) (placed mirrored p)
     ≡ out side p
@@ -93,93 +111,87 @@ shifted change x p q p' q' at_p at_q =
     ∙ ap (λ y. y +ℤ placed change.mirrored (q -ℤ p)) (sym (placed-twice change.mirrored x))
     ∙ sym (placed-add change.mirrored (placed change.mirrored x) (q -ℤ p))
 
-module _ (change : Change) (table changed : Table) (is : IsChanged change table changed) where
-  -- configuration n of the changed machine
-  pub image_at : (n : ℕ) (c : Configuration) → conf table n ≡ Some c → ImageOf change c (conf changed n)
-  image_at n c e = image_of change (conf table n) (conf changed n) c (conf_image change table changed is n) e
+-- each configuration up to step n is the image of the other machine's
+abbrev pub AreImagesTo : Change → Table → Table → ℕ → Type 0
+AreImagesTo change one two n = (m : ℕ) → m ≤ n → AreImages change (conf one m) (conf two m)
 
-  pub out_image : (side : Side) (n : ℕ) → out (turned_side change.mirrored side) (head_at changed n)
-      ≡ out side (head_at table n)
+module _ (change : Change) (one two : Table) (n : ℕ) (images : AreImagesTo change one two n) where
+  image_at : (m : ℕ) → m ≤ n → (c : Configuration) → conf one m ≡ Some c → ImageOf change c (conf two m)
+  image_at m h c e = image_of change (conf one m) (conf two m) c (images m h) e
+
+  at_n : (c : Configuration) → conf one n ≡ Some c → ImageOf change c (conf two n)
+  at_n c e = image_at n (omega arith) c e
+
+  out_image : (side : Side) (m : ℕ) → m ≤ n
+      → out (turned_side change.mirrored side) (head_at two m) ≡ out side (head_at one m)
   unfolding head_at
-  out_image side n =
-      ap (out (turned_side change.mirrored side)) (head_of_image change (conf table n) (conf changed n)
-      (conf_image change table changed is n)) ∙ out-placed change.mirrored side (head_of (conf table n))
+  out_image side m h =
+      ap (out (turned_side change.mirrored side))
+      (head_of_image change (conf one m) (conf two m) (images m h))
+      ∙ out-placed change.mirrored side (head_of (conf one m))
 
-  counted_image : (n : ℕ) → counted_head changed n ≡ placed change.mirrored (counted_head table n)
+  counted_image : (m : ℕ) → m ≤ n → counted_head two m ≡ placed change.mirrored (counted_head one m)
   unfolding counted_head
-  counted_image n = counted_in_image change (conf table n) (conf changed n)
-      (conf_image change table changed is n)
+  counted_image m h = counted_in_image change (conf one m) (conf two m) (images m h)
 
-  pub span_image : (n : ℕ) → span changed n ≡ span table n
-  span_image n = ap₂ cells_between
-      (least_alike (counted_head changed) (λ m. placed change.mirrored (counted_head table m)) n
-      (λ m h. counted_image m))
-      (greatest_alike (counted_head changed) (λ m. placed change.mirrored (counted_head table m)) n
-      (λ m h. counted_image m))
-      ∙ cells_placed change.mirrored (counted_head table) n
+  pub span_image : span two n ≡ span one n
+  span_image = ap₂ cells_between
+      (least_alike (counted_head two) (λ m. placed change.mirrored (counted_head one m)) n counted_image)
+      (greatest_alike (counted_head two) (λ m. placed change.mirrored (counted_head one m)) n counted_image)
+      ∙ cells_placed change.mirrored (counted_head one) n
 
-  pub inside_image : (bounds : Bounds) (n : ℕ) → Inside table bounds n → Inside changed bounds n
-  inside_image bounds n inside =
-      let there = image_at n inside.here inside.exists in
+  pub inside_image : (bounds : Bounds) → Inside one bounds n → Inside two bounds n
+  inside_image bounds inside =
+      let there = at_n inside.here inside.exists in
       record {
         here = there.there;
         exists = there.exists;
         within_steps = inside.within_steps;
-        within_cells = rw (span_image n) inside.within_cells;
+        within_cells = rw span_image inside.within_cells;
       }
 
-  pub halts_image : (n : ℕ) → HaltsAt table n → HaltsAt changed n
-  halts_image n halts =
-      let there = image_at n halts.last halts.exists in
-      record {
-        last = there.there;
-        exists = there.exists;
-        no_next = no_image change (next table halts.last) (next changed there.there)
-            (next_image change table changed is halts.last there.there there.image) halts.no_next;
-      }
-
-  pub score_image : (n ones : ℕ) → IsScore table n ones → IsScore changed n ones
-  score_image n ones counts =
-      let there = image_at n counts.here counts.exists in
+  pub score_image : (ones : ℕ) → IsScore one n ones → IsScore two n ones
+  score_image ones counts =
+      let there = at_n counts.here counts.exists in
       record {
         here = there.there;
         exists = there.exists;
         counted = counts.counted ∙ sym there.image.scores;
       }
 
-  pub same_image : (a b : ℕ) → Same table a b → Same changed a b
-  same_image a b same =
-      let first = image_at a same.here same.at_first in
-      let second = image_at b same.here same.at_second in
-      let one = image_is_one change same.here second.there first.there second.image first.image in
+  pub same_image : (a : ℕ) → a ≤ n → Same one a n → Same two a n
+  same_image a h same =
+      let first = image_at a h same.here same.at_first in
+      let second = at_n same.here same.at_second in
+      let equal = image_is_one change same.here second.there first.there second.image first.image in
       record {
         here = first.there;
         at_first = first.exists;
-        at_second = second.exists ∙ ap Some one;
+        at_second = second.exists ∙ ap Some equal;
       }
 
-  pub record_image : (side : Side) (j n : ℕ) → IsRecord table side j n
-      → IsRecord changed (turned_side change.mirrored side) j n
-  record_image side j n made =
-      let there = image_at n made.here made.exists in
+  record_image : (side : Side) (j m : ℕ) → m ≤ n → IsRecord one side j m
+      → IsRecord two (turned_side change.mirrored side) j m
+  record_image side j m h made =
+      let there = image_at m h made.here made.exists in
       record {
         positive = made.positive;
         here = there.there;
         exists = there.exists;
         on_position = ap (out (turned_side change.mirrored side)) there.image.head
             ∙ out-placed change.mirrored side made.here.head ∙ made.on_position;
-        is_first = λ m less e. made.is_first m less (sym (out_image side m) ∙ e);
+        is_first = λ k less e. made.is_first k less (sym (out_image side k (omega (arith, h, less))) ∙ e);
       }
 
-  far_image : (side : Side) (a b : ℕ) → far changed (turned_side change.mirrored side) a b
-      ≡ far table side a b
-  far_image side a b = least_alike
-      (λ u. out (turned_side change.mirrored side) (head_at changed (u + a)))
-      (λ u. out side (head_at table (u + a))) (b - a) (λ u h. out_image side (u + a))
+  far_image : (side : Side) (a : ℕ) → a ≤ n
+      → far two (turned_side change.mirrored side) a n ≡ far one side a n
+  far_image side a h = least_alike
+      (λ u. out (turned_side change.mirrored side) (head_at two (u + a)))
+      (λ u. out side (head_at one (u + a))) (n - a) (λ u k. out_image side (u + a) (omega (arith, h, k)))
 
-  pub agree_image : (side : Side) (a b : ℕ) → Agree table side a b
-      → Agree changed (turned_side change.mirrored side) a b
-  agree_image side a b agree = record {
+  agree_image : (side : Side) (a : ℕ) → a ≤ n → Agree one side a n
+      → Agree two (turned_side change.mirrored side) a n
+  agree_image side a h agree = record {
     first = first.there;
     second = second.there;
     at_first = first.exists;
@@ -187,24 +199,24 @@ module _ (change : Change) (table changed : Table) (is : IsChanged change table 
     same_state = first.image.state ∙ ap (changed_next change) agree.same_state ∙ sym second.image.state;
     same_cells = cells;
   } where
-    first : ImageOf change agree.first (conf changed a)
-    first = image_at a agree.first agree.at_first
+    first : ImageOf change agree.first (conf two a)
+    first = image_at a h agree.first agree.at_first
 
-    second : ImageOf change agree.second (conf changed b)
-    second = image_at b agree.second agree.at_second
+    second : ImageOf change agree.second (conf two n)
+    second = at_n agree.second agree.at_second
 
     out_back : (x : ℤ) → out (turned_side change.mirrored side) x ≡ out side (placed change.mirrored x)
     out_back x = ap (out (turned_side change.mirrored side)) (sym (placed-twice change.mirrored x))
         ∙ out-placed change.mirrored side (placed change.mirrored x)
 
-    cells : (x : ℤ) → far changed (turned_side change.mirrored side) a b
+    cells : (x : ℤ) → far two (turned_side change.mirrored side) a n
         ≤ℤ out (turned_side change.mirrored side) x
         → out (turned_side change.mirrored side) x ≤ℤ out (turned_side change.mirrored side) first.there.head
         → cell first.there.tape x ≡ cell second.there.tape (x +ℤ (second.there.head -ℤ first.there.head))
     cells x near within =
         let y = placed change.mirrored x in
-        let near_y : far table side a b ≤ℤ out side y =
-        rw (← far_image side a b) (rw (← out_back x) near) in
+        let near_y : far one side a n ≤ℤ out side y =
+        rw (← far_image side a h) (rw (← out_back x) near) in
         let head : out (turned_side change.mirrored side) first.there.head ≡ out side agree.first.head =
         ap (out (turned_side change.mirrored side)) first.image.head
         ∙ out-placed change.mirrored side agree.first.head in
@@ -216,53 +228,70 @@ module _ (change : Change) (table changed : Table) (is : IsChanged change table 
         (shifted change x agree.first.head agree.second.head first.there.head second.there.head
         first.image.head second.image.head))
 
-  pub extent_image : (side : Side) (a b : ℕ) (extent : Extent) → IsExtent table side a b extent
-      → IsExtent changed (turned_side change.mirrored side) a b extent
-  extent_image side a b extent says = record {
-    shift = rw (out_image side a, out_image side b) says.shift;
-    length = rw (out_image side a, far_image side a b) says.length;
+  extent_image : (side : Side) (a : ℕ) (extent : Extent) → a ≤ n → IsExtent one side a n extent
+      → IsExtent two (turned_side change.mirrored side) a n extent
+  extent_image side a extent h says = record {
+    shift = rw (out_image side a h, out_image side n (omega arith)) says.shift;
+    length = rw (out_image side a h, far_image side a h) says.length;
   }
 
-  pub says_image : (side : Side) (a b : ℕ) (extent : Option Extent) → SaysExtent table side a b extent
-      → SaysExtent changed (turned_side change.mirrored side) a b extent
-  says_image side a b None says = tt
-  says_image side a b (Some extent) says = extent_image side a b extent says
+  pub says_image : (side : Side) (a : ℕ) (extent : Option Extent) → a ≤ n → SaysExtent one side a n extent
+      → SaysExtent two (turned_side change.mirrored side) a n extent
+  says_image side a None h says = tt
+  says_image side a (Some extent) h says = extent_image side a extent h says
 
-  pub tells_image : (side : Side) (a b : ℕ) (extent : Option Extent) → TellsExtent table side a b extent
-      → TellsExtent changed (turned_side change.mirrored side) a b extent
-  tells_image side a b None tells = absurd tells
-  tells_image side a b (Some extent) tells = extent_image side a b extent tells
+  pub tells_image : (side : Side) (a : ℕ) (extent : Option Extent) → a ≤ n → TellsExtent one side a n extent
+      → TellsExtent two (turned_side change.mirrored side) a n extent
+  tells_image side a None h tells = absurd tells
+  tells_image side a (Some extent) h tells = extent_image side a extent h tells
 
-  pub pair_image : (side : Side) (a b : ℕ) → AgreeingRecords table side a b
-      → AgreeingRecords changed (turned_side change.mirrored side) a b
-  pair_image side a b pair = record {
-    in_order = pair.in_order;
-    first_number = pair.first_number;
-    second_number = pair.second_number;
-    first_record = record_image side pair.first_number a pair.first_record;
-    second_record = record_image side pair.second_number b pair.second_record;
-    agree = agree_image side a b pair.agree;
-  }
+  pub pair_image : (side : Side) (a : ℕ) → AgreeingRecords one side a n
+      → AgreeingRecords two (turned_side change.mirrored side) a n
+  pair_image side a pair =
+      let in_order = pair.in_order in
+      record {
+        in_order = in_order;
+        first_number = pair.first_number;
+        second_number = pair.second_number;
+        first_record = record_image side pair.first_number a (omega (arith, in_order)) pair.first_record;
+        second_record = record_image side pair.second_number n (omega arith) pair.second_record;
+        agree = agree_image side a (omega (arith, in_order)) pair.agree;
+      }
 
-  pub cycle_image : (bounds : Bounds) (a t : ℕ) → IsCycle table bounds a t → IsCycle changed bounds a t
-  cycle_image bounds a t cycle = record {
-    partner = cycle.partner;
-    inside = inside_image bounds t cycle.inside;
-    same = same_image a t cycle.same;
-  }
+  pub cycle_image : (bounds : Bounds) (a : ℕ) → IsCycle one bounds a n → IsCycle two bounds a n
+  cycle_image bounds a cycle =
+      let below = cycle.partner.below in
+      record {
+        partner = cycle.partner;
+        inside = inside_image bounds cycle.inside;
+        same = same_image a (omega (arith, below)) cycle.same;
+      }
 
-  pub translation_image : (bounds : Bounds) (side : Side) (a b : ℕ) → IsTranslation table bounds side a b
-      → IsTranslation changed bounds (turned_side change.mirrored side) a b
-  translation_image bounds side a b found =
+  pub translation_image : (bounds : Bounds) (side : Side) (a : ℕ) → IsTranslation one bounds side a n
+      → IsTranslation two bounds (turned_side change.mirrored side) a n
+  translation_image bounds side a found =
       let pair = found.pair in
+      let h = partner_before one side a n pair in
       record {
         pair = record {
           first_number = pair.first_number;
           second_number = pair.second_number;
           partner = pair.partner;
-          first_record = record_image side pair.first_number a pair.first_record;
-          second_record = record_image side pair.second_number b pair.second_record;
-          agree = agree_image side a b pair.agree;
+          first_record = record_image side pair.first_number a h pair.first_record;
+          second_record = record_image side pair.second_number n (omega arith) pair.second_record;
+          agree = agree_image side a h pair.agree;
         };
-        inside = inside_image bounds b found.inside;
+        inside = inside_image bounds found.inside;
       }
+
+pub halts_image : (change : Change) (table changed : Table) → IsChanged change table changed → (n : ℕ)
+    → HaltsAt table n → HaltsAt changed n
+halts_image change table changed is n halts =
+    let there = image_of change (conf table n) (conf changed n) halts.last
+    (conf_image change table changed is n) halts.exists in
+    record {
+      last = there.there;
+      exists = there.exists;
+      no_next = no_image change (next table halts.last) (next changed there.there)
+          (next_image change table changed is halts.last there.there there.image) halts.no_next;
+    }

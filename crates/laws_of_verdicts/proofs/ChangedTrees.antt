@@ -1,15 +1,14 @@
 -- Why the tree of a changed machine has as many nodes in each level.
 use Rattle.std.proofs.Common.{◌≡◌, ℕ, zero, suc, ◌+◌, ◌<◌, Bool, true, false, cond, nat_eq, Option, Some}
-use Rattle.std.proofs.Common.{None, List, [], ◌∷◌, ◌++◌, map, length, get_or, filter, flat_map, ℤ, pos}
-use Rattle.std.proofs.Common.{◌+ℤ◌, refl, ap, ap₂, sym, ◌∙◌, append_assoc, arith}
+use Rattle.std.proofs.Common.{None, List, [], ◌∷◌, ◌++◌, map, length, get_or, filter, ℤ, pos}
+use Rattle.std.proofs.Common.{◌+ℤ◌, refl, ap, ap₂, sym, ◌∙◌, arith}
 use Rattle.std.proofs.Math.Path.{fun_ext}
 use Rattle.std.proofs.lemmas.Bool.Decides.{Decides-eqb, same_from_decides}
-use Rattle.std.proofs.lemmas.List.{length-map}
-use Rattle.std.proofs.lemmas.List.Concat.{flat_map_single}
-use Rattle.std.proofs.lemmas.List.Elements.{All-from_recursion}
-use Rattle.std.proofs.lemmas.List.Folds.{flat_map-map}
+use Rattle.std.proofs.lemmas.List.Elements.{All-from_recursion, filter-append}
+use Rattle.std.proofs.lemmas.List.Sums.{sum_by-append, sum_by-cons}
 use Rattle.std.specs.Bool.{Decides}
 use Rattle.std.specs.Cmp.{signed_Decides}
+use Rattle.std.specs.List.{sum_by}
 use Rattle.std.specs.Ordering.{int_eq}
 use Rattle.bb_machine.specs.declared.entry.Dir.{Dir}
 use Rattle.bb_machine.specs.declared.entry.Dir.TheVariants as dir
@@ -23,139 +22,98 @@ use Rattle.bb_cert.specs.tree.Tree.{with_known, halting_node, left_cell, may_be,
 use Rattle.bb_cert.specs.tree.Tree.{before_by, before, level, nodes_below}
 use Rattle.laws_of_verdicts.specs.Change.{Change, IsChanged, Renaming, changed_entry, changed_next, turned}
 use Rattle.laws_of_verdicts.proofs.ChangedRuns.{placed, placed-add, placed-twice, placed-zero}
-use Rattle.laws_of_verdicts.proofs.Permuted.{Permuted, joined, numbers, numbers_permuted, permuted_each}
-use Rattle.laws_of_verdicts.proofs.Permuted.{permuted_equal, permuted_flat_map, permuted_length}
+use Rattle.laws_of_verdicts.proofs.Sums.{length-sum, sum_by-each, sum_by-flat_map, sum_by-map, sum_from}
+use Rattle.laws_of_verdicts.proofs.Sums.{sum_from-each, sum_from-renamed}
 
--- lists of nodes by state and symbol
+-- sums over states and symbols
 
--- what a function gives at each state and each symbol, one after another
-abbrev pub over : (states symbols : ℕ) → (ℕ → ℕ → List Node) → List Node
-over states symbols f = flat_map (λ q. flat_map (f q) (numbers 0 symbols)) (numbers 0 states)
+-- what each state and symbol counts
+abbrev pub over : (states symbols : ℕ) → (ℕ → ℕ → ℕ) → ℕ
+over states symbols f = sum_from 0 states (λ q. sum_from 0 symbols (f q))
 
-flat_map-chosen : {X Y : Type 0} (f : X → List Y) (b : Bool) (x : X) (xs : List X)
-    → flat_map f (cond b (x ∷ xs) xs) ≡ cond b (f x) [] ++ flat_map f xs
-flat_map-chosen f true x xs = refl
-flat_map-chosen f false x xs = refl
+-- what an element counts, if it passes
+abbrev given : {X : Type 0} → (X → ℕ) → (X → Bool) → X → ℕ
+given weight p x = cond (p x) (weight x) 0
 
-flat_map-filter-append : {X Y : Type 0} (f : X → List Y) (p : X → Bool) (xs ys : List X)
-    → flat_map f (filter p (xs ++ ys)) ≡ flat_map f (filter p xs) ++ flat_map f (filter p ys)
-flat_map-filter-append f p [] ys = refl
-flat_map-filter-append f p (x ∷ xs) ys =
-    flat_map-chosen f (p x) x (filter p (xs ++ ys))
-    ∙ ap (λ zs. cond (p x) (f x) [] ++ zs) (flat_map-filter-append f p xs ys)
-    ∙ sym (append_assoc (cond (p x) (f x) []) (flat_map f (filter p xs)) (flat_map f (filter p ys)))
-    ∙ ap (λ zs. zs ++ flat_map f (filter p ys)) (sym (flat_map-chosen f (p x) x (filter p xs)))
+module _ {X : Type 0} (weight : X → ℕ) (p : X → Bool) where
+  weigh-cons : (x : X) (xs : List X)
+      → sum_by weight (filter p (x ∷ xs)) ≡ given weight p x + sum_by weight (filter p xs)
+  weigh-cons x xs = chosen (p x) where
+    chosen : (b : Bool) → sum_by weight (cond b (x ∷ filter p xs) (filter p xs))
+        ≡ cond b (weight x) 0 + sum_by weight (filter p xs)
+    chosen true = sum_by-cons weight x (filter p xs)
+    chosen false = omega arith
 
--- The rules of a table, whose type is another crate's own: lists with an element for each entry.
-module _ {X : Type 0} (make : ℕ → ℕ → Entry → X) (f : X → List Node) (p : X → Bool) where
-  -- what the element for an entry gives
-  abbrev given : ℕ → ℕ → Entry → List Node
-  given q s entry = cond (p (make q s entry)) (f (make q s entry)) []
+  weigh-append : (xs ys : List X) → sum_by weight (filter p (xs ++ ys))
+      ≡ sum_by weight (filter p xs) + sum_by weight (filter p ys)
+  weigh-append xs ys = ap (sum_by weight) (filter-append p xs ys)
+      ∙ sum_by-append weight (filter p xs) (filter p ys)
 
-  over_group : (rules : ℕ → ℕ → List Entry → List X) → ((q k : ℕ) → rules q k [] ≡ [])
-      → ((q k : ℕ) (x : Entry) (xs : List Entry) → rules q k (x ∷ xs) ≡ make q k x ∷ rules q (k + 1) xs)
-      → (q k : ℕ) (group : List Entry) (entry : ℕ → Entry)
-      → ((i : ℕ) → get_or group i Undefined ≡ entry (k + i))
-      → flat_map f (filter p (rules q k group))
-      ≡ flat_map (λ s. given q s (entry s)) (numbers k (length group))
-  over_group rules none more q k [] entry each = ap (λ rs. flat_map f (filter p rs)) (none q k)
-  over_group rules none more q k (x ∷ xs) entry each =
-      let k_is : k + 0 ≡ k = omega arith in
-      let first : x ≡ entry k = each 0 ∙ ap entry k_is in
-      let rest = over_group rules none more q (k + 1) xs entry (λ i.
-      let e : k + suc i ≡ (k + 1) + i = omega arith in each (suc i) ∙ ap entry e) in
-      ap (λ rs. flat_map f (filter p rs)) (more q k x xs)
-      ∙ flat_map-chosen f (p (make q k x)) (make q k x) (filter p (rules q (k + 1) xs))
-      ∙ ap₂ ◌++◌ (ap (given q k) first) rest
+-- the rules of a group, from a symbol on
+weigh_group : (weight : _ → ℕ) (p : _ → Bool) (q k : ℕ) (group : List Entry) (entry : ℕ → Entry)
+    → ((i : ℕ) → get_or group i Undefined ≡ entry (k + i))
+    → sum_by weight (filter p (rules_in q k group))
+    ≡ sum_from k (length group) (λ s. given weight p (record { state = q; symbol = s; entry = entry s }))
+weigh_group weight p q k [] entry each = refl
+weigh_group weight p q k (x ∷ xs) entry each =
+    let k_is : k + 0 ≡ k = omega arith in
+    let rest = weigh_group weight p q (k + 1) xs entry (λ i.
+    let e : k + suc i ≡ (k + 1) + i = omega arith in each (suc i) ∙ ap entry e) in
+    weigh-cons weight p (record { state = q; symbol = k; entry = x }) (rules_in q (k + 1) xs)
+    ∙ ap₂ ◌+◌ (ap (λ e. given weight p (record { state = q; symbol = k; entry = e }))
+    (each 0 ∙ ap entry k_is)) rest
 
-  over_table : (rules : ℕ → Table → List X) (row : ℕ → List Entry → List X) → ((k : ℕ) → rules k [] ≡ [])
-      → ((k : ℕ) (group : List Entry) (groups : Table)
-      → rules k (group ∷ groups) ≡ row k group ++ rules (k + 1) groups)
-      → (symbols : ℕ)
-      → ((k : ℕ) (group : List Entry) (entry : ℕ → Entry) → length group ≡ symbols
-      → ((i : ℕ) → get_or group i Undefined ≡ entry i)
-      → flat_map f (filter p (row k group)) ≡ flat_map (λ s. given k s (entry s)) (numbers 0 symbols))
-      → (k : ℕ) (groups : Table) (entry : ℕ → ℕ → Entry)
-      → ((i : ℕ) → i < length groups → length (get_or groups i []) ≡ symbols)
-      → ((i j : ℕ) → entry_of groups i j ≡ entry (k + i) j)
-      → flat_map f (filter p (rules k groups))
-      ≡ flat_map (λ q. flat_map (λ s. given q s (entry q s)) (numbers 0 symbols)) (numbers k (length groups))
-  over_table rules row none more symbols in_row k [] entry long each =
-      ap (λ rs. flat_map f (filter p rs)) (none k)
-  over_table rules row none more symbols in_row k (group ∷ groups) entry long each =
-      let k_is : k + 0 ≡ k = omega arith in
-      let first = in_row k group (entry k) (long 0 (omega arith)) (λ i. each 0 i
-      ∙ ap (λ q. entry q i) k_is) in
-      let rest = over_table rules row none more symbols in_row (k + 1) groups entry
-      (λ i h. long (suc i) (omega (arith, h)))
-      (λ i j. let e : k + suc i ≡ (k + 1) + i = omega arith in each (suc i) j ∙ ap (λ q. entry q j) e) in
-      ap (λ rs. flat_map f (filter p rs)) (more k group groups)
-      ∙ flat_map-filter-append f p (row k group) (rules (k + 1) groups) ∙ ap₂ ◌++◌ first rest
+-- the rules of the groups from a state on
+weigh_table : (weight : _ → ℕ) (p : _ → Bool) (symbols k : ℕ) (groups : Table) (entry : ℕ → ℕ → Entry)
+    → ((i : ℕ) → i < length groups → length (get_or groups i []) ≡ symbols)
+    → ((i j : ℕ) → entry_of groups i j ≡ entry (k + i) j)
+    → sum_by weight (filter p (rules_from k groups)) ≡ sum_from k (length groups)
+    (λ q. sum_from 0 symbols (λ s. given weight p (record { state = q; symbol = s; entry = entry q s })))
+weigh_table weight p symbols k [] entry long each = refl
+weigh_table weight p symbols k (group ∷ groups) entry long each =
+    let k_is : k + 0 ≡ k = omega arith in
+    let first = weigh_group weight p k 0 group (entry k)
+    (λ i. let e : i ≡ 0 + i = omega arith in each 0 i ∙ ap₂ entry k_is e) in
+    let rest = weigh_table weight p symbols (k + 1) groups entry (λ i h. long (suc i) (omega (arith, h)))
+    (λ i j. let e : k + suc i ≡ (k + 1) + i = omega arith in each (suc i) j ∙ ap (λ q. entry q j) e) in
+    weigh-append weight p (rules_in k 0 group) (rules_from (k + 1) groups)
+    ∙ ap₂ ◌+◌ (first ∙ ap (λ n. sum_from 0 n
+    (λ s. given weight p (record { state = k; symbol = s; entry = entry k s }))) (long 0 (omega arith))) rest
 
-groups_long : (table : Table) → IsMachine table → (i : ℕ) → i < length table
+pub groups_long : (table : Table) → IsMachine table → (i : ℕ) → i < length table
     → length (get_or table i []) ≡ symbols_of table
 groups_long table machine i h =
     (All-from_recursion (IsGroup (length table) (symbols_of table)) table machine.groups i [] h).full
 
-from_zero : (entry : ℕ → Entry) (group : List Entry) → ((i : ℕ) → get_or group i Undefined ≡ entry i)
-    → (i : ℕ)
-    → get_or group i Undefined ≡ entry (0 + i)
-from_zero entry group each i = let e : i ≡ 0 + i = omega arith in each i ∙ ap entry e
-
--- what could come before a node by an entry, if the entry leads to it
-abbrev before_cell : Node → ℕ → ℕ → Entry → List Node
-before_cell node q s entry = cond (is_same (goes_to entry) (State node.state))
-    (before_by_entry node q s entry) []
-
--- the node of an entry, if it halts
-abbrev halting_cell : ℕ → ℕ → Entry → List Node
-halting_cell q s entry = cond (is_same (goes_to entry) Halt)
-    (record { state = q; known = with_known (λ distance. None) (pos 0) s } ∷ []) []
-
-before_over : (table : Table) → IsMachine table → (node : Node)
-    → before table node
-    ≡ over (length table) (symbols_of table) (λ q s. before_cell node q s (entry_of table q s))
-before_over table machine node = over_table (λ q s e. record { state = q; symbol = s; entry = e })
-    (before_by node) (leads_to (State node.state)) rules_from (λ q group. rules_in q 0 group) (λ k. refl)
-    (λ k group groups. refl) (symbols_of table)
-    (λ k group entry full each.
-    over_group (λ q s e. record { state = q; symbol = s; entry = e }) (before_by node)
-    (leads_to (State node.state)) rules_in (λ q k. refl) (λ q k x xs. refl) k 0 group entry
-    (from_zero entry group each)
-    ∙ ap (λ n. flat_map (λ s. before_cell node k s (entry s)) (numbers 0 n)) full)
-    0 table (entry_of table) (groups_long table machine)
+-- the rules of a machine that lead to a state
+weigh_rules : (weight : _ → ℕ) (then : Next) (table : Table) → IsMachine table
+    → sum_by weight (rules_to table then) ≡ over (length table) (symbols_of table)
+    (λ q s. given weight (leads_to then) (record { state = q; symbol = s; entry = entry_of table q s }))
+weigh_rules weight then table machine = weigh_table weight (leads_to then) (symbols_of table) 0 table
+    (entry_of table) (groups_long table machine)
     (λ i j. let e : i ≡ 0 + i = omega arith in ap (λ q. entry_of table q j) e)
 
-halting_over : (table : Table) → IsMachine table
-    → level table 0 ≡ over (length table) (symbols_of table) (λ q s. halting_cell q s (entry_of table q s))
-halting_over table machine = sym (flat_map_single halting_node (rules_to table Halt))
-    ∙ over_table (λ q s e. record { state = q; symbol = s; entry = e })
-    (λ rule. halting_node rule ∷ []) (leads_to Halt) rules_from (λ q group. rules_in q 0 group) (λ k. refl)
-    (λ k group groups. refl) (symbols_of table)
-    (λ k group entry full each.
-    over_group (λ q s e. record { state = q; symbol = s; entry = e }) (λ rule. halting_node rule ∷ [])
-    (leads_to Halt) rules_in (λ q k. refl) (λ q k x xs. refl) k 0 group entry
-    (from_zero entry group each)
-    ∙ ap (λ n. flat_map (λ s. halting_cell k s (entry s)) (numbers 0 n)) full)
-    0 table (entry_of table) (groups_long table machine)
-    (λ i j. let e : i ≡ 0 + i = omega arith in ap (λ q. entry_of table q j) e)
+-- what comes before a node by an entry counts, if the entry leads to it
+abbrev before_cell : (Node → ℕ) → Node → ℕ → ℕ → Entry → ℕ
+before_cell count node q s entry = cond (is_same (goes_to entry) (State node.state))
+    (sum_by count (before_by_entry node q s entry)) 0
 
--- maps over them
+-- what the node of an entry counts, if it halts
+abbrev halting_cell : (Node → ℕ) → ℕ → ℕ → Entry → ℕ
+halting_cell count q s entry = cond (is_same (goes_to entry) Halt)
+    (count (record { state = q; known = with_known (λ distance. None) (pos 0) s })) 0
 
-map-append : {X Y : Type 0} (f : X → Y) (xs ys : List X) → map f (xs ++ ys) ≡ map f xs ++ map f ys
-map-append f [] ys = refl
-map-append f (x ∷ xs) ys = ap (λ zs. f x ∷ zs) (map-append f xs ys)
+before_over : (table : Table) → IsMachine table → (count : Node → ℕ) (node : Node)
+    → sum_by count (before table node)
+    ≡ over (length table) (symbols_of table) (λ q s. before_cell count node q s (entry_of table q s))
+before_over table machine count node =
+    sum_by-flat_map count (before_by node) (rules_to table (State node.state))
+    ∙ weigh_rules (λ rule. sum_by count (before_by node rule)) (State node.state) table machine
 
-map-flat_map : {X Y Z : Type 0} (f : Y → Z) (g : X → List Y) (xs : List X)
-    → map f (flat_map g xs) ≡ flat_map (λ x. map f (g x)) xs
-map-flat_map f g [] = refl
-map-flat_map f g (x ∷ xs) = map-append f (g x) (flat_map g xs)
-    ∙ ap (λ ys. map f (g x) ++ ys) (map-flat_map f g xs)
-
-flat_map-each : {X Y : Type 0} (f g : X → List Y) → ((x : X) → f x ≡ g x) → (xs : List X)
-    → flat_map f xs ≡ flat_map g xs
-flat_map-each f g each [] = refl
-flat_map-each f g each (x ∷ xs) = ap₂ ◌++◌ (each x) (flat_map-each f g each xs)
+halting_over : (table : Table) → IsMachine table → (count : Node → ℕ) → sum_by count (level table 0)
+    ≡ over (length table) (symbols_of table) (λ q s. halting_cell count q s (entry_of table q s))
+halting_over table machine count = sum_by-map count halting_node (rules_to table Halt)
+    ∙ weigh_rules (λ rule. count (halting_node rule)) Halt table machine
 
 map-cond : {X Y : Type 0} (f : X → Y) (b : Bool) (xs : List X) → map f (cond b xs []) ≡ cond b (map f xs) []
 map-cond f true xs = refl
@@ -231,15 +189,13 @@ module _ (change : Change) where
       ∙ ap (λ b. cond b (Some (change.symbols.new symbol))
       (known_new change.symbols (known (placed change.mirrored x)))) same)
 
-  halting_image : (q s : ℕ) (entry : Entry)
-      → halting_cell (change.states.new q) (change.symbols.new s) (changed_entry change entry)
-      ≡ map node_image (halting_cell q s entry)
-  halting_image q s entry =
+  halting_image : (count : Node → ℕ) (q s : ℕ) (entry : Entry)
+      → halting_cell count (change.states.new q) (change.symbols.new s) (changed_entry change entry)
+      ≡ halting_cell (λ node. count (node_image node)) q s entry
+  halting_image count q s entry =
       let leads = leads-changed entry Halt in
       let known = fun_ext (λ x. known_at x s (λ distance. None)) in
-      (λ i. cond (leads i) (record { state = change.states.new q; known = known i } ∷ []) [])
-      ∙ sym (map-cond node_image (is_same (goes_to entry) Halt)
-      (record { state = q; known = with_known (λ distance. None) (pos 0) s } ∷ []))
+      λ i. cond (leads i) (count (record { state = change.states.new q; known = known i })) 0
 
   -- what could come before the image of a node
 
@@ -273,86 +229,56 @@ module _ (change : Change) where
         known = with_known (seen_from (left_cell to) node.known) (pos 0) s;
       } ∷ []))
 
-  before_image : (node : Node) (q s : ℕ) (entry : Entry)
-      → before_cell (node_image node) (change.states.new q) (change.symbols.new s)
+  before_image : (count : Node → ℕ) (node : Node) (q s : ℕ) (entry : Entry)
+      → before_cell count (node_image node) (change.states.new q) (change.symbols.new s)
       (changed_entry change entry)
-      ≡ map node_image (before_cell node q s entry)
-  before_image node q s entry =
-      ap₂ (λ b ns. cond b ns []) (leads-changed entry (State node.state)) (before-entry node q s entry)
-      ∙ sym (map-cond node_image (is_same (goes_to entry) (State node.state))
-      (before_by_entry node q s entry))
+      ≡ before_cell (λ other. count (node_image other)) node q s entry
+  before_image count node q s entry =
+      ap₂ (λ b n. cond b n 0) (leads-changed entry (State node.state))
+      (ap (sum_by count) (before-entry node q s entry)
+      ∙ sum_by-map count node_image (before_by_entry node q s entry))
 
 module _ (change : Change) (table changed : Table) (is : IsChanged change table changed) where
-  -- over new names in place of old ones
-  over_moved : (f : ℕ → ℕ → List Node)
-      → Permuted
-      (over (length table) (symbols_of table) (λ q s. f (change.states.new q) (change.symbols.new s)))
-      (over (length table) (symbols_of table) f)
-  over_moved f = joined (permuted_each
-      (λ q. flat_map (λ s. f (change.states.new q) (change.symbols.new s)) (numbers 0 (symbols_of table)))
-      (λ q. flat_map (f (change.states.new q)) (numbers 0 (symbols_of table)))
-      row_moved (numbers 0 (length table)))
-      (joined (permuted_equal _ _ (sym (flat_map-map (λ q. flat_map (f q) (numbers 0 (symbols_of table)))
-      change.states.new (numbers 0 (length table)))))
-      (permuted_flat_map (λ q. flat_map (f q) (numbers 0 (symbols_of table)))
-      (numbers_permuted change.states.new change.states.old change.states.old_of_new (length table)
-      (λ q. (is.states_named q).0)))) where
-        row_moved : (q : ℕ)
-            → Permuted (flat_map (λ s. f (change.states.new q) (change.symbols.new s))
-            (numbers 0 (symbols_of table)))
-            (flat_map (f (change.states.new q)) (numbers 0 (symbols_of table)))
-        row_moved q = joined (permuted_equal _ _ (sym (flat_map-map (f (change.states.new q))
-            change.symbols.new (numbers 0 (symbols_of table)))))
-            (permuted_flat_map (f (change.states.new q))
-            (numbers_permuted change.symbols.new change.symbols.old change.symbols.old_of_new
-            (symbols_of table) (λ s. (is.symbols_named s).0)))
-
-  -- images of lists of nodes by state and symbol
-  over_images : (f g : ℕ → ℕ → List Node)
-      → ((q s : ℕ) → g (change.states.new q) (change.symbols.new s) ≡ map (node_image change) (f q s))
-      → Permuted (map (node_image change) (over (length table) (symbols_of table) f))
-      (over (length changed) (symbols_of changed) g)
+  -- what each state and symbol counts, by their new names
+  over_images : (f g : ℕ → ℕ → ℕ)
+      → ((q s : ℕ) → g (change.states.new q) (change.symbols.new s) ≡ f q s)
+      → over (length changed) (symbols_of changed) g ≡ over (length table) (symbols_of table) f
   over_images f g each =
-      let rows = map-flat_map (node_image change) (λ q. flat_map (f q) (numbers 0 (symbols_of table)))
-      (numbers 0 (length table))
-      ∙ flat_map-each (λ q. map (node_image change) (flat_map (f q) (numbers 0 (symbols_of table))))
-      (λ q. flat_map (λ s. g (change.states.new q) (change.symbols.new s)) (numbers 0 (symbols_of table)))
-      (λ q. map-flat_map (node_image change) (f q) (numbers 0 (symbols_of table))
-      ∙ flat_map-each (λ s. map (node_image change) (f q s))
-      (λ s. g (change.states.new q) (change.symbols.new s)) (λ s. sym (each q s))
-      (numbers 0 (symbols_of table)))
-      (numbers 0 (length table)) in
-      joined (permuted_equal _ _ rows) (joined (over_moved g)
-      (permuted_equal _ _ (sym (λ i. over (is.states i) (is.symbols i) g))))
+      (λ i. over (is.states i) (is.symbols i) g)
+      ∙ sym (sum_from-renamed change.states.new change.states.old change.states.old_of_new
+      change.states.new_of_old (length table) is.states_named (λ q. sum_from 0 (symbols_of table) (g q)))
+      ∙ sum_from-each 0 (length table) _ _ (λ q low high.
+      sym (sum_from-renamed change.symbols.new change.symbols.old change.symbols.old_of_new
+      change.symbols.new_of_old (symbols_of table) is.symbols_named (g (change.states.new q)))
+      ∙ sum_from-each 0 (symbols_of table) _ _ (λ s from to. each q s))
 
 module _ (change : Change) (table changed : Table) (machine : IsMachine table)
     (machine_too : IsMachine changed) (is : IsChanged change table changed) where
-  before_moved : (node : Node)
-      → Permuted (map (node_image change) (before table node)) (before changed (node_image change node))
-  before_moved node = joined
-      (permuted_equal _ _ (ap (map (node_image change)) (before_over table machine node)))
-      (joined (over_images change table changed is (λ q s. before_cell node q s (entry_of table q s))
-      (λ q s. before_cell (node_image change node) q s (entry_of changed q s))
-      (λ q s. ap (before_cell (node_image change node) (change.states.new q) (change.symbols.new s))
-      (is.entries q s) ∙ before_image change node q s (entry_of table q s)))
-      (permuted_equal _ _ (sym (before_over changed machine_too (node_image change node)))))
+  before_alike : (count : Node → ℕ) (node : Node)
+      → sum_by count (before changed (node_image change node))
+      ≡ sum_by (λ other. count (node_image change other)) (before table node)
+  before_alike count node = before_over changed machine_too count (node_image change node)
+      ∙ over_images change table changed is _ _
+      (λ q s. ap (before_cell count (node_image change node) (change.states.new q) (change.symbols.new s))
+      (is.entries q s) ∙ before_image change count node q s (entry_of table q s))
+      ∙ sym (before_over table machine (λ other. count (node_image change other)) node)
 
-  level_moved : (i : ℕ) → Permuted (map (node_image change) (level table i)) (level changed i)
-  level_moved zero = joined (permuted_equal _ _ (ap (map (node_image change)) (halting_over table machine)))
-      (joined (over_images change table changed is (λ q s. halting_cell q s (entry_of table q s))
-      (λ q s. halting_cell q s (entry_of changed q s))
-      (λ q s. ap (halting_cell (change.states.new q) (change.symbols.new s)) (is.entries q s)
-      ∙ halting_image change q s (entry_of table q s)))
-      (permuted_equal _ _ (sym (halting_over changed machine_too))))
-  level_moved (suc i) = joined (permuted_equal _ _
-      (map-flat_map (node_image change) (before table) (level table i)))
-      (joined (permuted_each (λ node. map (node_image change) (before table node))
-      (λ node. before changed (node_image change node)) before_moved (level table i))
-      (joined (permuted_equal _ _ (sym (flat_map-map (before changed) (node_image change) (level table i))))
-      (permuted_flat_map (before changed) (level_moved i))))
+  -- a level has the images of the other's nodes, in whatever order: all counts of them are the same
+  level_alike : (i : ℕ) (count : Node → ℕ)
+      → sum_by count (level changed i) ≡ sum_by (λ node. count (node_image change node)) (level table i)
+  level_alike zero count = halting_over changed machine_too count
+      ∙ over_images change table changed is _ _
+      (λ q s. ap (halting_cell count (change.states.new q) (change.symbols.new s)) (is.entries q s)
+      ∙ halting_image change count q s (entry_of table q s))
+      ∙ sym (halting_over table machine (λ node. count (node_image change node)))
+  level_alike (suc i) count = sum_by-flat_map count (before changed) (level changed i)
+      ∙ level_alike i (λ node. sum_by count (before changed node))
+      ∙ sum_by-each _ _ (before_alike count) (level table i)
+      ∙ sym (sum_by-flat_map (λ node. count (node_image change node)) (before table) (level table i))
 
   pub level_length : (i : ℕ) → length (level changed i) ≡ length (level table i)
-  level_length i = sym (permuted_length (level_moved i)) ∙ length-map (level table i) (node_image change)
+  level_length i =
+      length-sum (level changed i) ∙ level_alike i (λ node. 1) ∙ sym (length-sum (level table i))
 
   pub nodes_alike : (h : ℕ) → nodes_below changed h ≡ nodes_below table h
   nodes_alike zero = refl

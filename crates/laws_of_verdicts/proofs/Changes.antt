@@ -1,17 +1,18 @@
 -- Why a changed machine has the changed verdict, claims and answers.
-use Rattle.std.proofs.Common.{◌≡◌, ℕ, zero, suc, ◌<◌, Bool, true, false, List, [], ◌∷◌, length, get_or}
-use Rattle.std.proofs.Common.{refl, ap, sym, subst, ◌∙◌, arith}
-use Rattle.std.proofs.lemmas.List.Elements.{All-from_recursion}
+use Rattle.std.proofs.Common.{◌≡◌, ℕ, zero, suc, ◌<◌, ◌≤◌, Bool, true, false, Option, List, [], ◌∷◌, length}
+use Rattle.std.proofs.Common.{get_or, refl, ap, sym, subst, ◌∙◌, arith}
 use Rattle.bb_machine.specs.declared.entry.Entry.{Entry}
 use Rattle.bb_machine.specs.declared.entry.Entry.TheVariants.{Undefined, Go}
 use Rattle.bb_machine.specs.declared.entry.Next.TheVariants as to
 use Rattle.bb_machine.specs.declared.plan.Plan.{Plan}
 use Rattle.bb_machine.specs.Limits.{Bounds}
-use Rattle.bb_machine.specs.Machine.{Table, IsGroup, IsMachine, entry_of, symbols_of}
+use Rattle.bb_machine.specs.Machine.{Table, IsMachine, entry_of, symbols_of}
 use Rattle.bb_tape.specs.Content.{cell}
 use Rattle.bb_sim.specs.Configuration.{Configuration, start}
 use Rattle.bb_sim.specs.Outcome.{HaltsInside, HaltsNowhere}
-use Rattle.bb_sim.specs.Run.{after}
+use Rattle.bb_sim.specs.Run.{after, IsScore}
+use Rattle.bb_sim.specs.Span.{span}
+use Rattle.bb_cert.specs.declared.verdict.Extent.{Extent}
 use Rattle.bb_cert.specs.declared.verdict.Side.{Side}
 use Rattle.bb_cert.specs.declared.verdict.Side.TheVariants.{L, R}
 use Rattle.bb_cert.specs.declared.verdict.Verdict.{Verdict}
@@ -23,20 +24,22 @@ use Rattle.bb_cert.specs.checker.Answer.{too_much_needed, claim_holds, all_else}
 use Rattle.bb_cert.specs.claims.Claim.{Claim}
 use Rattle.bb_cert.specs.tree.Tree.{MatchesOne, level, Ends, Clear, EndsWithin, HaltsNextAfter, goes_to}
 use Rattle.bb_cert.specs.tree.Tree.{IsAtHaltingEntry}
+use Rattle.bb_cert.specs.verdict.Extent.{TellsExtent}
 use Rattle.bb_cert.proofs.Facts.{matches_level, halts_from_level}
 use Rattle.bb_decide.specs.Backward.{HasNoTree}
 use Rattle.bb_decide.specs.Cycle.{HasNoCycle, IsFirstCycle}
-use Rattle.bb_decide.specs.Translation.{HasNoTranslation, IsFirstTranslation}
+use Rattle.bb_decide.specs.Translation.{AgreesWithPartner, HasNoTranslation, IsFirstTranslation}
 use Rattle.bb_decide.specs.Verdict.{IsVerdict, PassesAll}
 use Rattle.laws_of_verdicts.specs.Change.{Change, ChangesKeepAnswers, ChangesKeepClaims}
 use Rattle.laws_of_verdicts.specs.Change.{ChangesKeepVerdicts, IsChanged, changed_entry, changed_next}
 use Rattle.laws_of_verdicts.specs.Change.{changed_verdict, turned_side}
+use Rattle.laws_of_verdicts.proofs.ChangedNotions.{AreImagesTo, partner_before}
 use Rattle.laws_of_verdicts.proofs.ChangedNotions.{cycle_image, halts_image, inside_image, pair_image}
 use Rattle.laws_of_verdicts.proofs.ChangedNotions.{same_image, says_image, score_image, span_image}
 use Rattle.laws_of_verdicts.proofs.ChangedNotions.{tells_image, translation_image}
 use Rattle.laws_of_verdicts.proofs.ChangedRuns.{IsImage, after_image, back, changed_back, cell_at, image_of}
-use Rattle.laws_of_verdicts.proofs.ChangedRuns.{start_image}
-use Rattle.laws_of_verdicts.proofs.ChangedTrees.{level_length, nodes_alike}
+use Rattle.laws_of_verdicts.proofs.ChangedRuns.{conf_image, start_image}
+use Rattle.laws_of_verdicts.proofs.ChangedTrees.{groups_long, level_length, nodes_alike}
 
 side-twice : (mirrored : Bool) (side : Side) → turned_side mirrored (turned_side mirrored side) ≡ side
 side-twice false side = refl
@@ -64,15 +67,6 @@ in_states (group ∷ groups) (suc q) n h = let less = in_states groups q n h in 
 
 module _ (change : Change) (table changed : Table) (machine : IsMachine table)
     (machine_too : IsMachine changed) (is : IsChanged change table changed) where
-  group_long : (q : ℕ) → q < length table → length (get_or table q []) ≡ symbols_of table
-  group_long q h = (All-from_recursion (IsGroup (length table) (symbols_of table)) table machine.groups q
-      [] h).full
-
-  group_long_too : (q : ℕ) → q < length changed → length (get_or changed q []) ≡ symbols_of changed
-  group_long_too q h =
-      (All-from_recursion (IsGroup (length changed) (symbols_of changed)) changed machine_too.groups q
-      [] h).full
-
   goes_changed : (entry : Entry) → goes_to entry ≡ to.Halt → goes_to (changed_entry change entry) ≡ to.Halt
   goes_changed Undefined e = refl
   goes_changed (Go write dir then) e = ap (changed_next change) e
@@ -81,10 +75,11 @@ module _ (change : Change) (table changed : Table) (machine : IsMachine table)
       → change.symbols.new s < length (get_or changed (change.states.new q) [])
   named_too q s h =
       let in_table = in_states table q s h in
-      let long = group_long q in_table in
+      let long = groups_long table machine q in_table in
       let new_in_table = (is.states_named q).0 in_table in
       let states = is.states in
-      let long_too = group_long_too (change.states.new q) (omega (arith, states, new_in_table)) in
+      let long_too = groups_long changed machine_too (change.states.new q)
+      (omega (arith, states, new_in_table)) in
       let new = (is.symbols_named s).0 (omega (arith, long, h)) in
       let symbols = is.symbols in
       omega (arith, long_too, new, symbols)
@@ -132,6 +127,23 @@ module _ (change : Change) (table changed : Table) (machine : IsMachine table)
   undone : IsChanged (back change) changed table
   undone = changed_back change table changed is
 
+  there : (n : ℕ) → AreImagesTo change table changed n
+  there n m h = conf_image change table changed is m
+
+  here : (n : ℕ) → AreImagesTo (back change) changed table n
+  here n m h = conf_image (back change) changed table undone m
+
+  spans : (n : ℕ) → span changed n ≡ span table n
+  spans n = span_image change table changed n (there n)
+
+  scores : (n ones : ℕ) → IsScore table n ones → IsScore changed n ones
+  scores n ones counts = score_image change table changed n (there n) ones counts
+
+  tells : (side : Side) (a b : ℕ) (extent : Option Extent) → AgreesWithPartner table side a b
+      → TellsExtent table side a b extent → TellsExtent changed (turned_side change.mirrored side) a b extent
+  tells side a b extent pair said = tells_image change table changed b (there b) side a extent
+      (partner_before table side a b pair) said
+
   clear_image : (h : ℕ) → Clear table h → Clear changed h
   clear_image h clear = record {
     clear = λ i less one. clear.clear i less
@@ -150,17 +162,21 @@ module _ (change : Change) (table changed : Table) (machine : IsMachine table)
   halts_inside_image : (bounds : Bounds) (n : ℕ) → HaltsInside table bounds n → HaltsInside changed bounds n
   halts_inside_image bounds n halts = record {
     halts = halts_image change table changed is n halts.halts;
-    inside = inside_image change table changed is bounds n halts.inside;
+    inside = inside_image change table changed n (there n) bounds halts.inside;
   }
 
   claim_image : (verdict : Verdict) → Claim table verdict → Claim changed (changed_verdict change verdict)
   claim_image (Halt n ones) claim =
-      (halts_image change table changed is n claim.0, score_image change table changed is n ones claim.1)
-  claim_image (Cycler a b) claim = (claim.0, same_image change table changed is a b claim.1)
-  claim_image (Translated side a b extent) claim = (
-    pair_image change table changed is side a b claim.0,
-    says_image change table changed is side a b extent
+      (halts_image change table changed is n claim.0, scores n ones claim.1)
+  claim_image (Cycler a b) claim = (
+    claim.0,
+    same_image change table changed b (there b) a (let less = claim.0 in omega (arith, less))
         claim.1,
+  )
+  claim_image (Translated side a b extent) claim = (
+    pair_image change table changed b (there b) side a claim.0,
+    says_image change table changed b (there b) side a extent
+        (let less = claim.0.in_order in omega (arith, less)) claim.1,
   )
   claim_image (Backward levels nodes) claim = (
     ends_image change table changed machine machine_too is levels nodes claim.0,
@@ -172,32 +188,32 @@ module _ (change : Change) (table changed : Table) (machine : IsMachine table)
   first_cycle_image : (bounds : Bounds) (a t : ℕ) → IsFirstCycle table bounds a t
       → IsFirstCycle changed bounds a t
   first_cycle_image bounds a t first = record {
-    cycle = cycle_image change table changed is bounds a t first.cycle;
-    first = λ b u other. first.first b u (cycle_image (back change) changed table undone bounds b u other);
+    cycle = cycle_image change table changed t (there t) bounds a first.cycle;
+    first = λ b u other. first.first b u (cycle_image (back change) changed table u (here u) bounds b other);
   }
 
   first_translation_image : (bounds : Bounds) (side : Side) (a b : ℕ)
       → IsFirstTranslation table bounds side a b
       → IsFirstTranslation changed bounds (turned_side change.mirrored side) a b
   first_translation_image bounds side a b first = record {
-    translation = translation_image change table changed is bounds side a b first.translation;
+    translation = translation_image change table changed b (there b) bounds side a first.translation;
     first = λ other c d found. first.first (turned_side change.mirrored other) c d
-        (translation_image (back change) changed table undone bounds other c d found);
+        (translation_image (back change) changed table d (here d) bounds other c found);
   }
 
   no_halt_image : (bounds : Bounds) → HaltsNowhere table bounds → HaltsNowhere changed bounds
   no_halt_image bounds none n halts = none n (record {
     halts = halts_image (back change) changed table undone n halts.halts;
-    inside = inside_image (back change) changed table undone bounds n halts.inside;
+    inside = inside_image (back change) changed table n (here n) bounds halts.inside;
   })
 
   no_cycle_image : (bounds : Bounds) → HasNoCycle table bounds → HasNoCycle changed bounds
   no_cycle_image bounds none a t cycle =
-      none a t (cycle_image (back change) changed table undone bounds a t cycle)
+      none a t (cycle_image (back change) changed table t (here t) bounds a cycle)
 
   no_translation_image : (bounds : Bounds) → HasNoTranslation table bounds → HasNoTranslation changed bounds
   no_translation_image bounds none side a b found = none (turned_side change.mirrored side) a b
-      (translation_image (back change) changed table undone bounds side a b found)
+      (translation_image (back change) changed table b (here b) bounds side a found)
 
 -- no tree of the machine means none of the changed one
 module _ (change : Change) (table changed : Table) (machine : IsMachine table)
@@ -219,7 +235,7 @@ module _ (change : Change) (table changed : Table) (machine : IsMachine table)
       → IsVerdict changed bounds plan (changed_verdict change verdict)
   verdict_image bounds plan (Halt n ones) given = (
     halts_inside_image change table changed machine machine_too is bounds n given.0,
-    score_image change table changed is n ones given.1,
+    scores change table changed machine machine_too is n ones given.1,
   )
   verdict_image bounds plan (Cycler a b) given = (
     no_halt_image change table changed machine machine_too is bounds given.0,
@@ -231,7 +247,7 @@ module _ (change : Change) (table changed : Table) (machine : IsMachine table)
     λ on. no_cycle_image change table changed machine machine_too is bounds (given.1 on),
     given.2,
     first_translation_image change table changed machine machine_too is bounds side a b given.3,
-    tells_image change table changed is side a b extent given.4,
+    tells change table changed machine machine_too is side a b extent given.3.translation.pair given.4,
   )
   verdict_image bounds plan (Backward levels nodes) given = (
     no_halt_image change table changed machine machine_too is bounds given.0,
@@ -244,14 +260,14 @@ module _ (change : Change) (table changed : Table) (machine : IsMachine table)
   verdict_image bounds plan (Undecided Steps) given = (
     (
       no_halt_image change table changed machine machine_too is bounds given.0.0,
-      rw (span_image change table changed is bounds.steps) given.0.1,
+      rw (spans change table changed machine machine_too is bounds.steps) given.0.1,
     ),
     passes_image bounds plan given.1,
   )
   verdict_image bounds plan (Undecided Cells) given = (
     (
       no_halt_image change table changed machine machine_too is bounds given.0.0,
-      rw (span_image change table changed is bounds.steps) given.0.1,
+      rw (spans change table changed machine machine_too is bounds.steps) given.0.1,
     ),
     passes_image bounds plan given.1,
   )
@@ -274,10 +290,12 @@ module _ (change : Change) (table changed : Table) (machine : IsMachine table)
   rule_image bounds (Translated side a b extent) out_of_order applies = applies
   rule_image bounds (Backward levels nodes) out_of_order applies = applies
   rule_image bounds (Undecided why) out_of_order applies = applies
-  rule_image bounds (Halt n ones) too_much_needed applies = rw (span_image change table changed is n) applies
-  rule_image bounds (Cycler a b) too_much_needed applies = rw (span_image change table changed is b) applies
+  rule_image bounds (Halt n ones) too_much_needed applies =
+      rw (spans change table changed machine machine_too is n) applies
+  rule_image bounds (Cycler a b) too_much_needed applies =
+      rw (spans change table changed machine machine_too is b) applies
   rule_image bounds (Translated side a b extent) too_much_needed applies =
-      rw (span_image change table changed is b) applies
+      rw (spans change table changed machine machine_too is b) applies
   rule_image bounds (Backward levels nodes) too_much_needed applies = applies
   rule_image bounds (Undecided why) too_much_needed applies = applies
   rule_image bounds verdict claim_holds applies =

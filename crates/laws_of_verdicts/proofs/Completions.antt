@@ -1,6 +1,6 @@
 -- Why completions keep a verdict in which no `---` has a part.
-use Rattle.std.proofs.Common.{◌≡◌, ◌≢◌, ℕ, zero, suc, ◌≤◌, Option, Some, None, option_and_then, refl, ap}
-use Rattle.std.proofs.Common.{sym, ◌∙◌, arith}
+use Rattle.std.proofs.Common.{◌≡◌, ◌≢◌, ℕ, zero, suc, ◌≤◌, Option, Some, None, option_and_then, false}
+use Rattle.std.proofs.Common.{refl, ap, sym, subst, ◌∙◌, arith}
 use Rattle.bb_machine.specs.declared.entry.Next.{Next}
 use Rattle.bb_machine.specs.declared.entry.Next.TheVariants as state
 use Rattle.bb_machine.specs.declared.entry.Entry.{Entry}
@@ -20,36 +20,47 @@ use Rattle.bb_cert.specs.checker.Answer.{Applies, IsAnswer, NeedsTooMuch, Rule, 
 use Rattle.bb_cert.specs.checker.Answer.{too_much_named, out_of_order, too_much_needed, claim_holds}
 use Rattle.bb_cert.specs.checker.Answer.{all_else}
 use Rattle.bb_cert.specs.claims.Claim.{Claim}
-use Rattle.bb_cert.proofs.Facts.{agreeing_records_never_halt, earlier, moves, records_in_order}
+use Rattle.bb_cert.proofs.Facts.{steps_of_never, agreeing_records_never_halt, earlier, moves}
 use Rattle.bb_cert.proofs.Facts.{repeats_never_halt}
 use Rattle.bb_decide.specs.Cycle.{HasNoCycle, IsFirstCycle}
-use Rattle.bb_decide.specs.Translation.{AgreesWithPartner, IsFirstTranslation}
+use Rattle.bb_decide.specs.Translation.{IsFirstTranslation}
 use Rattle.bb_decide.specs.Verdict.{IsVerdict}
 use Rattle.bb_decide.proofs.Facts.{verdicts_hold}
 use Rattle.laws_of_verdicts.specs.Completion.{IsCompletion, IsInZ, MeetsNoGap, CompletionsKeepAnswers}
 use Rattle.laws_of_verdicts.specs.Completion.{CompletionsKeepClaims, CompletionsKeepVerdicts}
 use Rattle.laws_of_verdicts.specs.Completion.{CompletionsNeverHalt}
-use Rattle.laws_of_verdicts.proofs.AlikeRuns.{AreAlikeTo, cycle_alike, inside_alike, pair_alike, says_alike}
-use Rattle.laws_of_verdicts.proofs.AlikeRuns.{span_alike, tells_alike, translation_alike}
+use Rattle.laws_of_verdicts.specs.Change.{Change, Renaming, changed_next}
+use Rattle.laws_of_verdicts.proofs.ChangedNotions.{AreImagesTo, cycle_image, inside_image, pair_image}
+use Rattle.laws_of_verdicts.proofs.ChangedNotions.{same_image, says_image, score_image, span_image}
+use Rattle.laws_of_verdicts.proofs.ChangedNotions.{tells_image, translation_image}
+use Rattle.laws_of_verdicts.proofs.ChangedRuns.{AreImages}
 
--- a run that never halts has every step
-next_exists : (table : Table) → Never table → (n : ℕ) → Exists table n → Exists table (suc n)
-unfolding conf
-next_exists table never n step = by_case (next table step.here) refl where
-  by_case : (o : Option Configuration) → next table step.here ≡ o → Exists table (suc n)
-  by_case None e = absurd (never.never n (record { last = step.here; exists = step.exists; no_next = e }))
-  by_case (Some c) e = record { here = c; exists = ap (option_and_then (next table)) step.exists ∙ e }
+-- nothing is changed
 
-exists_always : (table : Table) → Never table → (n : ℕ) → Exists table n
-exists_always table never zero = record { here = _; exists = conf-start table }
-exists_always table never (suc n) = next_exists table never n (exists_always table never n)
+abbrev pub same_names : Renaming
+same_names = record { new = λ n. n; old = λ n. n; old_of_new = λ n. refl; new_of_old = λ n. refl }
 
--- the first of two records is made no later than the second
-partner_before : (table : Table) (side : Side) (a b : ℕ) → AgreesWithPartner table side a b → a ≤ b
-partner_before table side a b pair =
-    let less = (records_in_order table side pair.first_number pair.second_number a b pair.first_record
-    pair.second_record).0 pair.partner.below in
-    omega (arith, less)
+abbrev pub unchanged : Change
+unchanged = record {
+  mirrored = false;
+  states = same_names;
+  symbols = same_names;
+  keeps_A = refl;
+  keeps_0 = refl;
+}
+
+next_unchanged : (to : Next) → changed_next unchanged to ≡ to
+next_unchanged (state.State q) = refl
+next_unchanged state.Halt = refl
+
+same_images : (o p : Option Configuration) → p ≡ o → AreImages unchanged o p
+same_images None p e = subst (AreImages unchanged None) (sym e) tt
+same_images (Some c) p e = subst (AreImages unchanged (Some c)) (sym e) (record {
+  state = sym (next_unchanged c.state);
+  head = refl;
+  cells = λ q. refl;
+  scores = refl;
+})
 
 module _ (table filled : Table) (completion : IsCompletion table filled) where
   same_entry : (to : Next) (symbol : ℕ) (entry : Entry) → entry_at table to symbol ≡ entry → entry ≢ Undefined
@@ -78,10 +89,13 @@ module _ (table filled : Table) (completion : IsCompletion table filled) where
       ap (option_and_then (next filled)) (conf_kept n moved.before moved.at_before)
       ∙ next_kept moved.before moved.then_here moved.is_next ∙ same
 
-  alike_to : (n : ℕ) → Exists table n → AreAlikeTo table filled n
-  alike_to n there m h =
+  alike : (n : ℕ) → Exists table n → (m : ℕ) → m ≤ n → conf filled m ≡ conf table m
+  alike n there m h =
       let here = earlier table n m h there in
       conf_kept m here.here here.exists ∙ sym here.exists
+
+  alike_to : (n : ℕ) → Exists table n → AreImagesTo unchanged table filled n
+  alike_to n there m h = same_images (conf table m) (conf filled m) (alike n there m h)
 
   -- a halt in Z is one of the completion
   halts_kept : (n : ℕ) → IsInZ table n → HaltsAt filled n
@@ -92,16 +106,17 @@ module _ (table filled : Table) (completion : IsCompletion table filled) where
     no_next = ap (λ s. followed (entry_at filled s (cell at.here.tape at.here.head)) at.here) at.in_z;
   }
 
-  alike_always : Never table → (n : ℕ) → AreAlikeTo table filled n
-  alike_always never n = alike_to n (exists_always table never n)
+  alike_always : Never table → (n : ℕ) → AreImagesTo unchanged table filled n
+  alike_always never n = alike_to n (steps_of_never table never n)
 
-  back_always : Never table → (n : ℕ) → AreAlikeTo filled table n
-  back_always never n m h = sym (alike_always never n m h)
+  back_always : Never table → (n : ℕ) → AreImagesTo unchanged filled table n
+  back_always never n m h = same_images (conf filled m) (conf table m)
+      (sym (alike n (steps_of_never table never n) m h))
 
   never_kept : Never table → Never filled
   never_kept never = record {
     never = λ n halts.
-        let later = exists_always table never (suc n) in
+        let later = steps_of_never table never (suc n) in
         let no_later = halt_is_last filled n (suc n) later.here halts
         (conf_kept (suc n) later.here later.exists) in
         absurd (omega (arith, no_later));
@@ -109,47 +124,38 @@ module _ (table filled : Table) (completion : IsCompletion table filled) where
 
   no_cycle_kept : Never table → (bounds : Bounds) → HasNoCycle table bounds → HasNoCycle filled bounds
   no_cycle_kept never bounds none a t cycle =
-      none a t (cycle_alike filled table t (back_always never t) bounds a cycle)
+      none a t (cycle_image unchanged filled table t (back_always never t) bounds a cycle)
 
   first_cycle_kept : Never table → (bounds : Bounds) (a t : ℕ) → IsFirstCycle table bounds a t
       → IsFirstCycle filled bounds a t
   first_cycle_kept never bounds a t is = record {
-    cycle = cycle_alike table filled t (alike_always never t) bounds a is.cycle;
-    first = λ b u other. is.first b u (cycle_alike filled table u (back_always never u) bounds b other);
+    cycle = cycle_image unchanged table filled t (alike_always never t) bounds a is.cycle;
+    first = λ b u other. is.first b u
+        (cycle_image unchanged filled table u (back_always never u) bounds b other);
   }
 
   first_translation_kept : Never table → (bounds : Bounds) (side : Side) (a b : ℕ)
       → IsFirstTranslation table bounds side a b → IsFirstTranslation filled bounds side a b
   first_translation_kept never bounds side a b is = record {
-    translation = translation_alike table filled b (alike_always never b) bounds side a
-        (partner_before table side a b is.translation.pair) is.translation;
+    translation =
+        translation_image unchanged table filled b (alike_always never b) bounds side a is.translation;
     first = λ other c d found. is.first other c d
-        (translation_alike filled table d (back_always never d) bounds other c
-        (partner_before filled other c d found.pair) found);
+        (translation_image unchanged filled table d (back_always never d) bounds other c found);
   }
 
   claim_kept : (verdict : Verdict) → MeetsNoGap table verdict → Claim table verdict → Claim filled verdict
-  claim_kept (Halt n ones) at claim = (
-    halts_kept n at,
-    record {
-      here = claim.1.here;
-      exists = conf_kept n claim.1.here claim.1.exists;
-      counted = claim.1.counted;
-    },
-  )
-  claim_kept (Cycler a b) at claim = (
-    claim.0,
-    record {
-      here = claim.1.here;
-      at_first = conf_kept a claim.1.here claim.1.at_first;
-      at_second = conf_kept b claim.1.here claim.1.at_second;
-    },
-  )
+  claim_kept (Halt n ones) at claim =
+      let alike = alike_to n (record { here = at.here; exists = at.exists }) in
+      (halts_kept n at, score_image unchanged table filled n alike ones claim.1)
+  claim_kept (Cycler a b) at claim =
+      let alike = alike_to b (record { here = claim.1.here; exists = claim.1.at_second }) in
+      let less = claim.0 in
+      (less, same_image unchanged table filled b alike a (omega (arith, less)) claim.1)
   claim_kept (Translated side a b extent) at claim =
       let in_order = claim.0.in_order in
       let alike = alike_to b (record { here = claim.0.agree.second; exists = claim.0.agree.at_second }) in (
-        pair_alike table filled b alike side a claim.0,
-        says_alike table filled b alike side a extent (omega (arith, in_order)) claim.1,
+        pair_image unchanged table filled b alike side a claim.0,
+        says_image unchanged table filled b alike side a extent (omega (arith, in_order)) claim.1,
       )
   claim_kept (Backward levels nodes) at claim = absurd at
   claim_kept (Undecided why) at claim = absurd at
@@ -159,7 +165,7 @@ module _ (table filled : Table) (completion : IsCompletion table filled) where
   verdict_kept bounds plan (Halt n ones) at is =
       let claim = claim_kept (Halt n ones) at (is.0.halts, is.1) in
       let alike = alike_to n (record { here = at.here; exists = at.exists }) in (
-        record { halts = claim.0; inside = inside_alike table filled n alike bounds is.0.inside },
+        record { halts = claim.0; inside = inside_image unchanged table filled n alike bounds is.0.inside },
         claim.1,
       )
   verdict_kept bounds plan (Cycler a b) at is =
@@ -181,7 +187,8 @@ module _ (table filled : Table) (completion : IsCompletion table filled) where
         λ on. no_cycle_kept never bounds (is.1 on),
         is.2,
         first_translation_kept never bounds side a b is.3,
-        tells_alike table filled b (alike_always never b) side a extent (omega (arith, in_order)) is.4,
+        tells_image unchanged table filled b (alike_always never b) side a extent (omega (arith, in_order))
+            is.4,
       )
   verdict_kept bounds plan (Backward levels nodes) at is = absurd at
   verdict_kept bounds plan (Undecided why) at is = absurd at
@@ -191,13 +198,13 @@ module _ (table filled : Table) (completion : IsCompletion table filled) where
       → NeedsTooMuch filled bounds verdict → NeedsTooMuch table bounds verdict
   needs_back bounds (Halt n ones) at claim needs =
       let alike = alike_to n (record { here = at.here; exists = at.exists }) in
-      rw (← span_alike table filled n alike) needs
+      rw (← span_image unchanged table filled n alike) needs
   needs_back bounds (Cycler a b) at claim needs =
       let alike = alike_to b (record { here = claim.1.here; exists = claim.1.at_second }) in
-      rw (← span_alike table filled b alike) needs
+      rw (← span_image unchanged table filled b alike) needs
   needs_back bounds (Translated side a b extent) at claim needs =
       let alike = alike_to b (record { here = claim.0.agree.second; exists = claim.0.agree.at_second }) in
-      rw (← span_alike table filled b alike) needs
+      rw (← span_image unchanged table filled b alike) needs
   needs_back bounds (Backward levels nodes) at claim needs = absurd at
   needs_back bounds (Undecided why) at claim needs = absurd at
 

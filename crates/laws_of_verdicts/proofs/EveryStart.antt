@@ -14,44 +14,10 @@ use Rattle.bb_tape.specs.Content.{Content, cell, with_cell}
 use Rattle.bb_tape.proofs.Facts.{cell-with_cell-same, cell-with_cell-other, by_position}
 use Rattle.bb_sim.specs.Configuration.{Configuration, followed, entry_at, next}
 use Rattle.bb_sim.specs.Run.{after}
-use Rattle.bb_sim.proofs.Facts.{led}
+use Rattle.bb_sim.proofs.Facts.{IsNamed, next_named}
 use Rattle.bb_cert.specs.tree.Tree.{Node, MatchesOne, goes_to, IsAtHaltingEntry, Ends}
-use Rattle.bb_cert.proofs.Facts.{matches_level, empty_levels_stay}
+use Rattle.bb_cert.proofs.Facts.{at_end, before_z, matches_level, empty_levels_stay}
 use Rattle.laws_of_verdicts.specs.EveryStart.{IsStartOf, HaltsFrom, EveryStartHaltsSoonOrNever}
-
--- a run names only states and symbols of its machine
-
-written_named : (content : Content) (head p : ℤ) (write symbols : ℕ) → write < symbols
-    → cell content p < symbols → cell (with_cell content head write) p < symbols
-written_named content head p write symbols named all = by_position p head _
-    (λ e. let same : cell (with_cell content head write) p ≡ write =
-    ap (cell (with_cell content head write)) e
-    ∙ cell-with_cell-same content head write in omega (arith, same, named))
-    (λ apart. let same = cell-with_cell-other content head write p apart in omega (arith, same, all))
-
-entry_at_named : (table : Table) → IsMachine table → (state : Next) (symbol : ℕ)
-    → IsNextOf (length table) state → symbol < symbols_of table
-    → IsEntryOf (length table) (symbols_of table) (entry_at table state symbol)
-entry_at_named table machine (State state) symbol in_states in_symbols =
-    entry_named _ _ table state symbol machine in_states in_symbols
-entry_at_named table machine Halt symbol in_states in_symbols = tt
-
-followed_named : (table : Table) (c d : Configuration) (entry : Entry)
-    → IsEntryOf (length table) (symbols_of table) entry → IsStartOf table c → followed entry c ≡ Some d
-    → IsStartOf table d
-followed_named table c d Undefined of_table named e = absurd cc
-followed_named table c d (Go write dir to) of_table named e =
-    let same : led c write dir to ≡ d = cc in
-    subst (IsStartOf table) same (record {
-      state = of_table.1;
-      symbols = λ p. written_named c.tape c.head p write (symbols_of table) of_table.0 (named.symbols p);
-    })
-
-next_named : (table : Table) (c d : Configuration) → IsMachine table → IsStartOf table c
-    → next table c ≡ Some d → IsStartOf table d
-unfolding next
-next_named table c d machine named e = followed_named table c d (entry_at table c.state (cell c.tape c.head))
-    (entry_at_named table machine c.state (cell c.tape c.head) named.state (named.symbols c.head)) named e
 
 -- a step of a run from c, and the one before it
 record Steps (table : Table) (c : Configuration) (n : ℕ) (d : Configuration) : Type 0 where
@@ -72,65 +38,14 @@ step_of table c n d e = by_case (after table c n) refl where
     is_next = ap (option_and_then (next table)) (sym some) ∙ e;
   }
 
-run_named : (table : Table) → IsMachine table → (c : Configuration) → IsStartOf table c → (n : ℕ)
-    (d : Configuration) → after table c n ≡ Some d → IsStartOf table d
+run_named : (table : Table) → IsMachine table → (c : Configuration) → IsNamed table c → (n : ℕ)
+    (d : Configuration) → after table c n ≡ Some d → IsNamed table d
 run_named table machine c named zero d e =
-    let same : c ≡ d = cc in subst (IsStartOf table) same named
+    let same : c ≡ d = cc in subst (IsNamed table) same named
 run_named table machine c named (suc n) d e =
     let step = step_of table c n d e in
     next_named table step.before d machine
     (run_named table machine c named n step.before step.at_before) step.is_next
-
--- a halt comes from a halting entry
-
-in_group : (table : Table) (state symbol : ℕ) → IsMachine table → state < length table
-    → symbol < symbols_of table → symbol < length (get_or table state [])
-in_group table state symbol machine in_states in_symbols =
-    let group : IsGroup (length table) (symbols_of table) (get_or table state []) =
-    All-from_recursion (IsGroup (length table) (symbols_of table)) table machine.groups state [] in_states in
-    let long = group.full in
-    omega (arith, long, in_symbols)
-
-entry_halts : (entry : Entry) (c : Configuration) → followed entry c ≡ None → goes_to entry ≡ Halt
-entry_halts Undefined c e = refl
-entry_halts (Go write dir to) c e = absurd cc
-
-entry_into_halt : (entry : Entry) (c d : Configuration) → followed entry c ≡ Some d → d.state ≡ Halt
-    → goes_to entry ≡ Halt
-entry_into_halt Undefined c d e into = absurd cc
-entry_into_halt (Go write dir to) c d e into =
-    let same : led c write dir to ≡ d = cc in ap (λ (x : Configuration). x.state) same ∙ into
-
--- a configuration in a state whose entry halts
-at_halting : (table : Table) (c : Configuration) → IsMachine table → IsStartOf table c → (state : ℕ)
-    → c.state ≡ State state → goes_to (entry_at table c.state (cell c.tape c.head)) ≡ Halt
-    → IsAtHaltingEntry table c
-at_halting table c machine named state in_state halts = record {
-  state = state;
-  in_state = in_state;
-  in_table = in_group table state (cell c.tape c.head) machine
-      (subst (IsNextOf (length table)) in_state named.state) (named.symbols c.head);
-  halts = ap (λ s. goes_to (entry_at table s (cell c.tape c.head))) (sym in_state) ∙ halts;
-}
-
--- before a step into Z the entry halts
-before_z : (table : Table) (c d : Configuration) → IsMachine table → IsStartOf table c → next table c ≡ Some d
-    → d.state ≡ Halt → (state : Next) → c.state ≡ state → IsAtHaltingEntry table c
-unfolding next
-before_z table c d machine named e into (State state) in_state =
-    at_halting table c machine named state in_state
-    (entry_into_halt (entry_at table c.state (cell c.tape c.head)) c d e into)
-before_z table c d machine named e into Halt in_state =
-    let none : followed (entry_at table c.state (cell c.tape c.head)) c ≡ None =
-    ap (λ s. followed (entry_at table s (cell c.tape c.head)) c) in_state in
-    absurd cc
-
-at_end : (table : Table) (c : Configuration) → IsMachine table → IsStartOf table c → next table c ≡ None
-    → (state : ℕ) → c.state ≡ State state → IsAtHaltingEntry table c
-unfolding next
-at_end table c machine named e state in_state =
-    at_halting table c machine named state in_state
-    (entry_halts (entry_at table c.state (cell c.tape c.head)) c e)
 
 -- what comes before a halt matches a node, so its level isn't empty
 below_end : (table : Table) (levels nodes : ℕ) → Ends table levels nodes → (c d : Configuration) (i : ℕ)
@@ -144,7 +59,7 @@ below_end table levels nodes ends c d i e halts = elim (cases_lt i levels) [
 ]
 
 halts_in : (table : Table) (levels nodes : ℕ) (c : Configuration) (n : ℕ) → IsMachine table
-    → Ends table levels nodes → IsStartOf table c → (halts : HaltsFrom table c n) → (state : Next)
+    → Ends table levels nodes → IsNamed table c → (halts : HaltsFrom table c n) → (state : Next)
     → halts.last.state ≡ state → n ≤ levels
 halts_in table levels nodes c n machine ends named halts (State state) in_state =
     let there = run_named table machine c named n halts.last halts.exists in
@@ -160,4 +75,5 @@ halts_in table levels nodes c (suc n) machine ends named halts Halt in_z =
 
 pub every_start_halts_soon_or_never : EveryStartHaltsSoonOrNever
 every_start_halts_soon_or_never table levels nodes c n machine ends named halts =
-    halts_in table levels nodes c n machine ends named halts halts.last.state refl
+    halts_in table levels nodes c n machine ends
+    (record { state = named.state; symbols = named.symbols }) halts halts.last.state refl

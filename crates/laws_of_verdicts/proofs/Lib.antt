@@ -1,4 +1,3 @@
-mod AlikeRuns
 mod ChangedNotions
 mod ChangedRuns
 mod ChangedTrees
@@ -6,4 +5,4 @@ mod Changes
 mod Completions
 mod EveryStart
 mod LaterSteps
-mod Permuted
+mod Sums

@@ -1,6 +1,5 @@
 //! Worked lines, and a comparison with a second reader that only tries each prefix of a line.
-ghost use Rattle.std.specs.Prelude.{◌≡◌, ◌≤◌, IfOk, length};
-ghost use Rattle.bb_machine.specs.Machine.{symbols_of};
+ghost use Rattle.std.specs.Prelude.{◌≤◌};
 
 use arrayvec::ArrayVec;
 use bb_machine::{
@@ -218,53 +217,86 @@ const TO_HALT: Entry = Entry::Go {
     next: Next::Halt,
 };
 
+/// A state, a symbol, and the entry that stands there.
+type Row = (u8, u8, Entry);
+
+/// Of the five-state champion.
+static ENTRIES: [Row; 2] = [
+    (
+        0,
+        1,
+        Entry::Go {
+            write: 1,
+            dir: Dir::L,
+            next: Next::State(2),
+        },
+    ),
+    (4, 0, TO_HALT),
+];
+
+/// Of the machine `1RB2LB1RZ_2LA2RB1LB`.
+static ENTRIES_OF_THREE_SYMBOLS: [Row; 2] = [
+    (0, 2, TO_HALT),
+    (
+        1,
+        1,
+        Entry::Go {
+            write: 2,
+            dir: Dir::R,
+            next: Next::State(1),
+        },
+    ),
+];
+
+/// A state and a symbol of the five-state champion, and what its entry does; none where it halts.
+static STEPS: [(u8, u8, Option<Step>); 2] = [
+    (
+        0,
+        1,
+        Some(Step {
+            write: 1,
+            offset: -1,
+            state: 2,
+        }),
+    ),
+    (4, 0, None),
+];
+
 /// Reads a machine with so many states and symbols.
-fn sized(rt: &impl Abort, line: &[u8], states: u8, symbols: u8) -> Result<Machine, Fail>
-    ensures states { IfOk result (λ machine. length machine ≡ states) }
-    ensures symbols { IfOk result (λ machine. symbols_of machine ≡ symbols) }
-{
+fn sized(rt: &impl Abort, line: &[u8], states: u8, symbols: u8) -> Result<Machine, Fail> {
     let machine = Machine::read(line)?;
-    assert!(rt; machine.states() == states);
-    assert!(rt; machine.symbols() == symbols);
+    assert_eq!(rt; (machine.states(), machine.symbols()), (states, symbols));
     Ok(machine)
+}
+
+/// Holds the entries of a machine against rows.
+fn has_entries(rt: &impl Abort, machine: &Machine, rows: &[Row]) {
+    for (state, symbol, entry) in rows {
+        assert!(rt; *state < machine.states() && *symbol < machine.symbols());
+        assert_eq!(rt; machine.entry(*state, *symbol), *entry, "{state} {symbol}");
+    }
 }
 
 #[test]
 fn entries_are_the_table(rt: HostRuntime) -> Result<(), Fail> {
-    let machine = sized(&rt, CHAMPION, 5, 2)?;
-    let to_c = Entry::Go {
-        write: 1,
-        dir: Dir::L,
-        next: Next::State(2),
-    };
-    assert_eq!(rt; machine.entry(0, 1), to_c);
-    assert_eq!(rt; machine.entry(4, 0), TO_HALT);
+    has_entries(&rt, &sized(&rt, CHAMPION, 5, 2)?, &ENTRIES);
     Ok(())
 }
 
 #[test]
 fn steps_are_the_table(rt: HostRuntime) -> Result<(), Fail> {
     let machine = sized(&rt, CHAMPION, 5, 2)?;
-    let step = Step {
-        write: 1,
-        offset: -1,
-        state: 2,
-    };
-    assert_eq!(rt; machine.step(0, 1), Some(step));
-    assert_eq!(rt; machine.step(4, 0), None);
+    for (state, symbol, step) in &STEPS {
+        assert!(rt; *state < machine.states() && *symbol < machine.symbols());
+        assert_eq!(rt; machine.step(*state, *symbol), *step, "{state} {symbol}");
+    }
     Ok(())
 }
 
 #[test]
 fn entries_of_three_symbols_are_the_table(rt: HostRuntime) -> Result<(), Fail> {
     let machine = sized(&rt, b"1RB2LB1RZ_2LA2RB1LB", 2, 3)?;
-    let to_b = Entry::Go {
-        write: 2,
-        dir: Dir::R,
-        next: Next::State(1),
-    };
-    assert_eq!(rt; machine.entry(0, 2), TO_HALT);
-    assert_eq!(rt; machine.entry(1, 1), to_b);
+    has_entries(&rt, &machine, &ENTRIES_OF_THREE_SYMBOLS);
     Ok(())
 }
 

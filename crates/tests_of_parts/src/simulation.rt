@@ -11,67 +11,81 @@ type Seen = (char, i64, &'static [i64], i64);
 
 const CELLS: u64 = 64;
 
-/// The two-state champion.
-static CHAMPION: [Seen; 7] = [
-    ('A', 0, &[], 1),
-    ('B', 1, &[0], 2),
-    ('A', 0, &[0, 1], 2),
-    ('B', -1, &[0, 1], 3),
-    ('A', -2, &[-1, 0, 1], 4),
-    ('B', -1, &[-2, -1, 0, 1], 4),
-    ('Z', 0, &[-2, -1, 0, 1], 4),
-];
+/// The text of a machine, and its run from the start.
+type Run = (&'static [u8], &'static [Seen]);
 
-/// The three-state champion in steps.
-static THREE_STATES: [Seen; 22] = [
-    ('A', 0, &[], 1),
-    ('B', 1, &[0], 2),
-    ('B', 0, &[0, 1], 2),
-    ('C', 1, &[1], 2),
-    ('A', 0, &[1], 2),
-    ('B', 1, &[0, 1], 2),
-    ('C', 2, &[0], 3),
-    ('C', 1, &[0, 2], 3),
-    ('C', 0, &[0, 1, 2], 3),
-    ('A', -1, &[0, 1, 2], 4),
-    ('B', 0, &[-1, 0, 1, 2], 4),
-    ('C', 1, &[-1, 1, 2], 4),
-    ('A', 0, &[-1, 1, 2], 4),
-    ('B', 1, &[-1, 0, 1, 2], 4),
-    ('C', 2, &[-1, 0, 2], 4),
-    ('A', 1, &[-1, 0, 2], 4),
-    ('B', 2, &[-1, 0, 1, 2], 4),
-    ('C', 3, &[-1, 0, 1], 5),
-    ('C', 2, &[-1, 0, 1, 3], 5),
-    ('C', 1, &[-1, 0, 1, 2, 3], 5),
-    ('A', 0, &[-1, 0, 1, 2, 3], 5),
-    ('Z', 1, &[-1, 0, 1, 2, 3], 5),
-];
-
-/// A run that goes on to the right.
-static RIGHT: [Seen; 9] = [
-    ('A', 0, &[], 1),
-    ('B', 1, &[0], 2),
-    ('A', 0, &[0, 1], 2),
-    ('A', 1, &[1], 2),
-    ('A', 2, &[], 3),
-    ('B', 3, &[2], 4),
-    ('A', 2, &[2, 3], 4),
-    ('A', 3, &[3], 4),
-    ('A', 4, &[], 5),
-];
-
-/// A run whose configurations come again.
-static REPEATING: [Seen; 9] = [
-    ('A', 0, &[], 1),
-    ('B', 1, &[0], 2),
-    ('A', 0, &[0, 1], 2),
-    ('B', 1, &[1], 2),
-    ('A', 0, &[1], 2),
-    ('B', 1, &[0, 1], 2),
-    ('A', 0, &[0, 1], 2),
-    ('B', 1, &[1], 2),
-    ('A', 0, &[1], 2),
+static RUNS: [Run; 4] = [
+    // The two-state champion.
+    (
+        b"1RB1LB_1LA1RZ",
+        &[
+            ('A', 0, &[], 1),
+            ('B', 1, &[0], 2),
+            ('A', 0, &[0, 1], 2),
+            ('B', -1, &[0, 1], 3),
+            ('A', -2, &[-1, 0, 1], 4),
+            ('B', -1, &[-2, -1, 0, 1], 4),
+            ('Z', 0, &[-2, -1, 0, 1], 4),
+        ],
+    ),
+    // The three-state champion in steps.
+    (
+        b"1RB1RZ_1LB0RC_1LC1LA",
+        &[
+            ('A', 0, &[], 1),
+            ('B', 1, &[0], 2),
+            ('B', 0, &[0, 1], 2),
+            ('C', 1, &[1], 2),
+            ('A', 0, &[1], 2),
+            ('B', 1, &[0, 1], 2),
+            ('C', 2, &[0], 3),
+            ('C', 1, &[0, 2], 3),
+            ('C', 0, &[0, 1, 2], 3),
+            ('A', -1, &[0, 1, 2], 4),
+            ('B', 0, &[-1, 0, 1, 2], 4),
+            ('C', 1, &[-1, 1, 2], 4),
+            ('A', 0, &[-1, 1, 2], 4),
+            ('B', 1, &[-1, 0, 1, 2], 4),
+            ('C', 2, &[-1, 0, 2], 4),
+            ('A', 1, &[-1, 0, 2], 4),
+            ('B', 2, &[-1, 0, 1, 2], 4),
+            ('C', 3, &[-1, 0, 1], 5),
+            ('C', 2, &[-1, 0, 1, 3], 5),
+            ('C', 1, &[-1, 0, 1, 2, 3], 5),
+            ('A', 0, &[-1, 0, 1, 2, 3], 5),
+            ('Z', 1, &[-1, 0, 1, 2, 3], 5),
+        ],
+    ),
+    // A run that goes on to the right.
+    (
+        b"1RB0RA_1LA---",
+        &[
+            ('A', 0, &[], 1),
+            ('B', 1, &[0], 2),
+            ('A', 0, &[0, 1], 2),
+            ('A', 1, &[1], 2),
+            ('A', 2, &[], 3),
+            ('B', 3, &[2], 4),
+            ('A', 2, &[2, 3], 4),
+            ('A', 3, &[3], 4),
+            ('A', 4, &[], 5),
+        ],
+    ),
+    // A run whose configurations come again.
+    (
+        b"1RB0RB_1LA1LA",
+        &[
+            ('A', 0, &[], 1),
+            ('B', 1, &[0], 2),
+            ('A', 0, &[0, 1], 2),
+            ('B', 1, &[1], 2),
+            ('A', 0, &[1], 2),
+            ('B', 1, &[0, 1], 2),
+            ('A', 0, &[0, 1], 2),
+            ('B', 1, &[1], 2),
+            ('A', 0, &[1], 2),
+        ],
+    ),
 ];
 
 fn letter(state: Option<u8>) -> char {
@@ -209,30 +223,9 @@ fn ends<T: Tape>(rt: &impl Abort, mut tape: T, end: &End)
 
 #[test]
 fn runs_step_by_step_on_a_map(rt: HostRuntime) {
-    follows(
-        &rt,
-        MapTape::new(rt.alloc(), CELLS),
-        b"1RB1LB_1LA1RZ",
-        CHAMPION.as_slice(),
-    );
-    follows(
-        &rt,
-        MapTape::new(rt.alloc(), CELLS),
-        b"1RB1RZ_1LB0RC_1LC1LA",
-        THREE_STATES.as_slice(),
-    );
-    follows(
-        &rt,
-        MapTape::new(rt.alloc(), CELLS),
-        b"1RB0RA_1LA---",
-        RIGHT.as_slice(),
-    );
-    follows(
-        &rt,
-        MapTape::new(rt.alloc(), CELLS),
-        b"1RB0RB_1LA1LA",
-        REPEATING.as_slice(),
-    );
+    for (text, run) in &RUNS {
+        follows(&rt, MapTape::new(rt.alloc(), CELLS), text, run);
+    }
 }
 
 #[test]
@@ -245,12 +238,7 @@ fn ends_at_its_limits_on_a_map(rt: HostRuntime) {
 
 #[test]
 fn runs_step_by_step_on_a_ring(rt: HostRuntime) {
-    for (text, run) in [
-        (b"1RB1LB_1LA1RZ".as_slice(), CHAMPION.as_slice()),
-        (b"1RB1RZ_1LB0RC_1LC1LA".as_slice(), THREE_STATES.as_slice()),
-        (b"1RB0RA_1LA---".as_slice(), RIGHT.as_slice()),
-        (b"1RB0RB_1LA1LA".as_slice(), REPEATING.as_slice()),
-    ] {
+    for (text, run) in &RUNS {
         let tape = RingTape::new(rt.alloc(), CELLS).expect(&rt, "memory");
         follows(&rt, tape, text, run);
     }

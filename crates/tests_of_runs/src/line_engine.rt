@@ -7,7 +7,7 @@ use crate::support::streams::{Pieces, Sink};
 use arrayvec::ArrayVec;
 use bb_lines::fault::Fault;
 use bb_lines::lines::run;
-use bb_lines::responder::{LONG_WORK, REPLY, Responder};
+use bb_lines::responder::{HIGH_COST, REPLY, Responder};
 use bb_lines::watched::Watched;
 use std::alloc::AllocError;
 use std::io::{ErrorKind, Read, Result};
@@ -23,9 +23,9 @@ const OUTPUT: &[u8; 16] = b"-----!\n!\n-----!\n";
 struct Shout<'a> {
     // How many lines are answered before memory is refused.
     before_refusal: u64,
-    // How much work each answer is, and the last one was.
-    work: u64,
-    last_work: u64,
+    // What each answer costs, and the last one did.
+    answer_cost: u64,
+    last_cost: u64,
     seen: &'a mut u64,
 }
 
@@ -34,7 +34,7 @@ impl Responder for Shout<'_> {
 
     ghost saw = { λ a _ b. b.seen.now ≡ min (a.seen.now + 1) (2 ^ 64 - 1) };
 
-    ghost work = { λ a. a.last_work };
+    ghost cost = { λ a. a.last_cost };
 
     ghost keeps = { λ a b. b.seen.ghost_name ≡ a.seen.ghost_name };
 
@@ -74,8 +74,8 @@ impl Responder for Shout<'_> {
         *self.seen = self.seen.saturating_add(1);
         text.try_extend_from_slice(line).unwrap();
         text.push(b'!');
-        self.last_work = self.work;
-        Ok(self.work)
+        self.last_cost = self.answer_cost;
+        Ok(self.answer_cost)
     }
 }
 
@@ -94,14 +94,14 @@ struct Ended {
     seen: u64,
 }
 
-fn shout_all<R: Read + Drop>(reader: R, mut sink: Sink, before_refusal: u64, work: u64) -> Ended {
+fn shout_all<R: Read + Drop>(reader: R, mut sink: Sink, before_refusal: u64, cost: u64) -> Ended {
     let mut reader = Watched::new(reader);
     let mut writer = Watched::new(&mut sink);
     let mut seen = 0;
     let mut shout = Shout {
         before_refusal,
-        work,
-        last_work: 0,
+        answer_cost: cost,
+        last_cost: 0,
         seen: &mut seen,
     };
     let end = run(&mut reader, &mut writer, &mut shout);
@@ -204,9 +204,9 @@ fn writes_the_replies_before_a_failed_allocation(rt: HostRuntime) {
 }
 
 #[test]
-fn writes_long_work_at_once(rt: HostRuntime) {
-    for (work, writes) in [(0, 2), (LONG_WORK, 2), (LONG_WORK + 1, 3)] {
-        let ended = shout_all(pieces_of(14, 14), Sink::of(64, 64), 9, work);
+fn writes_high_cost_at_once(rt: HostRuntime) {
+    for (cost, writes) in [(0, 2), (HIGH_COST, 2), (HIGH_COST + 1, 3)] {
+        let ended = shout_all(pieces_of(14, 14), Sink::of(64, 64), 9, cost);
         assert_eq!(rt; ended.end, Ok(()));
         assert_eq!(rt; ended.sink.writes, writes);
     }

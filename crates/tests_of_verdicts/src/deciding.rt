@@ -6,7 +6,7 @@ ghost use Rattle.bb_decide.specs.Bench.{BenchHasCells};
 mod trees;
 mod weak_keys;
 
-use bb_cert::{Extent, Side, Verdict, Why};
+use bb_cert::{Line, Verdict, read_line};
 use bb_decide::{Bench, Plan, cyclers, decide, translated};
 use bb_machine::{Limits, Machine};
 use bb_sim::Meter;
@@ -17,290 +17,62 @@ use std::test::Fail;
 
 const CELLS: u64 = 64;
 
-/// A machine, the limit of steps, its verdict where cyclers are on, and the steps that it costs.
-type Row = (&'static [u8], u64, Verdict, u64);
+/// The line of a machine and its verdict, the limit of steps, and the steps that it costs.
+type Row = (&'static [u8], u64, u64);
 
-const STEPS: Verdict = Verdict::Undecided(Why::Steps);
-
+/// Rows where cyclers alone are on.
 static ROWS: [Row; 12] = [
-    (
-        b"1RB1LB_1LA1RZ",
-        1000,
-        Verdict::Halt { steps: 6, score: 4 },
-        6,
-    ),
-    (b"------", 0, Verdict::Halt { steps: 0, score: 0 }, 0),
-    (
-        b"0RB---_0LA---",
-        1000,
-        Verdict::Cycler {
-            first: 2,
-            second: 4,
-        },
-        1004,
-    ),
-    (
-        b"0RB---_0LA---",
-        4,
-        Verdict::Cycler {
-            first: 2,
-            second: 4,
-        },
-        8,
-    ),
-    (b"0RB---_0LA---", 3, STEPS, 6),
-    (b"0RB---_0LA---", 0, STEPS, 0),
-    (
-        b"1RB0RB_1LA1LA",
-        1000,
-        Verdict::Cycler {
-            first: 4,
-            second: 8,
-        },
-        1008,
-    ),
-    (
-        b"1RB0RB_1LA1LA",
-        8,
-        Verdict::Cycler {
-            first: 4,
-            second: 8,
-        },
-        16,
-    ),
-    (b"1RB0RB_1LA1LA", 7, STEPS, 14),
-    (b"1RB0RB_1LA1LA", 2, STEPS, 4),
-    (b"1RB0RB_1LA1LA", 1, STEPS, 2),
-    (b"0RA0RA", 1000, Verdict::Undecided(Why::Cells), 126),
+    (b"1RB1LB_1LA1RZ halt 6 4", 1000, 6),
+    (b"------ halt 0 0", 0, 0),
+    (b"0RB---_0LA--- cycler 2 4", 1000, 1004),
+    (b"0RB---_0LA--- cycler 2 4", 4, 8),
+    (b"0RB---_0LA--- undecided steps", 3, 6),
+    (b"0RB---_0LA--- undecided steps", 0, 0),
+    (b"1RB0RB_1LA1LA cycler 4 8", 1000, 1008),
+    (b"1RB0RB_1LA1LA cycler 4 8", 8, 16),
+    (b"1RB0RB_1LA1LA undecided steps", 7, 14),
+    (b"1RB0RB_1LA1LA undecided steps", 2, 4),
+    (b"1RB0RB_1LA1LA undecided steps", 1, 2),
+    (b"0RA0RA undecided cells", 1000, 126),
 ];
 
 /// Rows where the search for records that agree is on too, each machine's mirror image among them. The two
 /// machines with 300 steps go, between their records, beyond what they had visited at the first of them.
 static TRANSLATED_ROWS: [Row; 20] = [
-    (
-        b"1RA1RA",
-        1000,
-        Verdict::Translated {
-            side: Side::R,
-            first: 1,
-            second: 2,
-            extent: Some(Extent {
-                shift: 1,
-                length: 1,
-            }),
-        },
-        128,
-    ),
-    (
-        b"0LA0LA",
-        1000,
-        Verdict::Translated {
-            side: Side::L,
-            first: 1,
-            second: 2,
-            extent: Some(Extent {
-                shift: 1,
-                length: 1,
-            }),
-        },
-        128,
-    ),
-    (
-        b"1RB---_1RC---_1RA---",
-        1000,
-        Verdict::Translated {
-            side: Side::R,
-            first: 4,
-            second: 7,
-            extent: Some(Extent {
-                shift: 3,
-                length: 1,
-            }),
-        },
-        133,
-    ),
-    (
-        b"1RB---_1RC---_1RA---",
-        7,
-        Verdict::Translated {
-            side: Side::R,
-            first: 4,
-            second: 7,
-            extent: Some(Extent {
-                shift: 3,
-                length: 1,
-            }),
-        },
-        21,
-    ),
-    (b"1RB---_1RC---_1RA---", 6, STEPS, 18),
-    (
-        b"0LB---_0RC1RC_1RA---",
-        1000,
-        Verdict::Translated {
-            side: Side::R,
-            first: 3,
-            second: 6,
-            extent: Some(Extent {
-                shift: 1,
-                length: 2,
-            }),
-        },
-        382,
-    ),
-    (
-        b"0RB---_0LC1LC_1LA---",
-        1000,
-        Verdict::Translated {
-            side: Side::L,
-            first: 3,
-            second: 6,
-            extent: Some(Extent {
-                shift: 1,
-                length: 2,
-            }),
-        },
-        382,
-    ),
-    (b"1RB1RZ_1LB0RC_1LC1LA", 20, STEPS, 60),
-    (
-        b"1RB0RA_1LA---",
-        1000,
-        Verdict::Translated {
-            side: Side::R,
-            first: 4,
-            second: 8,
-            extent: Some(Extent {
-                shift: 2,
-                length: 1,
-            }),
-        },
-        262,
-    ),
-    (
-        b"1LB0LA_1RA---",
-        1000,
-        Verdict::Translated {
-            side: Side::L,
-            first: 4,
-            second: 8,
-            extent: Some(Extent {
-                shift: 2,
-                length: 1,
-            }),
-        },
-        262,
-    ),
-    (
-        b"1RB0RA_1LA---",
-        8,
-        Verdict::Translated {
-            side: Side::R,
-            first: 4,
-            second: 8,
-            extent: Some(Extent {
-                shift: 2,
-                length: 1,
-            }),
-        },
-        24,
-    ),
-    (b"1RB0RA_1LA---", 7, STEPS, 21),
-    (
-        b"1LB0LA_0RB1RA",
-        300,
-        Verdict::Translated {
-            side: Side::L,
-            first: 1,
-            second: 8,
-            extent: Some(Extent {
-                shift: 1,
-                length: 3,
-            }),
-        },
-        608,
-    ),
-    (
-        b"1RB0RA_0LB1LA",
-        300,
-        Verdict::Translated {
-            side: Side::R,
-            first: 1,
-            second: 8,
-            extent: Some(Extent {
-                shift: 1,
-                length: 3,
-            }),
-        },
-        608,
-    ),
-    (
-        b"0RB---_0LA---",
-        1000,
-        Verdict::Cycler {
-            first: 2,
-            second: 4,
-        },
-        1004,
-    ),
-    (
-        b"1LA1LA",
-        1000,
-        Verdict::Translated {
-            side: Side::L,
-            first: 1,
-            second: 2,
-            extent: Some(Extent {
-                shift: 1,
-                length: 1,
-            }),
-        },
-        128,
-    ),
-    (
-        b"0RA0RA",
-        1000,
-        Verdict::Translated {
-            side: Side::R,
-            first: 1,
-            second: 2,
-            extent: Some(Extent {
-                shift: 1,
-                length: 1,
-            }),
-        },
-        128,
-    ),
-    (
-        b"1LB---_1LC---_1LA---",
-        1000,
-        Verdict::Translated {
-            side: Side::L,
-            first: 4,
-            second: 7,
-            extent: Some(Extent {
-                shift: 3,
-                length: 1,
-            }),
-        },
-        133,
-    ),
-    (b"1LB1LZ_1RB0LC_1RC1RA", 20, STEPS, 60),
-    (
-        b"0LB---_0RA---",
-        1000,
-        Verdict::Cycler {
-            first: 2,
-            second: 4,
-        },
-        1004,
-    ),
+    (b"1RA1RA translated R 1 2 1 1", 1000, 128),
+    (b"0LA0LA translated L 1 2 1 1", 1000, 128),
+    (b"1RB---_1RC---_1RA--- translated R 4 7 3 1", 1000, 133),
+    (b"1RB---_1RC---_1RA--- translated R 4 7 3 1", 7, 21),
+    (b"1RB---_1RC---_1RA--- undecided steps", 6, 18),
+    (b"0LB---_0RC1RC_1RA--- translated R 3 6 1 2", 1000, 382),
+    (b"0RB---_0LC1LC_1LA--- translated L 3 6 1 2", 1000, 382),
+    (b"1RB1RZ_1LB0RC_1LC1LA undecided steps", 20, 60),
+    (b"1RB0RA_1LA--- translated R 4 8 2 1", 1000, 262),
+    (b"1LB0LA_1RA--- translated L 4 8 2 1", 1000, 262),
+    (b"1RB0RA_1LA--- translated R 4 8 2 1", 8, 24),
+    (b"1RB0RA_1LA--- undecided steps", 7, 21),
+    (b"1LB0LA_0RB1RA translated L 1 8 1 3", 300, 608),
+    (b"1RB0RA_0LB1LA translated R 1 8 1 3", 300, 608),
+    (b"0RB---_0LA--- cycler 2 4", 1000, 1004),
+    (b"1LA1LA translated L 1 2 1 1", 1000, 128),
+    (b"0RA0RA translated R 1 2 1 1", 1000, 128),
+    (b"1LB---_1LC---_1LA--- translated L 4 7 3 1", 1000, 133),
+    (b"1LB1LZ_1RB0LC_1RC1RA undecided steps", 20, 60),
+    (b"0LB---_0RA--- cycler 2 4", 1000, 1004),
 ];
+
+/// The machine and the verdict of a line.
+fn read_claim(rt: &impl Abort, line: &[u8]) -> (Machine, Verdict) {
+    match read_line(line) {
+        Some(Line::Claim(machine, verdict)) => (machine, verdict),
+        _ => panic!(rt; "{line:?} is a claim"),
+    }
+}
 
 /// Decides a machine within so many steps.
 fn decided<T: Tape>(
     bench: &mut Bench<T>,
-    text: &[u8],
+    machine: &Machine,
     most_steps: u64,
     plan: Plan,
     meter: &mut Meter,
@@ -311,8 +83,7 @@ fn decided<T: Tape>(
     ensures path { depth_of bench.new.path ≡ 0 }
 {
     let limits = Limits::new(most_steps, CELLS, 0, 0)?;
-    let machine = Machine::read(text)?;
-    Ok(decide(&machine, &limits, plan, bench, meter)?)
+    Ok(decide(machine, &limits, plan, bench, meter)?)
 }
 
 /// Decides each machine on three tapes, and holds verdict and steps against what was worked out.
@@ -332,66 +103,24 @@ fn are_decided<T: Tape>(
         translated,
         backward: false,
     };
-    for (text, most_steps, verdict, steps) in rows {
+    for (line, most_steps, steps) in rows {
+        let (machine, verdict) = read_claim(rt, line);
         let mut meter = Meter::new();
-        let decided = decided(bench, text, *most_steps, plan, &mut meter)?;
-        assert_eq!(rt; decided, *verdict, "{most_steps} steps");
-        assert_eq!(rt; meter.steps, *steps, "{most_steps} steps");
+        let decided = decided(bench, &machine, *most_steps, plan, &mut meter)?;
+        assert_eq!(rt; decided, verdict, "{most_steps} steps of {line:?}");
+        assert_eq!(rt; meter.steps, *steps, "{most_steps} steps of {line:?}");
     }
     Ok(())
 }
 
-/// A machine, what each search of its first hundred steps finds, the steps that it counts, and the cells
-/// that the first search does.
-type Searched = (&'static [u8], [Option<Verdict>; 2], [u64; 2], u64);
+/// The line of a machine and what one of both searches of its first hundred steps finds, the steps that each
+/// counts, and the cells that the search for a cycle does. The other search finds nothing.
+type Searched = (&'static [u8], [u64; 2], u64);
 
 static SEARCHES: [Searched; 3] = [
-    (
-        b"1RB0RB_1LA1LA",
-        [
-            Some(Verdict::Cycler {
-                first: 4,
-                second: 8,
-            }),
-            None,
-        ],
-        [8, 100],
-        2,
-    ),
-    (
-        b"0LA0LA",
-        [
-            None,
-            Some(Verdict::Translated {
-                side: Side::L,
-                first: 1,
-                second: 2,
-                extent: Some(Extent {
-                    shift: 1,
-                    length: 1,
-                }),
-            }),
-        ],
-        [63, 2],
-        64,
-    ),
-    (
-        b"1RB0RA_1LA---",
-        [
-            None,
-            Some(Verdict::Translated {
-                side: Side::R,
-                first: 4,
-                second: 8,
-                extent: Some(Extent {
-                    shift: 2,
-                    length: 1,
-                }),
-            }),
-        ],
-        [100, 8],
-        51,
-    ),
+    (b"1RB0RB_1LA1LA cycler 4 8", [8, 100], 2),
+    (b"0LA0LA translated L 1 2 1 1", [63, 2], 64),
+    (b"1RB0RA_1LA--- translated R 4 8 2 1", [100, 8], 51),
 ];
 
 /// Searches the first hundred steps of a machine for a cycle.
@@ -425,18 +154,32 @@ fn records_of<T: Tape>(
 }
 
 /// Holds the cycle that was found, and what was counted, against what was worked out.
-fn is_cycle(rt: &impl Abort, searched: &Searched, cycle: Option<Verdict>, meter: &Meter) {
-    let (text, found, steps, most_cells) = searched;
-    assert_eq!(rt; cycle, found[0], "{text:?}");
-    assert_eq!(rt; meter.steps, steps[0], "{text:?}");
-    assert_eq!(rt; meter.most_cells, *most_cells, "{text:?}");
+fn is_cycle(
+    rt: &impl Abort,
+    searched: &Searched,
+    verdict: Verdict,
+    cycle: Option<Verdict>,
+    meter: &Meter,
+) {
+    let (line, steps, most_cells) = searched;
+    let is_found = matches!(verdict, Verdict::Cycler { .. });
+    assert_eq!(rt; cycle, is_found.then_some(verdict), "{line:?}");
+    assert_eq!(rt; meter.steps, steps[0], "{line:?}");
+    assert_eq!(rt; meter.most_cells, *most_cells, "{line:?}");
 }
 
 /// Holds the records that were found, and the steps counted, against what was worked out.
-fn are_records(rt: &impl Abort, searched: &Searched, records: Option<Verdict>, meter: &Meter) {
-    let (text, found, steps, _) = searched;
-    assert_eq!(rt; records, found[1], "{text:?}");
-    assert_eq!(rt; meter.steps, steps[1], "{text:?}");
+fn are_records(
+    rt: &impl Abort,
+    searched: &Searched,
+    verdict: Verdict,
+    records: Option<Verdict>,
+    meter: &Meter,
+) {
+    let (line, steps, _) = searched;
+    let is_found = matches!(verdict, Verdict::Translated { .. });
+    assert_eq!(rt; records, is_found.then_some(verdict), "{line:?}");
+    assert_eq!(rt; meter.steps, steps[1], "{line:?}");
 }
 
 /// Searches a machine for a cycle, and then for records that agree, by the searches' own calls.
@@ -449,12 +192,12 @@ fn is_searched<T: Tape>(
     ensures tapes { BenchHasCells T.view CELLS bench.new }
     ensures path { bench.new.path ≡ bench.old.path }
 {
-    let machine = Machine::read(searched.0)?;
+    let (machine, verdict) = read_claim(rt, searched.0);
     let mut meter = Meter::new();
     let cycle = cycle_of(bench, &machine, &mut meter)?;
-    is_cycle(rt, searched, cycle, &meter);
+    is_cycle(rt, searched, verdict, cycle, &meter);
     let records = records_of(bench, &machine, &mut meter)?;
-    are_records(rt, searched, records, &meter);
+    are_records(rt, searched, verdict, records, &meter);
     Ok(())
 }
 

@@ -87,12 +87,22 @@ def _read(file: BinaryReader) -> Iterator[bytes]:
         block = file.read(MOST_BYTES)
 
 
+def _windows(held: Union[bytes, bytearray, memoryview]) -> Iterator[bytes]:
+    """Bytes that are held as a whole, cut between lines where that can be seen."""
+    view = memoryview(held).cast("B")
+    begin = 0
+    while begin < len(view):
+        end = min(begin + MOST_BYTES, len(view))
+        if end < len(view) and not isinstance(held, memoryview):
+            end = held.rfind(b"\n", begin, end) + 1 or end
+        yield bytes(view[begin:end])
+        begin = end
+
+
 def _pieces(blocks: Blocks) -> Iterator[bytes]:
     """The bytes, cut anywhere."""
     if isinstance(blocks, (bytes, bytearray, memoryview)):
-        view = memoryview(blocks).cast("B")
-        for begin in range(0, len(view), MOST_BYTES):
-            yield bytes(view[begin : begin + MOST_BYTES])
+        yield from _windows(blocks)
         return
     if isinstance(blocks, str):
         raise TypeError("bytes, a file of bytes or blocks of bytes, not a str")
@@ -112,21 +122,24 @@ def of_bytes(blocks: Blocks, pace: Pace) -> Iterator[bytes]:
             if end < 0:
                 continue
             piece, is_cut = piece[end:], False
-        rest = rest + piece if rest else piece
-        whole = rest.rfind(b"\n") + 1
-        yield from _sliced(memoryview(rest)[:whole], pace)
-        rest = rest[whole:]
+        whole = piece.rfind(b"\n") + 1
+        if whole:
+            yield from _sliced(rest, piece, whole, pace)
+            rest = b""
+        rest += piece[whole:]
         if len(rest) > LONG:
             rest, is_cut = rest[:LONG], True
     if rest:
         yield rest
 
 
-def _sliced(lines: memoryview, pace: Pace) -> Iterator[bytes]:
-    """Whole lines in batches of bounded bytes."""
-    held = bytes(lines)
+def _sliced(rest: bytes, piece: bytes, whole: int, pace: Pace) -> Iterator[bytes]:
+    """The begin of a line and the piece that it goes on in, up to `whole`, where a line ends: in batches of
+    bounded bytes, the last of which may have half as many more."""
     begin = 0
-    while begin < len(held):
-        end = held.find(b"\n", min(begin + pace.now, len(held)) - 1) + 1
-        yield held[begin:end]
-        begin = end
+    while begin < whole:
+        end = whole
+        if whole - begin > 1.5 * pace.now:
+            end = piece.find(b"\n", begin + pace.now - 1) + 1
+        yield rest + piece[begin:end]
+        begin, rest = end, b""

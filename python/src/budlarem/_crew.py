@@ -9,14 +9,14 @@ import time
 from concurrent.futures import Future
 from typing import Callable, Deque, Generic, Iterable, Iterator, List, Optional, Tuple, TypeVar
 
-from ._library import Room, forbid_fork
+from ._library import Reply, Room, forbid_fork
 
 Given = TypeVar("Given")
-Told = TypeVar("Told")
 
 
 class Pace:
-    """How much goes into a batch: twice as much after a short one, half as much after a long one."""
+    """How much goes into a batch: twice as much after a short one, eight times as much after one that was
+    shorter than an eighth of that, half as much after a long one."""
 
     SHORT, LONG = 0.05, 0.2  # seconds
 
@@ -26,31 +26,40 @@ class Pace:
     def took(self, seconds: float) -> None:
         """Tells how long a batch took."""
         if seconds < self.SHORT:
-            self.now = min(2 * self.now, self._most)
+            self.now = min((8 if seconds < self.SHORT / 8 else 2) * self.now, self._most)
         elif seconds > self.LONG:
             self.now = max(self.now // 2, 1)
 
 
-class Crew(Generic[Given, Told]):
+class Crew(Generic[Given]):
     """Daemon threads that make calls. A call that was begun can't be stopped: when the crew is left, its
     thread ends after that call, or with the process."""
 
-    def __init__(self, work: Callable[[Room, Given], Told], threads: int, pace: Pace) -> None:
+    def __init__(self, work: Callable[[Room, Given], None], threads: int, pace: Pace) -> None:
         self._work, self._most, self._pace = work, threads, pace
-        self._tasks: queue.SimpleQueue[Optional[Tuple[Given, Future[Told]]]] = queue.SimpleQueue()
+        self._tasks: queue.SimpleQueue[Optional[Tuple[Given, Future[Room]]]] = queue.SimpleQueue()
         self._threads: List[threading.Thread] = []
         self._left = threading.Event()
+        # Rooms whose replies were taken.
+        self._rooms: List[Room] = []
 
-    def submit(self, given: Given) -> Future[Told]:
-        """Hands over one call; its reply, or its error, is in the future."""
+    def submit(self, given: Given) -> Future[Room]:
+        """Hands over one call; the room with its reply, or its error, is in the future."""
         forbid_fork()
-        future: Future[Told] = Future()
+        future: Future[Room] = Future()
         if len(self._threads) < self._most:
             thread = threading.Thread(target=self._serve, name="budlarem", daemon=True)
             thread.start()
             self._threads.append(thread)
         self._tasks.put((given, future))
         return future
+
+    def taken(self, future: Future[Room]) -> Reply:
+        """The reply in a future. It is copied by the thread that asks for it, while others make calls."""
+        room = future.result()
+        reply = room.reply()
+        self._rooms.append(room)
+        return reply
 
     def leave(self, wait: bool) -> None:
         """Ends the threads; those that are in a call end after it. `wait` waits for them."""
@@ -60,8 +69,13 @@ class Crew(Generic[Given, Told]):
         for thread in self._threads if wait else ():
             thread.join()
 
+    def _room(self) -> Room:
+        try:
+            return self._rooms.pop()
+        except IndexError:
+            return Room()
+
     def _serve(self) -> None:
-        room = Room()
         while True:
             task = self._tasks.get()
             if task is None or self._left.is_set():
@@ -69,12 +83,14 @@ class Crew(Generic[Given, Told]):
             given, future = task
             began = time.monotonic()
             try:
-                told = self._work(room, given)
+                room = self._room()
+                self._work(room, given)
             except BaseException as error:
                 future.set_exception(error)
             else:
                 self._pace.took(time.monotonic() - began)
-                future.set_result(told)
+                future.set_result(room)
+                del room
             del task, given, future
 
 
@@ -87,12 +103,12 @@ def _until_it_fails(items: Iterable[Given], failed: List[Exception]) -> Iterator
 
 
 def in_order(
-    work: Callable[[Room, Given], Told], batches: Iterable[Given], threads: int, pace: Pace
-) -> Iterator[Tuple[Given, Told]]:
-    """Each batch and what `work` tells of it, in the order of the batches. At most one more batch than
-    threads is under way. An error of the batches is raised after those before it."""
+    work: Callable[[Room, Given], None], batches: Iterable[Given], threads: int, pace: Pace
+) -> Iterator[Tuple[Given, Reply]]:
+    """Each batch and the reply to the call that `work` makes for it, in the order of the batches. At most one
+    more batch than threads is under way. An error of the batches is raised after those before it."""
     crew = Crew(work, threads, pace)
-    waiting: Deque[Tuple[Given, Future[Told]]] = collections.deque()
+    waiting: Deque[Tuple[Given, Future[Room]]] = collections.deque()
     failed: List[Exception] = []
     is_whole = False
     try:
@@ -100,10 +116,10 @@ def in_order(
             waiting.append((batch, crew.submit(batch)))
             while len(waiting) > threads or (waiting and waiting[0][1].done()):
                 given, future = waiting.popleft()
-                yield given, future.result()
+                yield given, crew.taken(future)
         while waiting:
             given, future = waiting.popleft()
-            yield given, future.result()
+            yield given, crew.taken(future)
         is_whole = True
     finally:
         crew.leave(wait=is_whole)

@@ -1,13 +1,14 @@
-"""The library `libbb.so`: where it is, its calls, and a call made with a buffer that is used again."""
+"""The library `libbb.so`: where it is, its calls, and buffers for their replies, which are used again."""
 
 from __future__ import annotations
 
 import ctypes
 import functools
+import mmap
 import os
 import pathlib
 import threading
-from typing import Any, Callable, List, Sequence, Tuple
+from typing import Any, Callable, List, NamedTuple, Sequence
 
 VARIABLE = "BB_LIBRARY"
 CLEAN, NOT_CLEAN, LIMITS, MEMORY, SHORT = range(5)
@@ -93,33 +94,47 @@ def forbid_fork() -> None:
         )
 
 
+class Reply(NamedTuple):
+    """What a call told: its status, how many bytes its reply has, and the reply; none where the status is
+    SHORT."""
+
+    status: int
+    length: int
+    text: bytes
+
+
 class Room:
-    """A buffer for replies, used again by each call of one thread."""
+    """A buffer for the reply to one call after another. What of it was never written to takes no memory, so
+    that it may be much larger than the replies."""
 
     def __init__(self) -> None:
-        self._bytes = bytearray()
-        self._address: Any = None
+        self._make(mmap.PAGESIZE)
+        self._status, self._length = CLEAN, 0
 
-    def call(self, name: str, asked: Sequence[int], given: bytes, room: int) -> Tuple[int, bytes]:
-        """The status and the reply of a call with these numbers, over these bytes; `room` is how many bytes
-        a reply may have, and enough. Raises LibraryError, MemoryError."""
-        status, count, reply = self.tried(name, asked, given, room)
-        if status == SHORT:
-            raise AssertionError("%s with %r needs %d bytes, not %d" % (name, asked, count, room))
-        return status, reply
+    def _make(self, size: int) -> None:
+        self._bytes = mmap.mmap(-1, size, mmap.MAP_PRIVATE | mmap.MAP_ANONYMOUS)
+        self._address: Any = (ctypes.c_char * size).from_buffer(self._bytes)
 
-    def tried(self, name: str, asked: Sequence[int], given: bytes, room: int) -> Tuple[int, int, bytes]:
-        """The status, how many bytes the reply has, and the reply; status SHORT and no reply where it has
-        more than `room`. Raises LibraryError, MemoryError."""
+    def reply(self) -> Reply:
+        """What the last call told."""
+        given_back = 0 if self._status == SHORT else self._length
+        return Reply(self._status, self._length, self._bytes[:given_back])
+
+    def call(self, name: str, asked: Sequence[int], given: bytes, room: int) -> None:
+        """Makes a call with these numbers, over these bytes. `room` is how many bytes a reply is likely to
+        have at most; where it has more, the call is made again. Raises LibraryError, MemoryError."""
+        self.call_once(name, asked, given, room)
+        if self._status == SHORT:
+            self.call_once(name, asked, given, self._length)
+        if self._status == SHORT:
+            raise AssertionError("%s with %r asks for %d bytes, and then for more" % (name, asked, room))
+
+    def call_once(self, name: str, asked: Sequence[int], given: bytes, room: int) -> None:
+        """Makes a call, whose status is SHORT where the reply has more than `room` bytes. Raises
+        LibraryError, MemoryError."""
         call = call_named(name)
         if room > len(self._bytes):
-            size = 1 << max(room - 1, 1).bit_length()
-            self._address = None
-            self._bytes = bytearray(size)
-            self._address = (ctypes.c_char * size).from_buffer(self._bytes)
-        elif self._address is None:
-            self._bytes = bytearray(1)
-            self._address = (ctypes.c_char * 1).from_buffer(self._bytes)
+            self._make(1 << (room - 1).bit_length())
         count = _SIZE()
         status = call(*asked, given, len(given), self._address, room, ctypes.byref(count))
         if status == MEMORY:
@@ -128,5 +143,4 @@ class Room:
             )
         if status == LIMITS:
             raise AssertionError("%s refused the limits %r" % (name, asked))
-        given_back = 0 if status == SHORT else count.value
-        return status, count.value, bytes(memoryview(self._bytes)[:given_back])
+        self._status, self._length = status, count.value

@@ -8,7 +8,7 @@ from typing import Callable, Iterable, Iterator, List, Optional, Sequence, Tuple
 from . import _batches
 from ._batches import MOST_BYTES, MOST_LINES, Batch, Blocks
 from ._crew import Pace, in_order
-from ._library import NOT_CLEAN, SHORT, Room, forbid_fork, loaded
+from ._library import NOT_CLEAN, SHORT, Reply, Room, forbid_fork, loaded
 from .limits import Limits, Plan, in_range, whole
 from .verdicts import STATES, VERDICTS, Answer, Refused, Verdict, verdict_of
 
@@ -23,10 +23,14 @@ __all__ = [
     "trace",
 ]
 
-Call = Callable[[Room, bytes], bytes]
+# It makes a call over lines, and leaves the reply in the room.
+Call = Callable[[Room, bytes], None]
 _ANSWERS = {str(answer): answer for answer in Answer}
 # How many bytes a reply to one line has beyond the line itself, at most, and how many an answer has.
 _BEYOND, _ANSWER = 98, 7
+# How many bytes the replies to some lines have for each byte of these at most, since a machine has six or more
+# and its line one more; and for how many bytes of verdict lines an answer has one.
+_FOLD, _FOR_EACH = 15, 2
 # How many bytes of a trace are asked for at once, where a line isn't longer; and how many they would have at
 # most if each line were as long as it may be.
 _TRACED, _TRACED_AT_WORST = 1 << 24, 1 << 28
@@ -51,9 +55,8 @@ def deciding(limits: Limits, plan: Plan) -> Call:
     """The call that decides the lines of some bytes."""
     asked = (*limits.numbers(), *plan.switches())
 
-    def call(room: Room, lines: bytes) -> bytes:
-        count = lines.count(b"\n") + 1
-        return room.call("bb_decide", asked, lines, len(lines) + _BEYOND * count)[1]
+    def call(room: Room, lines: bytes) -> None:
+        room.call("bb_decide", asked, lines, _FOLD * len(lines) + _BEYOND)
 
     return call
 
@@ -62,8 +65,8 @@ def checking(limits: Limits) -> Call:
     """The call that checks the lines of some bytes."""
     asked = limits.numbers()
 
-    def call(room: Room, lines: bytes) -> bytes:
-        return room.call("bb_check", asked, lines, _ANSWER * (lines.count(b"\n") + 1))[1]
+    def call(room: Room, lines: bytes) -> None:
+        room.call("bb_check", asked, lines, len(lines) // _FOR_EACH + _ANSWER)
 
     return call
 
@@ -92,11 +95,11 @@ def _listed(name: str, texts: Iterable[object]) -> None:
 def _told(batches: Iterator[Batch], call: Call, threads: int, pace: Pace) -> Iterator[Tuple[str, str]]:
     """Each text and the line that the library tells of it."""
 
-    def work(room: Room, batch: Batch) -> bytes:
-        return call(room, batch.lines)
+    def work(room: Room, batch: Batch) -> None:
+        call(room, batch.lines)
 
     for batch, reply in in_order(work, batches, threads, pace):
-        yield from zip(batch.texts, reply.decode().split("\n"))
+        yield from zip(batch.texts, reply.text.decode().split("\n"))
 
 
 def _verdict(machine: str, line: str) -> Verdict:
@@ -158,7 +161,7 @@ def check(
 
 def _replies(blocks: Blocks, call: Call, threads: int) -> Iterator[bytes]:
     pace = Pace(MOST_BYTES)
-    return (reply for _, reply in in_order(call, _batches.of_bytes(blocks, pace), threads, pace))
+    return (reply.text for _, reply in in_order(call, _batches.of_bytes(blocks, pace), threads, pace))
 
 
 def decide_bytes(
@@ -255,23 +258,24 @@ class Trace(Iterator[Configuration]):
             self._visited = len(lines[-1].rpartition(b" ")[2])
         return lines
 
-    def _asked(self, count: int, left: int, room: int) -> Tuple[int, int, bytes]:
+    def _asked(self, count: int, left: int, room: int) -> Reply:
         """What a call tells of the next `count` lines; where they are all that are `left`, of the last step
         too."""
         last = self._upto if count == left else self._next + self._every * (count - 1)
         return _apart(self._machine, (last, self._cells, self._next, self._every), room)
 
 
-def _apart(machine: str, asked: Sequence[int], room: int) -> Tuple[int, int, bytes]:
-    """What one call that traces tells: its status, the length of its reply, and the reply. It is made beside
-    the caller's thread unless it is short."""
+def _apart(machine: str, asked: Sequence[int], room: int) -> Reply:
+    """What one call that traces tells. It is made beside the caller's thread unless it is short."""
     line = machine.encode("utf-8", "surrogatepass")[: _batches.LONG]
+
+    def work(buffer: Room, line: bytes) -> None:
+        buffer.call_once("bb_trace", asked, line, room)
+
     if asked[0] <= _SHORT_RUN:
-        return Room().tried("bb_trace", asked, line, room)
-
-    def work(buffer: Room, line: bytes) -> Tuple[int, int, bytes]:
-        return buffer.tried("bb_trace", asked, line, room)
-
+        buffer = Room()
+        work(buffer, line)
+        return buffer.reply()
     ((_, told),) = in_order(work, [line], 1, Pace(1))
     return told
 

@@ -25,9 +25,8 @@ halts_in_few_cells_are_early table cells n machine halts narrow =
       | inl long ↦
           let there : Exists table n = record { here = halts.last; exists = halts.exists } in
           let running = running_below table few n long there in
-          let grows = span_grows table few n (omega (arith, long)) in
           let never = long_runs_in_few_cells_never_halt table cells few machine (omega arith) running
-          (omega (arith, grows, narrow)) in
+          (omega (arith, span_grows table few n (omega (arith, long)), narrow)) in
           absurd (never.never n halts)
       | inr early ↦ early
     ]

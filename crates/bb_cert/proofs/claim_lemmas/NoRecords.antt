@@ -28,5 +28,4 @@ pub agreeing_records_never_repeat : AgreeingRecordsNeverRepeat
 agreeing_records_never_repeat table side a b c d records in_order same =
     let found = has_record table side a b d records (omega (arith, in_order)) in
     let late = record_takes_steps table side d found.0 found.1 in
-    let soon = repeats_make_no_record table side c d d found.0 in_order same found.1 in
-    absurd (omega (arith, late, soon))
+    absurd (omega (arith, late, repeats_make_no_record table side c d d found.0 in_order same found.1))

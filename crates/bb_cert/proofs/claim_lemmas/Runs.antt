@@ -5,10 +5,7 @@ use Rattle.std.proofs.lemmas.Bool.{cases_lt}
 use Rattle.bb_machine.specs.Machine.{Table}
 use Rattle.bb_sim.specs.Configuration.{Configuration, start, next}
 use Rattle.bb_sim.specs.Run.{conf, HaltsAt, Never, Exists}
-
-pub conf-suc : (table : Table) (n : ℕ) → conf table (suc n) ≡ option_and_then (next table) (conf table n)
-unfolding conf
-conf-suc table n = refl
+use Rattle.bb_sim.proofs.Facts.{conf-suc}
 
 pub has_start : (table : Table) → Exists table 0
 unfolding conf

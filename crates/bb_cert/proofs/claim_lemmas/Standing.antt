@@ -11,9 +11,9 @@ use Rattle.bb_tape.specs.TapeView.{TapeView}
 use Rattle.bb_sim.specs.declared.runner.Runner.{Runner}
 use Rattle.bb_sim.specs.Configuration.{Configuration, beside, next}
 use Rattle.bb_sim.specs.Runner.{Stands, position_of, state_of, steps_of}
+use Rattle.bb_sim.proofs.Facts.{conf-suc}
 use Rattle.bb_cert.specs.claims.Repeat.{Same}
 use Rattle.bb_cert.proofs.record_lemmas.Positions.{led_by}
-use Rattle.bb_cert.proofs.claim_lemmas.Runs.{conf-suc}
 
 -- what is the same of two runners at the same configuration
 abbrev pub AreAlike : Runner → TapeView → Runner → TapeView → Type 0

@@ -8,12 +8,13 @@ use Rattle.bb_machine.specs.Machine.{Table}
 use Rattle.bb_tape.specs.Content.{cell}
 use Rattle.bb_sim.specs.Configuration.{Configuration, next}
 use Rattle.bb_sim.specs.Run.{conf, Exists}
+use Rattle.bb_sim.proofs.Facts.{conf-suc, least_bounds}
 use Rattle.bb_cert.specs.declared.verdict.Side.{Side}
 use Rattle.bb_cert.specs.records.Record.{out, head_at, far}
 use Rattle.bb_cert.specs.records.Agree.{AgreeingRecords}
 use Rattle.bb_cert.specs.claims.Laws.{AgreeingRecordsGoOn, AgreeingRecordsNeverHalt}
-use Rattle.bb_cert.proofs.claim_lemmas.Runs.{conf-suc, moves, earlier, never_of_steps}
-use Rattle.bb_cert.proofs.record_lemmas.Positions.{out-add, out-subtract, head_at-is, least_at_most}
+use Rattle.bb_cert.proofs.claim_lemmas.Runs.{moves, earlier, never_of_steps}
+use Rattle.bb_cert.proofs.record_lemmas.Positions.{out-add, out-subtract, head_at-is}
 use Rattle.bb_cert.proofs.record_lemmas.Records.{stands_on, has_step, records_in_order, blank_beyond}
 use Rattle.bb_cert.proofs.claim_lemmas.Regions.{IsMoved, step_alike}
 
@@ -69,7 +70,7 @@ module _ (table : Table) (side : Side) (a b : ℕ) (records : AgreeingRecords ta
   within u h =
       let e : u + a ≡ a + u = omega arith in
       subst (λ n. beyond table side a b (head_at table n)) e
-      (least_at_most (λ k. out side (head_at table (k + a))) (b - a) u h)
+      (least_bounds (λ k. out side (head_at table (k + a))) u (b - a) h)
 
   -- farther out than both records the tape is blank
   blank_at_both : (x : ℤ) → pos records.first_number ≤ℤ out side x
@@ -156,14 +157,13 @@ module _ (table : Table) (side : Side) (a b : ℕ) (records : AgreeingRecords ta
   stays : (u : ℕ) → ((v : ℕ) → v < u → IsAlike table side a b v) → Exists table (a + u)
       × beyond table side a b (head_at table (a + u))
   stays u before =
-      let in_order = records.in_order in
       elim (cases_lt (b - a) u) [
         | inl past ↦
-            let e : b + (u - (b - a)) ≡ a + u = omega (arith, past, in_order) in
+            let e : b + (u - (b - a)) ≡ a + u = omega (arith, past, records.in_order) in
             subst (λ n. Exists table n × beyond table side a b (head_at table n)) e
-            (step_beyond (u - (b - a)) (before (u - (b - a)) (omega (arith, past, in_order))))
+            (step_beyond (u - (b - a)) (before (u - (b - a)) (omega (arith, past, records.in_order))))
         | inr near ↦
-            let h : a + u ≤ b = omega (arith, near, in_order) in (
+            let h : a + u ≤ b = omega (arith, near, records.in_order) in (
               earlier table b (a + u) h (has_step table side records.second_number b records.second_record),
               within u near,
             )

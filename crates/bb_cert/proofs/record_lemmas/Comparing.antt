@@ -27,7 +27,7 @@ use Rattle.bb_cert.specs.records.Record.{out, head_at, IsRecord}
 use Rattle.bb_cert.proofs.record_lemmas.Heads.{out-out, runs_before, runs_up_to, head_in_window, far-here}
 use Rattle.bb_cert.proofs.record_lemmas.Heads.{far_bounds}
 use Rattle.bb_cert.proofs.record_lemmas.Heads.{far_is_reached}
-use Rattle.bb_cert.proofs.record_lemmas.Positions.{head_at-is, out-zero}
+use Rattle.bb_cert.proofs.record_lemmas.Positions.{head_at-is, one_number, out-zero}
 use Rattle.bb_cert.proofs.record_lemmas.Records.{short_of_record, stands_on}
 use Rattle.bb_cert.proofs.record_lemmas.Stretches.{high_wider, low_wider, narrow_inside, seen_wider}
 
@@ -36,9 +36,6 @@ some_number n p is apart = elim (cases_lt 0 n) [
   | inl some ↦ some
   | inr none ↦ absurd (apart (is ∙ ap pos (omega (arith, none))))
 ]
-
-one_number : (i j : ℕ) (p : ℤ) → p ≡ pos i → p ≡ pos j → i ≡ j
-one_number i j p a b = omega (arith, ints, a, b)
 
 no_zero : (n : ℕ) (p : ℤ) → p ≡ pos n → 0 < n → p ≢ pos 0
 no_zero n p is some none = omega (arith, ints, is, some, none)

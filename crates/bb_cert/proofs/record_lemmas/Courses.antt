@@ -49,7 +49,7 @@ use Rattle.bb_cert.specs.records.Follow.{IsFollowed, IsKeptRecord, IsTop, TellsW
 use Rattle.bb_cert.specs.records.Follow.{passed}
 use Rattle.bb_cert.specs.records.Record.{out, head_at}
 use Rattle.bb_cert.proofs.record_lemmas.Heads.{far-next, window_falls, window_rises}
-use Rattle.bb_cert.proofs.record_lemmas.Positions.{head_at-is, out-zero}
+use Rattle.bb_cert.proofs.record_lemmas.Positions.{head_at-is, out-zero, through}
 use Rattle.bb_cert.proofs.record_lemmas.Records.{record_takes_steps}
 use Rattle.bb_cert.proofs.record_lemmas.Tops.{MakesJust, makes_just, none_wider, top_at_first, top_farther}
 use Rattle.bb_cert.proofs.record_lemmas.Tops.{top_stays}
@@ -69,9 +69,7 @@ followed_at_first table records saved start = record {
 none_at_first : (table : Table) (side : Side) → MakesRecord table side 0 → ⊥
 none_at_first table side made =
     let record_is = made.1 in
-    let takes = record_takes_steps table side made.0 0 record_is in
-    let some = record_is.positive in
-    omega (arith, takes, some)
+    omega (arith, record_takes_steps table side made.0 0 record_is, record_is.positive)
 
 pub course_at_first : (table : Table) (course : Course) (saved : TapeView) → position_of course.records.kept
     ≡ pos 0
@@ -80,9 +78,6 @@ course_at_first table course saved start none = record {
   followed = followed_at_first table course.records saved start;
   told = (λ yes. absurd cc, λ made. absurd (none_at_first table course.records.side made.0));
 }
-
-falls_on : (p q r : ℤ) → p ≤ℤ q → q ≤ℤ r → p ≤ℤ r
-falls_on p q r a b = omega (arith, ints, a, b)
 
 -- a kept record is kept for one step more
 pub kept-next : (table : Table) (side : Side) (number n : ℕ) (kept : Runner) (far_out : ℤ) (saved : TapeView)
@@ -94,8 +89,8 @@ kept-next table side number n kept far_out saved is = record {
   at = is.at;
   far_is = ap (λ f. int_min f (out side (head_at table (n + 1)))) is.far_is
       ∙ sym (far-next table side (steps_of kept) n is.before);
-  low = falls_on _ _ _ (window_falls (counted_head table) n) is.low;
-  high = falls_on _ _ _ is.high (window_rises (counted_head table) n);
+  low = through _ _ _ (window_falls (counted_head table) n) is.low;
+  high = through _ _ _ is.high (window_rises (counted_head table) n);
   seen = is.seen;
 }
 
@@ -183,19 +178,16 @@ module _ (table : Table) (side : Side) (before after : Runner) (run_before run_a
 
   made_by : (told : Option Side) → MakesJust table n told → told ≡ Some side → MakesRecord table side n
   made_by None just is = absurd cc
-  made_by (Some R) just is = let same : R ≡ side = cc in subst (λ s. MakesRecord table s n) same just.0
-  made_by (Some L) just is = let same : L ≡ side = cc in subst (λ s. MakesRecord table s n) same just.0
+  made_by (Some s) just is = let same : s ≡ side = cc in subst (λ s. MakesRecord table s n) same just.0
 
   tells_made : (told : Option Side) → MakesJust table n told → MakesRecord table side n → told ≡ Some side
   tells_made None just made = absurd (just side made)
-  tells_made (Some R) just made = by_side side made where
-    by_side : (s : Side) → MakesRecord table s n → Some R ≡ Some s
-    by_side R made = refl
-    by_side L made = absurd (just.1 made)
-  tells_made (Some L) just made = by_side side made where
-    by_side : (s : Side) → MakesRecord table s n → Some L ≡ Some s
-    by_side L made = refl
-    by_side R made = absurd (just.1 made)
+  tells_made (Some s) just made = by_sides s side just made where
+    by_sides : (s t : Side) → MakesJust table n (Some s) → MakesRecord table t n → Some s ≡ Some t
+    by_sides R R just made = refl
+    by_sides L L just made = refl
+    by_sides R L just made = absurd (just.1 made)
+    by_sides L R just made = absurd (just.1 made)
 
   pub told_by_window : (cells : ℕ) → cells ≡ cells_between (low_of before) (high_of before) →
       (told : Option Side)

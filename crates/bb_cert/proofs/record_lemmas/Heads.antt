@@ -12,7 +12,7 @@ use Rattle.bb_sim.specs.Configuration.{Configuration, entry_at, followed, next}
 use Rattle.bb_sim.specs.Laws.{IsRunningAt}
 use Rattle.bb_sim.specs.Run.{Exists}
 use Rattle.bb_sim.specs.Span.{counted_head, least, greatest}
-use Rattle.bb_sim.proofs.Facts.{least-next, greatest-next, least_bounds, span_is_reached}
+use Rattle.bb_sim.proofs.Facts.{least-next, min-same, greatest-next, least_bounds, span_is_reached}
 use Rattle.bb_cert.specs.declared.verdict.Side.{Side}
 use Rattle.bb_cert.specs.declared.verdict.Side.TheVariants.{L, R}
 use Rattle.bb_cert.specs.records.Record.{out, head_at, far}
@@ -98,9 +98,6 @@ pub record IsLeastAt (f : ℕ → ℤ) (n : ℕ) : Type 0 where
   pub no_later : step ≤ n
   pub is : least f n ≡ f step
 
-least_left : (p q : ℤ) → p ≤ℤ q → int_min p q ≡ p
-least_left p q h = omega (arith, ints, clamps, h)
-
 least_right : (p q : ℤ) → q <ℤ p → int_min p q ≡ q
 least_right p q h = omega (arith, ints, clamps, h)
 
@@ -113,7 +110,7 @@ least_is_reached f (suc n) =
     (λ more. record {
       step = old.step;
       no_later = let few = old.no_later in omega (arith, few);
-      is = least_left (least f n) (f (suc n)) more ∙ old.is;
+      is = min-same (least f n) (f (suc n)) more ∙ old.is;
     })
 
 -- and the head stood there

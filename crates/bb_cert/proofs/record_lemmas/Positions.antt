@@ -1,7 +1,6 @@
 -- How far out the head is on a side, step by step.
-use Rattle.std.proofs.Common.{◌≡◌, ℕ, zero, suc, ◌≤◌, ◌⊎◌, inl, inr, Some, ℤ, pos, ◌+ℤ◌, ◌-ℤ◌, ◌≤ℤ◌, refl, ap}
+use Rattle.std.proofs.Common.{◌≡◌, ℕ, zero, suc, Some, ℤ, pos, ◌+ℤ◌, ◌-ℤ◌, ◌≤ℤ◌, refl, ap}
 use Rattle.std.proofs.Common.{sym, ◌∙◌, arith}
-use Rattle.std.proofs.lemmas.Bool.{cases_lt}
 use Rattle.std.proofs.lemmas.Int.{ints, clamps}
 use Rattle.std.specs.Int.{int_min}
 use Rattle.bb_machine.specs.declared.entry.Dir.{Dir}
@@ -22,6 +21,13 @@ use Rattle.bb_cert.specs.declared.verdict.Side.{Side}
 use Rattle.bb_cert.specs.declared.verdict.Side.TheVariants.{L, R}
 use Rattle.bb_cert.specs.records.Record.{out, head_of, head_at}
 use Rattle.bb_cert.proofs.claim_lemmas.Runs.{moves}
+
+pub through : (p q r : ℤ) → p ≤ℤ q → q ≤ℤ r → p ≤ℤ r
+through p q r a b = omega (arith, ints, a, b)
+
+-- a position is one number
+pub one_number : (i j : ℕ) (p : ℤ) → p ≡ pos i → p ≡ pos j → i ≡ j
+one_number i j p a b = omega (arith, ints, a, b)
 
 pub out-zero : (side : Side) → out side (pos 0) ≡ pos 0
 out-zero L = refl
@@ -81,22 +87,6 @@ climbs table side n step =
     let head : head_at table (suc n) ≡ beside led_here.to (head_at table n) = here
     ∙ ap (λ (c : Configuration). c.head) led_here.is ∙ ap (beside led_here.to) (sym before) in
     rw head (out_beside side led_here.to (head_at table n))
-
-min_bounds : (a b c : ℤ) → (a ≤ℤ c) ⊎ (b ≤ℤ c) → int_min a b ≤ℤ c
-min_bounds a b c (inl h) = omega (arith, ints, clamps, h)
-min_bounds a b c (inr h) = omega (arith, ints, clamps, h)
-
-equal_at_most : (a b : ℤ) → a ≡ b → a ≤ℤ b
-equal_at_most a b e = omega (arith, ints, e)
-
--- the least of f 0 to f n is at most each of them
-pub least_at_most : (f : ℕ → ℤ) (n k : ℕ) → k ≤ n → least f n ≤ℤ f k
-least_at_most f zero k h = let e : zero ≡ k = omega arith in equal_at_most (f zero) (f k) (ap f e)
-least_at_most f (suc n) k h = elim (cases_lt k (suc n)) [
-  | inl less ↦ min_bounds (least f n) (f (suc n)) (f k) (inl (least_at_most f n k (omega (arith, less))))
-  | inr more ↦ let e : suc n ≡ k = omega (arith, h, more) in min_bounds (least f n) (f (suc n)) (f k)
-      (inr (equal_at_most (f (suc n)) (f k) (ap f e)))
-]
 
 min_at_least : (a b c : ℤ) → c ≤ℤ a → c ≤ℤ b → c ≤ℤ int_min a b
 min_at_least a b c h k = omega (arith, ints, clamps)

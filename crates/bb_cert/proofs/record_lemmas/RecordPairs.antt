@@ -10,7 +10,7 @@ use Rattle.bb_cert.specs.declared.verdict.Side.{Side}
 use Rattle.bb_cert.specs.records.Record.{out, head_at, IsRecord, far}
 use Rattle.bb_cert.specs.records.Agree.{Agree, AgreeingRecords}
 use Rattle.bb_cert.specs.claims.Laws.{HasRecord, RecordPair}
-use Rattle.bb_cert.proofs.record_lemmas.Positions.{out-add, out-subtract, head_at-is, least_at_least}
+use Rattle.bb_cert.proofs.record_lemmas.Positions.{out-add, out-subtract, head_at-is, least_at_least, through}
 use Rattle.bb_cert.proofs.record_lemmas.Records.{stands_on, reaches, records_in_order}
 use Rattle.bb_cert.proofs.record_lemmas.Agreements.{distance, beyond, farther, alike}
 
@@ -55,8 +55,7 @@ module _ (table : Table) (side : Side) (a b : ℕ) (records : AgreeingRecords ta
       )
   goes_out (suc k) =
       let before = goes_out k in
-      let in_order = records.in_order in
-      let e : b + before.0 ≡ a + ((b - a) + before.0) = omega (arith, in_order) in (
+      let e : b + before.0 ≡ a + ((b - a) + before.0) = omega (arith, records.in_order) in (
         (b - a) + before.0,
         subst (λ n. pos (suc k) ≤ℤ out side (head_at table n)) e
             (one_more_out _ _ _ k (farther_by before.0) (farther table side a b records) before.1),
@@ -88,9 +87,6 @@ module _ (table : Table) (side : Side) (a b : ℕ) (records : AgreeingRecords ta
       } where
         between : (p q d : ℤ) → q ≡ p +ℤ d → d ≡ q -ℤ p
         between p q d e = omega (arith, ints)
-
-        through : (p q r : ℤ) → p ≤ℤ q → q ≤ℤ r → p ≤ℤ r
-        through p q r h k = omega (arith, ints)
 
 pub has_record : HasRecord
 has_record table side a b j records some = every_record table side a b records j some

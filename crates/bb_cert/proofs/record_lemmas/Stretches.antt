@@ -26,6 +26,7 @@ use Rattle.std.proofs.lemmas.Int.{ints, clamps}
 use Rattle.std.specs.Prelude.{◌<ℤ◌}
 use Rattle.bb_tape.specs.Content.{Content, cell}
 use Rattle.bb_tape.specs.TapeView.{TapeView, IsInside, IsSound, IsStretch, AgreesFrom, visited, width}
+use Rattle.bb_tape.proofs.Facts.{abs_is}
 use Rattle.bb_sim.specs.CellsBetween.{cells_between}
 use Rattle.bb_sim.specs.declared.runner.Runner.{Runner}
 use Rattle.bb_sim.specs.Runner.{position_of}
@@ -148,23 +149,19 @@ lesser_is : (side : Side) (near far_out : ℤ) → out side near ≤ℤ out side
 lesser_is R near far_out order = omega (arith, ints, clamps, order)
 lesser_is L near far_out order = omega (arith, ints, clamps, order)
 
-abs_up : (d : ℤ) → pos 0 ≤ℤ d → pos (unsigned_abs d) ≡ d
-abs_up (pos n) h = refl
-abs_up (negsuc n) h = absurd (omega (arith, ints, h))
-
 abs_down : (d : ℤ) → d ≤ℤ pos 0 → pos (unsigned_abs d) ≡ neg_ℤ d
 abs_down (pos n) h = omega (arith, ints, h)
 abs_down (negsuc n) h = refl
 
 pub distance_is : (side : Side) (near far_out : ℤ) → out side near ≤ℤ out side far_out
     → pos (unsigned_abs (far_out -ℤ near)) ≡ out side far_out -ℤ out side near
-distance_is R near far_out order = abs_up (far_out -ℤ near) (omega (arith, ints, order))
+distance_is R near far_out order = abs_is (far_out -ℤ near) (omega (arith, ints, order))
 distance_is L near far_out order =
     let down = abs_down (far_out -ℤ near) (omega (arith, ints, order)) in omega (arith, ints, down)
 
 -- a number that is as far out as a position is
 pub out_as_far : (side : Side) (p : ℤ) → pos 0 ≤ℤ out side p → pos (unsigned_abs p) ≡ out side p
-out_as_far R p some = abs_up p some
+out_as_far R p some = abs_is p some
 out_as_far L p some = abs_down p (omega (arith, ints, some))
 
 pub twice_fits : (p : ℤ) → IsNarrow p → 2 * unsigned_abs p < 2 ^ 64
@@ -247,9 +244,7 @@ compared {records} {runner} {saved} {run} {from} {other} {len} comparable seen a
 pub room_for : (saved run : TapeView) (p : ℤ) → IsSound run → saved.limit ≡ run.limit → run.low ≤ℤ saved.low
     → saved.high ≤ℤ run.high → IsInside run p → width (visited saved p) ≤ℤ pos saved.limit
 room_for saved run p sound limit low high inside =
-    let a = inside.0 in
-    let b = inside.1 in
-    omega (arith, ints, clamps, sound.within, limit, low, high, a, b)
+    omega (arith, ints, clamps, sound.within, limit, low, high, inside.0, inside.1)
 
 pub seen_wider : (saved : TapeView) (p q : ℤ) → IsInside saved q → IsInside (visited saved p) q
 seen_wider saved p q inside =

@@ -6,8 +6,7 @@ use Rattle.std.specs.Prelude.{◌≢◌, ◌<ℤ◌}
 use Rattle.std.specs.Int.{int_min, int_max}
 use Rattle.std.proofs.lemmas.Bool.{cases_lt}
 use Rattle.std.proofs.lemmas.Int.{ints, clamps, by_lt_z}
-use Rattle.bb_machine.specs.declared.entry.Next.TheVariants.{Halt, State}
-use Rattle.bb_machine.specs.declared.entry.Next.{Next}
+use Rattle.bb_machine.specs.declared.entry.Next.TheVariants.{Halt}
 use Rattle.bb_machine.specs.Machine.{Table}
 use Rattle.bb_tape.specs.TapeView.{TapeView}
 use Rattle.bb_sim.specs.declared.runner.Runner.{Runner}
@@ -21,6 +20,7 @@ use Rattle.bb_sim.proofs.Facts.{
   cells_between-is,
   conf-start,
   counted_head-at,
+  counted_running,
   greatest_bounds,
   greatest-next,
   least_bounds,
@@ -32,7 +32,7 @@ use Rattle.bb_cert.specs.inside.Checks.{MakesRecord}
 use Rattle.bb_cert.specs.records.Follow.{IsTop, TellsWidening}
 use Rattle.bb_cert.specs.records.Record.{out, head_at, IsRecord}
 use Rattle.bb_cert.proofs.record_lemmas.Heads.{head_in_window, runs_before, runs_up_to}
-use Rattle.bb_cert.proofs.record_lemmas.Positions.{climbs, head_at-is, head_at-start, out-zero}
+use Rattle.bb_cert.proofs.record_lemmas.Positions.{climbs, head_at-is, head_at-start, out-zero, through}
 use Rattle.bb_cert.proofs.record_lemmas.Records.{short_of_record, stands_on}
 
 pub top_at_first : (table : Table) (side : Side) → IsTop table side 0 (pos 0)
@@ -47,49 +47,6 @@ top_at_first table side =
     } where
       at_most : (p : ℤ) → p ≡ pos 0 → p ≤ℤ pos 0
       at_most p is = omega (arith, ints, is)
-
-greatest_left : (p q : ℤ) → q ≤ℤ p → int_max p q ≡ p
-greatest_left p q h = omega (arith, ints, clamps, h)
-
-greatest_right : (p q : ℤ) → p <ℤ q → int_max p q ≡ q
-greatest_right p q h = omega (arith, ints, clamps, h)
-
-at_most_max : (p q r : ℤ) → p ≤ℤ q → p ≤ℤ int_max q r
-at_most_max p q r h = omega (arith, ints, clamps, h)
-
-max_last : (q r : ℤ) → r ≤ℤ int_max q r
-max_last q r = omega (arith, ints, clamps)
-
-pub top-next : (table : Table) (side : Side) (n : ℕ) (top : ℤ) → IsTop table side n top
-    → IsTop table side (n + 1) (int_max top (out side (head_at table (n + 1))))
-top-next table side n top is =
-    by_lt_z top (out side (head_at table (n + 1)))
-    (λ less. record {
-      step = n + 1;
-      no_later = omega arith;
-      reached = sym (greatest_right top (out side (head_at table (n + 1))) less);
-      bounds = bounds;
-    })
-    (λ more. record {
-      step = is.step;
-      no_later = let few = is.no_later in omega (arith, few);
-      reached = is.reached ∙ sym (greatest_left top (out side (head_at table (n + 1))) more);
-      bounds = bounds;
-    }) where
-      bounds : (m : ℕ) → m ≤ n + 1 → out side (head_at table m) ≤ℤ int_max top
-          (out side (head_at table (n + 1)))
-      bounds m few = elim (cases_lt n m) [
-        | inl past ↦ let same : n + 1 ≡ m = omega (arith, few, past) in
-            subst (λ k. out side (head_at table k) ≤ℤ int_max top (out side (head_at table (n + 1)))) same
-            (max_last top (out side (head_at table (n + 1))))
-        | inr before ↦ at_most_max _ top _ (is.bounds m before)
-      ]
-
-same_max : (p q : ℤ) → q ≤ℤ p → int_max p q ≡ p
-same_max p q h = omega (arith, ints, clamps, h)
-
-new_max : (p q : ℤ) → p <ℤ q → int_max p q ≡ q
-new_max p q h = omega (arith, ints, clamps, h)
 
 next_up : (p q r : ℤ) → q ≤ℤ (r +ℤ pos 1) → r ≤ℤ p → p <ℤ q → q ≡ p +ℤ pos 1
 next_up p q r step below above = omega (arith, ints, step, below, above)
@@ -141,45 +98,64 @@ module _ (table : Table) (side : Side) (n count : ℕ) (top : IsTop table side n
   nearer_on none = by_lt_z (pos count) far_out (λ high. absurd (none (count + 1, made_next high)))
       (λ low. low)
 
+  bounds_next : (t : ℤ) → pos count ≤ℤ t → far_out ≤ℤ t → (m : ℕ) → m ≤ n + 1
+      → out side (head_at table m) ≤ℤ t
+  bounds_next t old new m few = elim (cases_lt n m) [
+    | inl past ↦ let same : n + 1 ≡ m = omega (arith, few, past) in
+        subst (λ k. out side (head_at table k) ≤ℤ t) same new
+    | inr before ↦ through _ _ _ (top.bounds m before) old
+  ]
+
   pub top_farther : pos count <ℤ far_out → IsTop table side (n + 1) (pos (count + 1))
-  top_farther high = subst (IsTop table side (n + 1)) (new_max (pos count) far_out high ∙ number_next high)
-      (top-next table side n (pos count) top)
+  top_farther high = let is = number_next high in record {
+    step = n + 1;
+    no_later = omega arith;
+    reached = is;
+    bounds = bounds_next (pos (count + 1)) (omega (arith, ints)) (omega (arith, ints, is));
+  }
 
   pub top_stays : far_out ≤ℤ pos count → IsTop table side (n + 1) (pos count)
-  top_stays low = subst (IsTop table side (n + 1)) (same_max (pos count) far_out low)
-      (top-next table side n (pos count) top)
+  top_stays low = record {
+    step = top.step;
+    no_later = let few = top.no_later in omega (arith, few);
+    reached = top.reached;
+    bounds = bounds_next (pos count) (omega (arith, ints)) low;
+  }
 
 -- ---- told by the window
 
--- where the window of a run ends on a side
-abbrev pub end : Table → Side → ℕ → ℤ
-end table R n = greatest (counted_head table) n
-end table L n = least (counted_head table) n
+abbrev pub other : Side → Side
+other R = L
+other L = R
 
-turned : (p q : ℤ) → p ≤ℤ q → out L q ≤ℤ out L p
-turned p q h = omega (arith, ints, h)
+-- where a window from l to g ends on a side
+abbrev pub end_of : Side → ℤ → ℤ → ℤ
+end_of R l g = g
+end_of L l g = l
+
+-- where that of a run ends
+abbrev pub end : Table → Side → ℕ → ℤ
+end table side n = end_of side (least (counted_head table) n) (greatest (counted_head table) n)
+
+out_within : (side : Side) (l g p : ℤ) → (l ≤ℤ p) × (p ≤ℤ g) → out side p ≤ℤ out side (end_of side l g)
+out_within R l g p inside = inside.1
+out_within L l g p inside = let above = inside.0 in omega (arith, ints, above)
+
+-- the head stood there
+end_is_reached : (table : Table) (side : Side) (n : ℕ)
+    → (m : ℕ) × (m ≤ n) × IsRunningAt table m (end table side n)
+end_is_reached table R n = let span = span_is_reached table n in (span.high_step, span.high_before, span.high)
+end_is_reached table L n = let span = span_is_reached table n in (span.low_step, span.low_before, span.low)
 
 -- outside Z that is as far out as the head ever was
 at_end : (table : Table) (side : Side) (n : ℕ) → IsRunningAt table n (head_at table n)
     → IsTop table side n (out side (end table side n))
-at_end table R n runs =
-    let span = span_is_reached table n in
-    let there = span.high in
-    record {
-      step = span.high_step;
-      no_later = span.high_before;
-      reached = head_at-is table span.high_step there.here there.exists ∙ there.at;
-      bounds = λ m few. (head_in_window table m n few (runs_up_to table m n few runs)).1;
-    }
-at_end table L n runs =
-    let span = span_is_reached table n in
-    let there = span.low in
-    record {
-      step = span.low_step;
-      no_later = span.low_before;
-      reached = ap (out L) (head_at-is table span.low_step there.here there.exists ∙ there.at);
-      bounds = λ m few. turned _ _ (head_in_window table m n few (runs_up_to table m n few runs)).0;
-    }
+at_end table side n runs = let reached = end_is_reached table side n in let there = reached.2 in record {
+  step = reached.0;
+  no_later = reached.1;
+  reached = ap (out side) (head_at-is table reached.0 there.here there.exists ∙ there.at);
+  bounds = λ m few. out_within side _ _ _ (head_in_window table m n few (runs_up_to table m n few runs));
+}
 
 natural : (z : ℤ) → pos 0 ≤ℤ z → (n : ℕ) × (z ≡ pos n)
 natural (pos n) h = (n, refl)
@@ -195,61 +171,52 @@ module _ (table : Table) (side : Side) (n : ℕ) (runs : IsRunningAt table n (he
   top_is : IsTop table side n (pos count.0)
   top_is = subst (IsTop table side n) count.1 (at_end table side n runs)
 
-  pub made_beyond : out side (end table side n) <ℤ out side (head_at table (n + 1))
-      → MakesRecord table side (n + 1)
-  made_beyond beyond = (
-    count.0 + 1,
-    made_next table side n count.0 top_is there (subst (λ z. z <ℤ out side (head_at table
-        (n + 1))) count.1 beyond),
-  )
+  made_beyond : out side (end table side n) <ℤ out side (head_at table (n + 1)) → MakesRecord table side
+      (n + 1)
+  made_beyond beyond = (count.0 + 1, made_next table side n count.0 top_is there (rw (← count.1) beyond))
 
-  pub none_within : out side (head_at table (n + 1)) ≤ℤ out side (end table side n)
+  none_within : out side (head_at table (n + 1)) ≤ℤ out side (end table side n)
       → MakesRecord table side (n + 1) → ⊥
-  none_within within = none_next table side n count.0 top_is there
-      (subst (λ z. out side (head_at table (n + 1)) ≤ℤ z) count.1 within)
+  none_within within = none_next table side n count.0 top_is there (rw (← count.1) within)
 
 -- ---- how a window that takes in a position widens
 
-order : (l g p : ℤ) → l ≤ℤ g → int_min l p ≤ℤ int_max g p
-order l g p h = omega (arith, ints, clamps, h)
+-- a runner whose window takes in p beside that from l to g, which had so many cells
+module _ (after : Runner) (p : ℤ) {l g : ℤ} {cells : ℕ} (around : (l ≤ℤ pos 0) × (pos 0 ≤ℤ g))
+    (low_is : low_of after ≡ int_min l p) (high_is : high_of after ≡ int_max g p)
+    (were : cells ≡ cells_between l g) where
+  had : pos cells ≡ (g -ℤ l) +ℤ pos 1
+  had = ap pos were ∙ cells_between-is l g (omega (arith, ints, around.0, around.1))
 
-pub same_ends : (l g p : ℤ) → l ≤ℤ p → p ≤ℤ g → cells_between (int_min l p) (int_max g p) ≡ cells_between l g
-same_ends l g p a b =
-    ap (λ low. cells_between low (int_max g p)) (least_same l p a) ∙ ap (cells_between l)
-    (same_max g p b) where
-      least_same : (x y : ℤ) → x ≤ℤ y → int_min x y ≡ x
-      least_same x y h = omega (arith, ints, clamps, h)
+  has : pos (cells_between (low_of after) (high_of after)) ≡ (high_of after -ℤ low_of after) +ℤ pos 1
+  has = cells_between-is (low_of after) (high_of after) (omega (arith, ints, clamps, around.0, around.1))
 
-within_ends : (l g p : ℤ) → l ≤ℤ g → cells_between (int_min l p) (int_max g p) ≡ cells_between l g
-    → (l ≤ℤ p) × (p ≤ℤ g)
-within_ends l g p h same =
-    within (cells_between-is _ _ (order l g p h)) (cells_between-is l g h) (ap pos same) where
-      within : {c d : ℤ} → c ≡ (int_max g p -ℤ int_min l p) +ℤ pos 1 → d ≡ (g -ℤ l) +ℤ pos 1 → c ≡ d
-          → (l ≤ℤ p) × (p ≤ℤ g)
-      within a b e = (omega (arith, ints, clamps, h, a, b, e), omega (arith, ints, clamps, h, a, b, e))
+  same_cells : (l ≤ℤ p) × (p ≤ℤ g) → cells_between (low_of after) (high_of after) ≡ cells
+  same_cells inside = omega (arith, ints, clamps, inside.0, inside.1, had, has)
 
-below_low : (l g p : ℤ) → l ≤ℤ g → cells_between (int_min l p) (int_max g p) ≢ cells_between l g
-    → p ≡ int_min l p → p <ℤ l
-below_low l g p h wider at = by_lt_z p l (λ less. less)
-    (λ more. absurd (wider (same_ends l g p more (at_most at more)))) where
-      at_most : p ≡ int_min l p → l ≤ℤ p → p ≤ℤ g
-      at_most e m = omega (arith, ints, clamps, e, m, h)
+  inside : TellsWidening after cells None → (l ≤ℤ p) × (p ≤ℤ g)
+  inside same = (
+    omega (arith, ints, clamps, around.0, around.1, had, has),
+    omega (arith, ints, clamps, around.0, around.1, had, has),
+  )
 
-above_high : (l g p : ℤ) → l ≤ℤ g → cells_between (int_min l p) (int_max g p) ≢ cells_between l g
-    → p ≢ int_min l p → g <ℤ p
-above_high l g p h wider apart_low = by_lt_z g p (λ less. less)
-    (λ more. absurd (wider (same_ends l g p (above apart_low) more))) where
-      least_is : (x y : ℤ) → y <ℤ x → y ≡ int_min x y
-      least_is x y less = omega (arith, ints, clamps, less)
-
-      above : p ≢ int_min l p → l ≤ℤ p
-      above e = by_lt_z p l (λ less. absurd (e (least_is l p less))) (λ m. m)
+  -- beyond one end, and so within the other
+  beyond : position_of after ≡ p → (side : Side) → TellsWidening after cells (Some side)
+      → (out side (end_of side l g) <ℤ out side p)
+      × (out (other side) p ≤ℤ out (other side) (end_of (other side) l g))
+  beyond is R told =
+      let above : g <ℤ p =
+      omega (arith, ints, clamps, told.0, told.1, around.0, around.1, had, has) in
+      (above, omega (arith, ints, above, around.0, around.1))
+  beyond is L told =
+      let below : p <ℤ l =
+      omega (arith, ints, clamps, told.0, told.1, around.0, around.1, had, has) in
+      (omega (arith, ints, below), omega (arith, ints, below, around.0, around.1))
 
 -- step n makes a record of this side and of no other; of none
 abbrev pub MakesJust : Table → ℕ → Option Side → Type 0
 MakesJust table n None = (side : Side) → MakesRecord table side n → ⊥
-MakesJust table n (Some R) = MakesRecord table R n × (MakesRecord table L n → ⊥)
-MakesJust table n (Some L) = MakesRecord table L n × (MakesRecord table R n → ⊥)
+MakesJust table n (Some side) = MakesRecord table side n × (MakesRecord table (other side) n → ⊥)
 
 -- a runner that has made a step, and how its window was before
 module _ {table : Table} {before after : Runner} {run_before run_after : TapeView}
@@ -258,49 +225,42 @@ module _ {table : Table} {before after : Runner} {run_before run_after : TapeVie
   abbrev n : ℕ
   n = steps_of before
 
+  abbrev low : ℤ
+  low = end table L n
+
+  abbrev high : ℤ
+  high = end table R n
+
   there : Exists table (n + 1)
   there = subst (Exists table) next (record { here = _; exists = stands.at })
 
+  around : (low ≤ℤ pos 0) × (pos 0 ≤ℤ high)
+  around = subst (λ z. (low ≤ℤ z) × (z ≤ℤ high)) (counted_head-at table 0 start (conf-start table)) (
+    least_bounds (counted_head table) 0 n (omega arith),
+    greatest_bounds (counted_head table) 0 n
+        (omega arith),
+  )
+
+  -- the position that its step counts
   counted : counted_head table (n + 1) ≡ counted_position (state_of after) (position_of after)
   counted = ap (counted_head table) (sym next) ∙ counted_head-at table (steps_of after) _ stands.at
 
-  low_is : low_of after ≡ int_min (least (counted_head table) n) (counted_position (state_of after)
-      (position_of after))
-  low_is = stands.low ∙ ap (least (counted_head table)) next ∙ least-next (counted_head table) n
-      ∙ ap (int_min (least (counted_head table) n)) counted
+  low_is : (p : ℤ) → counted_position (state_of after) (position_of after) ≡ p → low_of after ≡ int_min low p
+  low_is p at = stands.low ∙ ap (least (counted_head table)) next ∙ least-next (counted_head table) n
+      ∙ ap (int_min low) (counted ∙ at)
 
-  high_is : high_of after
-      ≡ int_max (greatest (counted_head table) n) (counted_position (state_of after) (position_of after))
-  high_is = stands.high ∙ ap (greatest (counted_head table)) next ∙ greatest-next (counted_head table) n
-      ∙ ap (int_max (greatest (counted_head table) n)) counted
+  high_is : (p : ℤ) → counted_position (state_of after) (position_of after) ≡ p → high_of after
+      ≡ int_max high p
+  high_is p at = stands.high ∙ ap (greatest (counted_head table)) next ∙ greatest-next (counted_head table) n
+      ∙ ap (int_max high) (counted ∙ at)
 
-  in_order : least (counted_head table) n ≤ℤ greatest (counted_head table) n
-  in_order = through _ _ _ (least_bounds (counted_head table) 0 n (omega arith))
-      (greatest_bounds (counted_head table) 0 n (omega arith)) where
-        through : (p q r : ℤ) → p ≤ℤ q → q ≤ℤ r → p ≤ℤ r
-        through p q r a b = omega (arith, ints, a, b)
-
-  cells_were : cells_between (low_of before) (high_of before)
-      ≡ cells_between (least (counted_head table) n) (greatest (counted_head table) n)
-  cells_were = ap (λ l. cells_between l (high_of before)) stood.low
-      ∙ ap (cells_between (least (counted_head table) n)) stood.high
-
-  cells_are : (p : ℤ) → counted_position (state_of after) (position_of after) ≡ p
-      → cells_between (low_of after) (high_of after)
-      ≡ cells_between (int_min (least (counted_head table) n) p) (int_max (greatest (counted_head table) n) p)
-  cells_are p at =
-      ap (λ l. cells_between l (high_of after)) (low_is ∙ ap (int_min (least (counted_head table) n)) at)
-      ∙ ap (cells_between (int_min (least (counted_head table) n) p))
-      (high_is ∙ ap (int_max (greatest (counted_head table) n)) at)
+  cells_were : cells_between (low_of before) (high_of before) ≡ cells_between low high
+  cells_were = ap (λ l. cells_between l (high_of before)) stood.low ∙ ap (cells_between low) stood.high
 
   -- outside Z
   module _ (runs : state_of after ≢ Halt) where
-    in_state : (state : Next) (p : ℤ) → state ≢ Halt → counted_position state p ≡ p
-    in_state (State q) p some = refl
-    in_state Halt p some = absurd (some refl)
-
     at : counted_position (state_of after) (position_of after) ≡ position_of after
-    at = in_state (state_of after) (position_of after) runs
+    at = counted_running (state_of after) (position_of after) runs
 
     head : head_at table (n + 1) ≡ position_of after
     head = ap (head_at table) (sym next) ∙ head_at-is table (steps_of after) _ stands.at
@@ -310,51 +270,30 @@ module _ {table : Table} {before after : Runner} {run_before run_after : TapeVie
 
     makes : (side : Side) → out side (end table side n) <ℤ out side (position_of after)
         → MakesRecord table side (n + 1)
-    makes side beyond = made_beyond table side n running there
-        (subst (λ p. out side (end table side n) <ℤ out side p) (sym head) beyond)
+    makes side beyond = made_beyond table side n running there (rw head beyond)
 
     makes_none : (side : Side) → out side (position_of after) ≤ℤ out side (end table side n)
         → MakesRecord table side (n + 1) → ⊥
-    makes_none side within = none_within table side n running there
-        (subst (λ p. out side p ≤ℤ out side (end table side n)) (sym head) within)
+    makes_none side within = none_within table side n running there (rw head within)
 
     pub makes_just : {cells : ℕ} → cells ≡ cells_between (low_of before) (high_of before)
         → (told : Option Side) → TellsWidening after cells told → MakesJust table (n + 1) told
-    makes_just were None same = none_of where
-      inside : (least (counted_head table) n ≤ℤ position_of after)
-          × (position_of after ≤ℤ greatest (counted_head table) n)
-      inside = within_ends _ _ _ in_order (sym (cells_are _ at) ∙ same ∙ were ∙ cells_were)
+    makes_just were None same = λ side. makes_none side (out_within side low high (position_of after)
+        (inside after _ around (low_is _ at) (high_is _ at) (were ∙ cells_were) same))
+    makes_just were (Some side) told =
+        let is = beyond after _ around (low_is _ at) (high_is _ at) (were ∙ cells_were) refl side told in
+        (makes side is.0, makes_none (other side) is.1)
 
-      none_of : (side : Side) → MakesRecord table side (n + 1) → ⊥
-      none_of R = makes_none R inside.1
-      none_of L = makes_none L (turned _ _ inside.0)
-    makes_just were (Some L) told =
-        let below = below_low _ _ _ in_order
-        (λ same. told.0 (cells_are _ at ∙ same ∙ sym (were ∙ cells_were)))
-        (told.1 ∙ low_is ∙ ap (int_min (least (counted_head table) n)) at) in
-        (makes L (omega (arith, ints, below)), makes_none R (omega (arith, ints, below, in_order)))
-    makes_just were (Some R) told =
-        let above = above_high _ _ _ in_order
-        (λ same. told.0 (cells_are _ at ∙ same ∙ sym (were ∙ cells_were)))
-        (λ low. told.1 (low ∙ sym (low_is ∙ ap (int_min (least (counted_head table) n)) at))) in
-        (makes R above, makes_none L (omega (arith, ints, above, in_order)))
-
-  at_start : counted_head table 0 ≡ pos 0
-  at_start = counted_head-at table 0 start (conf-start table)
+  is_wider : (side : Side) (cells : ℕ) → TellsWidening after cells (Some side)
+      → cells_between (low_of after) (high_of after) ≢ cells
+  is_wider R cells told = told.0
+  is_wider L cells told = told.0
 
   -- into Z nothing widens
   pub none_wider : state_of after ≡ Halt → (cells : ℕ) → cells ≡ cells_between (low_of before)
       (high_of before)
       → (side : Side) → TellsWidening after cells (Some side) → ⊥
-  none_wider halts cells were side told = by_side side told (cells_are (pos 0)
-      (ap (λ s. counted_position s (position_of after)) halts)
-      ∙ same_ends _ _ (pos 0)
-      (subst (λ z. least (counted_head table) n ≤ℤ z) at_start (least_bounds (counted_head table) 0 n
-      (omega arith)))
-      (subst (λ z. z ≤ℤ greatest (counted_head table) n) at_start
-      (greatest_bounds (counted_head table) 0 n (omega arith)))
-      ∙ sym (were ∙ cells_were)) where
-        by_side : (side : Side) → TellsWidening after cells (Some side)
-            → cells_between (low_of after) (high_of after) ≡ cells → ⊥
-        by_side L told same = told.0 same
-        by_side R told same = told.0 same
+  none_wider halts cells were side told =
+      let at = ap (λ s. counted_position s (position_of after)) halts in
+      is_wider side cells told (same_cells after _ around (low_is _ at) (high_is _ at)
+      (were ∙ cells_were) around)

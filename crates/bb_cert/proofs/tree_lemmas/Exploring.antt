@@ -14,6 +14,7 @@ use Rattle.bb_machine.specs.Machine.{Table}
 use Rattle.bb_tape.specs.Content.{Content, HasSymbols, blank, with_cell}
 use Rattle.bb_tape.specs.TapeView.{TapeView, IsInside, IsBeside, written}
 use Rattle.bb_tape.proofs.Facts.{put_back}
+use Rattle.bb_sim.proofs.Facts.{max_right, min_right}
 use Rattle.bb_cert.specs.declared.tree.path.Frame.{Frame}
 use Rattle.bb_cert.specs.declared.tree.rules.Rule.{Rule}
 use Rattle.bb_cert.specs.declared.tree.walk.Branch.{Branch}
@@ -24,7 +25,7 @@ use Rattle.bb_cert.specs.inside.Walk.{HasNonzero}
 use Rattle.bb_cert.specs.inside.Walk.{Refused}
 use Rattle.bb_cert.specs.inside.Walk.{branches, comb_of, branch_node}
 use Rattle.bb_cert.specs.inside.Steps.{HasTable, Enters, Explores, IsFirstBranch, entered_on, states_of}
-use Rattle.bb_cert.proofs.tree_lemmas.Comb.{walk_enters, walk_leaves, walk_refused}
+use Rattle.bb_cert.proofs.tree_lemmas.Walked.{walk_enters, walk_leaves, walk_refused}
 use Rattle.bb_cert.proofs.tree_lemmas.Orders.{AreAlike, alike_permuted, walk_rearranged}
 
 -- a frame of a narrower window is one of a wider one, also with another rule to be tried next
@@ -64,17 +65,10 @@ int_min_below a b = omega (arith, ints, clamps)
 int_max_above : (a b : ℤ) → a ≤ℤ int_max a b
 int_max_above a b = omega (arith, ints, clamps)
 
-min_second : (a b : ℤ) → int_min a b ≤ℤ b
-min_second a b = omega (arith, ints, clamps)
-
-max_second : (a b : ℤ) → b ≤ℤ int_max a b
-max_second a b = omega (arith, ints, clamps)
-
 pub all_named : {list : List Rule} {starts : Dir → List ℕ} → HasTable list starts
     → AllByRecursion (IsRule (states_of starts)) list
 all_named {list} {starts} known =
-    let n = (known.1.in_order L).count in
-    let same : length known.0 ≡ states_of starts = omega (arith, n) in
+    let same : length known.0 ≡ states_of starts = omega (arith, (known.1.in_order L).count) in
     subst (λ states. AllByRecursion (IsRule states) list) same known.1.named
 
 -- a branch was entered
@@ -97,8 +91,8 @@ module _ {list : List Rule} {starts : Dir → List ℕ} (known : HasTable list s
   frame_is = record {
     not_below = rw enters.position is.not_below;
     not_above = rw enters.position is.not_above;
-    from_low = rw (enters.position, enters.low) (min_second old.low branch.position);
-    to_high = rw (enters.position, enters.high) (max_second old.high branch.position);
+    from_low = rw (enters.position, enters.low) (min_right old.low branch.position);
+    to_high = rw (enters.position, enters.high) (max_right old.high branch.position);
     symbol = let most = symbols branch.position in let e = enters.before ∙ is.held in omega (arith, most, e);
     in_order = range.in_order;
     in_rules = range.within;
@@ -133,7 +127,8 @@ module _ {list : List Rule} {starts : Dir → List ℕ} (known : HasTable list s
   walked_entered table rest {more} fs {tail} {nodes} {levels} rules long comb walked =
       let first = before table (branch_node old.content branch) in
       let left = with_cell new.content frame.position frame.before in
-      let entered : IsWalked table (first ∷ comb_of list rest left fs) (nodes + 1) (max levels (level + 1)) = rw (undone, comb, sym long) (walk_enters walked enters.apart) in
+      let entered : IsWalked table (first ∷ comb_of list rest left fs) (nodes + 1)
+      (max levels (level + 1)) = rw (undone, comb, sym long) (walk_enters walked enters.apart) in
       walk_rearranged (branches_before table rules) entered
 
 -- what a walk from a root knows between its steps

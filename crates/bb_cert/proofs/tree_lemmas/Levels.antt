@@ -25,7 +25,7 @@ use Rattle.bb_cert.specs.tree.Tree.{halting_node}
 use Rattle.bb_cert.specs.tree.Tree.{left_cell, may_be, seen_from, before_by_entry, before_by, before, level}
 use Rattle.bb_cert.specs.tree.Tree.{IsAtHaltingEntry, HaltsNextAfter}
 use Rattle.bb_cert.specs.claims.Laws.{LevelsComeBeforeHalts}
-use Rattle.bb_cert.proofs.tree_lemmas.OneOf.{one_more, one-flat_map, one-in_flat_map, one-map, one-in_map}
+use Rattle.bb_cert.proofs.tree_lemmas.OneOf.{one_more, one-flat_map, one-map}
 use Rattle.bb_cert.proofs.tree_lemmas.RuleEntries.{rule, one-in_table, one-table}
 
 left_behind : (dir : Dir) (head x : ℤ) → beside dir head +ℤ (x +ℤ left_cell dir) ≡ head +ℤ x
@@ -76,7 +76,7 @@ module _ (table : Table) (c : Configuration) where
   }
 
   pub level_zero : IsAtHaltingEntry table c → MatchesOne (level table 0) c
-  level_zero at = one-map (λ node. Matches node c) halting_node (rules_to table Halt)
+  level_zero at = (one-map (λ node. Matches node c) halting_node (rules_to table Halt)).1
       (one-table (λ r. Matches (halting_node r) c) table Halt (record {
         state = at.state;
         symbol = cell c.tape c.head;
@@ -89,7 +89,7 @@ module _ (table : Table) (c : Configuration) where
   pub at_level_zero : MatchesOne (level table 0) c → IsAtHaltingEntry table c
   at_level_zero one =
       let found = one-in_table (λ r. Matches (halting_node r) c) table Halt
-      (one-in_map (λ node. Matches node c) halting_node (rules_to table Halt) one) in
+      ((one-map (λ node. Matches node c) halting_node (rules_to table Halt)).0 one) in
       let here : cell c.tape (c.head +ℤ pos 0) ≡ found.symbol = found.holds.same_cells
       (pos 0) found.symbol (known-here (λ distance. None) (pos 0) found.symbol (pos 0) refl) in
       let on : found.symbol ≡ cell c.tape c.head = sym here ∙ ap (cell c.tape) (at_zero c.head
@@ -227,7 +227,7 @@ module _ (table : Table) (node : Node) (c : Configuration) where
     by_entry state in_state (Go write dir to) e is_next =
         let same : led c write dir to ≡ leads.then_here = cc in
         let there : Matches node (led c write dir to) = subst (Matches node) (sym same) leads.matches in
-        one-flat_map (λ n. Matches n c) (before_by node) (rules_to table (State node.state))
+        (one-flat_map (λ n. Matches n c) (before_by node) (rules_to table (State node.state))).1
         (one-table IsBefore table (State node.state) (record {
           state = state;
           symbol = cell c.tape c.head;
@@ -277,7 +277,7 @@ module _ (table : Table) (node : Node) (c : Configuration) where
   pub step_on : MatchesOne (before table node) c → LeadsTo table node c
   step_on one =
       let found = one-in_table IsBefore table (State node.state)
-      (one-in_flat_map (λ n. Matches n c) (before_by node) (rules_to table (State node.state)) one) in
+      ((one-flat_map (λ n. Matches n c) (before_by node) (rules_to table (State node.state))).0 one) in
       leads_by found.state found.symbol (entry_of table found.state found.symbol) refl found.leads found.holds
 
 -- c leads to a configuration that matches one of the nodes
@@ -288,7 +288,7 @@ pub record LeadsToOne (table : Table) (nodes : List Node) (c : Configuration) : 
 
 pub one_step_back : (table : Table) (nodes : List Node) (c : Configuration) → LeadsToOne table nodes c
     → MatchesOne (flat_map (before table) nodes) c
-one_step_back table nodes c leads = one-flat_map (λ n. Matches n c) (before table) nodes
+one_step_back table nodes c leads = (one-flat_map (λ n. Matches n c) (before table) nodes).1
     (one_more (λ n. Matches n leads.then_here) (λ n. OneOf (λ m. Matches m c) (before table n))
     (λ n there. step_back table n c (record {
       then_here = leads.then_here;
@@ -316,7 +316,7 @@ pub one_step_on : (table : Table) (nodes : List Node) (c : Configuration) → Ma
 one_step_on table nodes c one = collect table nodes c
     (one_more (λ n. OneOf (λ m. Matches m c) (before table n)) (λ n. LeadsTo table n c)
     (λ n there. step_on table n c there) nodes
-    (one-in_flat_map (λ n. Matches n c) (before table) nodes one))
+    ((one-flat_map (λ n. Matches n c) (before table) nodes).0 one))
 
 -- i steps back
 

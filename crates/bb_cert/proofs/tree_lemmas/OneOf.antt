@@ -1,26 +1,33 @@
 -- One of a list's elements for which something holds.
-use Rattle.std.proofs.Common.{◌≡◌, ℕ, zero, suc, ◌<◌, Bool, true, false, cond, ◌⊎◌, inl, inr, List, []}
+use Rattle.std.proofs.Common.{◌≡◌, ℕ, zero, suc, ◌<◌, Bool, true, false, cond, ◌⊎◌, ◌↔◌, inl, inr, List, []}
 use Rattle.std.proofs.Common.{◌∷◌, ◌++◌, length, get_or, map, refl, sym, subst, arith}
 use Rattle.std.specs.List.{Contains, filter, flat_map}
 use Rattle.std.specs.List.Sorted.{IsPermutation}
 use Rattle.std.proofs.lemmas.List.Sorted.{Contains-permutation}
 use Rattle.bb_cert.specs.tree.Tree.{OneOf}
 
-pub one-append_left : {X : Type 0} (P : X → Type 0) (xs ys : List X) → OneOf P xs → OneOf P (xs ++ ys)
-one-append_left P [] ys one = absurd one
-one-append_left P (x ∷ xs) ys (inl p) = inl p
-one-append_left P (x ∷ xs) ys (inr one) = inr (one-append_left P xs ys one)
+same : {A : Type 0} → A ↔ A
+same = (λ a. a, λ a. a)
 
-pub one-append_right : {X : Type 0} (P : X → Type 0) (xs ys : List X) → OneOf P ys → OneOf P (xs ++ ys)
-one-append_right P [] ys one = one
-one-append_right P (x ∷ xs) ys one = inr (one-append_right P xs ys one)
+either : {A B C D : Type 0} → A ↔ B → C ↔ D → (A ⊎ C) ↔ (B ⊎ D)
+either one other = (
+  λ s. elim s [ inl a ↦ inl (one.0 a) | inr c ↦ inr (other.0 c) ],
+  λ s. elim s [ inl b ↦ inl (one.1 b) | inr d ↦ inr (other.1 d) ],
+)
 
-pub one-append_cases : {X : Type 0} (P : X → Type 0) (xs ys : List X) → OneOf P (xs ++ ys) → OneOf P xs
-    ⊎ OneOf P ys
-one-append_cases P [] ys one = inr one
-one-append_cases P (x ∷ xs) ys (inl p) = inl (inl p)
-one-append_cases P (x ∷ xs) ys (inr one) =
-    elim (one-append_cases P xs ys one) [ inl left ↦ inl (inr left) | inr right ↦ inr right ]
+pub one-append : {X : Type 0} (P : X → Type 0) (xs ys : List X)
+    → OneOf P (xs ++ ys) ↔ (OneOf P xs ⊎ OneOf P ys)
+one-append P [] ys = (λ one. inr one, λ one. elim one [ inl none ↦ absurd none | inr one ↦ one ])
+one-append P (x ∷ xs) ys = let rest = one-append P xs ys in (
+  λ one. elim one [
+    | inl p ↦ inl (inl p)
+    | inr one ↦ elim (rest.0 one) [ inl left ↦ inl (inr left) | inr right ↦ inr right ]
+  ],
+  λ one. elim one [
+    | inl left ↦ elim left [ inl p ↦ inl p | inr left ↦ inr (rest.1 (inl left)) ]
+    | inr right ↦ inr (rest.1 (inr right))
+  ],
+)
 
 -- what holds more often
 pub one_more : {X : Type 0} (P Q : X → Type 0) → ((x : X) → P x → Q x) → (xs : List X) → OneOf P xs
@@ -30,80 +37,40 @@ one_more P Q more (x ∷ xs) (inl p) = inl (more x p)
 one_more P Q more (x ∷ xs) (inr one) = inr (one_more P Q more xs one)
 
 pub one-flat_map : {X Y : Type 0} (P : X → Type 0) (f : Y → List X) (ys : List Y)
-    → OneOf (λ y. OneOf P (f y)) ys → OneOf P (flat_map f ys)
-one-flat_map P f [] one = one
-one-flat_map P f (y ∷ ys) (inl here) = one-append_left P (f y) (flat_map f ys) here
-one-flat_map P f (y ∷ ys) (inr one) = one-append_right P (f y) (flat_map f ys) (one-flat_map P f ys one)
+    → OneOf P (flat_map f ys) ↔ OneOf (λ y. OneOf P (f y)) ys
+one-flat_map P f [] = same
+one-flat_map P f (y ∷ ys) =
+    let first = one-append P (f y) (flat_map f ys) in
+    let rest = either same (one-flat_map P f ys) in
+    (λ one. rest.0 (first.0 one), λ one. first.1 (rest.1 one))
 
-pub one-in_flat_map : {X Y : Type 0} (P : X → Type 0) (f : Y → List X) (ys : List Y)
-    → OneOf P (flat_map f ys) → OneOf (λ y. OneOf P (f y)) ys
-one-in_flat_map P f [] one = one
-one-in_flat_map P f (y ∷ ys) one = elim (one-append_cases P (f y) (flat_map f ys) one) [
-  | inl here ↦ inl here
-  | inr further ↦ inr (one-in_flat_map P f ys further)
-]
-
-pub one-map : {X Y : Type 0} (P : X → Type 0) (f : Y → X) (ys : List Y) → OneOf (λ y. P (f y)) ys
-    → OneOf P (map f ys)
-one-map P f [] one = one
-one-map P f (y ∷ ys) (inl p) = inl p
-one-map P f (y ∷ ys) (inr one) = inr (one-map P f ys one)
-
-pub one-in_map : {X Y : Type 0} (P : X → Type 0) (f : Y → X) (ys : List Y) → OneOf P (map f ys)
-    → OneOf (λ y. P (f y)) ys
-one-in_map P f [] one = one
-one-in_map P f (y ∷ ys) (inl p) = inl p
-one-in_map P f (y ∷ ys) (inr one) = inr (one-in_map P f ys one)
-
-passes : {X : Type 0} (P : X → Type 0) (b : Bool) (x : X) (xs : List X) → b ≡ true → P x
-    → OneOf P (cond b (x ∷ xs) xs)
-passes P true x xs e p = inl p
-passes P false x xs e p = absurd cc
-
-skips : {X : Type 0} (P : X → Type 0) (b : Bool) (x : X) (xs : List X) → OneOf P xs
-    → OneOf P (cond b (x ∷ xs) xs)
-skips P true x xs one = inr one
-skips P false x xs one = one
-
-kept_cases : {X : Type 0} (P : X → Type 0) (b : Bool) (x : X) (xs : List X) → OneOf P (cond b (x ∷ xs) xs)
-    → ((b ≡ true) × P x) ⊎ OneOf P xs
-kept_cases P true x xs (inl p) = inl (refl, p)
-kept_cases P true x xs (inr one) = inr one
-kept_cases P false x xs one = inr one
+pub one-map : {X Y : Type 0} (P : X → Type 0) (f : Y → X) (ys : List Y)
+    → OneOf P (map f ys) ↔ OneOf (λ y. P (f y)) ys
+one-map P f [] = same
+one-map P f (y ∷ ys) = either same (one-map P f ys)
 
 pub one-filter : {X : Type 0} (P : X → Type 0) (test : X → Bool) (xs : List X)
-    → OneOf (λ x. (test x ≡ true) × P x) xs → OneOf P (filter test xs)
-one-filter P test [] one = one
-one-filter P test (x ∷ xs) (inl both) = passes P (test x) x (filter test xs) both.0 both.1
-one-filter P test (x ∷ xs) (inr one) = skips P (test x) x (filter test xs) (one-filter P test xs one)
-
-pub one-in_filter : {X : Type 0} (P : X → Type 0) (test : X → Bool) (xs : List X) → OneOf P (filter test xs)
-    → OneOf (λ x. (test x ≡ true) × P x) xs
-one-in_filter P test [] one = one
-one-in_filter P test (x ∷ xs) one = elim (kept_cases P (test x) x (filter test xs) one) [
-  | inl both ↦ inl both
-  | inr further ↦ inr (one-in_filter P test xs further)
-]
+    → OneOf P (filter test xs) ↔ OneOf (λ x. (test x ≡ true) × P x) xs
+one-filter P test [] = same
+one-filter P test (x ∷ xs) = by_test (test x) (one-filter P test xs) where
+  by_test : (b : Bool) → OneOf P (filter test xs) ↔ OneOf (λ x. (test x ≡ true) × P x) xs
+      → OneOf P (cond b (x ∷ filter test xs) (filter test xs))
+      ↔ (((b ≡ true) × P x) ⊎ OneOf (λ x. (test x ≡ true) × P x) xs)
+  by_test true rest = either (λ p. (refl, p), λ both. both.1) rest
+  by_test false rest = (
+    λ one. inr (rest.0 one),
+    λ one. elim one [
+      | inl both ↦ (let wrong : false ≡ true = both.0 in absurd cc)
+      | inr one ↦ rest.1 one
+    ],
+  )
 
 -- an element for which something holds
-record Found (X : Type 0) (P : X → Type 0) (xs : List X) : Type 0 where
-  element : X
-  contained : Contains xs element
-  holds : P element
-
-found_later : {X : Type 0} (P : X → Type 0) (y : X) (xs : List X) → Found X P xs → Found X P (y ∷ xs)
-found_later P y xs found =
-    let less = found.contained.1 in
-    record {
-      element = found.element;
-      contained = (suc found.contained.0, omega (arith, less), found.contained.2);
-      holds = found.holds;
-    }
-
-found_one : {X : Type 0} (P : X → Type 0) (xs : List X) → OneOf P xs → Found X P xs
+found_one : {X : Type 0} (P : X → Type 0) (xs : List X) → OneOf P xs → (x : X) × Contains xs x × P x
 found_one P [] one = absurd one
-found_one P (x ∷ xs) (inl p) = record { element = x; contained = (zero, omega arith, refl); holds = p }
-found_one P (x ∷ xs) (inr one) = found_later P x xs (found_one P xs one)
+found_one P (x ∷ xs) (inl p) = (x, (zero, omega arith, refl), p)
+found_one P (x ∷ xs) (inr one) = let found = found_one P xs one in
+    (found.0, (suc found.1.0, omega (arith, found.1.1), found.1.2), found.2)
 
 one_at : {X : Type 0} (P : X → Type 0) (xs : List X) (k : ℕ) (x : X) → k < length xs → get_or xs k x ≡ x → P x
     → OneOf P xs
@@ -116,5 +83,5 @@ pub one_permuted : {X : Type 0} (P : X → Type 0) (xs ys : List X) → IsPermut
     → OneOf P ys
 one_permuted P xs ys same one =
     let found = found_one P xs one in
-    let there = Contains-permutation xs ys found.element same found.contained in
-    one_at P ys there.0 found.element there.1 there.2 found.holds
+    let there = Contains-permutation xs ys found.0 same found.1 in
+    one_at P ys there.0 found.0 there.1 there.2 found.2

@@ -11,8 +11,8 @@ use Rattle.bb_sim.specs.Configuration.{start}
 use Rattle.bb_cert.specs.declared.tree.rules.Rule.{Rule}
 use Rattle.bb_cert.specs.tree.Tree.{Node, Matches, MatchesOne, OneOf, grown, grown_below}
 use Rattle.bb_cert.specs.inside.Walk.{IsPart, IsWalked}
-use Rattle.bb_cert.proofs.tree_lemmas.Comb.{grown-append, grown-empty, empty_below}
-use Rattle.bb_cert.proofs.tree_lemmas.OneOf.{one-flat_map, one-in_flat_map, one_permuted}
+use Rattle.bb_cert.proofs.tree_lemmas.Walked.{grown-append, grown-empty, empty_below}
+use Rattle.bb_cert.proofs.tree_lemmas.OneOf.{one-flat_map, one_permuted}
 
 -- in place of some nodes a walk may enter others: they stand in the same level, and their trees are alike
 pub record AreAlike (table : Table) (nodes others : List Node) : Type 0 where
@@ -25,9 +25,7 @@ pub walk_rearranged : {table : Table} {first others : List Node} {comb : List (L
     → IsWalked table (others ∷ comb) nodes levels
 walk_rearranged {comb = comb} alike walked = record {
   counted = λ h deep.
-      let old = walked.counted h deep in
-      let same = alike.below (h - length comb) in
-      omega (arith, old, same);
+      omega (arith, walked.counted h deep, alike.below (h - length comb));
   reached = walked.reached;
   parts = (λ node one. walked.parts.0 node (alike.part node one), walked.parts.1);
   matches = λ i one. elim (walked.matches i one) [
@@ -40,9 +38,8 @@ below-append : (table : Table) (a b : List Node) (h : ℕ)
     → grown_below table (a ++ b) h ≡ grown_below table a h + grown_below table b h
 below-append table a b zero = omega arith
 below-append table a b (suc h) =
-    let past = below-append table a b h in
     let here = ap length (grown-append table a b h) ∙ length-append (grown table a h) (grown table b h) in
-    omega (arith, past, here)
+    omega (arith, below-append table a b h, here)
 
 grown-flat_map : (table : Table) (f : Rule → List Node) (rules : List Rule) (i : ℕ)
     → grown table (flat_map f rules) i ≡ flat_map (λ r. grown table (f r) i) rules
@@ -52,7 +49,8 @@ grown-flat_map table f (r ∷ rules) i = grown-append table (f r) (flat_map f ru
 
 module _ (table : Table) (f : Rule → List Node) (rules others : List Rule) (same : IsPermutation rules others)
   where
-    below_permuted : (h : ℕ) → grown_below table (flat_map f rules) h ≡ grown_below table (flat_map f others) h
+    below_permuted : (h : ℕ) → grown_below table (flat_map f rules) h ≡ grown_below table
+        (flat_map f others) h
     below_permuted h =
         let sum = is_sum_by (λ rs. grown_below table (flat_map f rs) h) (λ r. grown_below table (f r) h)
         (empty_below table h) (λ r rs. below-append table (f r) (flat_map f rs) h) in
@@ -61,8 +59,8 @@ module _ (table : Table) (f : Rule → List Node) (rules others : List Rule) (sa
 
     one_after : (P : Node → Type 0) (from to : List Rule) → IsPermutation from to → OneOf P (flat_map f from)
         → OneOf P (flat_map f to)
-    one_after P from to moved one = one-flat_map P f to
-        (one_permuted (λ r. OneOf P (f r)) from to moved (one-in_flat_map P f from one))
+    one_after P from to moved one = (one-flat_map P f to).1
+        (one_permuted (λ r. OneOf P (f r)) from to moved ((one-flat_map P f from).0 one))
 
     matches_permuted : (i : ℕ) → MatchesOne (grown table (flat_map f rules) i) start
         → MatchesOne (grown table (flat_map f others) i) start
@@ -70,9 +68,9 @@ module _ (table : Table) (f : Rule → List Node) (rules others : List Rule) (sa
         let of : Rule → List Node = λ r. grown table (f r) i in
         let one_of = subst (λ nodes. MatchesOne nodes start) (grown-flat_map table f rules i) one in
         subst (λ nodes. MatchesOne nodes start) (sym (grown-flat_map table f others i))
-        (one-flat_map (λ n. Matches n start) of others
+        ((one-flat_map (λ n. Matches n start) of others).1
         (one_permuted (λ r. MatchesOne (grown table (f r) i) start) rules others same
-        (one-in_flat_map (λ n. Matches n start) of rules one_of)))
+        ((one-flat_map (λ n. Matches n start) of rules).0 one_of)))
 
     -- what rules give in one order, and in another
     pub alike_permuted : AreAlike table (flat_map f rules) (flat_map f others)

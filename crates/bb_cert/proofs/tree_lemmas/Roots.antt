@@ -14,7 +14,7 @@ use Rattle.bb_cert.specs.declared.tree.walk.Count.{Count}
 use Rattle.bb_cert.specs.tree.Tree.{halting_node, rules_to, EndsNowhere}
 use Rattle.bb_cert.specs.inside.Walk.{AreInOrder, AreRules, IsBranch, IsRange, IsRule, IsWalked, branch_node}
 use Rattle.bb_cert.specs.inside.Steps.{Explores, HasTable, IsWithin, WalksAll, states_of}
-use Rattle.bb_cert.proofs.tree_lemmas.Comb.{walk_begins, walk_ends}
+use Rattle.bb_cert.proofs.tree_lemmas.Walked.{walk_begins, walk_ends}
 use Rattle.bb_cert.proofs.tree_lemmas.Orders.{alike_mapped, walk_rearranged}
 use Rattle.bb_cert.proofs.tree_lemmas.Shown.{blank_nonzero, halting_shown, named_at, no_rule, slice_none}
 use Rattle.bb_cert.proofs.tree_lemmas.Shown.{slice_step}
@@ -127,9 +127,7 @@ start_within order e = let n = order.count in omega (arith, n, e)
 pub state_within : {list : List Rule} {starts : Dir → List ℕ} {state : ℕ} → HasTable list starts
     → (first : Dir) → state < states_of starts → state + 1 < length (starts first)
 state_within known first h =
-    let n = (known.1.in_order L).count in
-    let m = (known.1.in_order first).count in
-    omega (arith, n, m, h)
+    omega (arith, (known.1.in_order L).count, (known.1.in_order first).count, h)
 
 pub below_next : {state long : ℕ} → state + 1 < long → state < long
 below_next h = omega (arith, h)

@@ -9,8 +9,7 @@ use Rattle.bb_machine.specs.declared.entry.Entry.TheVariants.{Undefined}
 use Rattle.bb_machine.specs.Machine.{Table, entry_of}
 use Rattle.bb_cert.specs.declared.tree.rules.Rule.{Rule}
 use Rattle.bb_cert.specs.tree.Tree.{OneOf, rules_in, rules_from, goes_to, is_same, rules_to}
-use Rattle.bb_cert.proofs.tree_lemmas.OneOf.{one-append_left, one-append_right, one-append_cases, one-filter}
-use Rattle.bb_cert.proofs.tree_lemmas.OneOf.{one-in_filter}
+use Rattle.bb_cert.proofs.tree_lemmas.OneOf.{one-append, one-filter}
 
 pub is_same-true : (a b : Next) → is_same a b ≡ true → a ≡ b
 is_same-true (State p) (State q) e = ap State (eqb-true p q e)
@@ -65,7 +64,7 @@ one-in_groups : (P : Rule → Type 0) (state : ℕ) (groups : Table) → OneOf P
     → InGroups P state groups
 one-in_groups P state [] one = absurd one
 one-in_groups P state (group ∷ groups) one =
-    elim (one-append_cases P (rules_in state 0 group) (rules_from (state + 1) groups) one) [
+    elim ((one-append P (rules_in state 0 group) (rules_from (state + 1) groups)).0 one) [
       | inl here ↦
           let found = one-in_group P state 0 group here in
           let e : state + zero ≡ state = omega arith in
@@ -94,12 +93,12 @@ one-groups P state [] index symbol within p = absurd (omega (arith, within))
 one-groups P state (group ∷ groups) zero symbol within p =
     let e : state + zero ≡ state = omega arith in
     let n : 0 + symbol ≡ symbol = omega arith in
-    one-append_left P (rules_in state 0 group) (rules_from (state + 1) groups)
-    (one-group P state 0 group symbol within (rw n (rw e at p)))
+    (one-append P (rules_in state 0 group) (rules_from (state + 1) groups)).1
+    (inl (one-group P state 0 group symbol within (rw n (rw e at p))))
 one-groups P state (group ∷ groups) (suc index) symbol within p =
     let e : state + suc index ≡ (state + 1) + index = omega arith in
-    one-append_right P (rules_in state 0 group) (rules_from (state + 1) groups)
-    (one-groups P (state + 1) groups index symbol within (rw e at p))
+    (one-append P (rules_in state 0 group) (rules_from (state + 1) groups)).1
+    (inr (one-groups P (state + 1) groups index symbol within (rw e at p)))
 
 -- P holds of the rule of an entry in a table that leads to a state, or halts
 pub record InTable (P : Rule → Type 0) (table : Table) (next : Next) : Type 0 where
@@ -113,7 +112,7 @@ pub one-in_table : (P : Rule → Type 0) (table : Table) (next : Next) → OneOf
     → InTable P table next
 one-in_table P table next one =
     let found = one-in_groups (λ r. (is_same (goes_to r.entry) next ≡ true) × P r) 0 table
-    (one-in_filter P (λ r. is_same (goes_to r.entry) next) (rules_from 0 table) one) in
+    ((one-filter P (λ r. is_same (goes_to r.entry) next) (rules_from 0 table)).0 one) in
     let e : 0 + found.index ≡ found.index = omega arith in
     let entry = entry_of table found.index found.symbol in
     record {
@@ -129,6 +128,6 @@ pub one-table : (P : Rule → Type 0) (table : Table) (next : Next) → InTable 
 one-table P table next found =
     let e : 0 + found.state ≡ found.state = omega arith in
     let entry = entry_of table found.state found.symbol in
-    one-filter P (λ r. is_same (goes_to r.entry) next) (rules_from 0 table)
+    (one-filter P (λ r. is_same (goes_to r.entry) next) (rules_from 0 table)).1
     (one-groups (λ r. (is_same (goes_to r.entry) next ≡ true) × P r) 0 table found.state found.symbol
     found.within (is_same-itself (goes_to entry) next found.leads, rw e found.holds))

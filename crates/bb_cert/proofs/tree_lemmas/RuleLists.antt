@@ -1,5 +1,5 @@
 -- A table's rules, gathered row by row and ordered by where they lead.
-use Rattle.std.proofs.Common.{◌≡◌, ℕ, ◌+◌, ◌-◌, ◌<◌, ◌≤◌, Bool, true, false, cond, inl, inr, List, [], ◌∷◌}
+use Rattle.std.proofs.Common.{◌≡◌, ℕ, ◌+◌, ◌-◌, ◌<◌, ◌≤◌, false, cond, inl, inr, List, [], ◌∷◌}
 use Rattle.std.proofs.Common.{◌++◌, length, get_or, take, drop, refl, ap, sym, subst, ◌∙◌, append_assoc}
 use Rattle.std.proofs.Common.{append-nil, length-append, arith}
 use Rattle.std.specs.List.{filter, refill}
@@ -7,6 +7,7 @@ use Rattle.std.specs.List.Sorted.{IsPermutation}
 use Rattle.std.proofs.lemmas.Bool.{cases_Bool}
 use Rattle.std.proofs.lemmas.List.{drop_more, drop_all, drop_at, take_at, take_all}
 use Rattle.std.proofs.lemmas.List.Sorted.{length_permutation}
+use Rattle.std.proofs.lemmas.List.Elements.{filter-append}
 use Rattle.bb_machine.specs.declared.entry.Next.{Next}
 use Rattle.bb_machine.specs.declared.entry.Entry.{Entry}
 use Rattle.bb_machine.specs.declared.entry.Entry.TheVariants.{Undefined}
@@ -16,16 +17,6 @@ use Rattle.bb_cert.specs.tree.Tree.{goes_to, is_same, leads_to, rules_in, rules_
 use Rattle.bb_cert.specs.inside.Walk.{AddsRules}
 use Rattle.bb_cert.proofs.tree_lemmas.TreeEnds.{group_long}
 use Rattle.bb_cert.proofs.tree_lemmas.RuleEntries.{rule, is_same-true, is_same-itself}
-
-filter-append : (test : Rule → Bool) (xs ys : List Rule) → filter test (xs ++ ys)
-    ≡ filter test xs ++ filter test ys
-filter-append test [] ys = refl
-filter-append test (x ∷ xs) ys = by_case (test x) (filter test xs) (filter test (xs ++ ys))
-    (filter-append test xs ys) where
-      by_case : (b : Bool) (f g : List Rule) → g ≡ f ++ filter test ys → cond b (x ∷ g) g ≡ cond b
-          (x ∷ f) f ++ filter test ys
-      by_case true f g e = ap (λ l. x ∷ l) e
-      by_case false f g e = e
 
 pub differs : (a b : Next) → (a ≡ b → ⊥) → is_same a b ≡ false
 differs a b apart = elim (cases_Bool (is_same a b)) [
@@ -70,9 +61,7 @@ module _ (next : Next) (state symbol : ℕ) (group : List Entry) (within : symbo
       → length all ≤ most → length list < most
   row_room list all most leads e room =
       let n = ap length (row_keeps list all leads e) in
-      let a = length-append (list ++ (here ∷ [])) further in
-      let b = length-append list (here ∷ []) in
-      omega (arith, n, a, b, room)
+      omega (arith, n, length-append (list ++ (here ∷ [])) further, length-append list (here ∷ []), room)
 
   -- the entry as the code read it
   module _ (entry : Entry) (is : entry ≡ get_or group symbol Undefined) where
@@ -99,14 +88,12 @@ module _ (next : Next) (state symbol : ℕ) (group : List Entry) (within : symbo
 pub in_row : (table : Table) (state symbol symbols : ℕ) → IsMachine table → state < length table
     → symbols ≡ symbols_of table → symbol < symbols → symbol < length (get_or table state [])
 in_row table state symbol symbols machine in_states e less =
-    let long = group_long (length table) (symbols_of table) table machine.groups state in_states in
-    omega (arith, long, e, less)
+    omega (arith, group_long (length table) (symbols_of table) table machine.groups state in_states, e, less)
 
 pub past_row : (table : Table) (state symbol symbols : ℕ) → IsMachine table → state < length table
     → symbols ≡ symbols_of table → symbols ≤ symbol → length (get_or table state []) ≤ symbol
 past_row table state symbol symbols machine in_states e past =
-    let long = group_long (length table) (symbols_of table) table machine.groups state in_states in
-    omega (arith, long, e, past)
+    omega (arith, group_long (length table) (symbols_of table) table machine.groups state in_states, e, past)
 
 pub row_ends : (next : Next) (state symbol : ℕ) (group : List Entry) (list all : List Rule)
     → length group ≤ symbol → list ++ filter (leads_to next) (rules_in state symbol (drop symbol group))
@@ -150,8 +137,7 @@ module _ (next : Next) (state : ℕ) (table : Table) (within : state < length ta
       (rules_from state (drop state table)) ≡ olds ++ more → length olds + length more ≤ most
       → length list + length (filter (leads_to next) (rules_in state 0 (get_or table state []))) ≤ most
   rows_room list olds more most so_far room =
-      let n = length-append olds more in
-      table_room list (olds ++ more) most so_far (omega (arith, n, room))
+      table_room list (olds ++ more) most so_far (omega (arith, length-append olds more, room))
 
 -- the end of a list was put in order, in place
 module _ (olds rules list seen : List Rule) (from : ℕ) (is : list ≡ olds ++ rules) (same : seen ≡ list)
@@ -168,34 +154,30 @@ module _ (olds rules list seen : List Rule) (from : ℕ) (is : list ≡ olds ++ 
 
   sorted_are : IsPermutation rules sorted
   sorted_are =
-      let n = long in
       subst (λ l. IsPermutation l sorted)
       (ap (take (length seen - from)) rest_is
-      ∙ take_all (length seen - from) rules (omega (arith, n, at))) moved
+      ∙ take_all (length seen - from) rules (omega (arith, long, at))) moved
 
   abbrev written : List Rule
   written = take from seen ++ (sorted ++ drop (length seen - from) (drop from seen))
 
   written_is : written ≡ olds ++ sorted
   written_is =
-      let n = long in
       ap (λ l. take from l ++ (sorted ++ drop (length seen - from) (drop from seen))) seen_is
       ∙ ap (λ l. l ++ (sorted ++ drop (length seen - from) (drop from seen)))
       (take_at olds rules from (sym at))
       ∙ ap (λ l. olds ++ (sorted ++ l)) (ap (drop (length seen - from)) rest_is
-      ∙ drop_all (length seen - from) rules (omega (arith, n, at)))
+      ∙ drop_all (length seen - from) rules (omega (arith, long, at)))
       ∙ ap (λ l. olds ++ l) (append-nil sorted)
 
   pub put_in_order : AddsRules rules olds (refill (length list) list written)
   put_in_order =
-      let m = length-append olds sorted in
       let n = ap length is ∙ length-append olds rules in
-      let p = length_permutation rules sorted sorted_are in
       record {
         added = sorted;
         is = ap (refill (length list) list) written_is
             ∙ take_at (olds ++ sorted) (drop (length (olds ++ sorted)) list) (length list)
-            (omega (arith, m, n, p));
+            (omega (arith, length-append olds sorted, n, length_permutation rules sorted sorted_are));
         are = sorted_are;
       }
 

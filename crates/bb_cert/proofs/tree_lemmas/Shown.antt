@@ -1,12 +1,13 @@
 -- What a tape shows of a node, and what changes where a branch is entered and left.
 use Rattle.std.proofs.Common.{◌≡◌, ◌≢◌, ℕ, zero, suc, ◌+◌, ◌-◌, ◌<◌, ◌≤◌, min, true, false, inl, inr, Option}
 use Rattle.std.proofs.Common.{Some, None, List, [], ◌∷◌, ◌++◌, length, get_or, take, drop, slice_range, ℤ}
-use Rattle.std.proofs.Common.{pos, neg_ℤ, ◌+ℤ◌, ◌≤ℤ◌, refl, ap, sym, subst, ◌∙◌, arith}
+use Rattle.std.proofs.Common.{◌⊎◌, pos, neg_ℤ, ◌+ℤ◌, ◌≤ℤ◌, refl, ap, sym, subst, ◌∙◌, arith}
 use Rattle.std.proofs.Math.Path.{fun_ext}
 use Rattle.std.specs.List.{AllByRecursion, flat_map}
 use Rattle.std.proofs.lemmas.Bool.{cases_eq, eq-eqb, ne_eqb, cond-true, cond-false}
 use Rattle.std.proofs.lemmas.List.{drop_more}
 use Rattle.std.proofs.lemmas.Int.{ints}
+use Rattle.std.proofs.lemmas.List.Elements.{All-from_recursion, All-get_or}
 use Rattle.bb_machine.specs.declared.entry.Dir.{Dir}
 use Rattle.bb_machine.specs.declared.entry.Dir.TheVariants.{L, R}
 use Rattle.bb_machine.specs.declared.entry.Next.{Next}
@@ -73,13 +74,14 @@ may_be-shown : (held write : ℕ) → (held ≡ 0 → ⊥) → (held ≡ write +
 may_be-shown zero write known other = absurd (known refl)
 may_be-shown (suc held) write known other = ne_eqb held write (λ e. other (omega (arith, e)))
 
-may_be-unknown : (held write : ℕ) → held ≡ 0 → may_be (shown_symbol held) write ≡ true
-may_be-unknown zero write e = refl
-may_be-unknown (suc held) write e = absurd (omega (arith, e))
+may_be-fits : (held write : ℕ) → (held ≡ 0) ⊎ (held ≡ write + 1) → may_be (shown_symbol held) write ≡ true
+may_be-fits zero write fits = refl
+may_be-fits (suc held) write (inl none) = absurd (omega (arith, none))
+may_be-fits (suc held) write (inr same) = eq-eqb held write (omega (arith, same))
 
-may_be-written : (held write : ℕ) → held ≡ write + 1 → may_be (shown_symbol held) write ≡ true
-may_be-written zero write e = absurd (omega (arith, e))
-may_be-written (suc held) write e = eq-eqb held write (omega (arith, e))
+-- the node that a rule leads from, its head at p
+abbrev from_rule : Content → ℤ → Rule → Node
+from_rule content p rule = shown_node (with_cell content p (rule.symbol + 1)) p rule.state
 
 -- a rule that doesn't fit, and one that does
 
@@ -96,23 +98,14 @@ module _ (content : Content) (position : ℤ) (state : ℕ) (rule : Rule) (write
       let no = ap (λ h. may_be (shown_symbol h) write) (sym shows) ∙ may_be-shown held write known other in
       ap (before_by_entry (shown_node content position state) rule.state rule.symbol) is ∙ cond-false _ _ _ no
 
-  fit_before : may_be (shown_symbol (cell content (position +ℤ left_cell dir))) write ≡ true → before_by
-      (shown_node content position state) rule ≡ shown_node (with_cell content (position +ℤ left_cell dir)
-      (rule.symbol + 1)) (position +ℤ left_cell dir) rule.state ∷ []
-  fit_before fit =
+  pub fit_before : (held : ℕ) → held ≡ cell content (position +ℤ left_cell dir)
+      → (held ≡ 0) ⊎ (held ≡ write + 1)
+      → before_by (shown_node content position state) rule ≡ from_rule content
+      (position +ℤ left_cell dir) rule ∷ []
+  fit_before held shows fits =
       ap (before_by_entry (shown_node content position state) rule.state rule.symbol) is
-      ∙ cond-true _ _ _ fit
+      ∙ cond-true _ _ _ (may_be-fits _ write (subst (λ h. (h ≡ 0) ⊎ (h ≡ write + 1)) shows fits))
       ∙ ap (λ known. node rule.state known ∷ []) (known_seen content position (left_cell dir) rule.symbol)
-
-  pub unknown_before : (held : ℕ) → held ≡ cell content (position +ℤ left_cell dir) → held ≡ 0 → before_by
-      (shown_node content position state) rule ≡ shown_node (with_cell content (position +ℤ left_cell dir)
-      (rule.symbol + 1)) (position +ℤ left_cell dir) rule.state ∷ []
-  unknown_before held shows e = fit_before (may_be-unknown _ write (sym shows ∙ e))
-
-  pub written_before : (held : ℕ) → held ≡ cell content (position +ℤ left_cell dir) → held ≡ write + 1
-      → before_by (shown_node content position state) rule ≡ shown_node (with_cell content
-      (position +ℤ left_cell dir) (rule.symbol + 1)) (position +ℤ left_cell dir) rule.state ∷ []
-  written_before held shows e = fit_before (may_be-written _ write (sym shows ∙ e))
 
 -- one rule of a range
 
@@ -165,9 +158,8 @@ undefined_else (Go write dir next) other = absurd (other write dir next refl)
 
 pub named_at : (states : ℕ) (list : List Rule) → AllByRecursion (IsRule states) list → (index : ℕ)
     (d : Rule) → index < length list → IsRule states (get_or list index d)
-named_at states [] all index d h = absurd (omega (arith, h))
-named_at states (r ∷ list) all zero d h = all.0
-named_at states (r ∷ list) all (suc index) d h = named_at states list all.1 index d (omega (arith, h))
+named_at states list all index d h =
+    All-get_or (IsRule states) list index d h (All-from_recursion (IsRule states) list all)
 
 -- a rule is tried, which stands in the list that the code reads
 module _ {list seen : List Rule} (same : seen ≡ list) (content : Content) (f : Frame) {index : ℕ}
@@ -196,16 +188,14 @@ module _ {list seen : List Rule} (same : seen ≡ list) (content : Content) (f :
         (ap (before_by (shown_node content f.position f.state)) there
         ∙ unfit_before content f.position f.state tried write dir next entry held shows_left known other)
 
-    branch_here : before_by (shown_node content f.position f.state) tried ≡ shown_node (with_cell content
-        (f.position +ℤ left_cell dir) (tried.symbol + 1)) (f.position +ℤ left_cell dir) tried.state ∷ []
-        → branches list content f ≡ shown_node (with_cell content p
-        (tried.symbol + 1)) p tried.state ∷ branches list content (record f { next = index + 1 })
-    branch_here one =
-        let here = subst (λ q. before_by (shown_node content f.position f.state) tried ≡ shown_node
-        (with_cell content q (tried.symbol + 1)) q tried.state ∷ []) (sym at) one in
-        so_far ∙ branches_first list content (record f { next = index }) d less within (shown_node
-        (with_cell content p (tried.symbol + 1)) p tried.state)
-        (ap (before_by (shown_node content f.position f.state)) there ∙ here)
+    branch_here : (held ≡ 0) ⊎ (held ≡ write + 1)
+        → branches list content f ≡ from_rule content p tried ∷ branches list content
+        (record f { next = index + 1 })
+    branch_here fits = so_far ∙ branches_first list content (record f { next = index }) d less within
+        (from_rule content p tried)
+        (ap (before_by (shown_node content f.position f.state)) there
+        ∙ fit_before content f.position f.state tried write dir next entry held shows_left fits
+        ∙ ap (λ q. from_rule content q tried ∷ []) (sym at))
 
     abbrev found : Branch
     found = record {
@@ -225,11 +215,9 @@ module _ {list seen : List Rule} (same : seen ≡ list) (content : Content) (f :
     near_high = elim dir as (λ dir. p ≡ f.position +ℤ left_cell dir → p ≤ℤ
         (f.position +ℤ pos 1)) [ L ↦ λ e. omega (arith, ints, e) | R ↦ λ e. omega (arith, ints, e) ] at
 
-    first_by : (states : ℕ) → AllByRecursion (IsRule states) list → before_by
-        (shown_node content f.position f.state) tried ≡ shown_node (with_cell content
-        (f.position +ℤ left_cell dir) (tried.symbol + 1))
-        (f.position +ℤ left_cell dir) tried.state ∷ [] → IsFirstBranch list states content f found (index + 1)
-    first_by states named one =
+    pub first_fitting : {states : ℕ} → AllByRecursion (IsRule states) list → (held ≡ 0) ⊎ (held ≡ write + 1)
+        → IsFirstBranch list states content f found (index + 1)
+    first_fitting {states} named fits =
         let is : IsRule states tried = subst (IsRule states) there (named_at states list named index d
         (omega (arith, less, within))) in
         record {
@@ -241,18 +229,8 @@ module _ {list seen : List Rule} (same : seen ≡ list) (content : Content) (f :
           nonzero_known = refl;
           further = omega (arith, from);
           within = omega (arith, less);
-          first = branch_here one;
+          first = branch_here fits;
         }
-
-    pub first_unknown : {states : ℕ} → AllByRecursion (IsRule states) list → held ≡ 0
-        → IsFirstBranch list states content f found (index + 1)
-    first_unknown {states} named e = first_by states named
-        (unknown_before content f.position f.state tried write dir next entry held shows_left e)
-
-    pub first_written : {states : ℕ} → AllByRecursion (IsRule states) list → held ≡ write + 1
-        → IsFirstBranch list states content f found (index + 1)
-    first_written {states} named e = first_by states named
-        (written_before content f.position f.state tried write dir next entry held shows_left e)
 
 pub branches_none : (list : List Rule) (content : Content) (f : Frame) → f.end ≤ f.next
     → branches list content f ≡ []
@@ -284,11 +262,9 @@ written_nonzero content p symbol nonzero more has sum = record {
       cell-with_cell-other has.one_less p symbol q apart ∙ has.each q
       ∙ ap (λ c. c - 1) (sym (cell-with_cell-other content p (symbol + 1) q apart)));
   counted =
-      let law = score-with_cell has.one_less p symbol in
       let here = has.each p in
-      let old = has.counted in
       let same : min 1 (cell has.one_less p) ≡ min 1 (cell content p - 1) = ap (min 1) here in
-      omega (arith, law, same, old, sum);
+      omega (arith, score-with_cell has.one_less p symbol, same, has.counted, sum);
 }
 
 -- a cell that is known to be other than 0 is counted
@@ -296,11 +272,9 @@ pub some_nonzero : (content : Content) (p : ℤ) (nonzero : ℕ) → HasNonzero 
     → 1 < cell content p → 0 < nonzero
 some_nonzero content p nonzero has more = elim (cases_eq nonzero 0) [
   | inl none ↦
-      let law = score-with_cell has.one_less p 0 in
       let here = has.each p in
-      let old = has.counted in
       let same : min 1 (cell has.one_less p) ≡ min 1 (cell content p - 1) = ap (min 1) here in
-      absurd (omega (arith, law, same, old, none, more))
+      absurd (omega (arith, score-with_cell has.one_less p 0, same, has.counted, none, more))
   | inr some ↦ omega (arith, some)
 ]
 
@@ -308,8 +282,7 @@ no_nonzero : (content : Content) (p : ℤ) → HasNonzero content 0 → cell con
 no_nonzero content p has = elim (cases_eq (min 1 (cell content p - 1)) 0) [
   | inl e ↦ omega (arith, e)
   | inr some ↦
-      let wrong = some_nonzero content p 0 has (omega (arith, some)) in
-      absurd (omega (arith, wrong))
+      absurd (omega (arith, some_nonzero content p 0 has (omega (arith, some))))
 ]
 
 -- where the start matches

@@ -1,13 +1,15 @@
 -- A table's rules, all of them, ordered by where they lead.
-use Rattle.std.proofs.Common.{◌≡◌, ℕ, zero, suc, ◌+◌, ◌-◌, ◌*◌, ◌<◌, ◌≤◌, Bool, true, false, cond, inl, inr}
+use Rattle.std.proofs.Common.{◌≡◌, ℕ, suc, ◌+◌, ◌-◌, ◌*◌, ◌<◌, ◌≤◌, Bool, true, false, cond, inl, inr}
 use Rattle.std.proofs.Common.{List, [], ◌∷◌, ◌++◌, length, get_or, take, drop, slice_range, refl}
 use Rattle.std.proofs.Common.{ap, sym, subst, ◌∙◌, append_assoc, append-nil, length-append, arith}
+use Rattle.std.specs.Prelude.{nat_lt}
 use Rattle.std.proofs.Math.Nat.{mul-le-mul_left}
 use Rattle.std.specs.List.{AllByRecursion, filter}
 use Rattle.std.specs.List.Sorted.{IsPermutation}
 use Rattle.std.proofs.lemmas.Bool.{cases_eq}
-use Rattle.std.proofs.lemmas.List.{drop_at, drop-append-le, take-append-le, take_all, length-drop}
-use Rattle.std.proofs.lemmas.List.Elements.{All-from_recursion, recursion_from_All}
+use Rattle.std.proofs.lemmas.List.{drop_at, drop-append-le, get_or_append_left, get_or_push, take-append-le}
+use Rattle.std.proofs.lemmas.List.{take_all, length-drop}
+use Rattle.std.proofs.lemmas.List.Elements.{All-filter, All-from_recursion, recursion_from_All}
 use Rattle.std.proofs.lemmas.List.Sorted.{All-permutation, length_permutation}
 use Rattle.bb_machine.specs.declared.machine.TheConstants.{MAX_STATES, MAX_SYMBOLS}
 use Rattle.bb_machine.specs.declared.entry.Dir.TheVariants.{L, R}
@@ -17,17 +19,20 @@ use Rattle.bb_machine.specs.declared.entry.Entry.{Entry}
 use Rattle.bb_machine.specs.declared.entry.Entry.TheVariants.{Undefined, Go}
 use Rattle.bb_machine.specs.Entry.{IsEntryOf}
 use Rattle.bb_machine.specs.Machine.{Table, IsGroup, IsMachine, symbols_of}
+use Rattle.bb_machine.proofs.Facts.{every-append}
 use Rattle.bb_cert.specs.declared.tree.rules.Rule.{Rule}
 use Rattle.bb_cert.specs.declared.tree.rules.Rules.{Rules}
-use Rattle.bb_cert.specs.tree.Tree.{goes_to, leads_to, rules_in, rules_from, rules_to}
+use Rattle.bb_cert.specs.tree.Tree.{goes_to, is_same, leads_to, rules_in, rules_from, rules_to}
 use Rattle.bb_cert.specs.inside.Walk.{AddsAll, AddsRules, AreInOrder, AreRules, IsRange, IsRule, starts_of}
-use Rattle.bb_cert.proofs.tree_lemmas.RuleEntries.{is_same-itself}
-use Rattle.bb_cert.proofs.tree_lemmas.RuleLists.{differs}
 
 -- how many lead to the first n states
+abbrev among : ℕ → Next → ℕ
+among n (State q) = cond (nat_lt q n) 1 0
+among n Halt = 0
+
 abbrev leading : ℕ → List Rule → ℕ
-leading zero rules = 0
-leading (suc n) rules = leading n rules + length (filter (leads_to (State n)) rules)
+leading n [] = 0
+leading n (r ∷ rules) = among n (goes_to r.entry) + leading n rules
 
 filter_one : (next : Next) (r : Rule) (rules : List Rule) (b : Bool) → leads_to next r ≡ b
     → length (filter (leads_to next) (r ∷ rules)) ≡ cond b 1 0 + length (filter (leads_to next) rules)
@@ -38,73 +43,35 @@ filter_one next r rules false e =
     ap (λ b. length (cond b (r ∷ filter (leads_to next) rules) (filter (leads_to next) rules))) e
     ∙ omega arith
 
-leads_there : (next : Next) (r : Rule) (rules : List Rule) → goes_to r.entry ≡ next
-    → length (filter (leads_to next) (r ∷ rules)) ≡ suc (length (filter (leads_to next) rules))
-leads_there next r rules e = filter_one next r rules true (is_same-itself (goes_to r.entry) next e)
-    ∙ omega arith
+leading_none : (rules : List Rule) → leading 0 rules ≡ 0
+leading_none [] = refl
+leading_none (r ∷ rules) = let past = leading_none rules in let none = none_first (goes_to r.entry) in
+    omega (arith, past, none) where
+      none_first : (to : Next) → among 0 to ≡ 0
+      none_first (State q) = grind arith
+      none_first Halt = refl
 
-leads_elsewhere : (next : Next) (r : Rule) (rules : List Rule) → (goes_to r.entry ≡ next → ⊥)
-    → length (filter (leads_to next) (r ∷ rules)) ≡ length (filter (leads_to next) rules)
-leads_elsewhere next r rules apart = filter_one next r rules false (differs (goes_to r.entry) next apart)
-    ∙ omega arith
+-- of one state more
+leading_next : (n : ℕ) (rules : List Rule)
+    → leading (suc n) rules ≡ leading n rules + length (filter (leads_to (State n)) rules)
+leading_next n [] = refl
+leading_next n (r ∷ rules) =
+    let here = filter_one (State n) r rules _ refl in
+    omega (arith, leading_next n rules, here, one_more (goes_to r.entry)) where
+      one_more : (to : Next) → among (suc n) to ≡ among n to + cond (is_same to (State n)) 1 0
+      one_more (State q) = grind arith
+      one_more Halt = refl
 
 -- one rule leads to one place at most
-halts_only : (n : ℕ) (r : Rule) (rules : List Rule) → goes_to r.entry ≡ Halt
-    → leading n (r ∷ rules) ≡ leading n rules
-halts_only zero r rules e = refl
-halts_only (suc n) r rules e =
-    let past = halts_only n r rules e in
-    let here = leads_elsewhere (State n) r rules (λ other. let wrong : Halt ≡ State n = sym e
-    ∙ other in cc) in
-    omega (arith, past, here)
-
-not_yet : (n q : ℕ) (r : Rule) (rules : List Rule) → goes_to r.entry ≡ State q → n ≤ q
-    → leading n (r ∷ rules) ≡ leading n rules
-not_yet zero q r rules e h = refl
-not_yet (suc n) q r rules e h =
-    let past = not_yet n q r rules e (omega (arith, h)) in
-    let here = leads_elsewhere (State n) r rules (λ other. let same : State q ≡ State n = sym e
-    ∙ other in let wrong : q ≡ n = cc in omega (arith, wrong, h)) in
-    omega (arith, past, here)
-
-leads_once : (n q : ℕ) (r : Rule) (rules : List Rule) → goes_to r.entry ≡ State q
-    → leading n (r ∷ rules) ≤ suc (leading n rules)
-leads_once zero q r rules e = omega arith
-leads_once (suc n) q r rules e = elim (cases_eq q n) [
-  | inl same ↦
-      let past = not_yet n q r rules e (omega (arith, same)) in
-      let here = leads_there (State n) r rules (e ∙ ap State same) in
-      omega (arith, past, here)
-  | inr apart ↦
-      let past = leads_once n q r rules e in
-      let here = leads_elsewhere (State n) r rules (λ other. let same : State q ≡ State n = sym e
-      ∙ other in let wrong : q ≡ n = cc in apart wrong) in
-      omega (arith, past, here)
-]
-
-one_more_rule : (n : ℕ) (r : Rule) (rules : List Rule) (next : Next) → goes_to r.entry ≡ next
-    → leading n (r ∷ rules) + length (filter (leads_to Halt) (r ∷ rules)) ≤ suc
-    (leading n rules + length (filter (leads_to Halt) rules))
-one_more_rule n r rules Halt e =
-    let a = halts_only n r rules e in
-    let b = leads_there Halt r rules e in
-    omega (arith, a, b)
-one_more_rule n r rules (State q) e =
-    let a = leads_once n q r rules e in
-    let b = leads_elsewhere Halt r rules (λ other. let wrong : State q ≡ Halt = sym e ∙ other in cc) in
-    omega (arith, a, b)
-
-leading_none : (n : ℕ) → leading n [] ≡ 0
-leading_none zero = refl
-leading_none (suc n) = let e = leading_none n in omega (arith, e)
-
 no_more_rules : (n : ℕ) (rules : List Rule)
     → leading n rules + length (filter (leads_to Halt) rules) ≤ length rules
-no_more_rules n [] = let e = leading_none n in omega (arith, e)
+no_more_rules n [] = omega arith
 no_more_rules n (r ∷ rules) =
-    let past = no_more_rules n rules in
-    let here = one_more_rule n r rules (goes_to r.entry) refl in
-    omega (arith, past, here)
+    let here = filter_one Halt r rules _ refl in
+    omega (arith, no_more_rules n rules, here, at_most_one (goes_to r.entry)) where
+      at_most_one : (to : Next) → among n to + cond (is_same to Halt) 1 0 ≤ 1
+      at_most_one (State q) = grind arith
+      at_most_one Halt = omega arith
 
 row_long : (state symbol : ℕ) (group : List Entry) → length (rules_in state symbol group) ≡ length group
 row_long state symbol [] = refl
@@ -117,8 +84,7 @@ table_long states symbols state (group ∷ groups) all =
     let past = table_long states symbols (state + 1) groups all.1 in
     let row = row_long state 0 group in
     let full = (all.0).full in
-    let a = length-append (rules_in state 0 group) (rules_from (state + 1) groups) in
-    omega (arith, past, row, full, a)
+    omega (arith, past, row, full, length-append (rules_in state 0 group) (rules_from (state + 1) groups))
 
 small_product : (a b : ℕ) → a ≤ MAX_STATES → b ≤ MAX_SYMBOLS → a * b ≤ MAX_STATES * MAX_SYMBOLS
 small_product a b h k = omega (arith, h, mul-le-mul_left a k)
@@ -128,43 +94,27 @@ all_fit : (table : Table) → IsMachine table → (n : ℕ)
 all_fit table machine n =
     let a = no_more_rules n (rules_from 0 table) in
     let c = table_long (length table) (symbols_of table) 0 table machine.groups in
-    let d = small_product (length table) (symbols_of table) machine.states machine.symbols in
-    omega (arith, a, c, d)
-
--- what stands at a place of a list that has more after it
-get_front : (xs ys : List ℕ) (i : ℕ) → i < length xs → get_or (xs ++ ys) i 0 ≡ get_or xs i 0
-get_front [] ys i h = absurd (omega (arith, h))
-get_front (x ∷ xs) ys zero h = refl
-get_front (x ∷ xs) ys (suc i) h = get_front xs ys i (omega (arith, h))
-
-get_last : (xs : List ℕ) (y i : ℕ) → i ≡ length xs → get_or (xs ++ (y ∷ [])) i 0 ≡ y
-get_last [] y zero e = refl
-get_last [] y (suc i) e = absurd (omega (arith, e))
-get_last (x ∷ xs) y zero e = absurd (omega (arith, e))
-get_last (x ∷ xs) y (suc i) e = get_last xs y i (omega (arith, e))
+    omega (arith, a, c, small_product (length table) (symbols_of table) machine.states machine.symbols)
 
 -- a stretch of a list that has more after it
 slice_front : (xs ys : List Rule) (from to : ℕ) → from ≤ to → to ≤ length xs
     → slice_range (xs ++ ys) from to ≡ slice_range xs from to
 slice_front xs ys from to order within =
-    let long = length-drop from xs in
     ap (take (to - from)) (drop-append-le from xs ys (omega (arith, order, within)))
-    ∙ take-append-le (to - from) (drop from xs) ys (omega (arith, order, within, long))
+    ∙ take-append-le (to - from) (drop from xs) ys (omega (arith, order, within, length-drop from xs))
 
 slice_end : (xs ys : List Rule) (to : ℕ) → to ≡ length (xs ++ ys) → slice_range (xs ++ ys) (length xs) to ≡ ys
 slice_end xs ys to e =
-    let long = length-append xs ys in
     ap (take (to - length xs)) (drop_at xs ys (length xs) refl)
-    ∙ take_all (to - length xs) ys (omega (arith, long, e))
+    ∙ take_all (to - length xs) ys (omega (arith, length-append xs ys, e))
 
 range_kept : (table : Table) (list more : List Rule) (from to : ℕ) (next : Next)
     → IsRange table list from to next → IsRange table (list ++ more) from to next
 range_kept table list more from to next range =
-    let long = length-append list more in
     let within = range.within in
     record {
       in_order = range.in_order;
-      within = omega (arith, within, long);
+      within = omega (arith, within, length-append list more);
       are = subst (IsPermutation (rules_to table next))
           (sym (slice_front list more from to range.in_order range.within)) range.are;
     }
@@ -191,19 +141,6 @@ more_symbols states symbols Undefined h of_table = tt
 more_symbols states symbols (Go write dir next) h of_table =
     (let w = of_table.0 in omega (arith, w, h), of_table.1)
 
-all_append : (P : Rule → Type 0) (xs ys : List Rule) → AllByRecursion P xs → AllByRecursion P ys
-    → AllByRecursion P (xs ++ ys)
-all_append P [] ys a b = b
-all_append P (x ∷ xs) ys a b = (a.0, all_append P xs ys a.1 b)
-
-all_filter : (P : Rule → Type 0) (test : Rule → Bool) (xs : List Rule) → AllByRecursion P xs
-    → AllByRecursion P (filter test xs)
-all_filter P test [] all = tt
-all_filter P test (x ∷ xs) all = by_case (test x) (filter test xs) (all_filter P test xs all.1) where
-  by_case : (b : Bool) (ys : List Rule) → AllByRecursion P ys → AllByRecursion P (cond b (x ∷ ys) ys)
-  by_case true ys more = (all.0, more)
-  by_case false ys more = more
-
 row_named : (states symbols state symbol : ℕ) (group : List Entry) → state < states → symbols ≤ MAX_SYMBOLS
     → symbol + length group ≤ symbols → AllByRecursion (IsEntryOf states symbols) group
     → AllByRecursion (IsRule states) (rules_in state symbol group)
@@ -223,7 +160,7 @@ rules_named : (states symbols state : ℕ) (table : Table) → state + length ta
 rules_named states symbols state [] long few all = tt
 rules_named states symbols state (group ∷ groups) long few all =
     let full = (all.0).full in
-    all_append (IsRule states) (rules_in state 0 group) (rules_from (state + 1) groups)
+    every-append (IsRule states) (rules_in state 0 group) (rules_from (state + 1) groups)
     (row_named states symbols state 0 group (omega (arith, long)) few (omega (arith, full)) (all.0).entries)
     (rules_named states symbols (state + 1) groups (omega (arith, long)) few all.1)
 
@@ -233,7 +170,7 @@ added_named : (table : Table) (next : Next) (list then_list : List Rule) → IsM
 added_named table next list then_list machine adds =
     let is_rule = IsRule (length table) in
     recursion_from_All is_rule adds.added (All-permutation is_rule (rules_to table next) adds.added adds.are
-    (All-from_recursion is_rule (rules_to table next) (all_filter is_rule (leads_to next) (rules_from 0 table)
+    (All-filter (leads_to next) is_rule (rules_from 0 table) (All-from_recursion is_rule (rules_from 0 table)
     (rules_named (length table) (symbols_of table) 0 table (omega arith) machine.symbols machine.groups))))
 
 -- the rules that lead to the first n states were appended, and where those of each begin was put down
@@ -250,7 +187,7 @@ pub gathering_begins : (table : Table) (list : List Rule) → AreGathered table 
 gathering_begins table list = record {
   added = [];
   is = sym (append-nil list);
-  size = refl;
+  size = sym (leading_none (rules_from 0 table));
   named = tt;
   long = omega arith;
   last = refl;
@@ -261,50 +198,37 @@ module _ {table : Table} (machine : IsMachine table) {before list : List Rule} {
     (now : AreGathered table before list starts n) where
   list_long : length list ≡ length before + leading n (rules_from 0 table)
   list_long =
-      let e = ap length now.is in
-      let a = length-append before now.added in
-      let size = now.size in
-      omega (arith, e, a, size)
+      omega (arith, ap length now.is, length-append before now.added, now.size)
 
   pub room_for_state : (most : ℕ) → length before + MAX_STATES * MAX_SYMBOLS ≤ most
       → length list + length (rules_to table (State n)) ≤ most
   room_for_state most room =
-      let a = all_fit table machine (suc n) in
-      let e = list_long in
-      omega (arith, a, e, room)
+      omega (arith, all_fit table machine (suc n), list_long, leading_next n (rules_from 0 table), room)
 
   pub room_for_halt : (most : ℕ) → length before + MAX_STATES * MAX_SYMBOLS ≤ most
       → length list + length (rules_to table Halt) ≤ most
   room_for_halt most room =
-      let a = all_fit table machine n in
-      let e = list_long in
-      omega (arith, a, e, room)
+      omega (arith, all_fit table machine n, list_long, room)
 
   pub room_for_start : {states : ℕ} → n ≤ states → states ≡ length table → length starts < MAX_STATES + 2
   room_for_start h all =
-      let long = now.long in
-      let most = machine.states in
-      omega (arith, long, most, h, all)
+      omega (arith, now.long, machine.states, h, all)
 
   module _ (next : Next) {then_list : List Rule} {then_starts : List ℕ}
       (adds : AddsRules (rules_to table next) list then_list)
       (put_down : then_starts ≡ starts ++ (length then_list ∷ [])) where
     then_long : length then_starts ≡ n + 2
     then_long =
-        let e = ap length put_down in
-        let a = length-append starts (length then_list ∷ []) in
-        let long = now.long in
-        omega (arith, e, a, long)
+        omega (arith, ap length put_down, length-append starts (length then_list ∷ []), now.long)
 
     start_kept : (q : ℕ) → q ≤ n → get_or then_starts q 0 ≡ get_or starts q 0
     start_kept q h =
-        let long = now.long in
         ap (λ xs. get_or xs q 0) put_down
-        ∙ get_front starts (length then_list ∷ []) q (omega (arith, h, long))
+        ∙ get_or_append_left starts (length then_list ∷ []) 0 q (omega (arith, h, now.long))
 
     start_added : get_or then_starts (n + 1) 0 ≡ length then_list
     start_added = ap (λ xs. get_or xs (n + 1) 0) put_down
-        ∙ get_last starts (length then_list) (n + 1) (sym now.long)
+        ∙ get_or_push starts (length then_list) 0 (n + 1) now.long
 
     earlier_range : (q : ℕ) → q < n
         → IsRange table then_list (get_or then_starts q 0) (get_or then_starts (q + 1) 0) (State q)
@@ -321,16 +245,14 @@ module _ {table : Table} (machine : IsMachine table) {before list : List Rule} {
     then_is = adds.is ∙ ap (λ xs. xs ++ adds.added) now.is ∙ append_assoc before now.added adds.added
 
     then_named : AllByRecursion (IsRule (length table)) (now.added ++ adds.added)
-    then_named = all_append (IsRule (length table)) now.added adds.added now.named
+    then_named = every-append (IsRule (length table)) now.added adds.added now.named
         (added_named table next list then_list machine adds)
 
     then_size : length (now.added ++ adds.added)
         ≡ leading n (rules_from 0 table) + length (rules_to table next)
     then_size =
         let a = length-append now.added adds.added in
-        let b = length_permutation (rules_to table next) adds.added adds.are in
-        let size = now.size in
-        omega (arith, a, b, size)
+        omega (arith, a, length_permutation (rules_to table next) adds.added adds.are, now.size)
 
     pub gathering_goes_on : next ≡ State n → AreGathered table before then_list then_starts (n + 1)
     gathering_goes_on there =
@@ -338,11 +260,13 @@ module _ {table : Table} (machine : IsMachine table) {before list : List Rule} {
         let size = then_size in
         let same = ap (λ to. length (rules_to table to)) there in
         let last =
-        subst (IsRange table then_list (get_or then_starts n 0) (get_or then_starts (n + 1) 0)) there last_range in
+        subst (IsRange table then_list (get_or then_starts n 0) (get_or then_starts (n + 1) 0)) there
+        last_range in
         record {
           added = now.added ++ adds.added;
           is = then_is;
-          size = omega (arith, size, same) ∙ ap (λ k. leading k (rules_from 0 table)) (sym more);
+          size = omega (arith, size, same) ∙ sym (leading_next n (rules_from 0 table))
+              ∙ ap (λ k. leading k (rules_from 0 table)) (sym more);
           named = then_named;
           long = let long = then_long in omega (arith, long);
           last = start_added;
@@ -357,10 +281,8 @@ module _ {table : Table} (machine : IsMachine table) {before list : List Rule} {
       added = now.added ++ adds.added;
       is = then_is;
       few =
-          let size = then_size in
           let same = ap (λ to. length (rules_to table to)) there in
-          let fit = all_fit table machine n in
-          omega (arith, size, same, fit);
+          omega (arith, then_size, same, all_fit table machine n);
       named = then_named;
       in_order = record {
         count = let long = then_long in omega (arith, long, all);
@@ -384,7 +306,7 @@ module _ {table : Table} {left : List Rule} (rules : Rules)
     (once : AddsAll table [] left rules.left_first.items)
     (twice : AddsAll table left rules.list.items rules.right_first.items) where
   both_named : AllByRecursion (IsRule (length table)) rules.list.items
-  both_named = rw twice.is (all_append (IsRule (length table)) left twice.added (rw once.is once.named)
+  both_named = rw twice.is (every-append (IsRule (length table)) left twice.added (rw once.is once.named)
       twice.named)
 
   pub both_added : AreRules table rules.list.items (starts_of rules)

@@ -1,24 +1,23 @@
 -- Where the tree ends, and what follows where the start matches no node of it.
 use Rattle.std.proofs.Common.{◌≡◌, ℕ, zero, suc, ◌+◌, ◌-◌, ◌<◌, inl, inr, Some, None, List, [], ◌∷◌, length}
-use Rattle.std.proofs.Common.{get_or, map, ℤ, refl, ap, sym, subst, ◌∙◌, arith}
+use Rattle.std.proofs.Common.{get_or, map, refl, ap, sym, subst, ◌∙◌, arith}
 use Rattle.std.specs.List.{AllByRecursion, flat_map}
 use Rattle.std.proofs.lemmas.Bool.{cases_lt, cases_order}
 use Rattle.bb_machine.specs.declared.entry.Next.{Next}
 use Rattle.bb_machine.specs.declared.entry.Next.TheVariants.{State, Halt}
 use Rattle.bb_machine.specs.declared.entry.Entry.{Entry}
 use Rattle.bb_machine.specs.declared.entry.Entry.TheVariants.{Undefined, Go}
-use Rattle.bb_machine.specs.Entry.{IsEntryOf, IsNextOf}
-use Rattle.bb_machine.specs.Machine.{Table, IsGroup, IsMachine, entry_of, symbols_of}
-use Rattle.bb_tape.specs.Content.{Content, cell, with_cell}
-use Rattle.bb_tape.proofs.Facts.{cell-blank, cell-with_cell-same, cell-with_cell-other, by_position}
+use Rattle.bb_machine.specs.Entry.{IsNextOf}
+use Rattle.bb_machine.specs.Machine.{Table, IsGroup, IsMachine, symbols_of}
+use Rattle.bb_tape.specs.Content.{cell}
 use Rattle.bb_sim.specs.Configuration.{Configuration, start, followed, entry_at, next}
 use Rattle.bb_sim.specs.Run.{conf, HaltsAt}
-use Rattle.bb_sim.proofs.Facts.{led}
+use Rattle.bb_sim.proofs.Facts.{IsNamed, run_named, led}
 use Rattle.bb_cert.specs.tree.Tree.{Node, MatchesOne, goes_to, rules_to, halting_node, before, grown, level}
 use Rattle.bb_cert.specs.tree.Tree.{nodes_below, Ends, Clear, IsAtHaltingEntry}
 use Rattle.bb_cert.specs.claims.Laws.{EmptyLevelsStay, ClearTreesNeverHalt, TreeHasOneEnd}
 use Rattle.bb_cert.proofs.claim_lemmas.Runs.{moves}
-use Rattle.bb_cert.proofs.tree_lemmas.Levels.{matches_level, stands_in}
+use Rattle.bb_cert.proofs.tree_lemmas.Levels.{matches_level}
 
 stays_empty : (table : Table) (nodes : List Node) (i d : ℕ) → grown table nodes i ≡ []
     → grown table nodes (d + i) ≡ []
@@ -41,23 +40,6 @@ tree_has_one_end table h k i j a b =
     ] in
     (same, a.counted ∙ ap (nodes_below table) same ∙ sym b.counted)
 
--- a run names only states and symbols of its machine
-
-entry_named : (states symbols : ℕ) (group : List Entry) → AllByRecursion (IsEntryOf states symbols) group
-    → (symbol : ℕ) → IsEntryOf states symbols (get_or group symbol Undefined)
-entry_named states symbols [] all symbol = tt
-entry_named states symbols (entry ∷ entries) all zero = all.0
-entry_named states symbols (entry ∷ entries) all (suc symbol) = entry_named states symbols entries all.1
-    symbol
-
-table_named : (states symbols : ℕ) (table : Table) → AllByRecursion (IsGroup states symbols) table
-    → (state symbol : ℕ) → IsEntryOf states symbols (entry_of table state symbol)
-table_named states symbols [] all state symbol = tt
-table_named states symbols (group ∷ groups) all zero symbol =
-    entry_named states symbols group (all.0).entries symbol
-table_named states symbols (group ∷ groups) all (suc state) symbol =
-    table_named states symbols groups all.1 state symbol
-
 pub group_long : (states symbols : ℕ) (table : Table) → AllByRecursion (IsGroup states symbols) table
     → (state : ℕ) → state < length table → length (get_or table state []) ≡ symbols
 group_long states symbols [] all state h = absurd (omega (arith, h))
@@ -65,59 +47,53 @@ group_long states symbols (group ∷ groups) all zero h = (all.0).full
 group_long states symbols (group ∷ groups) all (suc state) h = group_long states symbols groups all.1 state
     (omega (arith, h))
 
-record IsNamed (table : Table) (c : Configuration) : Type 0 where
-  state : IsNextOf (length table) c.state
-  symbols : (p : ℤ) → cell c.tape p < symbols_of table
+-- a halt comes from a halting entry
 
-start_named : (table : Table) → IsMachine table → IsNamed table start
-start_named table machine = record {
-  state = machine.some_state;
-  symbols = λ p. let e = cell-blank p in let two = machine.two_symbols in omega arith;
+entry_halts : (entry : Entry) (c : Configuration) → followed entry c ≡ None → goes_to entry ≡ Halt
+entry_halts Undefined c e = refl
+entry_halts (Go write dir to) c e = absurd cc
+
+entry_into_halt : (entry : Entry) (c d : Configuration) → followed entry c ≡ Some d → d.state ≡ Halt
+    → goes_to entry ≡ Halt
+entry_into_halt Undefined c d e into = absurd cc
+entry_into_halt (Go write dir to) c d e into =
+    let same : led c write dir to ≡ d = cc in ap (λ (x : Configuration). x.state) same ∙ into
+
+-- a configuration in a state whose entry halts
+at_halting : (table : Table) (c : Configuration) → IsMachine table → IsNamed table c → (state : ℕ)
+    → c.state ≡ State state → goes_to (entry_at table c.state (cell c.tape c.head)) ≡ Halt
+    → IsAtHaltingEntry table c
+at_halting table c machine named state in_state halts = record {
+  state = state;
+  in_state = in_state;
+  in_table = omega (
+    arith,
+    group_long (length table) (symbols_of table) table machine.groups state
+        (subst (IsNextOf (length table)) in_state named.state),
+    named.symbols c.head,
+  );
+  halts = ap (λ s. goes_to (entry_at table s (cell c.tape c.head))) (sym in_state) ∙ halts;
 }
 
-written_named : (content : Content) (head p : ℤ) (write symbols : ℕ) → write < symbols
-    → cell content p < symbols → cell (with_cell content head write) p < symbols
-written_named content head p write symbols named all = by_position p head _
-    (λ e. let same : cell (with_cell content head write) p ≡ write = ap (cell (with_cell content head write))
-    e ∙ cell-with_cell-same content head write in omega (arith, same, named))
-    (λ apart. let same = cell-with_cell-other content head write p apart in omega (arith, same, all))
-
-entry_at_named : (table : Table) → IsMachine table → (state : Next) (symbol : ℕ)
-    → IsEntryOf (length table) (symbols_of table) (entry_at table state symbol)
-entry_at_named table machine (State state) symbol = table_named (length table) (symbols_of table) table
-    machine.groups state symbol
-entry_at_named table machine Halt symbol = tt
-
-followed_named : (table : Table) (c d : Configuration) (entry : Entry)
-    → IsEntryOf (length table) (symbols_of table) entry → IsNamed table c → followed entry c ≡ Some d
-    → IsNamed table d
-followed_named table c d Undefined of_table named e = absurd cc
-followed_named table c d (Go write dir to) of_table named e =
-    let same : led c write dir to ≡ d = cc in
-    subst (IsNamed table) same (record {
-      state = of_table.1;
-      symbols = λ p. written_named c.tape c.head p write (symbols_of table) of_table.0 (named.symbols p);
-    })
-
-next_named : (table : Table) (c d : Configuration) → IsMachine table → IsNamed table c
-    → next table c ≡ Some d → IsNamed table d
+-- before a step into Z the entry halts
+pub before_z : (table : Table) (c d : Configuration) → IsMachine table → IsNamed table c → next table c
+    ≡ Some d
+    → d.state ≡ Halt → (state : Next) → c.state ≡ state → IsAtHaltingEntry table c
 unfolding next
-next_named table c d machine named e = followed_named table c d (entry_at table c.state (cell c.tape c.head))
-    (entry_at_named table machine c.state (cell c.tape c.head)) named e
+before_z table c d machine named e into (State state) in_state =
+    at_halting table c machine named state in_state
+    (entry_into_halt (entry_at table c.state (cell c.tape c.head)) c d e into)
+before_z table c d machine named e into Halt in_state =
+    let none : followed (entry_at table c.state (cell c.tape c.head)) c ≡ None =
+    ap (λ s. followed (entry_at table s (cell c.tape c.head)) c) in_state in
+    absurd cc
 
-run_named : (table : Table) → IsMachine table → (n : ℕ) (c : Configuration) → conf table n ≡ Some c
-    → IsNamed table c
-unfolding conf
-run_named table machine zero c e =
-    let same : start ≡ c = cc in
-    subst (IsNamed table) same (start_named table machine)
-run_named table machine (suc n) c e =
-    let moved = moves table n (record { here = c; exists = e }) in
-    let same : moved.then_here ≡ c = cc (moved.at_then, e) in
-    next_named table moved.before c machine (run_named table machine n moved.before moved.at_before)
-    (moved.is_next ∙ ap Some same)
-
--- a halt comes from a halting entry
+pub at_end : (table : Table) (c : Configuration) → IsMachine table → IsNamed table c → next table c ≡ None
+    → (state : ℕ) → c.state ≡ State state → IsAtHaltingEntry table c
+unfolding next
+at_end table c machine named e state in_state =
+    at_halting table c machine named state in_state
+    (entry_halts (entry_at table c.state (cell c.tape c.head)) c e)
 
 record HasHaltingEntry (table : Table) : Type 0 where
   step : ℕ
@@ -125,79 +101,31 @@ record HasHaltingEntry (table : Table) : Type 0 where
   exists : conf table step ≡ Some here
   at_halt : IsAtHaltingEntry table here
 
-at_undefined : (table : Table) (state symbol : ℕ) → IsMachine table → state < length table
-    → symbol < symbols_of table → symbol < length (get_or table state [])
-at_undefined table state symbol machine in_states in_symbols =
-    let long = group_long (length table) (symbols_of table) table machine.groups state in_states in
-    omega (arith, long, in_symbols)
-
-no_next-entry : (entry : Entry) (c : Configuration) → followed entry c ≡ None → goes_to entry ≡ Halt
-no_next-entry Undefined c e = refl
-no_next-entry (Go write dir to) c e = absurd cc
-
-halt_in_state : (table : Table) (n : ℕ) (state : ℕ) → IsMachine table → (halts : HaltsAt table n)
-    → halts.last.state ≡ State state → HasHaltingEntry table
-unfolding next
-halt_in_state table n state machine halts in_state =
-    let c = halts.last in
-    let named = run_named table machine n c halts.exists in
-    let in_states : state < length table = subst (IsNextOf (length table)) in_state named.state in
-    record {
-      step = n;
-      here = c;
-      exists = halts.exists;
-      at_halt = record {
-        state = state;
-        in_state = in_state;
-        in_table = at_undefined table state (cell c.tape c.head) machine in_states (named.symbols c.head);
-        halts = no_next-entry (entry_of table state (cell c.tape c.head)) c
-            (ap (λ s. followed (entry_at table s (cell c.tape c.head)) c) (sym in_state) ∙ halts.no_next);
-      };
-    }
-
-entry_into_halt : (table : Table) (c d : Configuration) (state : Next) → c.state ≡ state → d.state ≡ Halt
-    → (entry : Entry) → entry_at table state (cell c.tape c.head) ≡ entry → followed entry c ≡ Some d
-    → IsAtHaltingEntry table c
-entry_into_halt table c d Halt at into entry e leads = let none : followed entry c ≡ None =
-    ap (λ x. followed x c) (sym e) in absurd cc
-entry_into_halt table c d (State state) at into Undefined e leads = absurd cc
-entry_into_halt table c d (State state) at into (Go write dir to) e leads =
-    let same : led c write dir to ≡ d = cc in
-    let halt : to ≡ Halt = ap (λ x. x.state) same ∙ into in
-    record {
-      state = state;
-      in_state = at;
-      in_table = stands_in table state (cell c.tape c.head) write dir to e;
-      halts = ap goes_to e ∙ halt;
-    }
-
-step_into_halt : (table : Table) (c d : Configuration) → next table c ≡ Some d → d.state ≡ Halt
-    → IsAtHaltingEntry table c
-unfolding next
-step_into_halt table c d e into = entry_into_halt table c d c.state refl into
-    (entry_at table c.state (cell c.tape c.head)) refl e
-
-halt_in_z : (table : Table) (n : ℕ) → (halts : HaltsAt table n) → halts.last.state ≡ Halt
-    → HasHaltingEntry table
+halting_entry : (table : Table) (n : ℕ) → IsMachine table → (halts : HaltsAt table n) → (state : Next)
+    → halts.last.state ≡ state → HasHaltingEntry table
 unfolding conf
-halt_in_z table zero halts in_z =
+halting_entry table n machine halts (State state) e = record {
+  step = n;
+  here = halts.last;
+  exists = halts.exists;
+  at_halt = at_end table halts.last machine (run_named table machine n halts.last halts.exists) halts.no_next
+      state e;
+}
+halting_entry table zero machine halts Halt e =
     let same : start ≡ halts.last = cc (halts.exists) in
-    let wrong : State 0 ≡ Halt = ap (λ c. c.state) same ∙ in_z in
+    let wrong : State 0 ≡ Halt = ap (λ c. c.state) same ∙ e in
     absurd cc
-halt_in_z table (suc n) halts in_z =
+halting_entry table (suc n) machine halts Halt e =
     let moved = moves table n (record { here = halts.last; exists = halts.exists }) in
     let same : moved.then_here ≡ halts.last = cc (moved.at_then, halts.exists) in
     record {
       step = n;
       here = moved.before;
       exists = moved.at_before;
-      at_halt = step_into_halt table moved.before halts.last (moved.is_next ∙ ap Some same) in_z;
+      at_halt = before_z table moved.before halts.last machine
+          (run_named table machine n moved.before moved.at_before) (moved.is_next ∙ ap Some same) e
+          moved.before.state refl;
     }
-
-halting_entry : (table : Table) (n : ℕ) → IsMachine table → (halts : HaltsAt table n) → (state : Next)
-    → halts.last.state ≡ state → HasHaltingEntry table
-halting_entry table n machine halts (State state) e = halt_in_state table n state machine halts e
-halting_entry table n machine halts Halt e = halt_in_z table n halts e
 
 no_match : (table : Table) (h k m : ℕ) → Ends table h k → Clear table h → MatchesOne (level table m) start → ⊥
 no_match table h k m ends clear one = elim (cases_lt m h) [

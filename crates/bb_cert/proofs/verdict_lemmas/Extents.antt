@@ -1,20 +1,17 @@
 -- Two records have one extent.
-use Rattle.std.proofs.Common.{◌≡◌, ℕ, ◌↔◌, Option, Some, None, ℤ, pos, ap, sym, subst, ◌∙◌, arith}
+use Rattle.std.proofs.Common.{◌≡◌, ℕ, ◌↔◌, Option, Some, None, ap, sym, subst, ◌∙◌}
 use Rattle.std.specs.Prelude.{IfSome}
-use Rattle.std.proofs.lemmas.Int.{ints}
 use Rattle.bb_machine.specs.Machine.{Table}
 use Rattle.bb_cert.specs.declared.verdict.Extent.{Extent}
 use Rattle.bb_cert.specs.declared.verdict.Side.{Side}
 use Rattle.bb_cert.specs.verdict.Extent.{IsExtent, SaysExtent, TellsExtent}
-
-one_number : (i j : ℕ) (p : ℤ) → pos i ≡ p → pos j ≡ p → i ≡ j
-one_number i j p a b = omega (arith, ints, a, b)
+use Rattle.bb_cert.proofs.record_lemmas.Positions.{one_number}
 
 pub extent_is_one : (table : Table) (side : Side) (a b : ℕ) (one other : Extent) → IsExtent table side a b one
     → IsExtent table side a b other → one ≡ other
 extent_is_one table side a b one other first second =
-    let shifts = one_number one.shift other.shift _ first.shift second.shift in
-    let lengths = one_number one.length other.length _ first.length second.length in
+    let shifts = one_number one.shift other.shift _ (sym first.shift) (sym second.shift) in
+    let lengths = one_number one.length other.length _ (sym first.length) (sym second.length) in
     ap (λ n. record one { shift = n }) shifts ∙ ap (λ n. record other { length = n }) lengths
 
 -- an extent that is told is right

@@ -80,8 +80,7 @@ length-line (Claim table verdict) bytes is =
     let same = ap length is.2 in
     omega arith
 length-line (Refusal column) bytes is =
-    let few = is.1 in
-    let digits = number column (omega (arith, few)) in
+    let digits = number column (omega (arith, is.1)) in
     let whole = length-append (codes "refused ") (decimal column) in
     let same = ap length is.2 in
     omega arith

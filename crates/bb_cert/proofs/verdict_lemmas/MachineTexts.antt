@@ -55,5 +55,4 @@ text_no_r ([] ∷ gs) rest more machine is = omega (arith, machine.two_symbols)
 text_no_r ((Undefined ∷ g) ∷ gs) rest more machine is = let first : ◌≡◌ {A = ℕ} 45 114 = cc in omega arith
 text_no_r ((Go write dir next ∷ g) ∷ gs) rest more machine is =
     let first : 48 + write ≡ 114 = cc in
-    let below = machine.groups.0.entries.0.0 in
-    omega (arith, machine.symbols, below)
+    omega (arith, machine.symbols, machine.groups.0.entries.0.0)

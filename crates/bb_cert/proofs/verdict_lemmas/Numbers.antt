@@ -24,13 +24,11 @@ decimal_utf8 n fits = IsUtf8-from_ascii (decimal n) (IsAscii-decimal n fits)
 pub decimal_no_space : (n : ℕ) → n < 2 ^ 64 → HasNoSpace (decimal n)
 decimal_no_space n fits =
     All-from_get_or (λ byte. byte ≢ 32) (decimal n) 0 (λ i inside.
-    let digit = digit_at (decimal n) i (digits_decimal model n fits) inside in
-    λ is. omega (arith, digit, is))
+    λ is. omega (arith, digit_at (decimal n) i (digits_decimal model n fits) inside, is))
 
 pub decimal_no_plus : (n : ℕ) → n < 2 ^ 64 → get_or (decimal n) 0 0 ≢ 43
 decimal_no_plus n fits is =
-    let digit = digit_at (decimal n) 0 (digits_decimal model n fits) (decimal_nonempty n fits) in
-    omega (arith, digit, is)
+    omega (arith, digit_at (decimal n) 0 (digits_decimal model n fits) (decimal_nonempty n fits), is)
 
 pub decimal_no_zero : (n : ℕ) → n < 2 ^ 64 → 1 < length (decimal n) → get_or (decimal n) 0 0 ≢ 48
 decimal_no_zero n fits long is =

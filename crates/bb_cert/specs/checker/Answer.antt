@@ -1,5 +1,5 @@
 -- What is answered to a verdict: this project's own. The rules know nothing of how a verdict was found.
-use Rattle.std.specs.Prelude.{◌≡◌, ℕ, ◌<◌, ◌≤◌, ◌⊎◌, List, codes}
+use Rattle.std.specs.Prelude.{◌≡◌, ℕ, ◌<◌, ◌≤◌, ◌⊎◌, Bool, true, false, List, codes}
 use Rattle.bb_machine.specs.Limits.{Bounds}
 use Rattle.bb_machine.specs.Machine.{Table}
 use Rattle.bb_sim.specs.Span.{span}
@@ -94,3 +94,10 @@ answer_text answer.Ok = codes "ok"
 answer_text answer.Bad = codes "bad"
 answer_text answer.Over = codes "over"
 answer_text answer.Open = codes "open"
+
+-- the answers that leave a run clean
+abbrev pub is_fine : Answer → Bool
+is_fine answer.Ok = true
+is_fine answer.Bad = false
+is_fine answer.Over = false
+is_fine answer.Open = true

@@ -1,6 +1,6 @@
 //! What is answered to a verdict line.
 ghost use Rattle.std.specs.Prelude.{◌≡◌};
-ghost use Rattle.bb_cert.specs.checker.Answer.{answer_text};
+ghost use Rattle.bb_cert.specs.checker.Answer.{answer_text, is_fine};
 
 /// What is answered to a verdict, by the first rule that applies.
 #[derive(Clone, Copy, Debug, PartialEq, Eq)]
@@ -25,6 +25,16 @@ impl Answer {
             Answer::Bad => b"bad",
             Answer::Over => b"over",
             Answer::Open => b"open",
+        }
+    }
+
+    /// Whether a run stays clean with this answer.
+    pub fn is_fine(self) -> bool
+        ensures { result ≡ is_fine self }
+    {
+        match self {
+            Answer::Ok | Answer::Open => true,
+            Answer::Bad | Answer::Over => false,
         }
     }
 }

@@ -13,13 +13,12 @@ ghost use Rattle.bb_cert.specs.tree.Path.{depth_of};
 
 use crate::checker::answer::Answer;
 use crate::checker::replay::{Course, begin, follow_to, run_to};
-use crate::claims::configurations::is_same;
 use crate::records::Records;
 use crate::tree::path::Path;
 use crate::tree::walk::walk;
 use crate::verdict::{Extent, Side, Verdict};
 use bb_machine::{Limits, Machine};
-use bb_sim::{Meter, Outcome, simulate};
+use bb_sim::{Meter, Outcome, is_same, simulate};
 use bb_tape::{Memory, Tape};
 
 /// The tapes with which a claim is checked. Each call resets what it uses.

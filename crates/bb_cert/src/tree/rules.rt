@@ -36,9 +36,9 @@ impl Default for Rule {
     }
 }
 
-/// The entries that lead to state A, then those that lead to B and so on, and last those that halt; and all of
-/// them once more. The first time, of those that lead to one state the ones that move to the left come first,
-/// the second time those that move to the right.
+/// The entries that lead to state A, then those that lead to B and so on, and last those that halt; and all
+/// of them once more. The first time, of those that lead to one state the ones that move to the left come
+/// first, the second time those that move to the right.
 #[derive(Drop)]
 pub(crate) struct Rules {
     pub(crate) list: ArrayVec<Rule, MAX_RULES>,
@@ -112,9 +112,9 @@ fn add_rules(machine: &Machine, next: Next, first: Dir, list: &mut ArrayVec<Rule
     list.as_mut_slice()[from..].sort_unstable_by_key(|rule| place_of(*rule, first));
 }
 
-/// By what the rules that lead to one state are ordered: those that move in a direction come first, among them
-/// those that stand for this state, then those that stand for greater symbols. No clause speaks of the order:
-/// what a walk answers doesn't depend on it, only how soon it meets a level that it may not enter.
+/// By what the rules that lead to one state are ordered: those that move in a direction come first, among
+/// them those that stand for this state, then those that stand for greater symbols. No clause speaks of the
+/// order: what a walk answers doesn't depend on it, only how soon it meets a level that it may not enter.
 fn place_of(rule: Rule, first: Dir) -> (bool, bool, Reverse<u8>, Reverse<u8>) {
     let (turns, changes) = match rule.entry {
         Entry::Undefined => (true, true),

@@ -1,7 +1,7 @@
 -- What the deciders that are on find, as the functions of this crate tell one another; no public contract
 -- cites it.
-use Rattle.std.specs.Prelude.{◌≡◌, ℕ, ◌+◌, ◌*◌, ◌≤◌, max, Bool, IfOk, IfSome, IsTrue, OnErr, Option, Some, None}
-use Rattle.std.specs.Prelude.{Result}
+use Rattle.std.specs.Prelude.{◌≡◌, ℕ, ◌+◌, ◌*◌, ◌≤◌, max, Bool, IfOk, IfSome, IsTrue, OnErr, Option, Some}
+use Rattle.std.specs.Prelude.{None, Result}
 use Rattle.bb_machine.specs.Limits.{Bounds}
 use Rattle.bb_machine.specs.Machine.{Table}
 use Rattle.bb_tape.specs.declared.tape.Memory.{Memory}
@@ -17,7 +17,7 @@ use Rattle.bb_machine.specs.declared.plan.Plan.{Plan}
 use Rattle.bb_decide.specs.Cycle.{IsFirstCycle}
 use Rattle.bb_decide.specs.Translation.{IsFirstTranslation}
 use Rattle.bb_decide.specs.Verdict.{PassesAll, PassesCycles, PassesTranslations}
-use Rattle.bb_decide.specs.Work.{CountsWalk, CycleSteps, StepsIfMade, TranslationSteps}
+use Rattle.bb_decide.specs.Cost.{CountsWalk, CycleSteps, StepsIfMade, TranslationSteps}
 
 -- what each search promises of its result: what it finds is claimed rightly and has numbers that fit a line,
 -- and it fails only for memory, on tapes that may grow

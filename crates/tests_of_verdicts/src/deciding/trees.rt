@@ -3,8 +3,8 @@ ghost use Rattle.std.specs.Prelude.{◌≡◌};
 ghost use Rattle.bb_cert.specs.tree.Path.{depth_of};
 ghost use Rattle.bb_decide.specs.Bench.{BenchHasCells};
 
-use super::{bench_on_maps, bench_on_rings};
-use bb_cert::{Verdict, Why};
+use super::{bench_on_maps, bench_on_rings, read_claim};
+use bb_cert::Verdict;
 use bb_decide::{Bench, Plan, backward, decide};
 use bb_machine::{LimitFault, Limits, Machine};
 use bb_sim::Meter;
@@ -12,9 +12,9 @@ use bb_tape::{Memory, Tape};
 use std::process::Abort;
 use std::test::Fail;
 
-/// A machine; the limits of steps, cells, levels and nodes; its verdict by all deciders; the steps that it
-/// costs, and how many nodes are entered at most.
-type Row = (&'static [u8], [u64; 4], Verdict, u64, u64);
+/// The line of a machine and its verdict by all deciders; the limits of steps, cells, levels and nodes; the
+/// steps that it costs, and how many nodes are entered at most.
+type Row = (&'static [u8], [u64; 4], u64, u64);
 
 const ALL: Plan = Plan {
     cyclers: true,
@@ -23,84 +23,15 @@ const ALL: Plan = Plan {
 };
 
 static ROWS: [Row; 9] = [
-    (
-        b"0RB---_0LA---",
-        [3, 64, 10, 100],
-        Verdict::Backward {
-            levels: 2,
-            nodes: 4,
-        },
-        9,
-        4,
-    ),
-    (
-        b"0LB---_0RA---",
-        [3, 64, 10, 100],
-        Verdict::Backward {
-            levels: 2,
-            nodes: 4,
-        },
-        9,
-        4,
-    ),
-    (
-        b"0RB---_0LA---",
-        [3, 3, 2, 4],
-        Verdict::Backward {
-            levels: 2,
-            nodes: 4,
-        },
-        9,
-        4,
-    ),
-    (
-        b"0RB---_0LA---",
-        [3, 64, 1, 100],
-        Verdict::Undecided(Why::Steps),
-        9,
-        2,
-    ),
-    (
-        b"0RB---_0LA---",
-        [3, 64, 2, 3],
-        Verdict::Undecided(Why::Steps),
-        9,
-        3,
-    ),
-    (
-        b"1RA1RA",
-        [1, 64, 0, 0],
-        Verdict::Backward {
-            levels: 0,
-            nodes: 0,
-        },
-        3,
-        0,
-    ),
-    (
-        b"1RB0RB_1LA1LA",
-        [7, 64, 10, 0],
-        Verdict::Backward {
-            levels: 0,
-            nodes: 0,
-        },
-        21,
-        0,
-    ),
-    (
-        b"1RB---_1LA---",
-        [1, 64, 10, 100],
-        Verdict::Undecided(Why::Steps),
-        3,
-        6,
-    ),
-    (
-        b"1RZ---",
-        [0, 64, 10, 100],
-        Verdict::Undecided(Why::Steps),
-        0,
-        1,
-    ),
+    (b"0RB---_0LA--- backward 2 4", [3, 64, 10, 100], 9, 4),
+    (b"0LB---_0RA--- backward 2 4", [3, 64, 10, 100], 9, 4),
+    (b"0RB---_0LA--- backward 2 4", [3, 3, 2, 4], 9, 4),
+    (b"0RB---_0LA--- undecided steps", [3, 64, 1, 100], 9, 2),
+    (b"0RB---_0LA--- undecided steps", [3, 64, 2, 3], 9, 3),
+    (b"1RA1RA backward 0 0", [1, 64, 0, 0], 3, 0),
+    (b"1RB0RB_1LA1LA backward 0 0", [7, 64, 10, 0], 21, 0),
+    (b"1RB---_1LA--- undecided steps", [1, 64, 10, 100], 3, 6),
+    (b"1RZ--- undecided steps", [0, 64, 10, 100], 0, 1),
 ];
 
 /// Reasons backward, with a meter that others have counted in.
@@ -125,27 +56,24 @@ fn found<T: Tape>(
 }
 
 /// Holds what backward reasoning finds against a row. What others counted stays, and the nodes begin anew.
-fn is_found(rt: &impl Abort, row: &Row, found: Option<Verdict>, meter: &Meter) {
-    let (_, _, verdict, _, most_nodes) = row;
-    let expected = match verdict {
-        Verdict::Backward { .. } => Some(*verdict),
-        _ => None,
-    };
-    assert_eq!(rt; found, expected);
+fn is_found(rt: &impl Abort, row: &Row, verdict: Verdict, found: Option<Verdict>, meter: &Meter) {
+    let (line, _, _, most_nodes) = row;
+    let is_tree = matches!(verdict, Verdict::Backward { .. });
+    assert_eq!(rt; found, is_tree.then_some(verdict), "{line:?}");
     assert_eq!(rt; meter.steps, 7);
     assert_eq!(rt; meter.most_cells, 5);
-    assert!(rt; meter.nodes <= *most_nodes);
+    assert!(rt; meter.nodes <= *most_nodes, "{line:?}");
 }
 
 /// Holds the verdict of all deciders, with all it counts, against a row.
-fn is_decided(rt: &impl Abort, row: &Row, decided: Verdict, meter: &Meter) {
-    let (_, _, verdict, steps, most_nodes) = row;
-    assert_eq!(rt; decided, *verdict);
-    assert_eq!(rt; meter.steps, *steps);
-    assert!(rt; meter.nodes <= *most_nodes);
-    if let Verdict::Backward { levels, nodes } = *verdict {
-        assert_eq!(rt; meter.nodes, nodes);
-        assert_eq!(rt; meter.most_levels, levels);
+fn is_decided(rt: &impl Abort, row: &Row, verdict: Verdict, decided: Verdict, meter: &Meter) {
+    let (line, _, steps, most_nodes) = row;
+    assert_eq!(rt; decided, verdict, "{line:?}");
+    assert_eq!(rt; meter.steps, *steps, "{line:?}");
+    assert!(rt; meter.nodes <= *most_nodes, "{line:?}");
+    if let Verdict::Backward { levels, nodes } = verdict {
+        assert_eq!(rt; meter.nodes, nodes, "{line:?}");
+        assert_eq!(rt; meter.most_levels, levels, "{line:?}");
     }
 }
 
@@ -159,12 +87,12 @@ fn is_reasoned<T: Tape>(
     requires tapes { BenchHasCells T.view limits.now.cells bench.old }
     requires path { depth_of bench.old.path ≡ limits.now.depth }
 {
-    let machine = Machine::read(row.0)?;
+    let (machine, verdict) = read_claim(rt, row.0);
     let mut meter = Meter::new();
     let found = found(bench, limits, &machine, &mut meter)?;
-    is_found(rt, row, found, &meter);
+    is_found(rt, row, verdict, found, &meter);
     let decided = decide(&machine, limits, ALL, bench, &mut meter)?;
-    is_decided(rt, row, decided, &meter);
+    is_decided(rt, row, verdict, decided, &meter);
     Ok(())
 }
 

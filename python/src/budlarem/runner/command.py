@@ -14,7 +14,6 @@ from types import FrameType
 from typing import List, Optional
 
 from ..limits import Limits
-from .cluster import ClusterPlace
 from .cutting import MOST_LINES
 from .errors import CheckError, FolderError, RunError
 from .folder import VERDICTS, Folder, limits_of
@@ -98,6 +97,9 @@ def _workplace(asked: argparse.Namespace, progress: Progress) -> Workplace:
             raise ValueError("--threads is for this computer, --scheduler for others; give one of them")
         for name, path in files.items():
             _hold_readable(name, path)
+        # Its imports take a while.
+        from .cluster import ClusterPlace
+
         security = {_SECURITY[name]: path for name, path in files.items()}
         return ClusterPlace(asked.scheduler, security, progress.tell)
     if files:

@@ -74,8 +74,9 @@ class Cutter:
             if record is not None and record.first != first:
                 record = None
             count, size, is_begun = self._room_of(record, index, first)
+            before = lines.taken_lines
             given = lines.take(count, size)
-            found = given.count(b"\n")
+            found = lines.taken_lines - before
             if (record is not None and not record.fits(given)) or (is_begun and found != count):
                 raise self._differs(first, count, found)
             self._hold_length(first, found)

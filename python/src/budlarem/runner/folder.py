@@ -2,13 +2,15 @@
 
 from __future__ import annotations
 
+import collections
 import contextlib
 import dataclasses
 import fcntl
 import json
 import os
 import re
-from typing import Any, Dict, Iterator, List, Optional, Sequence, Tuple
+from concurrent.futures import Future, ThreadPoolExecutor
+from typing import Any, Deque, Dict, Iterator, List, Optional, Sequence, Tuple
 
 from ..limits import Limits
 from .errors import FolderError, RunError
@@ -18,6 +20,8 @@ from .tasks import Identity
 FORMAT = 1
 PART = ".part"
 LOCK, RUN, VERDICTS, SUMMARY = "lock", "run.json", "verdicts.txt", "summary.json"
+# How many threads read pieces ahead, and hold each against its hash.
+_READERS = 3
 _OURS = re.compile("lock|run.json|verdicts.txt|summary.json|pass-[0-9]+|.*[.]part")
 
 
@@ -181,11 +185,21 @@ class PassFolder:
     def pieces_written(self) -> Iterator[Tuple[int, bytes]]:
         """Each piece of the whole pass, with how many lines came before it, as the journal has it. Raises
         RunError where one isn't so."""
-        for index in range(self.pieces):
-            record, verdicts = self.journal.read(index), self.read(index)
-            if record is None or verdicts is None or not record.has(verdicts):
-                raise RunError(
-                    "%s isn't what the journal says: it was cut or changed;"
-                    " run again, and it is decided again" % self._at(index)
-                )
-            yield record.first, verdicts
+        ahead: Deque[Future[Tuple[int, bytes]]] = collections.deque()
+        with ThreadPoolExecutor(_READERS, "budlarem read") as readers:
+            for index in range(self.pieces):
+                ahead.append(readers.submit(self._piece_written, index))
+                if len(ahead) > _READERS:
+                    yield ahead.popleft().result()
+            while ahead:
+                yield ahead.popleft().result()
+
+    def _piece_written(self, index: int) -> Tuple[int, bytes]:
+        """A piece, with how many lines came before it. Raises RunError where it isn't as the journal says."""
+        record, verdicts = self.journal.read(index), self.read(index)
+        if record is None or verdicts is None or not record.has(verdicts):
+            raise RunError(
+                "%s isn't what the journal says: it was cut or changed;"
+                " run again, and it is decided again" % self._at(index)
+            )
+        return record.first, verdicts

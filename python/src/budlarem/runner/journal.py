@@ -37,9 +37,11 @@ class Record:
     is_checked: bool
 
     @classmethod
-    def of(cls, first: int, given: bytes, written: bytes, seconds: float, is_checked: bool) -> Record:
-        """The record of a piece that was decided."""
-        lines, hashes = given.count(b"\n"), (hash_of(given), hash_of(written))
+    def of(
+        cls, first: int, lines: int, given: bytes, written: bytes, seconds: float, is_checked: bool
+    ) -> Record:
+        """The record of a piece of so many lines that was decided."""
+        hashes = (hash_of(given), hash_of(written))
         milliseconds = min(int(seconds * 1_000), 10**12 - 1)
         return cls(first, lines, (len(given), hashes[0]), (len(written), hashes[1]), milliseconds, is_checked)
 
@@ -58,16 +60,19 @@ class Journal:
     def __init__(self, path: str, key: str) -> None:
         self._number = os.open(path, os.O_RDWR | os.O_CREAT | os.O_CLOEXEC, 0o666)
         self._key = key
+        self._length = os.fstat(self._number).st_size // WIDTH
 
     def close(self) -> None:
         os.close(self._number)
 
     def length(self) -> int:
         """How many pieces it may have lines of."""
-        return os.fstat(self._number).st_size // WIDTH
+        return self._length
 
     def read(self, index: int) -> Optional[Record]:
         """The record of a piece; None where there is none that stands."""
+        if index >= self._length:
+            return None
         line = os.pread(self._number, WIDTH, index * WIDTH).decode("ascii", "replace")
         words = line.split()
         if len(words) != 9 or line != self._sealed(index, line[: -_SEAL - 1]):
@@ -90,6 +95,7 @@ class Journal:
         while line:
             count = os.pwrite(self._number, line, place)
             line, place = line[count:], place + count
+        self._length = max(self._length, index + 1)
 
     def settle(self) -> None:
         """Returns when what was put is on the disk."""

@@ -11,7 +11,7 @@ import re
 from typing import Dict, List, Tuple
 
 from .._library import Room
-from ..engine import checking, deciding
+from ..engine import Call, checking, deciding
 from ..limits import Limits, Plan
 from .errors import ReplyError
 from .tasks import Identity
@@ -20,27 +20,33 @@ from .tasks import Identity
 _LOWEST = Limits(steps=0, cells=1, depth=0, nodes=0)
 _DECIDE = deciding(_LOWEST, Plan(cyclers=False, translated=False, backward=False))
 _CHECK = checking(_LOWEST)
-# A word of each kind's lines.
+
+# What each kind's lines have once, and no other line has.
 KINDS = {
-    "halt": b" halt ",
-    "cycler": b" cycler ",
-    "translated": b" translated ",
-    "backward": b" backward ",
-    "undecided steps": b" undecided steps\n",
-    "undecided cells": b" undecided cells\n",
-    "refused": b"refused ",
+    "halt": b"halt",
+    "cycler": b"cycler",
+    "translated": b"translated",
+    "backward": b"backward",
+    "undecided steps": b"undecided steps",
+    "undecided cells": b"undecided cells",
+    "refused": b"refused",
 }
 Counts = Dict[str, int]
-_BEHIND_MACHINE = re.compile(b" [^\\n]*")
+_BEHIND_MACHINE = re.compile(b" .*")
 
 
-def counts_of(verdicts: bytes) -> Counts:
-    """How many lines there are of each kind, among lines that were looked at."""
-    left = verdicts.count(b"\n")
+def _replies(call: Call, lines: bytes) -> bytes:
+    room = Room()
+    call(room, lines)
+    return room.reply().text
+
+
+def counts_of(verdicts: bytes, lines: int) -> Counts:
+    """How many there are of each kind, among so many verdict lines and refusals."""
     counts = {}
     for kind, word in KINDS.items():
-        counts[kind] = verdicts.count(word) if left else 0
-        left -= counts[kind]
+        counts[kind] = verdicts.count(word) if lines else 0
+        lines -= counts[kind]
     return counts
 
 
@@ -59,13 +65,13 @@ def _split(lines: bytes, count: int, what: str) -> List[bytes]:
     return parts
 
 
-def look_at_verdicts(given: bytes, verdicts: bytes) -> Counts:
-    """Looks at the verdict lines of a piece; counts their kinds. Raises ReplyError."""
-    counts = counts_of(verdicts)
+def look_at_verdicts(given: bytes, verdicts: bytes, lines: int) -> Counts:
+    """Looks at the verdict lines of a piece of so many lines; counts their kinds. Raises ReplyError."""
+    counts = counts_of(verdicts, lines)
     if b" " in given or counts["refused"] or _BEHIND_MACHINE.sub(b"", verdicts) != given:
         machines = given.split(b"\n")[:-1]
         _look_at_refusals(machines, _split(verdicts, len(machines), "verdict lines"))
-    answers = _CHECK(Room(), verdicts)
+    answers = _replies(_CHECK, verdicts)
     if b"unread" in answers or b"bad" in answers:
         answered = answers.split(b"\n")
         wrong = next(place for place, answer in enumerate(answered) if answer in (b"unread", b"bad"))
@@ -81,7 +87,7 @@ def _look_at_refusals(machines: List[bytes], replies: List[bytes]) -> None:
         for place, (machine, reply) in enumerate(zip(machines, replies))
         if b" " in machine or reply.startswith(b"refused ") or not reply.startswith(machine + b" ")
     ]
-    own = _DECIDE(Room(), b"".join(machines[place] + b"\n" for place in odd)).split(b"\n")
+    own = _replies(_DECIDE, b"".join(machines[place] + b"\n" for place in odd)).split(b"\n")
     for place, line in zip(odd, own):
         if replies[place] != line or not line.startswith(b"refused "):
             text = "%s came back for the line %s" % (shown(replies[place]), shown(machines[place]))

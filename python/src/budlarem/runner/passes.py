@@ -5,6 +5,7 @@ from __future__ import annotations
 import collections
 import dataclasses
 import queue
+import time
 from concurrent.futures import CancelledError, Future, ThreadPoolExecutor
 from typing import Any, Callable, Counter, Dict, Iterator, List, Optional
 
@@ -21,7 +22,9 @@ from .workplace import Workplace
 
 TRIES = 3
 # How many threads look at what comes back and write it, and how many pieces are with them at most.
-_LOOKERS, _MOST_LOOKED_AT = 2, 8
+_LOOKERS, _MOST_LOOKED_AT = 4, 8
+# How many pieces are put down as standing together at most, and after how many seconds fewer are.
+_TOGETHER, _SOON = 16, 0.1
 
 
 @dataclasses.dataclass
@@ -74,6 +77,9 @@ class PassRun:
         self._looked_at: Dict[Future[Any], Piece] = {}
         self._back: queue.SimpleQueue[Future[Any]] = queue.SimpleQueue()
         self._lookers = ThreadPoolExecutor(_LOOKERS, "budlarem look")
+        # Pieces that are written, and not yet put down as standing; since when there is one.
+        self._finished: List[Piece] = []
+        self._since = 0.0
         self._result = PassResult(limits)
         self._left_out: List[str] = []
 
@@ -81,7 +87,10 @@ class PassRun:
         """Decides the lines, but for the pieces that stand. Raises FolderError where they aren't those that
         the journal was written for, CheckError, RunError, OSError."""
         try:
-            self._decide(lines)
+            try:
+                self._decide(lines)
+            finally:
+                self._put_down()
         finally:
             self._lookers.shutdown()
         self._folder.pieces = self._result.pieces
@@ -124,7 +133,7 @@ class PassRun:
         try:
             if written is None or not record.has(written):
                 raise ReplyError("it was cut or changed")
-            piece.counts = look_at_verdicts(piece.given, written)
+            piece.counts = look_at_verdicts(piece.given, written, piece.lines)
         except ReplyError as error:
             where = "piece %d of pass %d" % (piece.index + 1, self._folder.number)
             self._manner.progress.tell("%s is decided again: %s" % (where, error))
@@ -147,20 +156,19 @@ class PassRun:
         future.add_done_callback(self._back.put)
 
     def _receive(self, seconds: float) -> None:
-        """Takes what came back, of which there may be nothing within so many seconds, and writes down what is
-        finished, also where some of it ends the run."""
-        finished: List[Piece] = []
-        try:
-            for future in self._returned(seconds):
-                piece = self._under_way.pop(future, None)
-                if piece is not None:
-                    self._look_later(piece, future)
-                    continue
-                piece = self._looked_at.pop(future, None)
-                if piece is not None and self._is_finished(piece, future):
-                    finished.append(piece)
-        finally:
-            self._write_down(finished)
+        """Takes what came back, of which there may be nothing within so many seconds, and puts down what is
+        finished, if that is much or since a while."""
+        for future in self._returned(min(seconds, _SOON) if self._finished else seconds):
+            piece = self._under_way.pop(future, None)
+            if piece is not None:
+                self._look_later(piece, future)
+                continue
+            piece = self._looked_at.pop(future, None)
+            if piece is not None and self._is_finished(piece, future):
+                self._since = self._since if self._finished else time.monotonic()
+                self._finished.append(piece)
+        if len(self._finished) >= _TOGETHER or time.monotonic() - self._since > _SOON:
+            self._put_down()
         self._manner.place.tend()
         self._manner.progress.tick(self._manner.place.status())
 
@@ -194,7 +202,7 @@ class PassRun:
         CheckError, OSError."""
         written, seconds = opened(reply, self._manner.identity)
         if piece.written is None:
-            piece.counts = look_at_verdicts(piece.given, written)
+            piece.counts = look_at_verdicts(piece.given, written, piece.lines)
             piece.written, piece.seconds = written, seconds
         else:
             self._look_at_check(piece, piece.written, written)
@@ -202,7 +210,9 @@ class PassRun:
             return
         if piece.record is None:
             self._folder.write(piece.index, piece.written)
-        piece.record = Record.of(piece.first, piece.given, piece.written, piece.seconds, piece.is_confirmed)
+        piece.record = Record.of(
+            piece.first, piece.lines, piece.given, piece.written, piece.seconds, piece.is_confirmed
+        )
 
     def _look_at_check(self, piece: Piece, verdicts: bytes, answers: bytes) -> None:
         """Looks at the checker's answers. Raises ReplyError, CheckError."""
@@ -253,8 +263,9 @@ class PassRun:
         self._left_out.append("pass %d, line %d: %s: %s" % (self._folder.number, number, error, shown(line)))
         self._manner.progress.tell(self._left_out[-1])
 
-    def _write_down(self, pieces: List[Piece]) -> None:
-        """Puts the names of pieces onto the disk, and then that they stand."""
+    def _put_down(self) -> None:
+        """Puts the names of finished pieces onto the disk, and then that they stand."""
+        pieces, self._finished = self._finished, []
         if not pieces:
             return
         self._folder.settle()

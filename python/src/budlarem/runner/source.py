@@ -7,7 +7,7 @@ import io
 import os
 import stat
 import zlib
-from typing import Iterator, Optional
+from typing import Iterator, Optional, Tuple
 
 from .._batches import LONG
 from .errors import RunError
@@ -32,48 +32,54 @@ class Lines:
     def take(self, lines: int, size: int) -> bytes:
         """The next lines: so many at most, of so many bytes together, but one at least; no bytes at the
         end."""
-        while not self._ended:
-            end = _end_of(self._held, self._begin, lines)
-            if end is not None or len(self._held) - self._begin >= size:
-                break
+        end, left = _end_of(self._held, self._begin, lines)
+        while end is None and not self._ended and len(self._held) - self._begin < size:
             batch = next(self._batches, None)
             if batch is None:
                 self._ended = True
             else:
+                seen = len(self._held) - self._begin
                 self._held, self._begin = self._held[self._begin :] + batch, 0
-        return self._cut(_end_of(self._held, self._begin, lines), size)
+                end, left = _end_of(self._held, seen, left)
+        return self._cut(end, lines, size)
 
-    def _cut(self, end: Optional[int], size: int) -> bytes:
+    def _cut(self, end: Optional[int], lines: int, size: int) -> bytes:
+        """The next lines, of so many bytes together at most where these are more than one; as many as were
+        asked for end at `end`, where there are so many."""
         begin = self._begin
+        is_whole = end is not None and end - begin <= size
         end = len(self._held) if end is None else end
         if end - begin > size:
             last = self._held.rfind(b"\n", begin, begin + size) + 1
             end = last if last > begin else self._held.find(b"\n", begin) + 1
         self._begin = end
         cut = self._held[begin:end]
-        self.taken, self.taken_lines = self.taken + len(cut), self.taken_lines + cut.count(b"\n")
+        self.taken, self.taken_lines = self.taken + len(cut), self.taken_lines + (
+            lines if is_whole else cut.count(b"\n")
+        )
         return cut
 
 
-def _end_of(held: bytes, begin: int, lines: int) -> Optional[int]:
-    """Where so many lines end; None where there aren't so many. It goes on by jumps, as long as the lines
-    before were, which end before the last of the lines; as many bytes as there are lines left can't pass
-    that."""
+def _end_of(held: bytes, begin: int, lines: int) -> Tuple[Optional[int], int]:
+    """Where so many lines end; None where there aren't so many, and then how many are left to be found behind.
+    It goes on by jumps, as long as the lines before were, which end before the last of the lines; as many
+    bytes as there are lines left can't pass that."""
     jump = lines
     while lines > _FEW:
         if begin >= len(held):
-            return None
+            return None, lines
         found = held.count(b"\n", begin, begin + jump)
         if found >= lines and jump > lines:
             jump = max(jump // 2, lines)
             continue
         begin, lines = begin + jump, lines - found
         jump = max(jump * lines // (found + 1) * 15 // 16, lines)
-    for _ in range(lines):
-        begin = held.find(b"\n", begin) + 1
-        if begin == 0:
-            return None
-    return begin if begin <= len(held) else None
+    while lines > 0:
+        end = held.find(b"\n", begin) + 1
+        if end == 0:
+            return None, lines
+        begin, lines = end, lines - 1
+    return (begin, 0) if begin <= len(held) else (None, 0)
 
 
 def _whole_lines(blocks: Iterator[bytes]) -> Iterator[bytes]:

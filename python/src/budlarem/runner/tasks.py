@@ -15,7 +15,7 @@ from typing import Callable, Tuple
 
 from .._library import Room, loaded
 from .._version import COMMIT, VERSION
-from ..engine import checking, deciding
+from ..engine import Call, checking, deciding
 from ..limits import Limits, Plan
 
 Numbers = Tuple[int, int, int, int]
@@ -57,10 +57,10 @@ def _room() -> Room:
     return room
 
 
-def _replied(call: Callable[[Room, bytes], bytes], lines: bytes) -> Reply:
-    began = time.monotonic()
-    written = call(_room(), lines)
-    ours = identity()
+def _replied(call: Call, lines: bytes) -> Reply:
+    began, room = time.monotonic(), _room()
+    call(room, lines)
+    written, ours = room.reply().text, identity()
     return written, time.monotonic() - began, ours.version, ours.commit, ours.library
 
 

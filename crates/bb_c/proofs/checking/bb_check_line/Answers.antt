@@ -1,14 +1,6 @@
-use Rattle.std.proofs.Common.{rules, refl, inl, inr, ℕ, List, ◌∙◌}
-use Rattle.bb_machine.specs.Limits.{Bounds}
-use Rattle.bb_machine.specs.Machine.{Table}
-use Rattle.bb_cert.specs.checker.Answer.{answer_text, IsAnswer}
-use Rattle.bb_cert.specs.declared.checker.answer.Answer.{Answer}
-use Rattle.bb_cert.specs.declared.checker.answer.Answer.TheVariants.{Open}
-use Rattle.bb_cert.specs.verdict.Line.{IsLineOf}
-use Rattle.bb_cert.specs.declared.verdict.reader.Line.TheVariants.{Claim, Refusal}
-use Rattle.bb_cert.specs.declared.verdict.Verdict.{Verdict}
-use Rattle.bb_run.specs.CheckReply.{IsCheckReply, unread_text}
-use Rattle.bb_run.proofs.Facts.{fine_by_word, fine_reply, unread_is_apart}
+use Rattle.std.proofs.Common.{rules, refl, inr, ◌∙◌}
+use Rattle.bb_run.specs.CheckReply.{unread_text}
+use Rattle.bb_run.proofs.Facts.{answered, fine_by_word, fine_reply, opened, unread_is_apart}
 use Rattle.bb_c.proofs.Given.{filled_by, too_short_by}
 use Rattle.bb_c.proofs.checking.bb_check_line.Goals as goal
 
@@ -16,19 +8,6 @@ pub returns-in-None-clause-not_fine : goal.returns-in-None-clause-not_fine
 returns-in-None-clause-not_fine c = λ is fine.
     let unread = inr (inr (record { no_line = c.in-None.ensures.none; is_reply = refl })) in
     unread_is_apart (fine_reply _ c.args.line.now unread_text unread fine)
-
--- a claim's line gets the word of its answer
-answered : (bounds : Bounds) (line : List ℕ) (table : Table) (verdict : Verdict) (given : Answer)
-    → IsLineOf (Claim table verdict) line → IsAnswer table bounds verdict given
-    → IsCheckReply bounds line (answer_text given)
-answered bounds line table verdict given of is_answer = inl (record {
-  table = table;
-  verdict = verdict;
-  of = of;
-  given = given;
-  is_answer = is_answer;
-  is_reply = refl;
-})
 
 pub returns-in-Ok-answer-clause-reply : goal.returns-in-Ok-answer-clause-reply
 returns-in-Ok-answer-clause-reply c = λ is.
@@ -49,13 +28,8 @@ returns-in-Ok-answer-clause-not_fine c = λ is fine.
     let of = rw c.in-Some-Claim.field-0-is at c.in-Some-Claim.ensures.found in
     let answer = rw c.in-Ok.ensures.given at c.in-Ok-answer.ensures in
     let word = fine_reply _ _ _ (answered _ _ _ _ _ of answer) fine in
-    let fine_too = c.leaves_clean.ensures ∙ fine_by_word c.in-Ok-answer.answer word in
+    let fine_too = c.is_fine.ensures ∙ fine_by_word c.in-Ok-answer.answer word in
     c.give-in-Ok-answer.ensures.not_clean is fine_too
-
--- a refusal's line is answered `open`
-opened : (bounds : Bounds) (line : List ℕ) (column : ℕ)
-    → IsLineOf (Refusal column) line → IsCheckReply bounds line (answer_text Open)
-opened bounds line column of = inr (inl (record { column = column; of = of; is_reply = refl }))
 
 pub returns-in-Some-Refusal-clause-reply : goal.returns-in-Some-Refusal-clause-reply
 returns-in-Some-Refusal-clause-reply c = λ is.

@@ -3,8 +3,7 @@ use Rattle.std.specs.Prelude.{Some}
 use Rattle.std.proofs.lemmas.Result.{IfErr-weaker, IfOk-weaker}
 use Rattle.clap.specs.Words.{Text, found_of, rows_of}
 use Rattle.bb_command.specs.Command.{Gives}
-use Rattle.bb_command.proofs.CommandLines.{gives, names_decide, stops_a_check, stops_a_trace, stops_by_kind}
-use Rattle.bb_command.proofs.CommandLines.{stops_deciding}
+use Rattle.bb_command.proofs.CommandLines.{gives, names_decide, stops_by_kind, stops_by_limits}
 use Rattle.bb_command.proofs.command.read_words.Goals.{Joined-matches, Joined-matches-2, Joined-matches-3}
 use Rattle.bb_command.proofs.command.read_words.Goals as goal
 
@@ -47,7 +46,8 @@ returns-then-eq-clause-asked c =
 
 pub returns-then-eq-clause-stop : goal.returns-then-eq-clause-stop
 returns-then-eq-clause-stop c =
-    IfErr-weaker c.trace_of.result _ _ (λ stop is. stops_a_trace _ _ (as_trace c) stop is)
+    IfErr-weaker c.trace_of.result _ _
+    (stops_by_limits _ _ (λ fault is. record { rows = _; refused = inr (inr (as_trace c, is)) }))
     c.trace_of.ensures.stop
 
 pub returns-then-eq-2-clause-asked : goal.returns-then-eq-2-clause-asked
@@ -56,7 +56,8 @@ returns-then-eq-2-clause-asked c =
 
 pub returns-then-eq-2-clause-stop : goal.returns-then-eq-2-clause-stop
 returns-then-eq-2-clause-stop c =
-    IfErr-weaker c.check_of.result _ _ (λ stop is. stops_a_check _ _ (as_check c) stop is)
+    IfErr-weaker c.check_of.result _ _
+    (stops_by_limits _ _ (λ fault is. record { rows = _; refused = inr (inl (as_check c, is)) }))
     c.check_of.ensures.stop
 
 pub returns-clause-asked : goal.returns-clause-asked
@@ -65,5 +66,6 @@ returns-clause-asked c = IfOk-weaker c.decide_of.result _ _ (λ asked is. (_, in
 
 pub returns-clause-stop : goal.returns-clause-stop
 returns-clause-stop c =
-    IfErr-weaker c.decide_of.result _ _ (λ stop is. stops_deciding _ _ (as_decide c) stop is)
+    IfErr-weaker c.decide_of.result _ _
+    (stops_by_limits _ _ (λ fault is. record { rows = _; refused = inl (as_decide c, is) }))
     c.decide_of.ensures.stop

@@ -4,14 +4,14 @@ use Rattle.bb_cert.specs.declared.verdict.Verdict.TheVariants.{Halt}
 use Rattle.bb_decide.proofs.Claims.{verdicts_are_confirmed}
 use Rattle.bb_decide.proofs.FewCells.{few_cells_are_decided}
 use Rattle.bb_decide.proofs.Sure.{larger_limits_keep}
-use Rattle.bb_decide.proofs.Works.{verdict_of_deciders, work_of_halt, work_of_deciders}
+use Rattle.bb_decide.proofs.Costs.{verdict_of_deciders, cost_of_halt, cost_of_deciders}
 use Rattle.bb_decide.proofs.decision.decide.Goals as goal
 use Rattle.bb_decide.proofs.decision.decide.Goals.{in-NoSteps, in-NoCells}
 
 pub returns-in-Halt-clause-counted : goal.returns-in-Halt-clause-counted
 returns-in-Halt-clause-counted g c =
     let outcome = rw c.in-Halt.is at c.in_ok-steps.ensures.outcome in
-    work_of_halt _ c.new.ensures c.in_ok-steps.ensures.counted _ outcome.0
+    cost_of_halt _ c.new.ensures c.in_ok-steps.ensures.counted _ outcome.0
 
 pub returns-in-Some-clause-never : goal.returns-in-Some-clause-never
 returns-in-Some-clause-never g c = λ says.
@@ -22,11 +22,11 @@ pub returns-in-Some-clause-counted : goal.returns-in-Some-clause-counted
 returns-in-Some-clause-counted g c = elim c.match-branch-2.branch [
   | in-NoSteps w ↦
       let outcome = rw w.in-NoSteps.is at c.in_ok-steps.ensures.outcome in
-      work_of_deciders _ c.new.ensures c.in_ok-steps.ensures.counted outcome.0 _
+      cost_of_deciders _ c.new.ensures c.in_ok-steps.ensures.counted outcome.0 _
       c.in_ok-verdict.ensures.counted
   | in-NoCells w ↦
       let outcome = rw w.in-NoCells.is at c.in_ok-steps.ensures.outcome in
-      work_of_deciders _ c.new.ensures c.in_ok-steps.ensures.counted outcome.0 _
+      cost_of_deciders _ c.new.ensures c.in_ok-steps.ensures.counted outcome.0 _
       c.in_ok-verdict.ensures.counted
 ]
 
@@ -34,11 +34,11 @@ pub returns-in-None-clause-counted : goal.returns-in-None-clause-counted
 returns-in-None-clause-counted g c = elim c.match-branch-2.branch [
   | in-NoSteps w ↦
       let outcome = rw w.in-NoSteps.is at c.in_ok-steps.ensures.outcome in
-      work_of_deciders _ c.new.ensures c.in_ok-steps.ensures.counted outcome.0 _
+      cost_of_deciders _ c.new.ensures c.in_ok-steps.ensures.counted outcome.0 _
       c.in_ok-verdict.ensures.counted
   | in-NoCells w ↦
       let outcome = rw w.in-NoCells.is at c.in_ok-steps.ensures.outcome in
-      work_of_deciders _ c.new.ensures c.in_ok-steps.ensures.counted outcome.0 _
+      cost_of_deciders _ c.new.ensures c.in_ok-steps.ensures.counted outcome.0 _
       c.in_ok-verdict.ensures.counted
 ]
 

@@ -1,6 +1,6 @@
 use Rattle.std.proofs.Common.{refl, ◌∙◌}
-use Rattle.bb_decide.proofs.Works.{counts_all, counts_searches, if_ok_on, no_walk_counted, off_where_not}
-use Rattle.bb_decide.proofs.Works.{on_where_not, search_of_all}
+use Rattle.bb_decide.proofs.Costs.{counts_all, counts_searches, if_ok_on, no_walk_counted, off_where_not}
+use Rattle.bb_decide.proofs.Costs.{on_where_not, search_of_all}
 use Rattle.bb_decide.proofs.decision.find.Goals as goal
 
 pub returns-in-Some-clause-found : goal.returns-in-Some-clause-found

@@ -2,7 +2,7 @@ use Rattle.std.proofs.Common.{Some, None, ap, ◌∙◌}
 use Rattle.bb_sim.specs.declared.meter.Meter.{Meter}
 use Rattle.bb_decide.proofs.OneRun.{found_is_verdict, no_walk_at_halt, no_walk_beside}
 use Rattle.bb_decide.proofs.OneRun.{walk_counted}
-use Rattle.bb_decide.proofs.Works.{on_where_not}
+use Rattle.bb_decide.proofs.Costs.{on_where_not}
 use Rattle.bb_decide.proofs.one_run.settle.Goals as goal
 use Rattle.bb_decide.proofs.one_run.settle.Goals.{in-NoSteps, in-NoCells}
 

@@ -8,5 +8,5 @@ pub returns-clause-ends : goal.returns-clause-ends
 returns-clause-ends g c =
     let ends = c.in_ok-run.ensures.ends in
     let begin = ap (λ (m : Meter). let s : Summary = record { clean = true; peak = m } in s) c.new.ensures in
-    let sums = check_summed (λ d. d.limits) (λ d. d.summary) (λ d. d.last_effort) _ _ _ begin ends.2.2 in
+    let sums = check_summed (λ d. d.limits) (λ d. d.summary) (λ d. d.last_cost) _ _ _ begin ends.2.2 in
     (ends.0, ends.1, (ends.2.0, ends.2.1, sums))

@@ -1,7 +1,7 @@
 use Rattle.std.specs.Map.Iter.{deref_pair}
 use Rattle.std.proofs.lemmas.Iterator.Adapters.{fact_from_extend}
 use Rattle.std.proofs.lemmas.Iterator.Consumers.{YieldsList-from_rest}
-use Rattle.bb_tape.proofs.Kept.{copied_entries}
+use Rattle.bb_tape.proofs.MapContent.{copied_entries}
 use Rattle.bb_tape.proofs.map.copy_entries.Goals as goal
 
 pub returns : goal.returns

@@ -1,5 +1,5 @@
 use Rattle.std.proofs.Common.{◌++◌, sym, ◌∙◌}
-use Rattle.bb_tape.proofs.Wholes.{append_parts}
+use Rattle.bb_tape.proofs.FromPieces.{append_parts}
 use Rattle.bb_tape.proofs.ring.equal_to_joined.Goals as goal
 
 pub returns-then-equal : goal.returns-then-equal

@@ -1,4 +1,4 @@
-use Rattle.bb_tape.proofs.Reaching.{ends_are, is_small, room_low, above, room_high, reached, fits}
+use Rattle.bb_tape.proofs.AnyPosition.{ends_are, is_small, room_low, above, room_high, reached, fits}
 use Rattle.bb_tape.proofs.widening.widen_to.Goals as goal
 
 pub widen_down_to-requires-clause-room : goal.widen_down_to-requires-clause-room

@@ -4,8 +4,8 @@ use Rattle.tests_of_verdicts.specs.declared.deciding.TheConstants.{CELLS}
 use Rattle.bb_decide.specs.Bench.{BenchHasCells}
 use Rattle.tests_of_verdicts.proofs.deciding.are_decided.Given as goal
 
-abbrev pub invariant-loop-text : goal.invariant-loop-text
-invariant-loop-text g l = record {
+abbrev pub invariant-loop-line : goal.invariant-loop-line
+invariant-loop-line g l = record {
   tapes : BenchHasCells g.T.Tape.view CELLS l.bench;
   path : depth_of l.bench.path ≡ 0;
 }

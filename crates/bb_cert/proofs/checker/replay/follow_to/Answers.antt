@@ -19,11 +19,9 @@ loop-runner-preserved g c =
     let here = c.loop-runner.invariant in
     let one_on = rw c.in-None.is at c.in_ok-answer.ensures.steps in
     let more = one_on.one_more in
-    let before = c.loop-runner-test.true in
-    let steps = c.steps.ensures in
     record {
       under_way = one_on.under_way;
-      ahead = omega (arith, more, before, steps);
+      ahead = omega (arith, more, c.loop-runner-test.true, c.steps.ensures);
       limit = c.step_on.ensures.limit ∙ here.limit;
       goes_on = goes-next here.goes_on here.under_way.stands one_on.under_way.stands more
           c.cells-cells.ensures c.pass.ensures;

@@ -11,12 +11,9 @@ step_on-requires-clause-under_way g c = c.loop-runner.invariant.under_way
 pub loop-runner-preserved : goal.loop-runner-preserved
 loop-runner-preserved g c =
     let one_on = rw c.in-None.is at c.in_ok-answer.ensures.steps in
-    let more = one_on.one_more in
-    let before = c.loop-runner-test.true in
-    let steps = c.steps.ensures in
     record {
       under_way = one_on.under_way;
-      ahead = omega (arith, more, before, steps);
+      ahead = omega (arith, one_on.one_more, c.loop-runner-test.true, c.steps.ensures);
       limit = c.step_on.ensures.limit ∙ c.loop-runner.invariant.limit;
     }
 

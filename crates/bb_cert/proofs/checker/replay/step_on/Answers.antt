@@ -27,9 +27,7 @@ returns-in-Halted-clause-steps g c =
 pub returns-in-NoSteps-clause-steps : goal.returns-in-NoSteps-clause-steps
 returns-in-NoSteps-clause-steps g c =
     let answers = rw c.in-NoSteps.is at c.in_ok-advance.ensures.answers in
-    let ends = answers.1 in
-    let ahead = c.requires.ahead in
-    absurd (omega (arith, ends, ahead))
+    absurd (omega (arith, answers.1, c.requires.ahead))
 
 pub returns-in-NoCells-clause-steps : goal.returns-in-NoCells-clause-steps
 returns-in-NoCells-clause-steps g c =

@@ -1,16 +1,8 @@
-use Rattle.std.proofs.Common.{◌≡◌, ℤ, pos, ◌+ℤ◌, ◌-ℤ◌, ◌≤ℤ◌, FitsSigned, w64, arith, rules}
-use Rattle.std.proofs.lemmas.Int.{ints, to_z-of_z}
-use Rattle.bb_sim.specs.CellsBetween.{cells_between}
+use Rattle.std.proofs.Common.{FitsSigned, w64, rules}
+use Rattle.std.proofs.lemmas.Int.{to_z-of_z}
 use Rattle.bb_sim.specs.Runner.{position_of}
-use Rattle.bb_cert.specs.declared.verdict.Side.{Side}
-use Rattle.bb_cert.specs.declared.verdict.Side.TheVariants.{L, R}
-use Rattle.bb_cert.specs.records.Record.{out}
+use Rattle.bb_cert.proofs.record_lemmas.Stretches.{length_is}
 use Rattle.bb_cert.proofs.records.Records.extent.Goals as goal
-
-length_is : (side : Side) (near kept : ℤ) → out side near ≤ℤ out side kept
-    → pos (cells_between near kept) ≡ (out side kept -ℤ out side near) +ℤ pos 1
-length_is L near kept order = omega (arith, ints)
-length_is R near kept order = omega (arith, ints)
 
 pub returns : goal.returns
 returns c =

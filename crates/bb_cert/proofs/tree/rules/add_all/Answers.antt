@@ -1,10 +1,14 @@
 use Rattle.std.proofs.Common.{◌≡◌, ◌≤◌, ℕ, refl, arith}
-use Rattle.bb_cert.proofs.tree_lemmas.SortedRules.{room_for_state, room_for_halt}
+use Rattle.bb_cert.proofs.tree_lemmas.SortedRules.{gathering_begins, room_for_state, room_for_halt}
 use Rattle.bb_cert.proofs.tree_lemmas.SortedRules.{gathering_goes_on, all_gathered}
 use Rattle.bb_cert.proofs.tree.rules.add_all.Goals as goal
 
 all_states : (state states n : ℕ) → state ≤ states → states ≤ state → states ≡ n → state ≡ n
 all_states state states n h past e = omega (arith, h, past, e)
+
+pub loop-state-init : goal.loop-state-init
+loop-state-init c = rw (c.push.ensures.items, c.requires.no_starts, c.len.ensures.value)
+    (gathering_begins c.args.machine.now c.args.list.now.items)
 
 pub add_rules-requires : goal.add_rules-requires
 add_rules-requires c =

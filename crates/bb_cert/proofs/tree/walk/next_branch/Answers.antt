@@ -1,9 +1,8 @@
-use Rattle.std.proofs.Common.{◌≡◌, ◌+ℤ◌, FitsSigned, to_z, of_z, w64, refl, ◌∙◌, rules}
+use Rattle.std.proofs.Common.{◌≡◌, inl, inr, ◌+ℤ◌, FitsSigned, to_z, of_z, w64, refl, ◌∙◌, rules}
 use Rattle.std.proofs.lemmas.Int.{to_z-of_z}
 use Rattle.bb_cert.specs.tree.Tree.{left_cell}
 use Rattle.bb_cert.proofs.tree_lemmas.Shown.{no_rule, undefined_else, skips_undefined, skips_unfit}
-use Rattle.bb_cert.proofs.tree_lemmas.Shown.{first_unknown}
-use Rattle.bb_cert.proofs.tree_lemmas.Shown.{first_written, branches_none}
+use Rattle.bb_cert.proofs.tree_lemmas.Shown.{first_fitting, branches_none}
 use Rattle.bb_cert.proofs.tree.walk.next_branch.Goals as goal
 use Rattle.bb_cert.proofs.tree.walk.next_branch.Goals.{After-left_cell-position}
 use Rattle.bb_cert.proofs.tree.walk.next_branch.Given as given
@@ -29,14 +28,12 @@ cell_left g c =
 pub returns-then-held-eq0 : goal.returns-then-held-eq0
 returns-then-held-eq0 g c =
     let at = cell_left g (goal.at.returns-then-held-eq0 g c).After-left_cell-position in
-    elim c.then-held-eq0.branch [
-      | then-held-eq0-via-then-held-eq0 w ↦ first_unknown c.deref.ensures.0 _ c.args.frame no_rule
-          c.loop-index.auto.index c.loop-index-test.true c.requires.within c.loop-index.invariant
-          c.in-Go.is at c.read-held.ensures c.requires.rules w.if-held-eq0.true
-      | then-held-eq0-via-else-held-eq0+then-held-write w ↦ first_written c.deref.ensures.0 _ c.args.frame
-          no_rule c.loop-index.auto.index c.loop-index-test.true c.requires.within c.loop-index.invariant
-          c.in-Go.is at c.read-held.ensures c.requires.rules w.if-held-write.true
-    ]
+    first_fitting c.deref.ensures.0 _ c.args.frame no_rule c.loop-index.auto.index c.loop-index-test.true
+    c.requires.within c.loop-index.invariant c.in-Go.is at c.read-held.ensures c.requires.rules
+    (elim c.then-held-eq0.branch [
+      | then-held-eq0-via-then-held-eq0 w ↦ inl w.if-held-eq0.true
+      | then-held-eq0-via-else-held-eq0+then-held-write w ↦ inr w.if-held-write.true
+    ])
 
 pub loop-index-preserved : goal.loop-index-preserved
 loop-index-preserved g c =

@@ -32,12 +32,12 @@ line_answered g c =
     (rw c.as_slice.ensures.value at c.in-Ok.ensures.saw)
     (rw c.as_slice-2.ensures.value at c.in_ok-add_line.ensures.sent)
 
-pub returns-then-work-gt-LONG_WORK-clause-ends : goal.returns-then-work-gt-LONG_WORK-clause-ends
-returns-then-work-gt-LONG_WORK-clause-ends g c =
-    let after = c.write_waiting-then-work-gt-LONG_WORK.ensures in
-    ends_written (line_answered g (goal.at.returns-then-work-gt-LONG_WORK-clause-ends g c).In_ok-add_line)
+pub returns-then-cost-gt-HIGH_COST-clause-ends : goal.returns-then-cost-gt-HIGH_COST-clause-ends
+returns-then-cost-gt-HIGH_COST-clause-ends g c =
+    let after = c.write_waiting-then-cost-gt-HIGH_COST.ensures in
+    ends_written (line_answered g (goal.at.returns-then-cost-gt-HIGH_COST-clause-ends g c).In_ok-add_line)
     _ _ _ after.ok after.empty after.only_write after.err
 
 pub returns-clause-prompt : goal.returns-clause-prompt
 returns-clause-prompt g c = λ long.
-    absurd (omega (arith, long, c.in-Ok.ensures.work, c.if-work-gt-LONG_WORK.false))
+    absurd (omega (arith, long, c.in-Ok.ensures.cost, c.if-cost-gt-HIGH_COST.false))

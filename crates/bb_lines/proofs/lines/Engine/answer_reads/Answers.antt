@@ -6,7 +6,8 @@ use Rattle.bb_lines.specs.inside.Progress.{none, prefixes, AreAnswered}
 use Rattle.bb_lines.specs.Watched.{watched_inner}
 use Rattle.bb_lines.proofs.Pieces.{LinesAre-none}
 use Rattle.bb_lines.proofs.Prefixes.{take_none, AfterPiece, after_piece, prefixes-lines}
-use Rattle.bb_lines.proofs.Progress.{answered_none, answered_written, answered_more, prefix_written, replies_written}
+use Rattle.bb_lines.proofs.Progress.{answered_none, answered_written, answered_more, prefix_written}
+use Rattle.bb_lines.proofs.Progress.{replies_written}
 use Rattle.bb_lines.proofs.Progress.{prefix_more, fault_after_none, AppendsPrefixOfReplies-writes}
 use Rattle.bb_lines.proofs.lines.Engine.answer_reads.Given.{Over}
 use Rattle.bb_lines.proofs.lines.Engine.answer_reads.Goals as goal

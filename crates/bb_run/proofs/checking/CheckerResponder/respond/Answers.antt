@@ -17,11 +17,11 @@ returns-clause-saw g c = (
     of = rw c.in-Some-Claim.field-0-is at c.in-Some-Claim.ensures.found;
     given = c.in-Ok.answer;
     is_answer = c.in-Ok.ensures.answer;
-    cost = c.check.new.meter;
+    meter = c.check.new.meter;
     counted = c.in-Ok.ensures.counted;
     within = c.check.ensures.within;
-    clean = rw c.leaves_clean.ensures refl;
+    clean = rw c.is_fine.ensures refl;
     peak = c.greatest-self.ensures;
-    is_effort = refl;
+    is_cost = refl;
   }),
 )

@@ -2,7 +2,7 @@ use Rattle.std.proofs.Common.{◌≡◌}
 use Rattle.bb_tape.specs.Content.{blank}
 use Rattle.bb_tape.specs.Entries.{content_of}
 use Rattle.bb_tape.proofs.Sound.{sound_blank}
-use Rattle.bb_tape.proofs.Kept.{content_of-empty}
+use Rattle.bb_tape.proofs.MapContent.{content_of-empty}
 use Rattle.bb_tape.proofs.map.MapTape.new_in.Goals as goal
 
 pub invariant_of-result : goal.invariant_of-result

@@ -3,7 +3,7 @@ use Rattle.std.proofs.lemmas.Int.{to_z-of_z}
 use Rattle.bb_tape.specs.declared.tape.TheConstants.{MAX_SYMBOL}
 use Rattle.bb_tape.specs.Content.{cell}
 use Rattle.bb_tape.specs.Entries.{content_of}
-use Rattle.bb_tape.proofs.Kept.{cell_read}
+use Rattle.bb_tape.proofs.MapContent.{cell_read}
 use Rattle.bb_tape.proofs.map.MapTapeTape.read.Goals as goal
 
 pub overflow_add-result : goal.overflow_add-result

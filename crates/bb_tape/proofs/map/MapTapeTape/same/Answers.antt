@@ -2,7 +2,7 @@ use Rattle.std.proofs.Common.{ap, length, eqb, sym, ◌∙◌}
 use Rattle.std.proofs.lemmas.Bool.Decides.{Decides-int_eq, Decides-eqb}
 use Rattle.std.proofs.lemmas.Map.Lookups.{btree_map_eq-Decides}
 use Rattle.bb_tape.specs.Entries.{content_of}
-use Rattle.bb_tape.proofs.Kept.{same_entries}
+use Rattle.bb_tape.proofs.MapContent.{same_entries}
 use Rattle.bb_tape.proofs.Outcome.{tells}
 use Rattle.bb_tape.proofs.map.MapTapeTape.same.Goals as goal
 

@@ -1,5 +1,5 @@
 use Rattle.std.proofs.Common.{sym, ◌∙◌}
-use Rattle.bb_tape.proofs.Kept.{score-content_of}
+use Rattle.bb_tape.proofs.MapContent.{score-content_of}
 use Rattle.bb_tape.proofs.map.MapTapeTape.score.Goals as goal
 
 pub returns : goal.returns

@@ -5,7 +5,7 @@ use Rattle.bb_tape.specs.Content.{with_cell}
 use Rattle.bb_tape.specs.Entries.{content_of}
 use Rattle.bb_tape.specs.Windowed.{view_of}
 use Rattle.bb_tape.proofs.Sound.{sound_written}
-use Rattle.bb_tape.proofs.Kept.{content_of-updated}
+use Rattle.bb_tape.proofs.MapContent.{content_of-updated}
 use Rattle.bb_tape.proofs.Outcome.{settled}
 use Rattle.bb_tape.proofs.map.MapTapeTape.write.Goals as goal
 

@@ -3,7 +3,7 @@ use Rattle.std.proofs.lemmas.Int.{to_z-of_z}
 use Rattle.std.proofs.lemmas.Bool.Decides.{Decides-eqb}
 use Rattle.bb_tape.specs.Ring.{ring_content, symbols}
 use Rattle.bb_tape.proofs.Slices.{nonzero}
-use Rattle.bb_tape.proofs.Wholes.{zero_in_pieces, pieces_of_zero}
+use Rattle.bb_tape.proofs.FromPieces.{zero_in_pieces, pieces_of_zero}
 use Rattle.bb_tape.proofs.ring.RingTape.is_blank.Goals as goal
 
 pub returns-then-count_nonzero-eq0 : goal.returns-then-count_nonzero-eq0

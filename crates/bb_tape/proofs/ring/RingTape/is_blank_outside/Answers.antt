@@ -2,7 +2,7 @@ use Rattle.std.proofs.Common.{◌≡◌, pos, ◌+ℤ◌, ◌∙◌, arith, to_z
 use Rattle.std.proofs.lemmas.Int.{ints, to_z-of_z}
 use Rattle.bb_tape.specs.Ring.{ring_content}
 use Rattle.bb_tape.proofs.WiderWindows.{low_fits, high_fits, narrow_fits}
-use Rattle.bb_tape.proofs.Wholes.{zero_outside, zero_below_part, zero_above_part}
+use Rattle.bb_tape.proofs.FromPieces.{zero_outside, zero_below_part, zero_above_part}
 use Rattle.bb_tape.proofs.ring.RingTape.is_blank_outside.Goals as goal
 
 pub returns-then-is_blank : goal.returns-then-is_blank

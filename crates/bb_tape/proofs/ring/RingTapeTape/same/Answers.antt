@@ -3,7 +3,7 @@ use Rattle.std.proofs.lemmas.Int.{to_z-of_z}
 use Rattle.bb_tape.specs.Content.{cell}
 use Rattle.bb_tape.specs.Ring.{ring_content}
 use Rattle.bb_tape.proofs.WiderWindows.{low_fits}
-use Rattle.bb_tape.proofs.Wholes.{same_from_parts, zero_unshared, agrees_alike}
+use Rattle.bb_tape.proofs.FromPieces.{same_from_parts, zero_unshared, agrees_alike}
 use Rattle.bb_tape.proofs.ring.RingTapeTape.same.Goals as goal
 use Rattle.bb_tape.proofs.ring.RingTapeTape.same.Goals.{then-agrees, else-agrees}
 

@@ -2,7 +2,7 @@ use Rattle.std.proofs.Common.{◌+◌, ap, ◌∙◌, w64}
 use Rattle.std.proofs.lemmas.Int.{to_z-of_z}
 use Rattle.bb_tape.specs.Ring.{ring_content, symbols}
 use Rattle.bb_tape.proofs.WiderWindows.{low_fits}
-use Rattle.bb_tape.proofs.Wholes.{score_in_pieces}
+use Rattle.bb_tape.proofs.FromPieces.{score_in_pieces}
 use Rattle.bb_tape.proofs.ring.RingTapeTape.score.Goals as goal
 
 pub returns : goal.returns

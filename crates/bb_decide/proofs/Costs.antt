@@ -1,0 +1,441 @@
+-- What deciding a machine has counted.
+use Rattle.std.proofs.Common.{◌≡◌, ℕ, ◌+◌, ◌≤◌, max, Bool, true, false, not, IsTrue, Option, Some, None}
+use Rattle.std.proofs.Common.{Result, Ok, Err, inl, inr, refl, ap, ◌∙◌, arith}
+use Rattle.std.specs.Prelude.{IfOk, OnOk}
+use Rattle.bb_machine.specs.Limits.{Bounds}
+use Rattle.bb_machine.specs.Machine.{Table}
+use Rattle.bb_sim.specs.declared.meter.Meter.{Meter}
+use Rattle.bb_sim.specs.Meter.{zero_meter, counted, CountsRun, CountsTo}
+use Rattle.bb_sim.specs.Outcome.{HaltsInside, HaltsNowhere}
+use Rattle.bb_sim.specs.Span.{span, IsLastInside}
+use Rattle.bb_sim.proofs.Facts.{span_grows}
+use Rattle.bb_cert.specs.declared.verdict.Verdict.{Verdict}
+use Rattle.bb_cert.specs.declared.verdict.Verdict.TheVariants.{Halt, Cycler, Translated, Backward, Undecided}
+use Rattle.bb_cert.specs.tree.Tree.{Back}
+use Rattle.bb_cert.specs.tree.WalkMeter.{IsWithinWalk, walked}
+use Rattle.bb_cert.proofs.Facts.{tree_has_one_end}
+use Rattle.bb_machine.specs.declared.plan.Plan.{Plan}
+use Rattle.bb_decide.specs.Cycle.{CountsSearch, FindsCycle}
+use Rattle.bb_decide.specs.Translation.{FindsTranslation}
+use Rattle.bb_decide.specs.Backward.{CountsTree, FindsTree, HasNoTree, without_nodes}
+use Rattle.bb_decide.specs.Verdict.{IsVerdict, PassesCycles, PassesTranslations}
+use Rattle.bb_decide.specs.inside.Search.{Adds, DecidersCount, DecidersFind}
+use Rattle.bb_decide.specs.inside.Search.{ReachesWalk}
+use Rattle.bb_decide.specs.inside.Search.{SearchesCount, SearchesFind}
+use Rattle.bb_decide.specs.Cost.{CountsWalk, CountsCost, CycleSteps, MakesWalk, StepsIfMade, TranslationSteps}
+
+-- what the simulation has counted, from a meter that was begun at 0
+record Simulated (table : Table) (bounds : Bounds) (meter : Meter) : Type 0 where
+  last : ℕ
+  is_last : IsLastInside table bounds last
+  steps : meter.steps ≡ last
+  most_cells : meter.most_cells ≡ span table last
+  nodes : meter.nodes ≡ 0
+  most_levels : meter.most_levels ≡ 0
+
+-- no walk was made, and none was counted
+pub no_walk_counted : (Made : Type 0) (table : Table) (bounds : Bounds) (meter : Meter)
+    → meter.most_levels ≡ 0
+    → meter.nodes ≡ 0 → (Made → ⊥) → CountsWalk Made table bounds meter
+no_walk_counted Made table bounds meter levels nodes never = record {
+  of_tree = λ made h k tree. absurd (never made);
+  within_levels = omega (arith, levels);
+  within_nodes = omega (arith, nodes);
+  not_made = λ not_made. (levels, nodes);
+}
+
+module _ {table : Table} {bounds : Bounds} (plan : Plan) {begin mid : Meter} (zero : begin ≡ zero_meter)
+    (run : CountsRun table bounds begin mid) where
+  simulated : Simulated table bounds mid
+  simulated =
+      let is : mid ≡ counted zero_meter run.last (span table run.last) =
+      run.counts ∙ ap (λ m. counted m run.last (span table run.last)) zero in
+      record {
+        last = run.last;
+        is_last = run.is_last;
+        steps = ap (λ (m : Meter). m.steps) is ∙ omega arith;
+        most_cells = ap (λ (m : Meter). m.most_cells) is ∙ omega arith;
+        nodes = ap (λ (m : Meter). m.nodes) is;
+        most_levels = ap (λ (m : Meter). m.most_levels) is;
+      }
+
+  -- no search is made where the machine halts
+  pub cost_of_halt : (n : ℕ) → HaltsInside table bounds n → CountsCost table bounds plan mid
+  cost_of_halt n halts = let s = simulated in record {
+    steps = record {
+      run = s.last;
+      is_run = s.is_last;
+      cycles = 0;
+      is_cycles = inr (λ made. made.0 n halts, refl);
+      translations = 0;
+      is_translations = inr (λ made. made.0 n halts, refl);
+      sum = s.steps ∙ omega arith;
+    };
+    last = s.last;
+    is_last = s.is_last;
+    most_cells = s.most_cells;
+    walk = no_walk_counted (MakesWalk table bounds plan) table bounds mid s.most_levels s.nodes
+        (λ made. made.0 n halts);
+  }
+
+  -- else the deciders that are on are asked
+  pub cost_of_deciders : HaltsNowhere table bounds → (meter : Meter)
+      → DecidersCount table bounds plan mid meter
+      → CountsCost table bounds plan meter
+  cost_of_deciders nowhere meter deciders =
+      let s = simulated in
+      let counts = deciders.searches in
+      let ran = s.steps in
+      let seen = s.most_cells in
+      let same_steps = deciders.steps in
+      let same_cells = deciders.most_cells in
+      let steps = counts.adds.steps in
+      let above = counts.adds.cells_kept in
+      let below = counts.adds.cells s.last s.is_last in
+      record {
+        steps = record {
+          run = s.last;
+          is_run = s.is_last;
+          cycles = counts.cycles;
+          is_cycles = where_nowhere (IsTrue plan.cyclers)
+              (CycleSteps table bounds) counts.cycles counts.is_cycles;
+          translations = counts.translations;
+          is_translations = elim counts.is_translations [
+            | inl made ↦ inl ((nowhere, made.0.0, made.0.1), made.1)
+            | inr not_made ↦ inr (λ made. not_made.0 (made.1, made.2), not_made.1)
+          ];
+          sum = omega (arith, ran, steps, same_steps);
+        };
+        last = s.last;
+        is_last = s.is_last;
+        most_cells = omega (arith, seen, above, below, same_cells);
+        walk = record {
+          of_tree = λ made levels nodes tree. deciders.walk.of_tree
+              (made.1, made.2, made.3) levels nodes tree;
+          within_levels = deciders.walk.within_levels;
+          within_nodes = deciders.walk.within_nodes;
+          not_made = λ not_made. deciders.walk.not_made (λ made. not_made (nowhere, made.0, made.1, made.2));
+        };
+      } where
+        where_nowhere : (On : Type 0) (Cost : ℕ → Type 0) (n : ℕ) → StepsIfMade On Cost n
+            → StepsIfMade (HaltsNowhere table bounds × On) Cost n
+        where_nowhere On Cost n (inl made) = inl ((nowhere, made.0), made.1)
+        where_nowhere On Cost n (inr not_made) = inr (λ made. not_made.0 made.1, not_made.1)
+
+-- ---- what the searches have counted
+
+module _ (table : Table) (bounds : Bounds) where
+  adds_nothing : (old new : Meter) → new ≡ old → Adds table bounds 0 old new
+  adds_nothing old new same =
+      let steps : new.steps ≡ old.steps = ap (λ (m : Meter). m.steps) same in
+      let cells : new.most_cells ≡ old.most_cells = ap (λ (m : Meter). m.most_cells) same in
+      record {
+        steps = omega (arith, steps);
+        cells_kept = omega (arith, cells);
+        cells = λ last is_last. omega (arith, cells);
+        nodes = ap (λ (m : Meter). m.nodes) same;
+        most_levels = ap (λ (m : Meter). m.most_levels) same;
+      }
+
+  adds_run : (n : ℕ) (old new : Meter) → ((last : ℕ) → IsLastInside table bounds last → n ≤ last)
+      → CountsTo table n old new
+      → Adds table bounds n old new
+  adds_run n old new inside counts =
+      let steps : new.steps ≡ old.steps + n = ap (λ (m : Meter). m.steps) counts in
+      let cells : new.most_cells ≡ max old.most_cells (span table n) = ap (λ
+      (m : Meter). m.most_cells) counts in
+      record {
+        steps = steps;
+        cells_kept = omega (arith, cells);
+        cells = λ last is_last. let grows = span_grows table n last (inside last is_last) in omega
+            (arith, cells, grows);
+        nodes = ap (λ (m : Meter). m.nodes) counts;
+        most_levels = ap (λ (m : Meter). m.most_levels) counts;
+      }
+
+  adds_both : (n m : ℕ) (old mid new : Meter) → Adds table bounds n old mid → Adds table bounds m mid new
+      → Adds table bounds (n + m) old new
+  adds_both n m old mid new one other =
+      let a = one.steps in
+      let b = other.steps in
+      let c = one.cells_kept in
+      let d = other.cells_kept in
+      record {
+        steps = omega (arith, a, b);
+        cells_kept = omega (arith, c, d);
+        cells = λ last is_last. let e = one.cells last is_last in let f = other.cells last is_last in
+            omega (arith, e, f);
+        nodes = other.nodes ∙ one.nodes;
+        most_levels = other.most_levels ∙ one.most_levels;
+      }
+
+  -- a search that was made or not, and what it has added
+  pub record Searched (Made : Type 0) (Cost : ℕ → Type 0) (old new : Meter) : Type 0 where
+    pub steps : ℕ
+    pub is_steps : StepsIfMade Made Cost steps
+    pub adds : Adds table bounds steps old new
+
+  not_made : (Made : Type 0) (Cost : ℕ → Type 0) (old new : Meter) → (Made → ⊥) → new ≡ old
+      → Searched Made Cost old new
+  not_made Made Cost old new off same = record {
+    steps = 0;
+    is_steps = inr (off, refl);
+    adds =
+        adds_nothing old new same;
+  }
+
+  cycles_searched : (Made : Type 0) (found : Option Verdict) (old new : Meter) → Made
+      → CountsSearch table bounds old new found
+      → FindsCycle table bounds found → Searched Made (CycleSteps table bounds) old new
+  cycles_searched Made None old new made counts none = record {
+    steps = counts.last;
+    is_steps = inl (made, inr (none, counts.is_last));
+    adds = adds_run counts.last old new (λ last is_last. is_last.greatest counts.last counts.is_last.inside)
+        counts.counts;
+  }
+  cycles_searched Made (Some (Cycler first second)) old new made counts finds = record {
+    steps = second;
+    is_steps = inl (made, inl (first, finds));
+    adds = adds_run second old new (λ last is_last. is_last.greatest second finds.cycle.inside) counts;
+  }
+  cycles_searched Made (Some (Halt steps score)) old new made counts finds = absurd finds
+  cycles_searched Made (Some (Translated side first second extent)) old new made counts finds = absurd finds
+  cycles_searched Made (Some (Backward levels nodes)) old new made counts finds = absurd finds
+  cycles_searched Made (Some (Undecided why)) old new made counts finds = absurd finds
+
+  translations_searched : (Made : Type 0) (found : Option Verdict) (old new : Meter) → Made
+      → CountsSearch table bounds old new found → FindsTranslation table bounds found
+      → Searched Made (TranslationSteps table bounds) old new
+  translations_searched Made None old new made counts none = record {
+    steps = counts.last;
+    is_steps = inl (made, inr (none, counts.is_last));
+    adds = adds_run counts.last old new (λ last is_last. is_last.greatest counts.last counts.is_last.inside)
+        counts.counts;
+  }
+  translations_searched Made (Some (Translated side first second extent)) old new made counts finds = record {
+    steps = second;
+    is_steps = inl (made, inl (side, first, finds.0));
+    adds = adds_run second old new (λ last is_last. is_last.greatest second finds.0.translation.inside)
+        counts;
+  }
+  translations_searched Made (Some (Halt steps score)) old new made counts finds = absurd finds
+  translations_searched Made (Some (Cycler first second)) old new made counts finds = absurd finds
+  translations_searched Made (Some (Backward levels nodes)) old new made counts finds = absurd finds
+  translations_searched Made (Some (Undecided why)) old new made counts finds = absurd finds
+
+-- no cycle was found, or none was searched for
+pub record PassedCycles (table : Table) (bounds : Bounds) (plan : Plan) (old new : Meter) : Type 0 where
+  pub passes : PassesCycles table bounds plan
+  pub searched : Searched table bounds (IsTrue plan.cyclers) (CycleSteps table bounds) old new
+
+-- a cycle that was found was not passed
+not_passed : (table : Table) (bounds : Bounds) (plan : Plan) (verdict : Verdict) → IsTrue plan.cyclers
+    → FindsCycle table bounds (Some verdict) → PassesCycles table bounds plan → ⊥
+not_passed table bounds plan (Cycler first second) on found passes = passes on first second found.cycle
+not_passed table bounds plan (Halt steps score) on found passes = absurd found
+not_passed table bounds plan (Translated side first second extent) on found passes = absurd found
+not_passed table bounds plan (Backward levels nodes) on found passes = absurd found
+not_passed table bounds plan (Undecided why) on found passes = absurd found
+
+module _ {table : Table} {bounds : Bounds} {plan : Plan} {old new : Meter} where
+  pub passed_on : IsTrue plan.cyclers → FindsCycle table bounds None
+      → CountsSearch table bounds old new None → PassedCycles table bounds plan old new
+  passed_on on none counts = record {
+    passes = λ _. none;
+    searched = cycles_searched table bounds (IsTrue plan.cyclers) None old new on counts none;
+  }
+
+  pub passed_off : plan.cyclers ≡ false → new ≡ old → PassedCycles table bounds plan old new
+  passed_off off same = record {
+    passes = λ on. absurd cc;
+    searched = not_made table bounds (IsTrue plan.cyclers) (CycleSteps table bounds) old new (λ on. cc) same;
+  }
+
+  counts : {mid : Meter} → PassedCycles table bounds plan old mid
+      → Searched table bounds (PassesCycles table bounds plan × IsTrue plan.translated)
+      (TranslationSteps table bounds) mid new
+      → SearchesCount table bounds plan old new
+  counts {mid} passed other = record {
+    cycles = passed.searched.steps;
+    is_cycles = passed.searched.is_steps;
+    translations = other.steps;
+    is_translations = other.is_steps;
+    adds = adds_both table bounds passed.searched.steps other.steps old mid new passed.searched.adds
+        other.adds;
+  }
+
+  -- then the other search is made where it is on
+  pub counts_both : {mid : Meter} → PassedCycles table bounds plan old mid → IsTrue plan.translated
+      → (found : Option Verdict) → FindsTranslation table bounds found
+      → CountsSearch table bounds mid new found → SearchesCount table bounds plan old new
+  counts_both {mid} passed on found finds counted = counts passed
+      (translations_searched table bounds (PassesCycles table bounds plan × IsTrue plan.translated) found mid
+      new (passed.passes, on) counted finds)
+
+  pub counts_one : PassedCycles table bounds plan old new → (IsTrue plan.translated → ⊥)
+      → SearchesCount table bounds plan old new
+  counts_one passed off = counts passed
+      (not_made table bounds (PassesCycles table bounds plan × IsTrue plan.translated)
+      (TranslationSteps table bounds) new new (λ made. off made.1) refl)
+
+  -- where one was found, the other isn't made
+  pub counts_cycles : (verdict : Verdict) → IsTrue plan.cyclers → FindsCycle table bounds (Some verdict)
+      → CountsSearch table bounds old new (Some verdict) → SearchesCount table bounds plan old new
+  counts_cycles verdict on finds counted =
+      let one = cycles_searched table bounds (IsTrue plan.cyclers) (Some verdict) old new on counted finds in
+      record {
+        cycles = one.steps;
+        is_cycles = one.is_steps;
+        translations = 0;
+        is_translations = inr (λ made. not_passed table bounds plan verdict on finds made.0, refl);
+        adds = adds_both table bounds one.steps 0 old new new one.adds
+            (adds_nothing table bounds new new refl);
+      }
+
+pub cycle_of_searches : (table : Table) (bounds : Bounds) (plan : Plan) (verdict : Verdict)
+    → IsTrue plan.cyclers → FindsCycle table bounds (Some verdict)
+    → SearchesFind table bounds plan (Some verdict)
+cycle_of_searches table bounds plan (Cycler first second) on found = (on, found)
+cycle_of_searches table bounds plan (Halt steps score) on found = absurd found
+cycle_of_searches table bounds plan (Translated side first second extent) on found = absurd found
+cycle_of_searches table bounds plan (Backward levels nodes) on found = absurd found
+cycle_of_searches table bounds plan (Undecided why) on found = absurd found
+
+-- ---- what the walk finds and counts
+
+-- the meter's parts after a walk that found its end
+walk_of_tree : (Made : Type 0) (table : Table) (bounds : Bounds) (old new : Meter) (h k : ℕ)
+    → new ≡ walked (without_nodes old) h k → Back table bounds h k → Made → CountsWalk Made table bounds new
+walk_of_tree Made table bounds old new h k counts tree made =
+    let levels : new.most_levels ≡ h = ap (λ (m : Meter). m.most_levels) counts ∙ omega arith in
+    let nodes : new.nodes ≡ k = ap (λ (m : Meter). m.nodes) counts ∙ omega arith in
+    let levels_within = tree.within_levels in
+    let nodes_within = tree.within_nodes in
+    record {
+      of_tree = λ _ i j other.
+          let same = tree_has_one_end table h k i j tree.ends other.ends in (levels ∙ same.0, nodes ∙ same.1);
+      within_levels = omega (arith, levels, levels_within);
+      within_nodes = omega (arith, nodes, nodes_within);
+      not_made = λ not_made. absurd (not_made made);
+    }
+
+-- the meter's parts after a walk that found none
+walk_of_none : (Made : Type 0) (table : Table) (bounds : Bounds) (old new : Meter)
+    → IsWithinWalk bounds.depth bounds.nodes (without_nodes old) new → HasNoTree table bounds → Made
+    → CountsWalk Made table bounds new
+walk_of_none Made table bounds old new within none made =
+    let levels = within.most_levels_to in
+    let nodes = within.nodes_to in
+    record {
+      of_tree = λ _ i j other. absurd (none.nowhere i j other);
+      within_levels = omega (arith, levels);
+      within_nodes = omega (arith, nodes);
+      not_made = λ not_made. absurd (not_made made);
+    }
+
+module _ (table : Table) (bounds : Bounds) (plan : Plan) (passes : PassesCycles table bounds plan
+    × PassesTranslations table bounds plan) where
+  reached : IsTrue plan.backward → ReachesWalk table bounds plan
+  reached on = (passes.0, passes.1, on)
+
+  pub counts_walk : (found : Option Verdict) (old new : Meter) → IsTrue plan.backward
+      → FindsTree table bounds found → CountsTree bounds old new found
+      → CountsWalk (ReachesWalk table bounds plan) table bounds new
+  counts_walk None old new on finds counts =
+      walk_of_none (ReachesWalk table bounds plan) table bounds old new counts finds (reached on)
+  counts_walk (Some (Backward h k)) old new on finds counts =
+      walk_of_tree (ReachesWalk table bounds plan) table bounds old new h k counts finds (reached on)
+  counts_walk (Some (Halt steps score)) old new on finds counts = absurd finds
+  counts_walk (Some (Cycler first second)) old new on finds counts = absurd finds
+  counts_walk (Some (Translated side first second extent)) old new on finds counts = absurd finds
+  counts_walk (Some (Undecided why)) old new on finds counts = absurd finds
+
+  -- neither steps nor cells
+  walk_keeps : (found : Option Verdict) (old new : Meter) → CountsTree bounds old new found
+      → (new.steps ≡ old.steps) × (new.most_cells ≡ old.most_cells)
+  walk_keeps None old new counts = (counts.steps, counts.most_cells)
+  walk_keeps (Some (Backward h k)) old new counts =
+      (ap (λ (m : Meter). m.steps) counts, ap (λ (m : Meter). m.most_cells) counts)
+  walk_keeps (Some (Halt steps score)) old new counts = absurd counts
+  walk_keeps (Some (Cycler first second)) old new counts = absurd counts
+  walk_keeps (Some (Translated side first second extent)) old new counts = absurd counts
+  walk_keeps (Some (Undecided why)) old new counts = absurd counts
+
+  -- where the searches found nothing, the walk is made where it is on
+  pub counts_all : (found : Option Verdict) (begin old new : Meter)
+      → SearchesCount table bounds plan begin old
+      → IsTrue plan.backward → FindsTree table bounds found → CountsTree bounds old new found
+      → DecidersCount table bounds plan begin new
+  counts_all found begin old new searches on finds counts =
+      let kept = walk_keeps found old new counts in
+      record {
+        searched = old;
+        searches = searches;
+        steps = kept.0;
+        most_cells = kept.1;
+        walk = counts_walk found old new on finds counts;
+      }
+
+module _ (table : Table) (bounds : Bounds) (plan : Plan) where
+  -- where a search has found something, no walk is reached
+  pub not_reached : (verdict : Verdict) → SearchesFind table bounds plan (Some verdict)
+      → PassesCycles table bounds plan → PassesTranslations table bounds plan → ⊥
+  not_reached (Cycler first second) found cycles translations = cycles found.0 first second found.1.cycle
+  not_reached (Translated side first second extent) found cycles translations =
+      translations found.1 side first second found.2.translation
+  not_reached (Halt steps score) found cycles translations = absurd found
+  not_reached (Backward levels nodes) found cycles translations = absurd found
+  not_reached (Undecided why) found cycles translations = absurd found
+
+  pub counts_searches : (verdict : Verdict) (begin new : Meter) → begin.most_levels ≡ 0 → begin.nodes ≡ 0
+      → SearchesFind table bounds plan (Some verdict) → SearchesCount table bounds plan begin new
+      → DecidersCount table bounds plan begin new
+  counts_searches verdict begin new levels nodes found searches = record {
+    searched = new;
+    searches = searches;
+    steps = refl;
+    most_cells = refl;
+    walk = no_walk_counted (ReachesWalk table bounds plan) table bounds new
+        (searches.adds.most_levels ∙ levels) (searches.adds.nodes ∙ nodes)
+        (λ made. not_reached verdict found made.0 made.1);
+  }
+
+  pub search_of_all : (verdict : Verdict) → SearchesFind table bounds plan (Some verdict)
+      → DecidersFind table bounds plan (Some verdict)
+  search_of_all (Cycler first second) found = found
+  search_of_all (Translated side first second extent) found = found
+  search_of_all (Halt steps score) found = absurd found
+  search_of_all (Backward levels nodes) found = absurd found
+  search_of_all (Undecided why) found = absurd found
+
+-- a test that was turned round
+pub on_where_not : (test : Bool) → not test ≡ false → IsTrue test
+on_where_not true is = refl
+on_where_not false is = absurd cc
+
+pub off_where_not : (test : Bool) → not test ≡ true → IsTrue test → ⊥
+off_where_not true is on = cc
+off_where_not false is on = cc
+
+-- what holds of an answer, from what else holds of it
+pub if_ok_map : {A E : Type 0} (r : Result A E) (P Q : A → Type 0) → ((x : A) → P x → Q x) → IfOk r P
+    → IfOk r Q
+if_ok_map (Ok x) P Q f holds = f x holds
+if_ok_map (Err e) P Q f holds = tt
+
+pub if_ok_on : {A E : Type 0} (r : Result A E) (P Q : A → Type 0) (R : Type 0) → ((x : A) → P x → Q x → R)
+    → IfOk r P → IfOk r Q → OnOk r R
+if_ok_on (Ok x) P Q R f one other = f x one other
+if_ok_on (Err e) P Q R f one other = tt
+
+-- the verdict, where the machine doesn't halt inside the bounds and a decider has found it
+pub verdict_of_deciders : (table : Table) (bounds : Bounds) (plan : Plan) (verdict : Verdict)
+    → HaltsNowhere table bounds
+    → DecidersFind table bounds plan (Some verdict) → IsVerdict table bounds plan verdict
+verdict_of_deciders table bounds plan (Cycler first second) nowhere found = (nowhere, found.0, found.1)
+verdict_of_deciders table bounds plan (Translated side first second extent) nowhere found =
+    (nowhere, found.0, found.1, found.2, found.3)
+verdict_of_deciders table bounds plan (Backward levels nodes) nowhere found =
+    (nowhere, found.0, found.1, found.2, found.3)
+verdict_of_deciders table bounds plan (Halt steps score) nowhere found = absurd found
+verdict_of_deciders table bounds plan (Undecided why) nowhere found = absurd found

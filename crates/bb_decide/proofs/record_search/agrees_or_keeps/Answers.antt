@@ -1,0 +1,64 @@
+use Rattle.std.proofs.Common.{◌≡◌, ℕ, ◌*◌, ◌<◌, ◌≤◌, ℤ, pos, ◌*ℤ◌, ◌≤ℤ◌, ap, inl, inr, arith, refl, w64}
+use Rattle.std.proofs.Common.{rules}
+use Rattle.std.proofs.Common.{◌∙◌, FitsSigned}
+use Rattle.std.specs.Prelude.{◌<ℤ◌}
+use Rattle.std.proofs.lemmas.Int.{ints, to_z-of_z}
+use Rattle.bb_sim.specs.Runner.{position_of}
+use Rattle.bb_cert.proofs.Facts.{are_narrow, out_as_far}
+use Rattle.bb_decide.proofs.record_search.agrees_or_keeps.Goals as goal
+
+pub returns-then-agrees-clause-compared : goal.returns-then-agrees-clause-compared
+returns-then-agrees-clause-compared g c =
+    let agree = c.agrees.ensures.agree.0 c.if-agrees.true in
+    let comparable = c.requires.ready.comparable agree.0 in
+    let narrow = are_narrow (g.met.T.Tape.sound c.args.saved.now) (g.met.T.Tape.sound c.args.run.now) comparable in (
+      agree,
+      record {
+        nearest = narrow.nearest;
+        kept = narrow.kept;
+        order = comparable.order;
+        later = comparable.later;
+      },
+      refl,
+    )
+
+-- numbers, compared by how far from 0 their positions are
+less_twice : (m n : ℕ) (p q : ℤ) → pos m ≡ p → pos n ≡ q → m < 2 * n → p <ℤ (pos 2 *ℤ q)
+less_twice m n p q a b h = omega (arith, ints, a, b, h)
+
+at_least_twice : (m n : ℕ) (p q : ℤ) → pos m ≡ p → pos n ≡ q → 2 * n ≤ m → (pos 2 *ℤ q) ≤ℤ p
+at_least_twice m n p q a b h = omega (arith, ints, a, b, h)
+
+pub returns-then-unsigned_abs-clause-compared : goal.returns-then-unsigned_abs-clause-compared
+returns-then-unsigned_abs-clause-compared g c =
+    let head_fits : FitsSigned w64 c.position.result = search rules in
+    let kept_fits : FitsSigned w64 c.position-2.result = search rules in
+    let head = rw c.position.ensures at (simp to_z-of_z at c.unsigned_abs.ensures.value) in
+    let kept = rw c.position-2.ensures at (simp to_z-of_z at c.unsigned_abs-2.ensures.value) in (
+      λ both. let yes = c.agrees.ensures.agree.1 both in let no = c.if-agrees.false in cc,
+      inr (
+        less_twice _ _ _ _ (ap pos head ∙ out_as_far c.args.records.now.side (position_of c.args.runner)
+            c.requires.ready.head_out)
+            (ap pos kept ∙ out_as_far c.args.records.now.side (position_of c.args.records.now.kept)
+            c.requires.ready.kept_out) c.if-unsigned_abs.true,
+        refl,
+        c.agrees.ensures.saved,
+      ),
+    )
+
+pub returns-clause-compared : goal.returns-clause-compared
+returns-clause-compared g c =
+    let head_fits : FitsSigned w64 c.position.result = search rules in
+    let kept_fits : FitsSigned w64 c.position-2.result = search rules in
+    let head = rw c.position.ensures at (simp to_z-of_z at c.unsigned_abs.ensures.value) in
+    let kept = rw c.position-2.ensures at (simp to_z-of_z at c.unsigned_abs-2.ensures.value) in (
+      λ both. let yes = c.agrees.ensures.agree.1 both in let no = c.if-agrees.false in cc,
+      inl (
+        at_least_twice _ _ _ _ (ap pos head ∙ out_as_far c.args.records.now.side (position_of c.args.runner)
+            c.requires.ready.head_out)
+            (ap pos kept ∙ out_as_far c.args.records.now.side (position_of c.args.records.now.kept)
+            c.requires.ready.kept_out) c.if-unsigned_abs.false,
+        c.keep_record.ensures,
+        c.in-Ok.ensures.ok,
+      ),
+    )

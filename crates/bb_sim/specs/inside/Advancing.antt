@@ -1,0 +1,27 @@
+-- What `advance` promises of a call, said once for it and for the half that it calls where no state follows;
+-- no
+-- public contract cites it.
+use Rattle.std.specs.Prelude.{◌≡◌, Bool, Result, IfOk, IsTrue, OnErr, OnOk}
+use Rattle.bb_machine.specs.Limits.{Bounds}
+use Rattle.bb_machine.specs.Machine.{Table}
+use Rattle.bb_tape.specs.TapeView.{TapeView}
+use Rattle.bb_tape.specs.declared.tape.Memory.{Memory}
+use Rattle.bb_sim.specs.declared.meter.Meter.{Meter}
+use Rattle.bb_sim.specs.declared.runner.Moved.{Moved}
+use Rattle.bb_sim.specs.declared.runner.Moved.TheVariants.{Stepped}
+use Rattle.bb_sim.specs.declared.runner.Runner.{Runner}
+use Rattle.bb_sim.specs.Runner.{Answers, Moves, Reaches, Stands, steps_of}
+
+-- what it answers, what that changes, and where the runner stands then; no memory is left only on a tape that
+-- grows, where a step would have been made
+pub record Advances (grows : Bool) (table : Table) (bounds : Bounds) (old new : Runner)
+    (view_old view_new : TapeView) (meter_old meter_new : Meter) (result : Result Moved Memory)
+    : Type 0 where
+  pub answers : IfOk result (Answers table bounds (steps_of old))
+  pub moves : IfOk result (Moves table old new view_old view_new meter_old meter_new)
+  pub reaches : IfOk result (Reaches table bounds new view_new)
+  pub stands : OnOk result (Stands table new view_new)
+  pub limit : view_new.limit ≡ view_old.limit
+  pub memory : OnErr result (IsTrue grows)
+  pub wanted : OnErr result (Answers table bounds (steps_of old) Stepped)
+  pub uncounted : OnErr result (meter_new ≡ meter_old)

@@ -1,0 +1,86 @@
+"""The texts of machines: all of a size, and random ones, the same from the same source of chance."""
+
+import itertools
+import random
+from typing import Iterable, Iterator, List, Sequence
+
+LETTERS = "ABCDEFGHIJKLMNOPQRSTUVWXY"
+DIGITS = "0123456789"
+
+
+def text_of(table: Iterable[Sequence[str]]) -> str:
+    """A machine's text, from the entries of each state."""
+    return "_".join("".join(group) for group in table)
+
+
+def table_of(text: str) -> List[List[str]]:
+    """The entries of a machine, by state and symbol."""
+    return [[group[k : k + 3] for k in range(0, len(group), 3)] for group in text.split("_")]
+
+
+def grouped(entries: Sequence[str], symbols: int) -> str:
+    """A machine's text, from all its entries in a row."""
+    return text_of(entries[k : k + symbols] for k in range(0, len(entries), symbols))
+
+
+def entries_of(states: int, symbols: int) -> List[str]:
+    """All entries that a machine of so many states and symbols may have, the undefined one first."""
+    return ["---", *map("".join, itertools.product(DIGITS[:symbols], "LR", LETTERS[:states] + "Z"))]
+
+
+def all_machines(states: int, symbols: int) -> Iterator[str]:
+    """All machines of so many states and symbols."""
+    for entries in itertools.product(entries_of(states, symbols), repeat=states * symbols):
+        yield grouped(entries, symbols)
+
+
+def entry(source: random.Random, states: int, symbols: int) -> str:
+    """A random entry: of a hundred, eight are undefined, and some seven lead into the halting state."""
+    if source.random() < 0.08:
+        return "---"
+    state = "Z" if source.random() < 0.08 else source.choice(LETTERS[:states])
+    return source.choice(DIGITS[:symbols]) + source.choice("LR") + state
+
+
+def machine(source: random.Random, states: int, symbols: int) -> str:
+    """A random machine with such entries."""
+    return text_of([entry(source, states, symbols) for _ in range(symbols)] for _ in range(states))
+
+
+def mixed(count: int, seed: int) -> Iterator[str]:
+    """So many random machines: of each ten, seven of 1 to 7 states and 2 symbols, two of up to 4 states and
+    10 symbols, and one of up to 25 states and 10 symbols."""
+    source = random.Random(seed)
+    for k in range(count):
+        if k % 10 < 7:
+            yield machine(source, k % 10 + 1, 2)
+        elif k % 10 < 9:
+            yield machine(source, source.randint(1, 4), source.randint(3, 10))
+        else:
+            yield machine(source, source.randint(1, 25), source.randint(2, 10))
+
+
+def seldom_halting(source: random.Random, states: int, symbols: int) -> str:
+    """A random machine of whose entries one of ten halts."""
+    every = entries_of(states, symbols)
+    inner = [entry for entry in every if entry[2] not in "-Z"]
+    outer = [entry for entry in every if entry[2] in "-Z"]
+    drawn = [source.choice(outer if source.random() < 0.1 else inner) for _ in range(states * symbols)]
+    return grouped(drawn, symbols)
+
+
+def halting_once(source: random.Random, states: int) -> str:
+    """A random machine of two symbols with one entry that halts, which isn't the first."""
+    drawn = [defined(source, LETTERS[:states]) for _ in range(2 * states)]
+    drawn[source.randrange(1, 2 * states)] = "1RZ"
+    return grouped(drawn, 2)
+
+
+def uniform(source: random.Random, states: int) -> str:
+    """A machine of two symbols, drawn uniformly from those that have every entry."""
+    return grouped([defined(source, LETTERS[:states] + "Z") for _ in range(2 * states)], 2)
+
+
+def defined(source: random.Random, letters: str) -> str:
+    """A random entry of two symbols that leads into one of these states."""
+    return source.choice("01") + source.choice("LR") + source.choice(letters)

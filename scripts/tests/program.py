@@ -1,0 +1,91 @@
+"""The built program as the checks run it: over lines, with limits and switches, and how long it takes."""
+
+import resource
+import subprocess
+import sys
+from typing import Iterable, List, Mapping, NamedTuple, Optional, Sequence
+
+LIMITS = ("steps", "cells", "depth", "nodes")
+SWITCHES = ("cyclers", "translated", "backward")
+# The words that turn all deciders off.
+SIMULATION = ["--no-cyclers", "--no-translated", "--no-backward"]
+PLANS: List[List[str]] = [[], ["--no-backward"], ["--no-cyclers", "--no-translated"]]
+# Steps, cells, levels and nodes. Where none of the four is smaller than those of an earlier row, what was
+# decided there has to stay decided.
+ROWS = [
+    (0, 1, 0, 0),
+    (5, 4, 1, 2),
+    (20, 9, 5, 10),
+    (20, 64, 5, 100),
+    (100, 64, 5, 10),
+    (100, 64, 20, 100),
+    (1_000, 64, 20, 100),
+    (1_000, 599, 300, 1_000),
+    (10_000, 4_096, 300, 1_000),
+]
+
+
+def words_of_plan(plan: Mapping[str, int]) -> List[str]:
+    """The program's words for limits and switches by name; a switch that is on has none."""
+    limits = ["--%s=%d" % (name, value) for name, value in plan.items() if name not in SWITCHES]
+    return limits + ["--no-" + name for name in SWITCHES if not plan.get(name, True)]
+
+
+def options(limits: Iterable[int]) -> List[str]:
+    """The options that ask for limits of steps, cells, levels and nodes, or of the first of these."""
+    return ["--%s=%d" % pair for pair in zip(LIMITS, limits)]
+
+
+def options_of_pass(limits: str) -> List[str]:
+    """The options for limits as `budlarem run --pass` takes them, as `steps=5,cells=7`."""
+    return ["--" + limit for limit in limits.split(",")]
+
+
+class Ended(NamedTuple):
+    """How a command ended, and what it wrote to standard output and standard error."""
+
+    status: int
+    output: bytes
+    error: bytes
+
+
+def ended(
+    command: Sequence[str],
+    given: bytes = b"",
+    cwd: Optional[str] = None,
+    env: Optional[Mapping[str, str]] = None,
+) -> Ended:
+    """Runs a command over these bytes to its end, in a folder and an environment where they are given."""
+    done = subprocess.run(command, input=given, capture_output=True, cwd=cwd, env=env)
+    return Ended(done.returncode, done.stdout, done.stderr)
+
+
+def joined(lines: Iterable[str]) -> bytes:
+    """Lines as bytes, each with its newline."""
+    return "".join(line + "\n" for line in lines).encode("utf-8", "surrogatepass")
+
+
+def replies(command: Sequence[str], lines: Iterable[str]) -> List[str]:
+    """The lines that a command of the program answers to these. It must end with status 0, or with 1 as where
+    an answer isn't clean, and say nothing on standard error; else this process ends with status 1."""
+    status, output, error = ended(command, joined(lines))
+    if status not in (0, 1) or error:
+        sys.exit("failed: %s: status %d, %r" % (" ".join(command[1:]), status, error))
+    return output.decode().splitlines()
+
+
+def verdict_of(line: str) -> str:
+    """The verdict of a line, without its machine."""
+    return line.partition(" ")[2]
+
+
+def kind_of(line: str) -> str:
+    """The kind of a verdict line, or `refused`."""
+    fields = line.split(" ")
+    return fields[0] if fields[0] == "refused" else fields[1]
+
+
+def processor_time() -> float:
+    """The processor time of all commands that have ended so far, in seconds."""
+    used = resource.getrusage(resource.RUSAGE_CHILDREN)
+    return used.ru_utime + used.ru_stime
