@@ -12,7 +12,6 @@ pub mod OneRun
 pub mod OneSide
 pub mod Partners
 pub mod SmallLimits
-pub mod Stops
 pub mod Sure
 pub mod Translations
 pub mod Verdicts

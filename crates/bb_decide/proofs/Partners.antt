@@ -1,6 +1,5 @@
 -- Powers of two below a number, and the one that is kept while a search goes on.
-use Rattle.std.proofs.Common.{◌≡◌, ℕ, ◌+◌, ◌*◌, ◌^◌, ◌<◌, ◌≤◌, max, inl, inr, refl, sym, ◌∙◌, ap, add-one}
-use Rattle.std.proofs.Common.{arith}
+use Rattle.std.proofs.Common.{◌≡◌, ℕ, ◌+◌, ◌*◌, ◌^◌, ◌<◌, ◌≤◌, inl, inr, refl, sym, ◌∙◌, ap, add-one, arith}
 use Rattle.std.proofs.Math.Nat.{pow-succ'}
 use Rattle.std.proofs.Math.Pow.{pow_mono}
 use Rattle.std.proofs.lemmas.Bool.{cases_lt}
@@ -46,11 +45,6 @@ keeps_on k n (inr partner) low =
       below = omega arith;
       greatest = omega arith;
     })
-
--- the step that is kept next: first 1, then twice what is kept
-pub turn_is : (k n : ℕ) → IsKept k n → max 1 (2 * k) ≤ n + 1 → n + 1 ≡ max 1 (2 * k)
-turn_is k n (inl first) turn = omega (arith, first.0, first.1)
-turn_is k n (inr partner) turn = let most = partner.greatest in omega (arith, most, turn)
 
 -- a number has one partner
 pub partner_is_unique : (p q j : ℕ) → IsPartner p j → IsPartner q j → p ≡ q

@@ -1,6 +1,5 @@
 -- What the search for records that agree has found, step by step.
-use Rattle.std.proofs.Common.{◌≡◌, ℕ, ◌+◌, ◌≤◌, inl, inr, Option, Some, None, ℤ, FitsSigned, w64, ap, sym, subst}
-use Rattle.std.proofs.Common.{◌∙◌}
+use Rattle.std.proofs.Common.{◌≡◌, ℕ, ◌+◌, ◌≤◌, inl, inr, Option, Some, None, ℤ, FitsSigned, w64, sym, subst}
 use Rattle.std.proofs.Common.{arith, of_z, to_z}
 use Rattle.std.proofs.lemmas.Int.{to_z-of_z}
 use Rattle.std.proofs.lemmas.Bool.{cases_lt}
@@ -15,7 +14,7 @@ use Rattle.bb_sim.specs.Run.{Never}
 use Rattle.bb_sim.specs.Runner.{Stands, high_of, low_of, position_of, state_of, steps_of}
 use Rattle.bb_sim.proofs.Facts.{HasStepped, RunsWithin, ends_in_Z}
 use Rattle.bb_cert.specs.declared.records.Records.{Records}
-use Rattle.bb_cert.specs.records.Follow.{AgreesWithKept, TellsWidening, nearer, passed}
+use Rattle.bb_cert.specs.records.Follow.{TellsWidening, passed}
 use Rattle.bb_cert.specs.declared.verdict.Side.{Side}
 use Rattle.bb_cert.specs.declared.verdict.Side.TheVariants.{L, R}
 use Rattle.bb_cert.specs.declared.verdict.Verdict.{Verdict}
@@ -26,8 +25,7 @@ use Rattle.bb_cert.proofs.Facts.{records_in_order}
 use Rattle.bb_decide.proofs.Halting.{no_pair_in_Z, not_in_Z}
 use Rattle.bb_decide.specs.Cycle.{CountsSearch}
 use Rattle.bb_decide.specs.Translation.{AgreesWithPartner, FindsTranslation, HasNoTranslation, IsTranslation}
-use Rattle.bb_decide.specs.inside.Follow.{IsReady, IsSearched, Looks, TellsPair, nearest_passed, on_side, with_nearest}
-use Rattle.bb_decide.specs.declared.watching.Nearest.{Nearest}
+use Rattle.bb_decide.specs.inside.Follow.{IsReady, IsSearched, Looks, on_side}
 use Rattle.bb_decide.proofs.OneSide.{EndsWith, GoesOn, HasPassed, side_ends, side_goes_on}
 use Rattle.bb_decide.proofs.OneSide.{side_passes_by, side_ready}
 
@@ -63,11 +61,6 @@ no_pair_at_end table runner run stands halts side a pair =
     let agree = agreeing.agree in
     no_pair_in_Z table runner run stands halts a agree.first agree.second agreeing.in_order agree.at_first
     agree.at_second agree.same_state
-
--- the nearest position of a side that stands beside its records
-passes_beside : (records : Records) (side : Side) (near p : ℤ) → records.side ≡ side
-    → with_nearest records (nearer side near p) ≡ passed (with_nearest records near) p
-passes_beside records side near p is = ap (λ s. with_nearest records (nearer s near p)) (sym is)
 
 -- a verdict that the search answers
 pub record IsFound (table : Table) (bounds : Bounds) (old new : Meter) (verdict : Verdict) : Type 0 where
@@ -166,26 +159,6 @@ module _ {table : Table} {bounds : Bounds} {before after : Runner}
     none_now R a pair = on_right.none a pair
     none_now L a pair = on_left.none a pair
 
--- the same where the nearest positions stand beside the records
-module _ {table : Table} {bounds : Bounds} {before after : Runner}
-    {view_before view_after saved_right saved_left : TapeView} (right left : Records) {near new : Nearest}
-    {first meter_before meter : Meter}
-    (here : IsSearching table bounds before view_before (with_nearest right near.right)
-    (with_nearest left near.left) saved_right saved_left first meter_before)
-    (step : HasStepped table bounds before after view_after first meter) where
-  pub takes_in_beside : {state cells : ℕ} → state_of after ≡ State state
-      → cells ≡ cells_between (low_of before) (high_of before) → (told : Option Side)
-      → TellsWidening after cells told → {p : ℤ} → FitsSigned w64 p → p ≡ position_of after
-      → new ≡ nearest_passed near (to_z w64 (of_z w64 p))
-      → IsTakenIn table bounds before after view_after (with_nearest right new.right)
-      (with_nearest left new.left) saved_right saved_left first meter told
-  takes_in_beside runs were told widens fits at passes =
-      takes_in here step runs were told widens
-      fits at (ap (λ (n : Nearest). with_nearest right n.right) passes
-      ∙ passes_beside right R near.right _ here.right_is)
-      fits at (ap (λ (n : Nearest). with_nearest left n.left) passes
-      ∙ passes_beside left L near.left _ here.left_is)
-
 module _ {table : Table} {bounds : Bounds} {before after : Runner}
     {view_before view saved_right saved_left : TapeView} {old_right old_left right left : Records}
     {first meter_before meter : Meter} {told : Option Side}
@@ -207,45 +180,40 @@ module _ {table : Table} {bounds : Bounds} {before after : Runner}
   is_ready R is sound = side_ready taken.on_right (rw is at taken.makes).0 sound
   is_ready L is sound = side_ready taken.on_left (rw is at taken.makes).0 sound
 
-  ends : (side : Side) → told ≡ Some side → (verdict : Verdict)
-      → AgreesWithKept (on_side side right left) after (on_side side saved_right saved_left) view
-      → TellsPair (on_side side right left) after verdict → EndsWith table side (steps_of after) verdict
-  ends R is verdict agrees tells =
-      side_ends taken.on_right (rw is at taken.makes).0 right saved_right verdict (agrees, tells)
-  ends L is verdict agrees tells =
-      side_ends taken.on_left (rw is at taken.makes).0 left saved_left verdict (agrees, tells)
-
-  -- where the two agree, they are the first that do
-  pub is_pair : {side : Side} → told ≡ Some side → (verdict : Verdict)
-      → AgreesWithKept (on_side side right left) after (on_side side saved_right saved_left) view
-      → TellsPair (on_side side right left) after verdict → IsFound table bounds first meter verdict
-  is_pair {side} is verdict agrees tells =
-      let end = ends side is verdict agrees tells in
-      let agree = pair_agrees table side end.first (steps_of after) end.pair in
-      let next = taken.step.next in
-      subst (IsFound table bounds first meter) (sym end.is) (record {
-        found = (
-          record {
-            translation = record { pair = end.pair; inside = taken.step.inside };
-            first = λ other c d found. elim (cases_lt d (steps_of after)) [
-              | inl less ↦ absurd (here.none other c d (omega (arith, less, next)) found)
-              | inr more ↦ more
-            ];
-          },
-          end.lies,
-        );
-        counted = taken.step.run.counts;
-        never = agreeing_records_never_halt table side end.first (steps_of after) agree;
-        claim = (agree, end.lies);
-      })
-
   module _ (new_right new_left : Records) (new_saved_right new_saved_left : TapeView) where
-    pub is_found : (side : Side) → told ≡ Some side → (verdict : Verdict)
+    ends : (side : Side) → told ≡ Some side → (verdict : Verdict)
+        → Looks side after view right left saved_right saved_left new_right new_left new_saved_right
+        new_saved_left (Some verdict)
+        → EndsWith table side (steps_of after) verdict
+    ends R is verdict looks =
+        side_ends taken.on_right (rw is at taken.makes).0 new_right new_saved_right verdict looks.0
+    ends L is verdict looks =
+        side_ends taken.on_left (rw is at taken.makes).0 new_left new_saved_left verdict looks.0
+
+    -- where the two agree, they are the first that do
+    pub is_found : {side : Side} → told ≡ Some side → (verdict : Verdict)
         → Looks side after view right left saved_right saved_left new_right new_left new_saved_right
         new_saved_left (Some verdict)
         → IsFound table bounds first meter verdict
-    is_found R is verdict looks = is_pair is verdict looks.0.0 looks.0.1
-    is_found L is verdict looks = is_pair is verdict looks.0.0 looks.0.1
+    is_found {side} is verdict looks =
+        let end = ends side is verdict looks in
+        let agree = pair_agrees table side end.first (steps_of after) end.pair in
+        let next = taken.step.next in
+        subst (IsFound table bounds first meter) (sym end.is) (record {
+          found = (
+            record {
+              translation = record { pair = end.pair; inside = taken.step.inside };
+              first = λ other c d found. elim (cases_lt d (steps_of after)) [
+                | inl less ↦ absurd (here.none other c d (omega (arith, less, next)) found)
+                | inr more ↦ more
+              ];
+            },
+            end.lies,
+          );
+          counted = taken.step.run.counts;
+          never = agreeing_records_never_halt table side end.first (steps_of after) agree;
+          claim = (agree, end.lies);
+        })
 
     -- else the search goes on
     pub goes_on_from : (side : Side) → told ≡ Some side

@@ -1,5 +1,5 @@
 -- What the watched run knows of fingerprints, step by step.
-use Rattle.std.proofs.Common.{◌≡◌, ◌≢◌, ℕ, suc, ◌*◌, ◌≤◌, max, inl, inr, Some, ℤ, pos, ◌≤ℤ◌, neg_ℤ, ap, sym}
+use Rattle.std.proofs.Common.{◌≡◌, ◌≢◌, ℕ, suc, ◌*◌, ◌≤◌, inl, inr, Some, ℤ, pos, ◌≤ℤ◌, neg_ℤ, refl, ap, sym}
 use Rattle.std.proofs.Common.{◌∙◌, Bool, false, IsTrue, add-one, arith}
 use Rattle.std.proofs.lemmas.Int.{ints}
 use Rattle.bb_machine.specs.declared.entry.Next.TheVariants.{Halt}
@@ -27,7 +27,7 @@ use Rattle.bb_decide.specs.Translation.{IsTranslation}
 use Rattle.bb_decide.proofs.Cycles as cycles
 use Rattle.bb_decide.proofs.Cycles.{first_cycle, kept_earlier}
 use Rattle.bb_decide.proofs.Fingerprints.{print-blank}
-use Rattle.bb_decide.proofs.Partners.{kept_at_first, keeps_next, keeps_on, turn_is}
+use Rattle.bb_decide.proofs.Partners.{kept_at_first, keeps_next, keeps_on}
 use Rattle.bb_cert.specs.declared.verdict.Side.{Side}
 
 -- the run has come to where a runner stands, not in Z: the fingerprint is that of its tape; the other is that of
@@ -38,7 +38,7 @@ pub record IsWatched (table : Table) (bounds : Bounds) (key : ℤ → ℕ) (runn
   pub search : cycles.IsSearching table bounds runner prints.kept view kept_view first meter
   pub print_is : prints.print ≡ fingerprint key view.content
   pub kept_print_is : prints.kept_print ≡ fingerprint key kept_view.content
-  pub next : prints.next ≡ max 1 (2 * steps_of prints.kept)
+  pub next : prints.next ≡ 2 * steps_of prints.kept
   pub running : state_of runner ≢ Halt
 
 abbrev configuration_of : Runner → TapeView → Configuration
@@ -200,7 +200,6 @@ module _ {table : Table} {bounds : Bounds} {key : ℤ → ℕ} {before after : R
         let was_next = here.next in
         let same_next = ap (λ (p : Prints). p.next) stays in
         let many = kept.0 in
-        let turn = turn_is _ _ here.search.partner (omega (arith, next, was_next, same_next, many)) in
         rw kept.1 (record {
           kept_view = view_after;
           search = record {
@@ -212,7 +211,7 @@ module _ {table : Table} {bounds : Bounds} {key : ℤ → ℕ} {before after : R
           };
           print_is = print_is;
           kept_print_is = print_is;
-          next = ap (λ n. 2 * n) same_next ∙ omega (arith, turn, next, was_next);
+          next = refl;
           running = running;
         })
 

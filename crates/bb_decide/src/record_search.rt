@@ -1,7 +1,7 @@
 //! Which record of a side is kept while a search goes on, to be compared with the next.
 ghost use Rattle.std.specs.Prelude.{◌≡◌, IfOk, IfSome, IsTrue, OnErr};
 ghost use Rattle.bb_cert.specs.verdict.Verdict.{HasNumbers};
-ghost use Rattle.bb_decide.specs.inside.Follow.{CanTell, Compares, ComparesTo, IsReady, TellsPair};
+ghost use Rattle.bb_decide.specs.inside.Follow.{Compares, IsReady};
 
 use bb_cert::Verdict;
 use bb_cert::records::Records;
@@ -33,7 +33,7 @@ pub fn look_at_record<T: Tape>(
     Ok(found)
 }
 
-/// `look_at_record`, not inlined.
+/// `look_at_record`, not inlined. A record is kept if its number is at least twice that of the kept one.
 #[cold]
 #[inline(never)]
 fn compare_and_keep<T: Tape>(
@@ -51,55 +51,20 @@ fn compare_and_keep<T: Tape>(
     ensures limit { (T.view saved.new).limit ≡ (T.view saved.old).limit }
     ensures memory { OnErr result (IsTrue T.GROWS) }
 {
-    if agrees_or_keeps(records, runner, run, saved)? {
-        return Ok(Some(pair_of(records, runner)));
-    }
-    Ok(None)
-}
-
-/// Whether the record that the runner has just made agrees with the kept one. Where it doesn't, it is kept
-/// itself if its number is at least twice that of the kept one.
-#[cold]
-#[inline(never)]
-pub fn agrees_or_keeps<T: Tape>(
-    records: &mut Records,
-    runner: Runner,
-    run: &T,
-    saved: &mut T,
-) -> Result<bool, Memory>
-    requires limit { (T.view saved.old).limit ≡ (T.view run.now).limit }
-    requires ready { IsReady records.old runner (T.view saved.old) (T.view run.now) }
-    ensures compared { IfOk result (ComparesTo records.old runner (T.view run.now) (T.view saved.old)
-        records.new (T.view saved.new)) }
-    ensures side { records.new.side ≡ records.old.side }
-    ensures limit { (T.view saved.new).limit ≡ (T.view saved.old).limit }
-    ensures memory { OnErr result (IsTrue T.GROWS) }
-{
     if records.agrees(&runner, run, saved) {
-        return Ok(true);
+        return Ok(Some(Verdict::Translated {
+            side: records.side,
+            first: records.kept.steps(),
+            second: runner.steps(),
+            extent: Some(records.extent(&runner)),
+        }));
     }
     if runner.position().unsigned_abs() < 2 * records.kept.position().unsigned_abs() {
-        return Ok(false);
+        return Ok(None);
     }
     let Ok(()) = saved.copy_from(run) else {
         return Err(Memory);
     };
     records.keep_record(&runner);
-    Ok(false)
-}
-
-/// The verdict that tells the kept record and that which the runner has just made, which agree.
-#[cold]
-#[inline(never)]
-pub fn pair_of(records: &Records, runner: Runner) -> Verdict
-    requires { CanTell records.now runner }
-    ensures tells { TellsPair records.now runner result }
-    ensures numbers { HasNumbers result }
-{
-    Verdict::Translated {
-        side: records.side,
-        first: records.kept.steps(),
-        second: runner.steps(),
-        extent: Some(records.extent(&runner)),
-    }
+    Ok(None)
 }

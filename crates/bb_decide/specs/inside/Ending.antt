@@ -12,10 +12,7 @@ use Rattle.bb_machine.specs.Machine.{Table}
 use Rattle.bb_machine.specs.declared.plan.Plan.{Plan}
 use Rattle.bb_sim.specs.Configuration.{Configuration}
 use Rattle.bb_sim.specs.declared.meter.Meter.{Meter}
-use Rattle.bb_cert.specs.declared.records.Records.{Records}
 use Rattle.bb_sim.specs.declared.runner.Moved.{Moved}
-use Rattle.bb_sim.specs.declared.runner.Runner.{Runner}
-use Rattle.bb_sim.specs.Runner.{steps_of}
 use Rattle.bb_sim.specs.declared.runner.Moved.TheVariants.{Halted, NoSteps, NoCells, Stepped}
 use Rattle.bb_sim.specs.declared.simulation.Outcome.{Outcome}
 use Rattle.bb_sim.specs.declared.simulation.Outcome.TheVariants as outcomes
@@ -28,9 +25,6 @@ use Rattle.bb_cert.specs.declared.verdict.Verdict.TheVariants.{Halt, Cycler, Tra
 use Rattle.bb_cert.specs.declared.verdict.Why.TheVariants as why
 use Rattle.bb_decide.specs.declared.ending.Ending.{Ending}
 use Rattle.bb_decide.specs.declared.ending.Ending.TheVariants.{Found, Ran}
-use Rattle.bb_decide.specs.declared.watching.Stop.{Stop}
-use Rattle.bb_decide.specs.declared.watching.Stop.TheVariants.{Agrees, Ended, Suspected}
-use Rattle.bb_decide.specs.inside.Follow.{CanTell, TellsPair, on_side}
 use Rattle.bb_decide.specs.Cycle.{CountsSearch, HasNoCycle, IsCycle, IsFirstCycle}
 use Rattle.bb_decide.specs.Fingerprint.{CostsWhatItNames, fingerprint}
 use Rattle.bb_decide.specs.Translation.{FindsTranslation, HasNoTranslation, IsFirstTranslation, IsTranslation}
@@ -140,19 +134,3 @@ verdict_of (Ran outcome) = verdict_of_outcome outcome
 -- the searches cost what their verdict names
 abbrev pub EndingCosts : (ℤ → ℕ) → Table → Bounds → ℕ → Ending → Type 0
 EndingCosts key table bounds steps ending = CostsWhatItNames key table bounds steps (verdict_of ending)
-
--- what is told where a watched run stopped: how it ended; nothing, where it is suspected; or the pair of the
--- side whose records agree
-abbrev pub TellsStop : Stop → Runner → Records → Records → ℕ → Option Ending → Type 0
-TellsStop (Ended moved) runner right left ones found =
-    (outcome : Outcome) × (found ≡ Some (Ran outcome)) × TellsEnd moved (steps_of runner) ones outcome
-TellsStop Suspected runner right left ones found = found ≡ None
-TellsStop (Agrees side) runner right left ones found =
-    (verdict : Verdict) × (found ≡ Some (Found verdict)) × TellsPair (on_side side right left) runner verdict
-    × HasNumbers verdict
-
--- of that pair it is known how it lies
-abbrev pub CanTellStop : Stop → Runner → Records → Records → Type 0
-CanTellStop (Ended moved) runner right left = Unit {0}
-CanTellStop Suspected runner right left = Unit {0}
-CanTellStop (Agrees side) runner right left = CanTell (on_side side right left) runner

@@ -1,6 +1,6 @@
 -- How the search for records that agree goes on, as its functions tell one another; no public contract cites
 -- it.
-use Rattle.std.specs.Prelude.{◌≡◌, ℕ, ◌⊎◌, Bool, true, false, Option, Some, None, ℤ, pos, ◌*ℤ◌, ◌<ℤ◌, ◌≤ℤ◌}
+use Rattle.std.specs.Prelude.{◌≡◌, ℕ, ◌⊎◌, Option, Some, None, pos, ◌*ℤ◌, ◌<ℤ◌, ◌≤ℤ◌}
 use Rattle.bb_machine.specs.Machine.{Table}
 use Rattle.bb_tape.specs.TapeView.{TapeView}
 use Rattle.bb_sim.specs.declared.runner.Runner.{Runner}
@@ -12,9 +12,8 @@ use Rattle.bb_cert.specs.declared.verdict.Side.TheVariants.{L, R}
 use Rattle.bb_cert.specs.declared.verdict.Verdict.{Verdict}
 use Rattle.bb_cert.specs.declared.verdict.Verdict.TheVariants.{Translated}
 use Rattle.bb_cert.specs.records.Follow.{AgreesWithKept, IsComparable, IsFollowed, IsKeptInStateOf, IsNarrow}
-use Rattle.bb_cert.specs.records.Follow.{IsWidened, LiesAs, nearer, nearest_out, number_of, top_of, with_kept}
+use Rattle.bb_cert.specs.records.Follow.{IsWidened, LiesAs, number_of, top_of, with_kept}
 use Rattle.bb_decide.specs.Partner.{IsKept}
-use Rattle.bb_decide.specs.declared.watching.Nearest.{Nearest}
 
 -- the records of a side up to step n are known, and the partner of the next one is kept
 pub record IsSearched (table : Table) (n : ℕ) (records : Records) (saved : TapeView) : Type 0 where
@@ -48,19 +47,6 @@ Compares old runner run saved new new_saved None =
 Compares old runner run saved new new_saved (Some verdict) =
     AgreesWithKept old runner saved run × TellsPair old runner verdict
 
--- how the two lie can be told
-pub record CanTell (records : Records) (runner : Runner) : Type 0 where
-  pub nearest : IsNarrow records.nearest
-  pub kept : IsNarrow (position_of records.kept)
-  pub order : nearest_out records ≤ℤ number_of records
-  pub later : number_of records ≤ℤ top_of records runner
-
--- whether the two agree: then all stays, and how they lie can be told
-abbrev pub ComparesTo : Records → Runner → TapeView → TapeView → Records → TapeView → Bool → Type 0
-ComparesTo old runner run saved new new_saved true =
-    AgreesWithKept old runner saved run × CanTell old runner × (new ≡ old)
-ComparesTo old runner run saved new new_saved false = Compares old runner run saved new new_saved None
-
 -- what is meant for a side
 abbrev pub on_side : {A : Type 0} → Side → A → A → A
 on_side R right left = right
@@ -75,24 +61,3 @@ Looks R runner run right left saved_right saved_left new_right new_left new_save
 Looks L runner run right left saved_right saved_left new_right new_left new_saved_right new_saved_left found =
     Compares left runner run saved_left new_left new_saved_left found
     × (new_left.side ≡ left.side) × (new_right ≡ right) × (new_saved_right ≡ saved_right)
-
--- records whose nearest position stands elsewhere
-abbrev pub with_nearest : Records → ℤ → Records
-with_nearest records position = record records { nearest = position }
-
--- the nearest positions of both sides, after one step more, which led the head to this position
-abbrev pub nearest_passed : Nearest → ℤ → Nearest
-nearest_passed near position =
-    record { right = nearer R near.right position; left = nearer L near.left position }
-
--- whether the records of one side agree; those of the other stay
-abbrev pub LooksTo : Side → Runner → TapeView → Records → Records → TapeView → TapeView
-    → Records → Records → TapeView → TapeView → Bool → Type 0
-LooksTo side runner run right left saved_right saved_left new_right new_left new_saved_right new_saved_left
-    true =
-    AgreesWithKept (on_side side right left) runner (on_side side saved_right saved_left) run
-    × CanTell (on_side side right left) runner × (on_side side new_right new_left ≡ on_side side right left)
-LooksTo side runner run right left saved_right saved_left new_right new_left new_saved_right new_saved_left
-    false =
-    Looks side runner run right left saved_right saved_left new_right new_left new_saved_right new_saved_left
-    None

@@ -109,7 +109,7 @@ returns-in-Some-2 g c =
     c.pass-in-loop-moved.ensures in
     let looks = c.in_ok-verdict.ensures in
     let counted = taken_over call.stands here.meter c.count_run-in-Some-2.ensures in
-    let found = counts_as counted (is_found here.search taken _ _ _ _ _ c.in-Some-widened_side.is _
+    let found = counts_as counted (is_found here.search taken _ _ _ _ c.in-Some-widened_side.is _
     (rw c.in-Some-2.is at looks.looks)) in
     record {
       found = found.found;

@@ -1,7 +1,6 @@
-use Rattle.std.proofs.Common.{◌≡◌, ◌-◌, ◌≤◌}
+use Rattle.std.proofs.Common.{◌≡◌, ◌-◌}
 use Rattle.bb_sim.specs.Runner.{steps_of}
 use Rattle.bb_decide.specs.Bench.{BenchHasCells}
-use Rattle.bb_decide.specs.inside.Follow.{with_nearest}
 use Rattle.bb_decide.proofs.Counted.{counted_to}
 use Rattle.bb_decide.proofs.Translations.{IsSearching}
 use Rattle.bb_decide.proofs.Watched.{IsWatched}
@@ -10,8 +9,7 @@ use Rattle.bb_decide.proofs.watching.run_watched.Given as goal
 -- no record up to where the runner stands agrees with its partner, and no step up to there is a cycle
 abbrev pub invariant-loop-moved : goal.invariant-loop-moved
 invariant-loop-moved g l = record {
-  search : IsSearching l.machine l.limits l.runner (g.T.Tape.view l.bench.run)
-      (with_nearest l.right l.nearest.right) (with_nearest l.left l.nearest.left)
+  search : IsSearching l.machine l.limits l.runner (g.T.Tape.view l.bench.run) l.right l.left
       (g.T.Tape.view l.bench.right) (g.T.Tape.view l.bench.left) l.fn.meter
       (counted_to l.machine l.fn.meter l.runner);
   watched : IsWatched l.machine l.limits (g.K.Keys.key_of l.keys) l.runner (g.T.Tape.view l.bench.run) l.prints
@@ -23,21 +21,3 @@ invariant-loop-moved g l = record {
 
 abbrev pub decreases-loop-moved : goal.decreases-loop-moved
 decreases-loop-moved g l = l.limits.steps - steps_of l.runner
-
--- the same, and that the runner has not gone back
-abbrev pub invariant-loop-moved-2 : goal.invariant-loop-moved-2
-invariant-loop-moved-2 g l = record {
-  search : IsSearching l.machine l.limits l.runner (g.T.Tape.view l.bench.run)
-      (with_nearest l.right l.nearest.right) (with_nearest l.left l.nearest.left)
-      (g.T.Tape.view l.bench.right) (g.T.Tape.view l.bench.left) l.fn.meter
-      (counted_to l.machine l.fn.meter l.runner);
-  watched : IsWatched l.machine l.limits (g.K.Keys.key_of l.keys) l.runner (g.T.Tape.view l.bench.run) l.prints
-      l.fn.meter (counted_to l.machine l.fn.meter l.runner);
-  tapes : BenchHasCells g.T.Tape.view l.limits.cells l.bench;
-  path : l.bench.path ≡ l.fn.bench.path;
-  meter : l.meter ≡ l.fn.meter;
-  later : steps_of l.initial.runner ≤ steps_of l.runner;
-}
-
-abbrev pub decreases-loop-moved-2 : goal.decreases-loop-moved-2
-decreases-loop-moved-2 g l = l.limits.steps - steps_of l.runner

@@ -5,22 +5,22 @@ use Rattle.std.specs.Prelude.{◌<ℤ◌}
 use Rattle.std.proofs.lemmas.Int.{ints, to_z-of_z}
 use Rattle.bb_sim.specs.Runner.{position_of}
 use Rattle.bb_cert.proofs.Facts.{are_narrow, out_as_far}
-use Rattle.bb_decide.proofs.record_search.agrees_or_keeps.Goals as goal
+use Rattle.bb_decide.proofs.record_search.compare_and_keep.Goals as goal
+
+pub extent-requires-clause-nearest : goal.extent-requires-clause-nearest
+extent-requires-clause-nearest g c =
+    (are_narrow (g.met.T.Tape.sound c.args.saved.now) (g.met.T.Tape.sound c.args.run.now)
+    (c.requires.ready.comparable (c.agrees.ensures.agree.0 c.if-agrees.true).0)).nearest
 
 pub returns-then-agrees-clause-compared : goal.returns-then-agrees-clause-compared
-returns-then-agrees-clause-compared g c =
-    let agree = c.agrees.ensures.agree.0 c.if-agrees.true in
-    let comparable = c.requires.ready.comparable agree.0 in
-    let narrow = are_narrow (g.met.T.Tape.sound c.args.saved.now) (g.met.T.Tape.sound c.args.run.now) comparable in (
-      agree,
-      record {
-        nearest = narrow.nearest;
-        kept = narrow.kept;
-        order = comparable.order;
-        later = comparable.later;
-      },
-      refl,
-    )
+returns-then-agrees-clause-compared g c = (
+  c.agrees.ensures.agree.0 c.if-agrees.true,
+  record {
+    extent = c.extent.result;
+    is = rw (c.steps.ensures, c.steps-then-agrees.ensures) refl;
+    lies = c.extent.ensures;
+  },
+)
 
 -- numbers, compared by how far from 0 their positions are
 less_twice : (m n : ℕ) (p q : ℤ) → pos m ≡ p → pos n ≡ q → m < 2 * n → p <ℤ (pos 2 *ℤ q)
