@@ -1,7 +1,6 @@
 //! Which record of a side is kept while a search goes on, to be compared with the next.
-ghost use Rattle.std.specs.Prelude.{◌≡◌, IfOk, IfSome, IsTrue, OnErr};
-ghost use Rattle.bb_cert.specs.verdict.Verdict.{HasNumbers};
-ghost use Rattle.bb_decide.specs.inside.Follow.{Compares, IsReady};
+ghost use Rattle.std.specs.Prelude.{◌≡◌};
+ghost use Rattle.bb_decide.specs.inside.Follow.{IsReady, LooksAtRecord};
 
 use bb_cert::Verdict;
 use bb_cert::records::Records;
@@ -20,12 +19,8 @@ pub fn look_at_record<T: Tape>(
 ) -> Result<Option<Verdict>, Memory>
     requires limit { (T.view saved.old).limit ≡ (T.view run.now).limit }
     requires ready { IsReady records.old runner.now (T.view saved.old) (T.view run.now) }
-    ensures compared { IfOk result (Compares records.old runner.now (T.view run.now) (T.view saved.old)
-        records.new (T.view saved.new)) }
-    ensures numbers { IfOk result (λ found. IfSome found HasNumbers) }
-    ensures side { records.new.side ≡ records.old.side }
-    ensures limit { (T.view saved.new).limit ≡ (T.view saved.old).limit }
-    ensures memory { OnErr result (IsTrue T.GROWS) }
+    ensures { LooksAtRecord T.GROWS records.old runner.now (T.view run.now) (T.view saved.old) records.new
+        (T.view saved.new) result }
 {
     let mut looked = *records;
     let found = compare_and_keep(&mut looked, *runner, run, saved)?;
@@ -44,12 +39,8 @@ fn compare_and_keep<T: Tape>(
 ) -> Result<Option<Verdict>, Memory>
     requires limit { (T.view saved.old).limit ≡ (T.view run.now).limit }
     requires ready { IsReady records.old runner (T.view saved.old) (T.view run.now) }
-    ensures compared { IfOk result (Compares records.old runner (T.view run.now) (T.view saved.old)
-        records.new (T.view saved.new)) }
-    ensures numbers { IfOk result (λ found. IfSome found HasNumbers) }
-    ensures side { records.new.side ≡ records.old.side }
-    ensures limit { (T.view saved.new).limit ≡ (T.view saved.old).limit }
-    ensures memory { OnErr result (IsTrue T.GROWS) }
+    ensures { LooksAtRecord T.GROWS records.old runner (T.view run.now) (T.view saved.old) records.new
+        (T.view saved.new) result }
 {
     if records.agrees(&runner, run, saved) {
         return Ok(Some(Verdict::Translated {

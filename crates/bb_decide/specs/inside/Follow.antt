@@ -1,8 +1,10 @@
 -- How the search for records that agree goes on, as its functions tell one another; no public contract cites
 -- it.
-use Rattle.std.specs.Prelude.{◌≡◌, ℕ, ◌⊎◌, Option, Some, None, pos, ◌*ℤ◌, ◌<ℤ◌, ◌≤ℤ◌}
+use Rattle.std.specs.Prelude.{◌≡◌, ℕ, ◌⊎◌, Bool, IfOk, IfSome, IsTrue, OnErr, Option, Some, None, Result}
+use Rattle.std.specs.Prelude.{pos, ◌*ℤ◌, ◌<ℤ◌, ◌≤ℤ◌}
 use Rattle.bb_machine.specs.Machine.{Table}
 use Rattle.bb_tape.specs.TapeView.{TapeView}
+use Rattle.bb_tape.specs.declared.tape.Memory.{Memory}
 use Rattle.bb_sim.specs.declared.runner.Runner.{Runner}
 use Rattle.bb_sim.specs.Runner.{position_of, steps_of}
 use Rattle.bb_cert.specs.declared.records.Records.{Records}
@@ -11,6 +13,7 @@ use Rattle.bb_cert.specs.declared.verdict.Side.{Side}
 use Rattle.bb_cert.specs.declared.verdict.Side.TheVariants.{L, R}
 use Rattle.bb_cert.specs.declared.verdict.Verdict.{Verdict}
 use Rattle.bb_cert.specs.declared.verdict.Verdict.TheVariants.{Translated}
+use Rattle.bb_cert.specs.verdict.Verdict.{HasNumbers}
 use Rattle.bb_cert.specs.records.Follow.{AgreesWithKept, IsComparable, IsFollowed, IsKeptInStateOf, IsNarrow}
 use Rattle.bb_cert.specs.records.Follow.{IsWidened, LiesAs, number_of, top_of, with_kept}
 use Rattle.bb_decide.specs.Partner.{IsKept}
@@ -46,6 +49,16 @@ Compares old runner run saved new new_saved None =
     (AgreesWithKept old runner saved run → ⊥) × KeepsByTurn old runner run saved new new_saved
 Compares old runner run saved new new_saved (Some verdict) =
     AgreesWithKept old runner saved run × TellsPair old runner verdict
+
+-- what is promised where the record that the runner has just made is looked at: what it comes to, for the
+-- same side, on a tape with the same room; no memory is left only on a tape that grows
+pub record LooksAtRecord (grows : Bool) (old : Records) (runner : Runner) (run saved : TapeView)
+    (new : Records) (new_saved : TapeView) (result : Result (Option Verdict) Memory) : Type 0 where
+  pub compared : IfOk result (Compares old runner run saved new new_saved)
+  pub numbers : IfOk result (λ found. IfSome found HasNumbers)
+  pub side : new.side ≡ old.side
+  pub limit : new_saved.limit ≡ saved.limit
+  pub memory : OnErr result (IsTrue grows)
 
 -- what is meant for a side
 abbrev pub on_side : {A : Type 0} → Side → A → A → A

@@ -1,6 +1,6 @@
-use Rattle.std.proofs.Common.{◌≡◌, ◌∙◌, subst, sym}
+use Rattle.std.proofs.Common.{◌≡◌, Ok, ◌∙◌, subst, sym}
 use Rattle.bb_cert.specs.declared.records.Records.{Records}
-use Rattle.bb_decide.specs.inside.Follow.{Compares}
+use Rattle.bb_decide.specs.inside.Follow.{LooksAtRecord}
 use Rattle.bb_decide.proofs.record_search.look_at_record.Goals as goal
 
 -- records that were looked at, whose side stays
@@ -8,10 +8,11 @@ same_records : (old new : Records) → new.side ≡ old.side
     → new ≡ record old { kept = new.kept; nearest = new.nearest }
 same_records old new side = λ i. record new { side = side i }
 
-pub returns-clause-compared : goal.returns-clause-compared
-returns-clause-compared g c =
+pub returns : goal.returns
+returns g c =
     let same = same_records c.args.records.now c.compare_and_keep.new.records
     c.compare_and_keep.ensures.side in
-    subst (λ r. Compares c.args.records.now c.args.runner.now (g.T.Tape.view c.args.run.now)
-    (g.T.Tape.view c.args.saved.now) r (g.T.Tape.view c.compare_and_keep.new.saved) c.in_ok-found.found)
-    (same ∙ sym c.copy_kept.ensures) c.in_ok-found.ensures.compared
+    subst (λ r. LooksAtRecord g.T.Tape.GROWS c.args.records.now c.args.runner.now
+    (g.T.Tape.view c.args.run.now) (g.T.Tape.view c.args.saved.now) r
+    (g.T.Tape.view c.compare_and_keep.new.saved) (Ok c.in_ok-found.found))
+    (same ∙ sym c.copy_kept.ensures) c.in_ok-found.ensures
