@@ -61,12 +61,3 @@ taken_over {table} {runner} stands {first} same is =
     let high = ap (λ p. cells_between (least (counted_head table) (steps_of runner)) p) stands.high in
     is ∙ ap (λ m. counted m (steps_of runner) (cells_between (low_of runner) (high_of runner))) same
     ∙ ap (λ n. counted first (steps_of runner) n) (low ∙ high)
-
--- where nothing was taken over
-pub within_unchanged : (bounds : Bounds) (first here : Meter) → here ≡ first → IsWithinRun bounds first here
-within_unchanged bounds first here same = rw same (record {
-  steps = omega arith;
-  most_cells = omega arith;
-  nodes = refl;
-  most_levels = refl;
-})

@@ -1,6 +1,6 @@
 -- What the search for records that agree has found, step by step.
-use Rattle.std.proofs.Common.{◌≡◌, ℕ, ◌+◌, ◌≤◌, inl, inr, Option, Some, None, ℤ, FitsSigned, w64, sym, subst}
-use Rattle.std.proofs.Common.{arith, of_z, to_z}
+use Rattle.std.proofs.Common.{◌≡◌, ℕ, ◌+◌, ◌≤◌, inl, inr, Option, Some, None, ℤ, pos, FitsSigned, w64, refl}
+use Rattle.std.proofs.Common.{arith, of_z, subst, to_z}
 use Rattle.std.proofs.lemmas.Int.{to_z-of_z}
 use Rattle.std.proofs.lemmas.Bool.{cases_lt}
 use Rattle.bb_machine.specs.declared.entry.Next.TheVariants.{Halt, State}
@@ -10,7 +10,6 @@ use Rattle.bb_tape.specs.TapeView.{IsSound, TapeView}
 use Rattle.bb_sim.specs.declared.meter.Meter.{Meter}
 use Rattle.bb_sim.specs.declared.runner.Runner.{Runner}
 use Rattle.bb_sim.specs.CellsBetween.{cells_between}
-use Rattle.bb_sim.specs.Run.{Never}
 use Rattle.bb_sim.specs.Runner.{Stands, high_of, low_of, position_of, state_of, steps_of}
 use Rattle.bb_sim.proofs.Facts.{HasStepped, RunsWithin, ends_in_Z}
 use Rattle.bb_cert.specs.declared.records.Records.{Records}
@@ -19,14 +18,15 @@ use Rattle.bb_cert.specs.declared.verdict.Side.{Side}
 use Rattle.bb_cert.specs.declared.verdict.Side.TheVariants.{L, R}
 use Rattle.bb_cert.specs.declared.verdict.Verdict.{Verdict}
 use Rattle.bb_cert.specs.records.Agree.{AgreeingRecords}
-use Rattle.bb_cert.specs.claims.Claim.{Claim}
+use Rattle.bb_cert.specs.verdict.Verdict.{HasNumbers}
 use Rattle.bb_cert.proofs.Facts.{MakesJust, agreeing_records_never_halt, makes_just, record_takes_steps}
-use Rattle.bb_cert.proofs.Facts.{records_in_order}
+use Rattle.bb_cert.proofs.Facts.{records_in_order, starts}
 use Rattle.bb_decide.proofs.Halting.{no_pair_in_Z, not_in_Z}
-use Rattle.bb_decide.specs.Cycle.{CountsSearch}
 use Rattle.bb_decide.specs.Translation.{AgreesWithPartner, FindsTranslation, HasNoTranslation, IsTranslation}
 use Rattle.bb_decide.specs.inside.Follow.{IsReady, IsSearched, Looks, on_side}
-use Rattle.bb_decide.proofs.OneSide.{EndsWith, GoesOn, HasPassed, side_ends, side_goes_on}
+use Rattle.bb_decide.proofs.Counted.{begins, counted_to, within_here}
+use Rattle.bb_decide.proofs.Endings.{IsFound}
+use Rattle.bb_decide.proofs.OneSide.{EndsWith, GoesOn, HasPassed, searched_at_first, side_ends, side_goes_on}
 use Rattle.bb_decide.proofs.OneSide.{side_passes_by, side_ready}
 
 -- step 0 makes no record
@@ -62,18 +62,6 @@ no_pair_at_end table runner run stands halts side a pair =
     no_pair_in_Z table runner run stands halts a agree.first agree.second agreeing.in_order agree.at_first
     agree.at_second agree.same_state
 
--- a verdict that the search answers
-pub record IsFound (table : Table) (bounds : Bounds) (old new : Meter) (verdict : Verdict) : Type 0 where
-  pub found : FindsTranslation table bounds (Some verdict)
-  pub counted : CountsSearch table bounds old new (Some verdict)
-  pub never : Never table
-  pub claim : Claim table verdict
-
-pub counts_as : {table : Table} {bounds : Bounds} {old new same : Meter} {verdict : Verdict} → same ≡ new
-    → IsFound table bounds old new verdict → IsFound table bounds old same verdict
-counts_as {table} {bounds} {old} {new} {same} {verdict} is found =
-    subst (λ m. IsFound table bounds old m verdict) (sym is) found
-
 -- the search has come to where a runner stands: the records of both sides are known up to there, and none of
 -- them agrees with its partner
 pub record IsSearching (table : Table) (bounds : Bounds) (runner : Runner) (view : TapeView)
@@ -84,6 +72,23 @@ pub record IsSearching (table : Table) (bounds : Bounds) (runner : Runner) (view
   pub right_is : right.side ≡ R
   pub left_is : left.side ≡ L
   pub none : (side : Side) (a b : ℕ) → b ≤ steps_of runner → IsTranslation table bounds side a b → ⊥
+
+pub searching_at_first : {table : Table} {bounds : Bounds} {runner : Runner}
+    {view saved_right saved_left : TapeView} {right left : Records} {first : Meter} → Stands table runner view
+    → steps_of runner ≡ 0 → right ≡ record { side = R; kept = runner; nearest = pos 0 }
+    → left ≡ record { side = L; kept = runner; nearest = pos 0 }
+    → IsSearching table bounds runner view right left saved_right saved_left first
+    (counted_to table first runner)
+searching_at_first {table} {bounds} {runner} {view} {first = first} stands zero right_is left_is =
+    let start = starts table runner view stands zero in
+    rw (right_is, left_is) (record {
+      run = begins first stands zero;
+      right_searched = rw zero (searched_at_first table _ _ start);
+      left_searched = rw zero (searched_at_first table _ _ start);
+      right_is = refl;
+      left_is = refl;
+      none = rw zero (none_at_first table bounds);
+    })
 
 -- a step was made outside Z, both sides have taken it in, and it is told of which of them it makes a record
 pub record IsTakenIn (table : Table) (bounds : Bounds) (before after : Runner) (view : TapeView)
@@ -194,12 +199,13 @@ module _ {table : Table} {bounds : Bounds} {before after : Runner}
     pub is_found : {side : Side} → told ≡ Some side → (verdict : Verdict)
         → Looks side after view right left saved_right saved_left new_right new_left new_saved_right
         new_saved_left (Some verdict)
-        → IsFound table bounds first meter verdict
-    is_found {side} is verdict looks =
+        → HasNumbers verdict → {counted : Meter} → counted ≡ meter
+        → IsFound (FindsTranslation table bounds) table bounds first counted verdict
+    is_found {side} is verdict looks numbers same =
         let end = ends side is verdict looks in
         let agree = pair_agrees table side end.first (steps_of after) end.pair in
         let next = taken.step.next in
-        subst (IsFound table bounds first meter) (sym end.is) (record {
+        rw (same, end.is) (record {
           found = (
             record {
               translation = record { pair = end.pair; inside = taken.step.inside };
@@ -211,8 +217,10 @@ module _ {table : Table} {bounds : Bounds} {before after : Runner}
             end.lies,
           );
           counted = taken.step.run.counts;
+          within = within_here taken.step;
           never = agreeing_records_never_halt table side end.first (steps_of after) agree;
           claim = (agree, end.lies);
+          numbers = rw end.is at numbers;
         })
 
     -- else the search goes on

@@ -1,7 +1,7 @@
 -- What the watched run knows of fingerprints, step by step.
 use Rattle.std.proofs.Common.{◌≡◌, ◌≢◌, ℕ, suc, ◌*◌, ◌≤◌, inl, inr, Some, ℤ, pos, ◌≤ℤ◌, neg_ℤ, refl, ap, sym}
-use Rattle.std.proofs.Common.{◌∙◌, Bool, false, IsTrue, add-one, arith}
-use Rattle.std.proofs.lemmas.Int.{ints}
+use Rattle.std.proofs.Common.{◌∙◌, Bool, false, FitsSigned, IsTrue, add-one, arith, of_z, to_z, w64}
+use Rattle.std.proofs.lemmas.Int.{ints, to_z-of_z}
 use Rattle.bb_machine.specs.declared.entry.Next.TheVariants.{Halt}
 use Rattle.bb_machine.specs.Limits.{Bounds}
 use Rattle.bb_machine.specs.Machine.{Table}
@@ -85,20 +85,22 @@ pub record IsReadable (view : TapeView) (p : ℤ) : Type 0 where
   pub low : neg_ℤ (pos MAX_CELLS) ≤ℤ p
   pub high : p ≤ℤ pos MAX_CELLS
 
-pub readable_here : {table : Table} {runner : Runner} {view : TapeView} → Stands table runner view
-    → state_of runner ≢ Halt → IsSound view → IsReadable view (position_of runner)
-readable_here {table} {runner} {view} stands running sound =
+pub readable_here : {table : Table} {runner : Runner} {view : TapeView} {p : ℤ} → Stands table runner view
+    → state_of runner ≢ Halt → IsSound view → FitsSigned w64 p → p ≡ position_of runner
+    → IsReadable view (to_z w64 (of_z w64 p))
+readable_here {table} {runner} {view} {p} stands running sound fits at =
     let inside = head_inside table runner view stands running in
     let small = small_position view (position_of runner) sound inside in
-    record { inside = inside; low = small.0; high = small.1 }
+    rw (to_z-of_z w64 p fits, at) (record { inside = inside; low = small.0; high = small.1 })
 
 -- after a step of a runner that stood outside Z
 module _ {table : Table} {bounds : Bounds} {before after : Runner} {view_before view_after : TapeView}
     {first meter : Meter} (stands : Stands table before view_before)
     (running : state_of before ≢ Halt) (step : HasStepped table bounds before after view_after first meter) where
   -- where it stood is still in the window
-  pub still_inside : IsInside view_after (position_of before)
-  still_inside =
+  pub still_inside : {p : ℤ} → FitsSigned w64 p → p ≡ position_of before
+      → IsInside view_after (to_z w64 (of_z w64 p))
+  still_inside {p} fits at =
       let here : counted_head table (steps_of before) ≡ position_of before =
       counted_head-at table (steps_of before) _ stands.at
       ∙ counted_running (state_of before) (position_of before) running in
@@ -110,7 +112,7 @@ module _ {table : Table} {bounds : Bounds} {before after : Runner} {view_before 
       let high = step.run.stands.high in
       let window_low = step.run.stands.window_low in
       let window_high = step.run.stands.window_high in
-      (omega (arith, ints), omega (arith, ints))
+      rw (to_z-of_z w64 p fits, at) (omega (arith, ints), omega (arith, ints))
 
   -- and the tape is as it was but for the cell there
   pub written_there : view_after.content
@@ -140,15 +142,16 @@ module _ {table : Table} {bounds : Bounds} {key : ℤ → ℕ} {before after : R
     {view_before view_after : TapeView} {old : Prints} {first meter_before meter : Meter}
     (here : IsWatched table bounds key before view_before old first meter_before)
     (step : HasStepped table bounds before after view_after first meter) where
-  pub print_known : (p : ℤ) (old_symbol new_symbol new_print : ℕ) → p ≡ position_of before
-      → old_symbol ≡ cell view_before.content p → new_symbol ≡ cell view_after.content p
-      → ((tape : Content) → old.print ≡ fingerprint key tape → cell tape p ≡ old_symbol
-      → new_print ≡ fingerprint key (with_cell tape p new_symbol))
+  pub print_known : {p : ℤ} {old_symbol new_symbol new_print : ℕ} → FitsSigned w64 p → p ≡ position_of before
+      → old_symbol ≡ cell view_before.content (to_z w64 (of_z w64 p))
+      → new_symbol ≡ cell view_after.content (to_z w64 (of_z w64 p))
+      → ((tape : Content) → old.print ≡ fingerprint key tape → cell tape (to_z w64 (of_z w64 p)) ≡ old_symbol
+      → new_print ≡ fingerprint key (with_cell tape (to_z w64 (of_z w64 p)) new_symbol))
       → new_print ≡ fingerprint key view_after.content
-  print_known p old_symbol new_symbol new_print at was now tells =
-      let written : with_cell view_before.content p new_symbol ≡ view_after.content =
-      rw (now, at) (sym (written_there here.search.run.stands here.running step)) in
-      tells view_before.content here.print_is (sym was) ∙ ap (fingerprint key) written
+  print_known {p} fits at was now tells =
+      let written = sym (written_there here.search.run.stands here.running step) in
+      tells view_before.content here.print_is (sym was)
+      ∙ ap (fingerprint key) (rw (now, to_z-of_z w64 p fits, at) written)
 
 module _ {table : Table} {bounds : Bounds} {key : ℤ → ℕ} {before after : Runner}
     {view_before view_after : TapeView} {old printed : Prints} {first meter_before meter : Meter}

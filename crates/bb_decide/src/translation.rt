@@ -7,7 +7,7 @@ ghost use Rattle.bb_cert.specs.verdict.Verdict.{HasNumbers};
 ghost use Rattle.bb_decide.specs.Bench.{BenchHasCells};
 ghost use Rattle.bb_decide.specs.Cycle.{CountsSearch};
 ghost use Rattle.bb_decide.specs.inside.Follow.{IsReady, Looks, on_side};
-ghost use Rattle.bb_decide.specs.inside.Ending.{EndsPromised, RanAs, found_of};
+ghost use Rattle.bb_decide.specs.inside.Ending.{Seeks};
 ghost use Rattle.bb_decide.specs.Sure.{FindsAgreeingRecords};
 ghost use Rattle.bb_decide.specs.Translation.{FindsTranslation};
 
@@ -58,15 +58,8 @@ pub(crate) fn seek_translation<T: Tape>(
 ) -> Result<Ending, Memory>
     requires tapes { BenchHasCells T.view limits.now.cells bench.old }
     requires room { meter.old.steps ≤ 2 * limits.now.steps }
-    ensures found { IfOk result (λ ending. FindsTranslation machine.now limits.now (found_of ending)) }
-    ensures ran { IfOk result (RanAs machine.now limits.now) }
-    ensures counted { IfOk result
-        (λ ending. CountsSearch machine.now limits.now meter.old meter.new (found_of ending)) }
-    ensures within { IsWithinRun limits.now meter.old meter.new }
-    ensures never { IfOk result (λ ending. IfSome (found_of ending) (λ verdict. Never machine.now)) }
-    ensures promised { EndsPromised machine.now T.GROWS result }
-    ensures tapes { BenchHasCells T.view limits.now.cells bench.new }
-    ensures path { bench.new.path ≡ bench.old.path }
+    ensures { Seeks (FindsTranslation machine.now limits.now) T.GROWS T.view machine.now limits.now
+        bench.old bench.new meter.old meter.new result }
 {
     let limits = *limits;
     run_to_records(machine, &limits, bench, meter)
@@ -83,15 +76,8 @@ fn run_to_records<T: Tape>(
 ) -> Result<Ending, Memory>
     requires tapes { BenchHasCells T.view limits.now.cells bench.old }
     requires room { meter.old.steps ≤ 2 * limits.now.steps }
-    ensures found { IfOk result (λ ending. FindsTranslation machine.now limits.now (found_of ending)) }
-    ensures ran { IfOk result (RanAs machine.now limits.now) }
-    ensures counted { IfOk result
-        (λ ending. CountsSearch machine.now limits.now meter.old meter.new (found_of ending)) }
-    ensures within { IsWithinRun limits.now meter.old meter.new }
-    ensures never { IfOk result (λ ending. IfSome (found_of ending) (λ verdict. Never machine.now)) }
-    ensures promised { EndsPromised machine.now T.GROWS result }
-    ensures tapes { BenchHasCells T.view limits.now.cells bench.new }
-    ensures path { bench.new.path ≡ bench.old.path }
+    ensures { Seeks (FindsTranslation machine.now limits.now) T.GROWS T.view machine.now limits.now
+        bench.old bench.new meter.old meter.new result }
 {
     limits.show_accepted();
     let mut runner = Runner::start(machine, &mut bench.run);

@@ -1,9 +1,8 @@
 //! A run that is watched for all that ends it: a halt, two records that agree, and a fingerprint that comes
 //! again.
-ghost use Rattle.std.specs.Prelude.{◌≡◌, ◌*◌, ◌≤◌, IfOk, IfSome, IsTrue, OnErr};
-ghost use Rattle.bb_sim.specs.Meter.{IsWithinRun};
+ghost use Rattle.std.specs.Prelude.{◌*◌, ◌≤◌};
 ghost use Rattle.bb_decide.specs.Bench.{BenchHasCells};
-ghost use Rattle.bb_decide.specs.inside.Ending.{Watches, WatchPromised};
+ghost use Rattle.bb_decide.specs.inside.Ending.{WatchesRun};
 
 use crate::bench::Bench;
 use crate::ending::{Ending, count_run, outcome_of};
@@ -83,12 +82,8 @@ pub fn watch<T: Tape, K: Keys>(
 ) -> Result<Option<Ending>, Memory>
     requires tapes { BenchHasCells T.view limits.now.cells bench.old }
     requires room { meter.old.steps ≤ 2 * limits.now.steps }
-    ensures watched { IfOk result
-        (Watches machine.now limits.now (K.key_of keys.now) meter.old meter.new) }
-    ensures within { IsWithinRun limits.now meter.old meter.new }
-    ensures promised { WatchPromised machine.now T.GROWS result }
-    ensures tapes { BenchHasCells T.view limits.now.cells bench.new }
-    ensures path { bench.new.path ≡ bench.old.path }
+    ensures { WatchesRun T.GROWS T.view machine.now limits.now (K.key_of keys.now) bench.old bench.new
+        meter.old meter.new result }
 {
     let limits = *limits;
     run_watched(machine, &limits, keys, bench, meter)
@@ -106,12 +101,8 @@ fn run_watched<T: Tape, K: Keys>(
 ) -> Result<Option<Ending>, Memory>
     requires tapes { BenchHasCells T.view limits.now.cells bench.old }
     requires room { meter.old.steps ≤ 2 * limits.now.steps }
-    ensures watched { IfOk result
-        (Watches machine.now limits.now (K.key_of keys.now) meter.old meter.new) }
-    ensures within { IsWithinRun limits.now meter.old meter.new }
-    ensures promised { WatchPromised machine.now T.GROWS result }
-    ensures tapes { BenchHasCells T.view limits.now.cells bench.new }
-    ensures path { bench.new.path ≡ bench.old.path }
+    ensures { WatchesRun T.GROWS T.view machine.now limits.now (K.key_of keys.now) bench.old bench.new
+        meter.old meter.new result }
 {
     limits.show_accepted();
     let mut runner = Runner::start(machine, &mut bench.run);

@@ -2,6 +2,7 @@
 use Rattle.std.specs.Prelude.{◌≡◌, ℕ, ◌+◌, ◌*◌, ◌<◌, ◌≤◌, max, Bool, true, false, IfOk, IfSome, IsTrue, OnErr}
 use Rattle.std.specs.Prelude.{Option, Some, None}
 use Rattle.std.specs.Prelude.{Result, ℤ}
+use Rattle.bb_tape.specs.TapeView.{TapeView}
 use Rattle.bb_tape.specs.declared.tape.Memory.{Memory}
 use Rattle.bb_cert.specs.claims.Claim.{Claim}
 use Rattle.bb_cert.specs.declared.verdict.Side.{Side}
@@ -16,13 +17,15 @@ use Rattle.bb_sim.specs.declared.runner.Moved.{Moved}
 use Rattle.bb_sim.specs.declared.runner.Moved.TheVariants.{Halted, NoSteps, NoCells, Stepped}
 use Rattle.bb_sim.specs.declared.simulation.Outcome.{Outcome}
 use Rattle.bb_sim.specs.declared.simulation.Outcome.TheVariants as outcomes
-use Rattle.bb_sim.specs.Meter.{CountsRun, CountsTo}
+use Rattle.bb_sim.specs.Meter.{CountsRun, CountsTo, IsWithinRun}
 use Rattle.bb_sim.specs.Outcome.{IsOutcome}
-use Rattle.bb_sim.specs.Run.{conf}
+use Rattle.bb_sim.specs.Run.{Never, conf}
 use Rattle.bb_sim.specs.Span.{Inside}
 use Rattle.bb_cert.specs.declared.verdict.Verdict.{Verdict}
 use Rattle.bb_cert.specs.declared.verdict.Verdict.TheVariants.{Halt, Cycler, Translated, Backward, Undecided}
 use Rattle.bb_cert.specs.declared.verdict.Why.TheVariants as why
+use Rattle.bb_decide.specs.Bench.{BenchHasCells}
+use Rattle.bb_decide.specs.declared.bench.Bench.{Bench}
 use Rattle.bb_decide.specs.declared.ending.Ending.{Ending}
 use Rattle.bb_decide.specs.declared.ending.Ending.TheVariants.{Found, Ran}
 use Rattle.bb_decide.specs.Cycle.{CountsSearch, HasNoCycle, IsCycle, IsFirstCycle}
@@ -94,6 +97,30 @@ Watches table bounds key old new (Some (Found verdict)) =
 Watches table bounds key old new (Some (Ran outcome)) =
     HasNoTranslation table bounds × CountsRun table bounds old new × IsOutcome table bounds outcome
     × HasNoCycle table bounds
+
+-- what a search promises, that for cycles or that for records that agree: what it finds, as `Finds` says, or
+-- how its run ended; what it has counted; and the bench as it was, but for what its tapes hold
+pub record Seeks {T : Type 0} (Finds : Option Verdict → Type 0) (grows : Bool) (view : T → TapeView)
+    (table : Table) (bounds : Bounds) (bench_old bench_new : Bench T) (old new : Meter)
+    (result : Result Ending Memory) : Type 0 where
+  pub found : IfOk result (λ ending. Finds (found_of ending))
+  pub ran : IfOk result (RanAs table bounds)
+  pub counted : IfOk result (λ ending. CountsSearch table bounds old new (found_of ending))
+  pub within : IsWithinRun bounds old new
+  pub never : IfOk result (λ ending. IfSome (found_of ending) (λ verdict. Never table))
+  pub promised : EndsPromised table grows result
+  pub tapes : BenchHasCells view bounds.cells bench_new
+  pub path : bench_new.path ≡ bench_old.path
+
+-- the same of the watched run
+pub record WatchesRun {T : Type 0} (grows : Bool) (view : T → TapeView) (table : Table) (bounds : Bounds)
+    (key : ℤ → ℕ) (bench_old bench_new : Bench T) (old new : Meter) (result : Result (Option Ending) Memory)
+    : Type 0 where
+  pub watched : IfOk result (Watches table bounds key old new)
+  pub within : IsWithinRun bounds old new
+  pub promised : WatchPromised table grows result
+  pub tapes : BenchHasCells view bounds.cells bench_new
+  pub path : bench_new.path ≡ bench_old.path
 
 -- what the searches that are on find, and how the last one ended where they find nothing
 abbrev pub EndsSearches : Table → Bounds → Plan → Ending → Type 0

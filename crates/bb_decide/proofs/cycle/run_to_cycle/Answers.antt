@@ -1,10 +1,9 @@
 use Rattle.std.proofs.Common.{◌*◌, refl, ap, arith, rules}
-use Rattle.bb_sim.proofs.Facts.{ends_in_Z, ends_stopped}
 use Rattle.bb_cert.proofs.Facts.{repeats_never_halt}
-use Rattle.bb_decide.proofs.Benches.{tapes_keep}
-use Rattle.bb_decide.proofs.Counted.{begins, counts_on, has_counted, taken_over, within_here}
+use Rattle.bb_decide.proofs.Benches.{lent_at_first, lent_on}
+use Rattle.bb_decide.proofs.Counted.{begins, has_counted, taken_over, within_here}
 use Rattle.bb_decide.proofs.Cycles.{comes_again, first_cycle, kept_earlier, no_cycle_in_Z, no_cycle_next}
-use Rattle.bb_decide.proofs.Endings.{ran_as, ran_into_Z}
+use Rattle.bb_decide.proofs.Endings.{ends_where_in_Z, ends_where_stopped, seeks_and_finds, seeks_to_end}
 use Rattle.bb_decide.proofs.Halting.{in_no_state}
 use Rattle.bb_decide.proofs.Partners.{kept_at_first, keeps_next, keeps_on}
 use Rattle.bb_decide.proofs.cycle.run_to_cycle.Goals as goal
@@ -20,9 +19,8 @@ loop-moved-init g c =
         partner = rw (kept_zero, zero) kept_at_first;
         none = λ a t few cycle. let below = cycle.partner.below in omega (arith, few, below, zero);
       };
-      tapes = tapes_keep c.start-runner.ensures.limit c.start-kept.ensures.limit refl c.requires.tapes;
-      path = refl;
-      meter = refl;
+      lent = lent_on c.start-runner.ensures.limit c.start-kept.ensures.limit refl
+          (lent_at_first c.requires.tapes);
       next = omega (arith, kept_zero);
     }
 
@@ -30,20 +28,10 @@ pub returns-in_default : goal.returns-in_default
 returns-in_default g c =
     let here = c.loop-moved.invariant in
     let call = c.in_ok-moved.ensures in
-    let moves = counts_on here.search.run call.stands _ _ _ call.moves in
-    let end = ends_stopped here.search.run call.stands _ _ c.in_default.not-Stepped call.reaches moves in
-    let counted = taken_over call.stands here.meter c.count_run.ensures in
-    record {
-      found = λ a t cycle. here.search.none a t (end.last.greatest t cycle.inside) cycle;
-      counted = rw counted end.counted;
-      within = rw counted end.within;
-      never = tt;
-      ran = ran_as here.search.run call.stands _ _ c.in_default.not-Stepped call.answers call.reaches moves _
-          c.outcome_of.ensures;
-      promised = record { claim = tt; numbers = tt; memory = tt };
-      tapes = tapes_keep call.limit refl refl here.tapes;
-      path = here.path;
-    }
+    let end = ends_where_stopped here.search.run call.stands _ _ c.in_default.not-Stepped call.answers
+    call.reaches call.moves here.lent.meter c.count_run.ensures c.outcome_of.ensures in
+    seeks_to_end (lent_on call.limit refl refl here.lent) end
+    (λ a t cycle. here.search.none a t (end.run.last.greatest t cycle.inside) cycle)
 
 pub returns-then-is_same : goal.returns-then-is_same
 returns-then-is_same g c =
@@ -52,21 +40,15 @@ returns-then-is_same g c =
     let step = has_counted here.search.run call.stands _ _ _ call.reaches call.moves c.in-Stepped.is in
     let again = comes_again here.search step c.is_same.ensures c.if-is_same.true in
     let earlier = kept_earlier here.search step in
-    let counted = taken_over call.stands here.meter c.count_run-then-is_same.ensures in
-    record {
+    let counted = taken_over call.stands here.lent.meter c.count_run-then-is_same.ensures in
+    seeks_and_finds (lent_on call.limit refl refl here.lent) (record {
       found = rw (c.steps.ensures, c.steps-then-is_same.ensures) (first_cycle here.search step again);
-      ran = tt;
       counted = rw (c.steps-then-is_same.ensures, counted) step.run.counts;
       within = rw counted (within_here step);
       never = repeats_never_halt _ _ _ earlier again;
-      promised = record {
-        claim = rw (c.steps.ensures, c.steps-then-is_same.ensures) (earlier, again);
-        numbers = search rules;
-        memory = tt;
-      };
-      tapes = tapes_keep call.limit refl refl here.tapes;
-      path = here.path;
-    }
+      claim = rw (c.steps.ensures, c.steps-then-is_same.ensures) (earlier, again);
+      numbers = search rules;
+    })
 
 pub loop-moved-preserved-then-steps-next_kept : goal.loop-moved-preserved-then-steps-next_kept
 loop-moved-preserved-then-steps-next_kept g c =
@@ -83,9 +65,7 @@ loop-moved-preserved-then-steps-next_kept g c =
             omega (arith, next, at, c.if-steps-next_kept.true, c.steps-in-loop-moved.ensures)));
         none = no_cycle_next here.search step c.is_same.ensures c.if-is_same.false;
       };
-      tapes = tapes_keep call.limit c.in-Ok.ensures.limit refl here.tapes;
-      path = here.path;
-      meter = here.meter;
+      lent = lent_on call.limit c.in-Ok.ensures.limit refl here.lent;
       next = ap (λ n. 2 * n) c.steps-next_kept.ensures;
     }
 
@@ -104,9 +84,7 @@ loop-moved-preserved g c =
             omega (arith, next, at, c.if-steps-next_kept.false, c.steps-in-loop-moved.ensures)));
         none = no_cycle_next here.search step c.is_same.ensures c.if-is_same.false;
       };
-      tapes = tapes_keep call.limit refl refl here.tapes;
-      path = here.path;
-      meter = here.meter;
+      lent = lent_on call.limit refl refl here.lent;
       next = here.next;
     }
 
@@ -117,14 +95,7 @@ returns-in_default-state g c =
     let call = c.in_ok-moved.ensures in
     let step = has_counted here.search.run call.stands _ _ _ call.reaches call.moves c.in-Stepped.is in
     let halts = in_no_state _ _ c.state.ensures c.in_default-state.not-Some in
-    let counted = taken_over call.stands here.meter c.count_run-in_default-state.ensures in
-    record {
-      found = no_cycle_in_Z here.search step halts;
-      ran = ran_into_Z step halts _ c.outcome_of-outcome.ensures;
-      counted = rw counted (ends_in_Z step halts).counted;
-      within = rw counted (within_here step);
-      never = tt;
-      promised = record { claim = tt; numbers = tt; memory = tt };
-      tapes = tapes_keep call.limit refl refl here.tapes;
-      path = here.path;
-    }
+    seeks_to_end (lent_on call.limit refl refl here.lent)
+    (ends_where_in_Z step halts here.lent.meter c.count_run-in_default-state.ensures
+    c.outcome_of-outcome.ensures)
+    (no_cycle_in_Z here.search step halts)

@@ -1,6 +1,6 @@
 use Rattle.std.proofs.Common.{◌≡◌, ◌*◌, ◌-◌}
 use Rattle.bb_sim.specs.Runner.{steps_of}
-use Rattle.bb_decide.specs.Bench.{BenchHasCells}
+use Rattle.bb_decide.proofs.Benches.{IsAsLent}
 use Rattle.bb_decide.proofs.Counted.{counted_to}
 use Rattle.bb_decide.proofs.Cycles.{IsSearching}
 use Rattle.bb_decide.proofs.cycle.run_to_cycle.Given as goal
@@ -11,9 +11,7 @@ invariant-loop-moved g l = record {
   search : IsSearching l.machine l.limits l.runner l.kept (g.T.Tape.view l.bench.run)
       (g.T.Tape.view l.bench.right) l.fn.meter
       (counted_to l.machine l.fn.meter l.runner);
-  tapes : BenchHasCells g.T.Tape.view l.limits.cells l.bench;
-  path : l.bench.path ≡ l.fn.bench.path;
-  meter : l.meter ≡ l.fn.meter;
+  lent : IsAsLent g.T.Tape.view l.limits.cells l.fn.bench l.bench l.fn.meter l.meter;
   next : l.next_kept ≡ 2 * steps_of l.kept;
 }
 

@@ -1,72 +1,46 @@
-use Rattle.std.proofs.Common.{refl, ap, ◌∙◌, rules, w64, FitsSigned}
-use Rattle.std.proofs.lemmas.Int.{to_z-of_z}
-use Rattle.bb_sim.specs.Runner.{position_of}
-use Rattle.bb_sim.proofs.Facts.{ends_in_Z, ends_stopped}
-use Rattle.bb_cert.specs.declared.records.Records.{Records}
-use Rattle.bb_cert.proofs.Facts.{starts}
-use Rattle.bb_decide.proofs.Benches.{tapes_keep}
-use Rattle.bb_decide.proofs.Counted.{begins, counts_on, has_counted, taken_over, within_here}
+use Rattle.std.proofs.Common.{refl, rules}
+use Rattle.bb_decide.proofs.Benches.{lent_at_first, lent_on}
+use Rattle.bb_decide.proofs.Counted.{counted_to, begins, has_counted, taken_over, within_here}
 use Rattle.bb_decide.proofs.Cycles.{no_cycle_in_Z}
-use Rattle.bb_decide.proofs.Endings.{ran_as, ran_into_Z}
+use Rattle.bb_decide.proofs.Endings.{ends_where_in_Z, ends_where_stopped, watches}
 use Rattle.bb_decide.proofs.Halting.{in_no_state, is_none, not_in_Z}
-use Rattle.bb_decide.proofs.OneSide.{searched_at_first}
-use Rattle.bb_decide.proofs.Translations.{counts_as, goes_on_from, goes_past, is_found, is_ready}
-use Rattle.bb_decide.proofs.Translations.{none_at_first, none_in_Z, takes_in}
+use Rattle.bb_decide.proofs.Translations.{IsTakenIn, goes_on_from, goes_past, is_found, is_ready}
+use Rattle.bb_decide.proofs.Translations.{searching_at_first, none_in_Z, takes_in}
 use Rattle.bb_decide.proofs.Watched.{not_both}
 use Rattle.bb_decide.proofs.Watched.{print_known, readable_here, still_inside, suspected, watched_at_first}
 use Rattle.bb_decide.proofs.Watched.{watched_on}
+use Rattle.bb_decide.proofs.watching.run_watched.Given as given
 use Rattle.bb_decide.proofs.watching.run_watched.Goals as goal
+use Rattle.bb_decide.proofs.watching.run_watched.Goals.{After-widened_side}
 
 pub loop-moved-init : goal.loop-moved-init
 loop-moved-init g c =
     let zero = c.start-runner.ensures.steps in
-    let start = starts _ _ _ c.start-runner.ensures.stands zero in
     record {
-      search = record {
-        run = begins c.args.meter.now c.start-runner.ensures.stands zero;
-        right_searched = rw zero (searched_at_first _ _ _ (ap (λ
-            (r : Records). position_of r.kept) c.new-right.ensures ∙ start));
-        left_searched = rw zero (searched_at_first _ _ _ (ap (λ
-            (r : Records). position_of r.kept) c.new-left.ensures ∙ start));
-        right_is = ap (λ (r : Records). r.side) c.new-right.ensures;
-        left_is = ap (λ (r : Records). r.side) c.new-left.ensures;
-        none = rw zero (none_at_first _ _);
-      };
+      search = searching_at_first c.start-runner.ensures.stands zero c.new-right.ensures c.new-left.ensures;
       watched = rw c.new-prints.ensures (watched_at_first _ _ _ _ _ _ _
           (begins c.args.meter.now c.start-runner.ensures.stands zero) zero);
-      tapes = tapes_keep c.start-runner.ensures.limit refl refl c.requires.tapes;
-      path = refl;
-      meter = refl;
+      lent = lent_on c.start-runner.ensures.limit refl refl (lent_at_first c.requires.tapes);
     }
 
 pub read_inside-old-requires : goal.read_inside-old-requires
 read_inside-old-requires g c =
     let here = c.loop-moved.invariant in
-    let fits : FitsSigned w64 c.position-position.result = search rules in
-    rw (to_z-of_z _ c.position-position.result fits, c.position-position.ensures)
-    (readable_here here.search.run.stands here.watched.running (g.met.T.Tape.sound c.loop-moved.bench.run)).inside
+    (readable_here here.search.run.stands here.watched.running (g.met.T.Tape.sound c.loop-moved.bench.run)
+    (search rules) c.position-position.ensures).inside
 
 pub returns-in_default : goal.returns-in_default
 returns-in_default g c =
     let here = c.loop-moved.invariant in
     let call = c.in_ok-moved.ensures in
-    let moves = counts_on here.search.run call.stands _ _ _ call.moves in
-    let end = ends_stopped here.search.run call.stands _ _ c.in_default.not-Stepped call.reaches moves in
-    let counted = taken_over call.stands here.meter c.count_run.ensures in
-    record {
-      watched = (
-        λ side a b translation. here.search.none side a b
-            (end.last.greatest b translation.inside) translation,
-        rw counted end.counted,
-        ran_as here.search.run call.stands _ _ c.in_default.not-Stepped call.answers call.reaches moves _
-            c.outcome_of.ensures,
-        λ a t cycle. here.watched.search.none a t (end.last.greatest t cycle.inside) cycle,
-      );
-      within = rw counted end.within;
-      promised = record { claim = tt; numbers = tt; memory = tt };
-      tapes = tapes_keep call.limit refl refl here.tapes;
-      path = here.path;
-    }
+    let end = ends_where_stopped here.search.run call.stands _ _ c.in_default.not-Stepped call.answers
+    call.reaches call.moves here.lent.meter c.count_run.ensures c.outcome_of.ensures in
+    watches (lent_on call.limit refl refl here.lent) (
+      λ side a b found. here.search.none side a b (end.run.last.greatest b found.inside) found,
+      end.run.counted,
+      end.is_outcome,
+      λ a t cycle. here.watched.search.none a t (end.run.last.greatest t cycle.inside) cycle,
+    ) end.run.within (record { claim = tt; numbers = tt; memory = tt })
 
 -- a step into Z ends the run
 pub returns-in_default-state : goal.returns-in_default-state
@@ -75,42 +49,33 @@ returns-in_default-state g c =
     let call = c.in_ok-moved.ensures in
     let step = has_counted here.search.run call.stands _ _ _ call.reaches call.moves c.in-Stepped.is in
     let halts = in_no_state _ _ c.state.ensures c.in_default-state.not-Some in
-    let counted = taken_over call.stands here.meter c.count_run-in_default-state.ensures in
-    record {
-      watched = (
-        none_in_Z here.search step halts,
-        rw counted (ends_in_Z step halts).counted,
-        ran_into_Z step halts _ c.outcome_of-outcome.ensures,
-        no_cycle_in_Z here.watched.search step halts,
-      );
-      within = rw counted (within_here step);
-      promised = record { claim = tt; numbers = tt; memory = tt };
-      tapes = tapes_keep call.limit refl refl here.tapes;
-      path = here.path;
-    }
+    let end = ends_where_in_Z step halts here.lent.meter c.count_run-in_default-state.ensures
+    c.outcome_of-outcome.ensures in
+    watches (lent_on call.limit refl refl here.lent) (
+      none_in_Z here.search step halts,
+      end.run.counted,
+      end.is_outcome,
+      no_cycle_in_Z here.watched.search step halts,
+    ) end.run.within (record { claim = tt; numbers = tt; memory = tt })
 
 pub read_inside-new-requires : goal.read_inside-new-requires
 read_inside-new-requires g c =
     let here = c.loop-moved.invariant in
     let call = c.in_ok-moved.ensures in
     let step = has_counted here.search.run call.stands _ _ _ call.reaches call.moves c.in-Stepped.is in
-    let fits : FitsSigned w64 c.position-position.result = search rules in
-    rw (to_z-of_z _ c.position-position.result fits, c.position-position.ensures)
-    (still_inside here.search.run.stands here.watched.running step)
+    still_inside here.search.run.stands here.watched.running step (search rules) c.position-position.ensures
 
 pub rewritten-requires-clause-low : goal.rewritten-requires-clause-low
 rewritten-requires-clause-low g c =
     let here = c.loop-moved.invariant in
-    let fits : FitsSigned w64 c.position-position.result = search rules in
-    rw (to_z-of_z _ c.position-position.result fits, c.position-position.ensures)
-    (readable_here here.search.run.stands here.watched.running (g.met.T.Tape.sound c.loop-moved.bench.run)).low
+    (readable_here here.search.run.stands here.watched.running (g.met.T.Tape.sound c.loop-moved.bench.run)
+    (search rules) c.position-position.ensures).low
 
 pub rewritten-requires-clause-high : goal.rewritten-requires-clause-high
 rewritten-requires-clause-high g c =
     let here = c.loop-moved.invariant in
-    let fits : FitsSigned w64 c.position-position.result = search rules in
-    rw (to_z-of_z _ c.position-position.result fits, c.position-position.ensures)
-    (readable_here here.search.run.stands here.watched.running (g.met.T.Tape.sound c.loop-moved.bench.run)).high
+    (readable_here here.search.run.stands here.watched.running (g.met.T.Tape.sound c.loop-moved.bench.run)
+    (search rules) c.position-position.ensures).high
 
 pub rewritten-requires-clause-old : goal.rewritten-requires-clause-old
 rewritten-requires-clause-old g c =
@@ -121,101 +86,80 @@ returns-then-are_as_kept g c =
     let here = c.loop-moved.invariant in
     let call = c.in_ok-moved.ensures in
     let step = has_counted here.search.run call.stands _ _ _ call.reaches call.moves c.in-Stepped.is in
-    let fits : FitsSigned w64 c.position-position.result = search rules in
-    let at = to_z-of_z _ c.position-position.result fits ∙ c.position-position.ensures in
-    let print = print_known here.watched step _ _ _ _ at c.read_inside-old.ensures c.read_inside-new.ensures
-    c.rewritten.ensures in
-    let counted = taken_over call.stands here.meter c.count_run-then-are_as_kept.ensures in
-    record {
-      watched = (
-        _,
-        suspected here.watched step refl print here.search.none (c.are_as_kept.ensures.0 c.if-are_as_kept.true),
-        rw counted step.run.counts,
-      );
-      within = rw counted (within_here step);
-      promised = record { claim = tt; numbers = tt; memory = tt };
-      tapes = tapes_keep call.limit refl refl here.tapes;
-      path = here.path;
-    }
+    let print = print_known here.watched step (search rules) c.position-position.ensures
+    c.read_inside-old.ensures c.read_inside-new.ensures c.rewritten.ensures in
+    let counted = taken_over call.stands here.lent.meter c.count_run-then-are_as_kept.ensures in
+    watches (lent_on call.limit refl refl here.lent) (
+      _,
+      suspected here.watched step refl print here.search.none (c.are_as_kept.ensures.0 c.if-are_as_kept.true),
+      rw counted step.run.counts,
+    ) (rw counted (within_here step)) (record { claim = tt; numbers = tt; memory = tt })
+
+-- the step that was made, as both sides have taken it in
+taken_in : (g : given.Over) (c : After-widened_side g)
+    → IsTakenIn c.args.machine.now c.args.limits.now c.loop-moved.runner c.advance.new.self
+    (g.T.Tape.view c.advance.new.tape) c.pass.new.self c.pass-in-loop-moved.new.self
+    (g.T.Tape.view c.loop-moved.bench.right) (g.T.Tape.view c.loop-moved.bench.left) c.args.meter.now
+    (counted_to c.args.machine.now c.args.meter.now c.advance.new.self) c.widened_side.result
+taken_in g c =
+    let here = c.loop-moved.invariant.search in
+    let call = c.in_ok-moved.ensures in
+    let step = has_counted here.run call.stands _ _ _ call.reaches call.moves c.in-Stepped.is in
+    takes_in here step c.in-Some.ensures c.cells-cells.ensures _ c.widened_side.ensures (search rules)
+    c.position.ensures c.pass.ensures (search rules) c.position-in-loop-moved.ensures
+    c.pass-in-loop-moved.ensures
 
 -- a step that widens nothing makes no record
 pub loop-moved-preserved-in_default-widened_side : goal.loop-moved-preserved-in_default-widened_side
 loop-moved-preserved-in_default-widened_side g c =
     let here = c.loop-moved.invariant in
     let call = c.in_ok-moved.ensures in
-    let step = has_counted here.search.run call.stands _ _ _ call.reaches call.moves c.in-Stepped.is in
-    let taken = takes_in here.search step c.in-Some.ensures c.cells-cells.ensures _ c.widened_side.ensures
-    (search rules) c.position.ensures c.pass.ensures (search rules) c.position-in-loop-moved.ensures
-    c.pass-in-loop-moved.ensures in
-    let fits : FitsSigned w64 c.position-position.result = search rules in
-    let at = to_z-of_z _ c.position-position.result fits ∙ c.position-position.ensures in
-    let print = print_known here.watched step _ _ _ _ at c.read_inside-old.ensures c.read_inside-new.ensures
-    c.rewritten.ensures in
+    let taken = taken_in g (goal.at.loop-moved-preserved-in_default-widened_side g c).After-widened_side in
+    let print = print_known here.watched taken.step (search rules) c.position-position.ensures
+    c.read_inside-old.ensures c.read_inside-new.ensures c.rewritten.ensures in
     record {
       search = goes_past here.search taken (is_none _ c.in_default-widened_side.not-Some);
-      watched = watched_on here.watched step refl print
+      watched = watched_on here.watched taken.step refl print
           (λ same. not_both (c.are_as_kept.ensures.1 same) c.if-are_as_kept.false)
           (not_in_Z c.in-Some.ensures) c.keep_in_turn.ensures;
-      tapes = tapes_keep call.limit refl refl here.tapes;
-      path = here.path;
-      meter = here.meter;
+      lent = lent_on call.limit refl refl here.lent;
     }
 
 -- else the record that it makes is looked at
 pub look_on-requires-clause-ready : goal.look_on-requires-clause-ready
 look_on-requires-clause-ready g c =
     let here = c.loop-moved.invariant.search in
-    let call = c.in_ok-moved.ensures in
-    let step = has_counted here.run call.stands _ _ _ call.reaches call.moves c.in-Stepped.is in
-    let taken = takes_in here step c.in-Some.ensures c.cells-cells.ensures _ c.widened_side.ensures
-    (search rules) c.position.ensures c.pass.ensures (search rules) c.position-in-loop-moved.ensures
-    c.pass-in-loop-moved.ensures in
+    let taken = taken_in g (goal.at.look_on-requires-clause-ready g c).After-widened_side in
     is_ready here taken _ c.in-Some-widened_side.is (g.met.T.Tape.sound c.advance.new.tape)
+
+pub returns-in_err-verdict : goal.returns-in_err-verdict
+returns-in_err-verdict g c = search rules depth 7
 
 pub returns-in-Some-2 : goal.returns-in-Some-2
 returns-in-Some-2 g c =
     let here = c.loop-moved.invariant in
     let call = c.in_ok-moved.ensures in
-    let step = has_counted here.search.run call.stands _ _ _ call.reaches call.moves c.in-Stepped.is in
-    let taken = takes_in here.search step c.in-Some.ensures c.cells-cells.ensures _ c.widened_side.ensures
-    (search rules) c.position.ensures c.pass.ensures (search rules) c.position-in-loop-moved.ensures
-    c.pass-in-loop-moved.ensures in
+    let taken = taken_in g (goal.at.returns-in-Some-2 g c).After-widened_side in
     let looks = c.in_ok-verdict.ensures in
-    let counted = taken_over call.stands here.meter c.count_run-in-Some-2.ensures in
-    let found = counts_as counted (is_found here.search taken _ _ _ _ c.in-Some-widened_side.is _
-    (rw c.in-Some-2.is at looks.looks)) in
-    record {
-      watched = (found.found, found.counted);
-      within = rw counted (within_here step);
-      promised = record {
-        claim = found.claim;
-        numbers = rw c.in-Some-2.is at looks.numbers;
-        memory = tt;
-      };
-      tapes = tapes_keep call.limit looks.right_limit looks.left_limit here.tapes;
-      path = here.path;
-    }
+    let found = is_found here.search taken _ _ _ _ c.in-Some-widened_side.is _
+    (rw c.in-Some-2.is at looks.looks) (rw c.in-Some-2.is at looks.numbers)
+    (taken_over call.stands here.lent.meter c.count_run-in-Some-2.ensures) in
+    watches (lent_on call.limit looks.right_limit looks.left_limit here.lent) (found.found, found.counted)
+    found.within (record { claim = found.claim; numbers = found.numbers; memory = tt })
 
 pub loop-moved-preserved : goal.loop-moved-preserved
 loop-moved-preserved g c =
     let here = c.loop-moved.invariant in
     let call = c.in_ok-moved.ensures in
-    let step = has_counted here.search.run call.stands _ _ _ call.reaches call.moves c.in-Stepped.is in
-    let taken = takes_in here.search step c.in-Some.ensures c.cells-cells.ensures _ c.widened_side.ensures
-    (search rules) c.position.ensures c.pass.ensures (search rules) c.position-in-loop-moved.ensures
-    c.pass-in-loop-moved.ensures in
-    let fits : FitsSigned w64 c.position-position.result = search rules in
-    let at = to_z-of_z _ c.position-position.result fits ∙ c.position-position.ensures in
-    let print = print_known here.watched step _ _ _ _ at c.read_inside-old.ensures c.read_inside-new.ensures
-    c.rewritten.ensures in
-    let limits = c.in_ok-verdict.ensures in
+    let taken = taken_in g (goal.at.loop-moved-preserved g c).After-widened_side in
+    let print = print_known here.watched taken.step (search rules) c.position-position.ensures
+    c.read_inside-old.ensures c.read_inside-new.ensures c.rewritten.ensures in
+    let looks = c.in_ok-verdict.ensures in
     record {
       search = goes_on_from here.search taken _ _ _ _ c.in-Some-widened_side.side c.in-Some-widened_side.is
-          (rw c.in-None.is at c.in_ok-verdict.ensures.looks);
-      watched = watched_on here.watched step refl print
+          (rw c.in-None.is at looks.looks);
+      watched = watched_on here.watched taken.step refl print
           (λ same. not_both (c.are_as_kept.ensures.1 same) c.if-are_as_kept.false)
           (not_in_Z c.in-Some.ensures) c.keep_in_turn.ensures;
-      tapes = tapes_keep call.limit limits.right_limit limits.left_limit here.tapes;
-      path = here.path;
-      meter = here.meter;
+      lent = lent_on call.limit looks.right_limit looks.left_limit here.lent;
     }

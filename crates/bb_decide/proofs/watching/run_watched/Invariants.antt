@@ -1,6 +1,6 @@
-use Rattle.std.proofs.Common.{◌≡◌, ◌-◌}
+use Rattle.std.proofs.Common.{◌-◌}
 use Rattle.bb_sim.specs.Runner.{steps_of}
-use Rattle.bb_decide.specs.Bench.{BenchHasCells}
+use Rattle.bb_decide.proofs.Benches.{IsAsLent}
 use Rattle.bb_decide.proofs.Counted.{counted_to}
 use Rattle.bb_decide.proofs.Translations.{IsSearching}
 use Rattle.bb_decide.proofs.Watched.{IsWatched}
@@ -14,9 +14,7 @@ invariant-loop-moved g l = record {
       (counted_to l.machine l.fn.meter l.runner);
   watched : IsWatched l.machine l.limits (g.K.Keys.key_of l.keys) l.runner (g.T.Tape.view l.bench.run) l.prints
       l.fn.meter (counted_to l.machine l.fn.meter l.runner);
-  tapes : BenchHasCells g.T.Tape.view l.limits.cells l.bench;
-  path : l.bench.path ≡ l.fn.bench.path;
-  meter : l.meter ≡ l.fn.meter;
+  lent : IsAsLent g.T.Tape.view l.limits.cells l.fn.bench l.bench l.fn.meter l.meter;
 }
 
 abbrev pub decreases-loop-moved : goal.decreases-loop-moved
