@@ -49,7 +49,9 @@ impl Prints {
     fn are_as_kept(&self, runner: &Runner) -> bool
         ensures { IsTrue result ↔ AreAsKept self.now runner.now }
     {
-        self.print == self.kept_print && runner.is_like(&self.kept)
+        self.print == self.kept_print
+            && runner.position() == self.kept.position()
+            && runner.state() == self.kept.state()
     }
 
     /// Keeps the configuration where a runner stands, if it is its turn.

@@ -13,7 +13,9 @@ pub fn is_same<T: Tape>(runner: &Runner, tape: &T, other: &Runner, other_tape: &
         × (position_of runner.now ≡ position_of other.now)
         × ((T.view tape.now).content ≡ (T.view other_tape.now).content)) }
 {
-    runner.is_like(other) && has_same_cells(tape, other_tape)
+    runner.position() == other.position()
+        && runner.state() == other.state()
+        && has_same_cells(tape, other_tape)
 }
 
 /// Whether two tapes have the same cells. It is not inlined, so that a caller's loop keeps its registers.

@@ -258,15 +258,6 @@ impl Runner {
         self.position
     }
 
-    /// Whether another runner stands in the same state with its head at the same position.
-    #[inline]
-    pub fn is_like(&self, other: &Runner) -> bool
-        ensures { IsTrue result ↔ ((state_of self.now ≡ state_of other.now)
-            × (position_of self.now ≡ position_of other.now)) }
-    {
-        self.position == other.position && self.state == other.state
-    }
-
     /// How many steps were made.
     #[inline]
     pub fn steps(&self) -> u64
