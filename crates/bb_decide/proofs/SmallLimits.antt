@@ -5,15 +5,15 @@ use Rattle.bb_machine.specs.Limits.{Bounds}
 use Rattle.bb_machine.specs.Machine.{Table}
 use Rattle.bb_sim.proofs.Facts.{earlier_is_inside}
 use Rattle.bb_cert.specs.declared.verdict.Side.{Side}
-use Rattle.bb_cert.specs.declared.verdict.Verdict.TheVariants.{Halt, Cycler, Translated, Backward, Undecided}
-use Rattle.bb_cert.proofs.Facts.{agreeing_records_never_halt, agreeing_records_never_repeat}
-use Rattle.bb_cert.proofs.Facts.{repeats_never_halt}
+use Rattle.bb_cert.specs.declared.verdict.Verdict.TheVariants.{Halt, Cycler, Translated}
 use Rattle.bb_decide.specs.Cycle.{IsCycle, IsFirstCycle}
 use Rattle.bb_decide.specs.Laws.{SmallLimitsDecide}
 use Rattle.bb_decide.specs.Sure.{NoneIsSmaller}
 use Rattle.bb_decide.specs.Translation.{IsFirstTranslation, IsTranslation}
-use Rattle.bb_decide.proofs.Claims.{verdicts_hold}
-use Rattle.bb_decide.proofs.Sure.{cycle_upper, halts_upper, translation_upper}
+use Rattle.bb_decide.proofs.KnownOfVerdicts.{cyclers_are_on, extent_is_told, has_score, is_first_agreement}
+use Rattle.bb_decide.proofs.KnownOfVerdicts.{is_first_cycle, is_halt_within, translated_are_on}
+use Rattle.bb_decide.proofs.LargerLimits.{cycle_upper, halts_upper, translation_upper}
+use Rattle.bb_decide.proofs.OneRun.{found_is_verdict, no_cycle_beside}
 
 module _ (table : Table) (lower upper : Bounds) (within : NoneIsSmaller lower upper) where
   -- a cycle no later than one inside the smaller limits is inside them
@@ -55,23 +55,17 @@ module _ (table : Table) (lower upper : Bounds) (within : NoneIsSmaller lower up
 
 pub small_limits_decide : SmallLimitsDecide
 small_limits_decide table lower upper plan trees (Halt n ones) within found is =
-    (halts_upper table lower upper within n is.0, is.1)
+    (halts_upper table lower upper within n (is_halt_within plan is), has_score plan is)
 small_limits_decide table lower upper plan trees (Cycler first second) within found is =
-    let cycle = is.2.cycle in
-    let never = repeats_never_halt table first second cycle.partner.below cycle.same in (
-      λ n halts. never.never n halts.halts,
-      is.1,
-      first_cycle_upper table lower upper within first second is.2,
-    )
+    found_is_verdict table upper plan (Cycler first second)
+    (cyclers_are_on plan is, first_cycle_upper table lower upper within first second (is_first_cycle plan is))
 small_limits_decide table lower upper plan trees (Translated side first second extent) within found is =
-    let agree = (verdicts_hold table lower (record plan { backward = trees })
-    (Translated side first second extent) is).0 in (
-      λ n halts. (agreeing_records_never_halt table side first second agree).never n halts.halts,
-      λ on a t cycle. agreeing_records_never_repeat table side first second a t agree cycle.partner.below
-          cycle.same,
-      is.2,
-      first_translation_upper table lower upper within side first second is.3,
-      is.4,
+    let there = first_translation_upper table lower upper within side first second
+    (is_first_agreement plan extent is) in
+    found_is_verdict table upper plan (Translated side first second extent) (
+      λ on. no_cycle_beside table upper side first second there,
+      translated_are_on plan extent is,
+      there,
+      extent_is_told plan extent is,
     )
-small_limits_decide table lower upper plan trees (Backward levels nodes) within found is = absurd found
-small_limits_decide table lower upper plan trees (Undecided why) within found is = absurd found
+small_limits_decide table lower upper plan trees verdict within found is = absurd found

@@ -1,5 +1,6 @@
 -- Why no machine has two verdicts, nor two counts of steps.
 use Rattle.std.proofs.Common.{◌≡◌, ℕ, ◌≤◌, ◌<◌, Option, ℤ, pos, neg_ℤ, inl, inr, refl, sym, subst, ◌∙◌, arith}
+use Rattle.std.proofs.lemmas.Bool.{cases_lt}
 use Rattle.std.proofs.lemmas.Int.{ints}
 use Rattle.bb_machine.specs.Limits.{Bounds}
 use Rattle.bb_machine.specs.Machine.{Table}
@@ -19,6 +20,9 @@ use Rattle.bb_decide.specs.Translation.{IsFirstTranslation}
 use Rattle.bb_decide.specs.Laws.{VerdictIsUnique, StepsAreBounded, StepsAreUnique}
 use Rattle.bb_decide.specs.Cost.{CycleSteps, MakesCycleSearch, MakesTranslationSearch, StepsIfMade}
 use Rattle.bb_decide.specs.Cost.{TranslationSteps}
+use Rattle.bb_decide.proofs.KnownOfVerdicts.{asked_before, extent_is_told, is_first_agreement, is_first_cycle}
+use Rattle.bb_decide.proofs.KnownOfVerdicts.{is_tree}
+use Rattle.bb_decide.proofs.LargerLimits.{found_before, same_limits}
 use Rattle.bb_decide.proofs.Partners.{partner_is_unique}
 
 -- there is one first cycle
@@ -95,76 +99,36 @@ module _ (table : Table) (bounds : Bounds) where
 pub verdict_is_unique : VerdictIsUnique
 verdict_is_unique table bounds plan (Halt n ones) (Halt m twos) a b =
     let same = outcome_is_unique table bounds (Halts n ones) (Halts m twos) a b in cc
-verdict_is_unique table bounds plan (Halt n ones) (Undecided Steps) a b =
-    let same = outcome_is_unique table bounds (Halts n ones) NoSteps a b.0 in cc
-verdict_is_unique table bounds plan (Halt n ones) (Undecided Cells) a b =
-    let same = outcome_is_unique table bounds (Halts n ones) NoCells a b.0 in cc
-verdict_is_unique table bounds plan (Halt n ones) (Cycler first second) a b = absurd (b.0 n a.0)
-verdict_is_unique table bounds plan (Cycler first second) (Halt n ones) a b = absurd (a.0 n b.0)
 verdict_is_unique table bounds plan (Cycler first second) (Cycler third fourth) a b =
-    let firsts = partner_of_cycle_is_one table bounds first second third fourth a.2 b.2 in
-    let seconds = first_cycle_is_one table bounds first second third fourth a.2 b.2 in
+    let one = is_first_cycle plan a in
+    let other = is_first_cycle plan b in
+    let firsts = partner_of_cycle_is_one table bounds first second third fourth one other in
+    let seconds = first_cycle_is_one table bounds first second third fourth one other in
     cc
-verdict_is_unique table bounds plan (Cycler first second) (Undecided Steps) a b =
-    absurd (b.1.0 a.1 first second a.2.cycle)
-verdict_is_unique table bounds plan (Cycler first second) (Undecided Cells) a b =
-    absurd (b.1.0 a.1 first second a.2.cycle)
-verdict_is_unique table bounds plan (Undecided Steps) (Halt m twos) a b =
-    let same = outcome_is_unique table bounds NoSteps (Halts m twos) a.0 b in cc
-verdict_is_unique table bounds plan (Undecided Cells) (Halt m twos) a b =
-    let same = outcome_is_unique table bounds NoCells (Halts m twos) a.0 b in cc
-verdict_is_unique table bounds plan (Undecided Steps) (Cycler first second) a b =
-    absurd (a.1.0 b.1 first second b.2.cycle)
-verdict_is_unique table bounds plan (Undecided Cells) (Cycler first second) a b =
-    absurd (a.1.0 b.1 first second b.2.cycle)
+verdict_is_unique table bounds plan (Translated side first second extent)
+    (Translated other third fourth told) a b =
+    translations_are_one table bounds side other first second third fourth extent told
+    (is_first_agreement plan extent a) (is_first_agreement plan told b) (extent_is_told plan extent a)
+    (extent_is_told plan told b)
+verdict_is_unique table bounds plan (Backward levels nodes) (Backward h k) a b =
+    let same = tree_has_one_end table levels nodes h k (is_tree plan a).ends (is_tree plan b).ends in
+    let levels_same = same.0 in
+    let nodes_same = same.1 in
+    cc
 verdict_is_unique table bounds plan (Undecided Steps) (Undecided Steps) a b = refl
 verdict_is_unique table bounds plan (Undecided Cells) (Undecided Cells) a b = refl
 verdict_is_unique table bounds plan (Undecided Steps) (Undecided Cells) a b =
     let same = outcome_is_unique table bounds NoSteps NoCells a.0 b.0 in cc
 verdict_is_unique table bounds plan (Undecided Cells) (Undecided Steps) a b =
     let same = outcome_is_unique table bounds NoCells NoSteps a.0 b.0 in cc
-verdict_is_unique table bounds plan (Translated side first second extent) (Halt m twos) a b =
-    absurd (a.0 m b.0)
-verdict_is_unique table bounds plan (Translated side first second extent) (Cycler third fourth) a b =
-    absurd (a.1 b.1 third fourth b.2.cycle)
-verdict_is_unique table bounds plan (Translated side first second extent)
-    (Translated other third fourth told) a b =
-    translations_are_one table bounds side other first second third fourth extent told a.3 b.3 a.4 b.4
-verdict_is_unique table bounds plan (Translated side first second extent) (Undecided Steps) a b =
-    absurd (b.1.1 a.2 side first second a.3.translation)
-verdict_is_unique table bounds plan (Translated side first second extent) (Undecided Cells) a b =
-    absurd (b.1.1 a.2 side first second a.3.translation)
-verdict_is_unique table bounds plan (Halt n ones) (Translated side third fourth extent) a b =
-    absurd (b.0 n a.0)
-verdict_is_unique table bounds plan (Cycler first second) (Translated side third fourth extent) a b =
-    absurd (b.1 a.1 first second a.2.cycle)
-verdict_is_unique table bounds plan (Undecided Steps) (Translated side third fourth extent) a b =
-    absurd (a.1.1 b.2 side third fourth b.3.translation)
-verdict_is_unique table bounds plan (Undecided Cells) (Translated side third fourth extent) a b =
-    absurd (a.1.1 b.2 side third fourth b.3.translation)
-verdict_is_unique table bounds plan (Backward levels nodes) (Halt m twos) a b = absurd (a.0 m b.0)
-verdict_is_unique table bounds plan (Backward levels nodes) (Cycler third fourth) a b =
-    absurd (a.1 b.1 third fourth b.2.cycle)
-verdict_is_unique table bounds plan (Backward levels nodes) (Translated side third fourth extent) a b =
-    absurd (a.2 b.2 side third fourth b.3.translation)
-verdict_is_unique table bounds plan (Backward levels nodes) (Backward h k) a b =
-    let same = tree_has_one_end table levels nodes h k a.4.ends b.4.ends in
-    let levels_same = same.0 in
-    let nodes_same = same.1 in
-    cc
-verdict_is_unique table bounds plan (Backward levels nodes) (Undecided Steps) a b =
-    absurd ((b.1.2 a.3).nowhere levels nodes a.4)
-verdict_is_unique table bounds plan (Backward levels nodes) (Undecided Cells) a b =
-    absurd ((b.1.2 a.3).nowhere levels nodes a.4)
-verdict_is_unique table bounds plan (Halt n ones) (Backward levels nodes) a b = absurd (b.0 n a.0)
-verdict_is_unique table bounds plan (Cycler first second) (Backward levels nodes) a b =
-    absurd (b.1 a.1 first second a.2.cycle)
-verdict_is_unique table bounds plan (Translated side first second extent) (Backward levels nodes) a b =
-    absurd (b.2 a.2 side first second a.3.translation)
-verdict_is_unique table bounds plan (Undecided Steps) (Backward levels nodes) a b =
-    absurd ((a.1.2 b.3).nowhere levels nodes b.4)
-verdict_is_unique table bounds plan (Undecided Cells) (Backward levels nodes) a b =
-    absurd ((a.1.2 b.3).nowhere levels nodes b.4)
+verdict_is_unique table bounds plan one other a b =
+    elim (cases_lt (asked_before one) (asked_before other)) [
+      | inl before ↦
+          absurd (found_before table bounds bounds (same_limits bounds) plan one other a b before)
+      | inr late ↦
+          absurd (found_before table bounds bounds (same_limits bounds) plan other one b a
+          (omega (arith, late)))
+    ]
 
 module _ (table : Table) (bounds : Bounds) where
   cycle_steps_are_one : (n m : ℕ) → CycleSteps table bounds n → CycleSteps table bounds m → n ≡ m

@@ -13,7 +13,7 @@ use Rattle.bb_sim.proofs.Facts.{last_step_is_unique}
 use Rattle.bb_cert.specs.declared.verdict.Verdict.TheVariants.{Backward}
 use Rattle.bb_decide.specs.Cost.{DecisionSteps}
 use Rattle.bb_decide.specs.Verdict.{IsVerdict}
-use Rattle.bb_decide.proofs.Facts.{steps_are_bounded, steps_are_unique}
+use Rattle.bb_decide.proofs.Facts.{is_tree, steps_are_bounded, steps_are_unique, walk_is_made}
 use Rattle.bb_lines.specs.declared.fault.Fault.{Fault}
 use Rattle.bb_lines.specs.declared.fault.Fault.TheVariants.{Memory, Read, Write}
 use Rattle.bb_lines.specs.Ends.{ListEnds}
@@ -96,7 +96,7 @@ module _ (one : TextsDiffer) (bounds : Bounds) (plan : Plan) where
         is_tree_within h k other =
             let e = same_table one line other.table saw.table other.of saw.of in
             let verdict = subst (λ t. IsVerdict t bounds plan (Backward h k)) e other.is_verdict in
-            let counted = limited.walk.of_tree (verdict.0, verdict.1, verdict.2, verdict.3) h k verdict.4 in
+            let counted = limited.walk.of_tree (walk_is_made plan verdict) h k (is_tree plan verdict) in
             (omega (arith, counted.0, levels), omega (arith, counted.1, nodes))
 
     refusal_summed : IsOneRunSummary bounds plan lines old → SawRefusal old line new cost
