@@ -7,6 +7,7 @@ use Rattle.bb_sim.specs.Outcome.{HaltsInside, HaltsNowhere}
 use Rattle.bb_sim.specs.Run.{IsScore}
 use Rattle.bb_cert.specs.declared.verdict.Extent.{Extent}
 use Rattle.bb_cert.specs.declared.verdict.Side.{Side}
+use Rattle.bb_cert.specs.declared.verdict.Why.{Why}
 use Rattle.bb_cert.specs.declared.verdict.Why.TheVariants.{Steps, Cells}
 use Rattle.bb_cert.specs.declared.verdict.Verdict.{Verdict}
 use Rattle.bb_cert.specs.declared.verdict.Verdict.TheVariants.{Halt, Cycler, Translated, Backward, Undecided}
@@ -15,9 +16,9 @@ use Rattle.bb_cert.specs.verdict.Extent.{TellsExtent}
 use Rattle.bb_decide.specs.Cost.{MakesWalk}
 use Rattle.bb_decide.specs.Cycle.{IsFirstCycle}
 use Rattle.bb_decide.specs.Translation.{IsFirstTranslation}
-use Rattle.bb_decide.specs.Verdict.{IsVerdict, PassesCycles, PassesTranslations, PassesTrees}
+use Rattle.bb_decide.specs.Verdict.{IsVerdict, PassesAll, PassesCycles, PassesTranslations, PassesTrees}
 
--- what was found, and that its decider is on
+-- what was found, that its decider is on, and what was passed over where nothing was found
 module _ {table : Table} {bounds : Bounds} (plan : Plan) where
   pub is_halt_within : {n ones : ℕ} → IsVerdict table bounds plan (Halt n ones) → HaltsInside table bounds n
   is_halt_within is = is.0
@@ -52,6 +53,10 @@ module _ {table : Table} {bounds : Bounds} (plan : Plan) where
   pub walk_is_made : {h k : ℕ} → IsVerdict table bounds plan (Backward h k) → MakesWalk table bounds plan
   walk_is_made is = (is.0, is.1, is.2, is.3)
 
+  pub passes_all : (why : Why) → IsVerdict table bounds plan (Undecided why) → PassesAll table bounds plan
+  passes_all Steps is = is.1
+  passes_all Cells is = is.1
+
 -- how many deciders were asked before, the run as the first
 abbrev pub asked_before : Verdict → ℕ
 asked_before (Halt steps score) = 0
@@ -73,19 +78,16 @@ module _ (table : Table) (bounds : Bounds) (plan : Plan) where
       → PassesCycles table bounds plan
   passes_cycles (Translated side first second extent) is later = is.1
   passes_cycles (Backward levels nodes) is later = is.1
-  passes_cycles (Undecided Steps) is later = is.1.0
-  passes_cycles (Undecided Cells) is later = is.1.0
+  passes_cycles (Undecided why) is later = (passes_all plan why is).0
   passes_cycles verdict is later = absurd (omega (arith, later))
 
   pub passes_translations : (verdict : Verdict) → IsVerdict table bounds plan verdict
       → 2 < asked_before verdict → PassesTranslations table bounds plan
   passes_translations (Backward levels nodes) is later = is.2
-  passes_translations (Undecided Steps) is later = is.1.1
-  passes_translations (Undecided Cells) is later = is.1.1
+  passes_translations (Undecided why) is later = (passes_all plan why is).1
   passes_translations verdict is later = absurd (omega (arith, later))
 
   pub passes_trees : (verdict : Verdict) → IsVerdict table bounds plan verdict → 3 < asked_before verdict
       → PassesTrees table bounds plan
-  passes_trees (Undecided Steps) is later = is.1.2
-  passes_trees (Undecided Cells) is later = is.1.2
+  passes_trees (Undecided why) is later = (passes_all plan why is).2
   passes_trees verdict is later = absurd (omega (arith, later))

@@ -12,7 +12,7 @@ use Rattle.bb_sim.specs.declared.simulation.Outcome.TheVariants as outcomes
 use Rattle.bb_sim.specs.Meter.{CountsRun, CountsTo}
 use Rattle.bb_sim.specs.Outcome.{HaltsInside, HaltsNowhere, IsOutcome}
 use Rattle.bb_sim.specs.Run.{Never}
-use Rattle.bb_sim.specs.Span.{IsLastInside}
+use Rattle.bb_sim.specs.Span.{Inside}
 use Rattle.bb_sim.proofs.Facts.{halts_last}
 use Rattle.bb_cert.specs.declared.verdict.Side.{Side}
 use Rattle.bb_cert.specs.declared.verdict.Verdict.{Verdict}
@@ -45,20 +45,21 @@ module _ (table : Table) (bounds : Bounds) where
       (agreeing_records_never_halt table side a b (pair_agrees table side a b translation.pair)).never n
       halts.halts
 
-  -- the last step inside is no later than the step that an outcome names
-  named_by_outcome : (outcome : Outcome) → IsOutcome table bounds outcome → (n : ℕ) → IsLastInside table bounds n
-      → n ≤ most_steps bounds (verdict_of_outcome outcome)
-  named_by_outcome (outcomes.Halt steps score) is n last =
-      (halts_last table bounds steps is.0.inside is.0.halts).greatest n last.inside
-  named_by_outcome outcomes.NoSteps is n last = last.inside.within_steps
-  named_by_outcome outcomes.NoCells is n last = last.inside.within_steps
+  -- no step inside is later than the step that an outcome names
+  named_by_outcome : (outcome : Outcome) → IsOutcome table bounds outcome → (n : ℕ) → Inside table bounds n
+      → (n ≤ named_step bounds (verdict_of_outcome outcome)) × (n ≤ most_steps bounds (verdict_of_outcome outcome))
+  named_by_outcome (outcomes.Halt steps score) is n inside =
+      let no_later = (halts_last table bounds steps is.0.inside is.0.halts).greatest n inside in
+      (no_later, no_later)
+  named_by_outcome outcomes.NoSteps is n inside = (inside.within_steps, inside.within_steps)
+  named_by_outcome outcomes.NoCells is n inside = (inside.within_steps, inside.within_steps)
 
 module _ (table : Table) (bounds : Bounds) (key : ℤ → ℕ) (old new : Meter) (zero : old.steps ≡ 0) where
   pub run_costs : CountsRun table bounds old new → (outcome : Outcome) → IsOutcome table bounds outcome
       → EndingCosts key table bounds new.steps (Ran outcome)
   run_costs counts outcome is none =
       let steps : new.steps ≡ old.steps + counts.last = ap (λ (m : Meter). m.steps) counts.counts in
-      let named = named_by_outcome table bounds outcome is counts.last counts.is_last in
+      let named = (named_by_outcome table bounds outcome is counts.last counts.is_last.inside).1 in
       omega (arith, steps, zero, named)
 
   -- one search alone
@@ -110,12 +111,10 @@ module _ {table : Table} {bounds : Bounds} {key : ℤ → ℕ} {n : ℕ} (here :
   not_earlier b never = elim (cases_lt b n) [ inl less ↦ absurd (never less) | inr late ↦ late ]
 
   -- the step that an outcome names is no earlier
-  late_outcome : (outcome : Outcome) → IsOutcome table bounds outcome
-      → n ≤ named_step bounds (verdict_of_outcome outcome)
-  late_outcome (outcomes.Halt steps score) is =
-      (halts_last table bounds steps is.0.inside is.0.halts).greatest n here.inside
-  late_outcome outcomes.NoSteps is = here.inside.within_steps
-  late_outcome outcomes.NoCells is = here.inside.within_steps
+  outcome_by_chance : HasNoCycle table bounds → (outcome : Outcome) → IsOutcome table bounds outcome
+      → AgreesByChance key table (named_step bounds (verdict_of_outcome outcome))
+  outcome_by_chance none outcome is = by_chance none (named_step bounds (verdict_of_outcome outcome))
+      (named_by_outcome table bounds outcome is n here.inside).0
 
   -- what the exact search for cycles finds costs no more than it may
   pub exact_costs : (old mid new : Meter) → old.steps ≡ 0 → CountsTo table n old mid → (ending : Ending)
@@ -127,7 +126,7 @@ module _ {table : Table} {bounds : Bounds} {key : ℤ → ℕ} {n : ℕ} (here :
       let late = not_earlier second (λ less. here.no_cycle first second less found.cycle) in
       omega (arith, one, two, late, zero)
   exact_costs old mid new zero counts (Ran outcome) found ran searched none =
-      absurd (none (by_chance found (named_step bounds (verdict_of_outcome outcome)) (late_outcome outcome ran)))
+      absurd (none (outcome_by_chance found outcome ran))
   exact_costs old mid new zero counts (Found verdict) found ran searched none = absurd found
 
   -- where that finds none, the fingerprints agree by chance
@@ -138,7 +137,7 @@ module _ {table : Table} {bounds : Bounds} {key : ℤ → ℕ} {n : ℕ} (here :
       absurd (none (by_chance nowhere second
       (not_earlier second (λ less. here.no_translation side first second less found.0.translation))))
   chance_costs nowhere steps (Ran outcome) found ran none =
-      absurd (none (by_chance nowhere (named_step bounds (verdict_of_outcome outcome)) (late_outcome outcome ran)))
+      absurd (none (outcome_by_chance nowhere outcome ran))
   chance_costs nowhere steps (Found verdict) found ran none = absurd found
 
 module _ (table : Table) (bounds : Bounds) where
