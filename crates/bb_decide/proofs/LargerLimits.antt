@@ -5,17 +5,17 @@ use Rattle.bb_machine.specs.Machine.{Table}
 use Rattle.bb_machine.specs.declared.plan.Plan.{Plan}
 use Rattle.bb_sim.specs.Outcome.{HaltsInside, HaltsNowhere}
 use Rattle.bb_sim.specs.Span.{Inside}
+use Rattle.bb_sim.proofs.Facts.{earlier_is_inside}
 use Rattle.bb_cert.specs.declared.verdict.Side.{Side}
 use Rattle.bb_cert.specs.declared.verdict.Verdict.{Verdict}
 use Rattle.bb_cert.specs.declared.verdict.Verdict.TheVariants.{Halt, Cycler, Translated, Backward, Undecided}
 use Rattle.bb_cert.specs.tree.Tree.{Back}
-use Rattle.bb_sim.proofs.Facts.{earlier_is_inside}
 use Rattle.bb_decide.specs.Cycle.{IsCycle, IsFirstCycle}
 use Rattle.bb_decide.specs.Sure.{NoneIsSmaller}
 use Rattle.bb_decide.specs.Translation.{IsFirstTranslation, IsTranslation}
 use Rattle.bb_decide.specs.Verdict.{IsVerdict}
-use Rattle.bb_decide.proofs.KnownOfVerdicts.{asked_before, cyclers_are_on, no_halt_within, is_first_agreement}
-use Rattle.bb_decide.proofs.KnownOfVerdicts.{is_first_cycle, is_halt_within, is_tree, passes_cycles}
+use Rattle.bb_decide.proofs.KnownOfVerdicts.{asked_before, cyclers_are_on, is_first_agreement, is_first_cycle}
+use Rattle.bb_decide.proofs.KnownOfVerdicts.{is_halt_within, is_tree, no_halt_within, passes_cycles}
 use Rattle.bb_decide.proofs.KnownOfVerdicts.{passes_translations, passes_trees, translated_are_on, trees_are_on}
 
 module _ (table : Table) (lower upper : Bounds) (within : NoneIsSmaller lower upper) where

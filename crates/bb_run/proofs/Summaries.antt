@@ -15,7 +15,7 @@ use Rattle.bb_decide.specs.Cost.{DecisionSteps}
 use Rattle.bb_decide.specs.Verdict.{IsVerdict}
 use Rattle.bb_decide.proofs.Facts.{is_tree, steps_are_bounded, steps_are_unique, walk_is_made}
 use Rattle.bb_lines.specs.declared.fault.Fault.{Fault}
-use Rattle.bb_lines.specs.declared.fault.Fault.TheVariants.{Memory, Read, Write}
+use Rattle.bb_lines.specs.declared.fault.Fault.TheVariants.{Memory}
 use Rattle.bb_lines.specs.Ends.{ListEnds}
 use Rattle.bb_run.specs.declared.summary.Summary.{Summary}
 use Rattle.bb_run.specs.Seen.{CountsExactly, CountsInOneRun, SawBy, SawLine, SawLines, SawMachine, SawRefusal}
@@ -230,5 +230,4 @@ pub ends_by : (Reply : List ℕ → List ℕ → Type 0) {Sums Others : List (Li
 ends_by Reply left left_then held held_then follows (Ok summary) (taken, consumed, ends) =
     (taken, consumed, (ends.0, ends.1, follows _ summary ends.2))
 ends_by Reply left left_then held held_then follows (Err Memory) ends = ends
-ends_by Reply left left_then held held_then follows (Err Read) ends = ends
-ends_by Reply left left_then held held_then follows (Err Write) ends = ends
+ends_by Reply left left_then held held_then follows end ends = ends

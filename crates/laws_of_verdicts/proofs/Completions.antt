@@ -13,8 +13,7 @@ use Rattle.bb_sim.specs.Run.{conf, Exists, HaltsAt, Never}
 use Rattle.bb_sim.proofs.Facts.{halt_is_last}
 use Rattle.bb_cert.specs.declared.verdict.Side.{Side}
 use Rattle.bb_cert.specs.declared.verdict.Verdict.{Verdict}
-use Rattle.bb_cert.specs.declared.verdict.Verdict.TheVariants.{Halt, Cycler, Translated, Backward}
-use Rattle.bb_cert.specs.declared.verdict.Verdict.TheVariants.{Undecided}
+use Rattle.bb_cert.specs.declared.verdict.Verdict.TheVariants.{Halt, Cycler, Translated}
 use Rattle.bb_cert.specs.declared.checker.answer.Answer.TheVariants.{Ok}
 use Rattle.bb_cert.specs.checker.Answer.{Applies, IsAnswer, NeedsTooMuch, Rule, answer_by, rank, undecided}
 use Rattle.bb_cert.specs.checker.Answer.{too_much_named, out_of_order, too_much_needed, claim_holds}
@@ -157,8 +156,7 @@ module _ (table filled : Table) (completion : IsCompletion table filled) where
         pair_image unchanged table filled b alike side a claim.0,
         says_image unchanged table filled b alike side a extent (omega (arith, in_order)) claim.1,
       )
-  claim_kept (Backward levels nodes) at claim = absurd at
-  claim_kept (Undecided why) at claim = absurd at
+  claim_kept verdict at claim = absurd at
 
   verdict_kept : (bounds : Bounds) (plan : _) (verdict : Verdict) → MeetsNoGap table verdict
       → IsVerdict table bounds plan verdict → IsVerdict filled bounds plan verdict
@@ -183,8 +181,7 @@ module _ (table filled : Table) (completion : IsCompletion table filled) where
         tells_image unchanged table filled b (alike_always never b) side a extent (omega (arith, less))
             (extent_is_told plan extent is),
       )
-  verdict_kept bounds plan (Backward levels nodes) at is = absurd at
-  verdict_kept bounds plan (Undecided why) at is = absurd at
+  verdict_kept bounds plan verdict at is = absurd at
 
   -- the last step that is named exists, so the span up to it is the same
   needs_back : (bounds : Bounds) (verdict : Verdict) → MeetsNoGap table verdict → Claim table verdict
@@ -198,8 +195,7 @@ module _ (table filled : Table) (completion : IsCompletion table filled) where
   needs_back bounds (Translated side a b extent) at claim needs =
       let alike = alike_to b (record { here = claim.0.agree.second; exists = claim.0.agree.at_second }) in
       rw (← span_image unchanged table filled b alike) needs
-  needs_back bounds (Backward levels nodes) at claim needs = absurd at
-  needs_back bounds (Undecided why) at claim needs = absurd at
+  needs_back bounds verdict at claim needs = absurd at
 
   answer_kept : (bounds : Bounds) (verdict : Verdict) → MeetsNoGap table verdict → (rule : Rule)
       → Ok ≡ answer_by rule → Applies table bounds verdict rule
