@@ -9,7 +9,6 @@ pub mod FewCells
 pub mod Fingerprints
 pub mod Halting
 pub mod KnownOfVerdicts
-pub mod LargerLimits
 pub mod OneRun
 pub mod OneSide
 pub mod Partners

@@ -2,13 +2,11 @@
 use Rattle.std.proofs.Common.{◌≡◌, ℕ, ◌+◌, ◌-◌, ◌<◌, Option, Some, None, inl, inr, subst, arith}
 use Rattle.bb_machine.specs.Limits.{Bounds}
 use Rattle.bb_machine.specs.Machine.{Table}
-use Rattle.bb_sim.specs.declared.simulation.Outcome.TheVariants.{Halt as Halts}
-use Rattle.bb_sim.proofs.Facts.{outcome_is_unique}
 use Rattle.bb_cert.specs.declared.verdict.Verdict.{Verdict}
 use Rattle.bb_cert.specs.declared.verdict.Verdict.TheVariants.{Halt, Cycler, Translated, Backward, Undecided}
 use Rattle.bb_cert.specs.records.Agree.{Agree}
 use Rattle.bb_cert.specs.claims.Repeat.{Same}
-use Rattle.bb_cert.proofs.Facts.{agreeing_records_never_repeat, claims_never_halt}
+use Rattle.bb_cert.proofs.Facts.{clear_trees_never_halt}
 use Rattle.bb_cert.proofs.Facts.{record_has_one_step, record_pair}
 use Rattle.bb_cert.proofs.Facts.{repeats_keep_distance, tree_has_one_end}
 use Rattle.bb_decide.specs.Cycle.{FindsCycle}
@@ -16,11 +14,8 @@ use Rattle.bb_decide.specs.Laws.{AgreeingRecordsAreFound, LargerLimitsKeep, Repe
 use Rattle.bb_decide.specs.Partner.{IsPartner}
 use Rattle.bb_decide.specs.Sure.{FindsAgreeingRecords, FindsRepeats, IsLeastPower}
 use Rattle.bb_decide.specs.Translation.{FindsTranslation}
-use Rattle.bb_decide.proofs.Claims.{verdicts_hold}
-use Rattle.bb_decide.proofs.KnownOfVerdicts.{cyclers_are_on, extent_is_told, is_first_agreement, is_first_cycle}
-use Rattle.bb_decide.proofs.KnownOfVerdicts.{has_score, is_halt_within, is_tree, translated_are_on}
-use Rattle.bb_decide.proofs.LargerLimits.{first_cycle_lower, first_translation_lower, found_before, halts_upper}
-use Rattle.bb_decide.proofs.LargerLimits.{nowhere_lower}
+use Rattle.bb_decide.proofs.KnownOfVerdicts.{is_halt_within, is_tree, passes_all, trees_are_on}
+use Rattle.bb_decide.proofs.SmallLimits.{small_limits_decide, tree_upper}
 use Rattle.bb_decide.proofs.Verdicts.{verdict_is_unique}
 
 -- such a power is the partner of what is as far after it as the second number
@@ -89,38 +84,10 @@ finds_agreeing_records table bounds (Some verdict) found side i r a b power n po
     there inside = absurd found
 
 pub larger_limits_keep : LargerLimitsKeep
-larger_limits_keep table lower upper plan (Undecided why) later machine within a b = tt
-larger_limits_keep table lower upper plan (Halt n ones) (Halt m twos) machine within a b =
-    let same = outcome_is_unique table upper (Halts m twos) (Halts n ones) b
-    (halts_upper table lower upper within n (is_halt_within plan a), has_score plan a) in cc
-larger_limits_keep table lower upper plan earlier (Halt m twos) machine within a b =
-    absurd ((claims_never_halt table earlier machine tt (verdicts_hold table lower plan earlier a)).never m
+larger_limits_keep table lower upper plan (Backward levels nodes) (Halt n ones) machine within a b =
+    let tree = is_tree plan a in
+    absurd ((clear_trees_never_halt table levels nodes machine tree.ends tree.clear).never n
     (is_halt_within plan b).halts)
-larger_limits_keep table lower upper plan (Cycler first second) (Cycler third fourth) machine within a b =
-    verdict_is_unique table lower plan (Cycler third fourth) (Cycler first second) (
-      nowhere_lower table lower upper within b.0,
-      cyclers_are_on plan b,
-      first_cycle_lower table lower upper within first second third fourth (is_first_cycle plan a)
-          (is_first_cycle plan b),
-    ) a
-larger_limits_keep table lower upper plan (Translated side first second extent) (Cycler third fourth) machine
-    within a b =
-    let agree = verdicts_hold table lower plan (Translated side first second extent) a in
-    let cycle = (is_first_cycle plan b).cycle in
-    absurd (agreeing_records_never_repeat table side first second third fourth agree.0 cycle.partner.below
-    cycle.same)
-larger_limits_keep table lower upper plan (Translated side first second extent)
-    (Translated other third fourth told) machine within
-    a b =
-    verdict_is_unique table lower plan (Translated other third fourth told)
-    (Translated side first second extent) (
-      a.0,
-      a.1,
-      translated_are_on plan told b,
-      first_translation_lower table lower upper within side other first second third fourth
-          (is_first_agreement plan extent a) (is_first_agreement plan told b),
-      extent_is_told plan told b,
-    ) a
 larger_limits_keep table lower upper plan (Backward levels nodes) (Cycler first second) machine within a b =
     inr tt
 larger_limits_keep table lower upper plan (Backward levels nodes) (Translated side first second extent)
@@ -131,5 +98,10 @@ larger_limits_keep table lower upper plan (Backward levels nodes) (Backward h k)
     let levels_same = same.0 in
     let nodes_same = same.1 in
     inl cc
+larger_limits_keep table lower upper plan (Backward levels nodes) (Undecided why) machine within a b =
+    absurd (((passes_all plan why b).2 (trees_are_on plan a)).nowhere levels nodes
+    (tree_upper table lower upper within levels nodes (is_tree plan a)))
+larger_limits_keep table lower upper plan (Undecided why) later machine within a b = tt
 larger_limits_keep table lower upper plan earlier later machine within a b =
-    absurd (found_before table lower upper within plan earlier later a b (omega arith))
+    verdict_is_unique table upper plan later earlier b
+    (small_limits_decide table lower upper plan plan.backward earlier within tt a)

@@ -7,6 +7,8 @@ use Rattle.bb_machine.specs.Machine.{Table}
 use Rattle.bb_sim.specs.declared.simulation.Outcome.TheVariants.{Halt as Halts, NoSteps, NoCells}
 use Rattle.bb_sim.proofs.Facts.{last_step_is_unique, outcome_is_unique}
 use Rattle.bb_cert.specs.declared.verdict.Why.TheVariants.{Steps, Cells}
+use Rattle.bb_machine.specs.declared.plan.Plan.{Plan}
+use Rattle.bb_cert.specs.declared.verdict.Verdict.{Verdict}
 use Rattle.bb_cert.specs.declared.verdict.Verdict.TheVariants.{Halt, Cycler, Translated, Backward, Undecided}
 use Rattle.bb_cert.specs.declared.verdict.Extent.{Extent}
 use Rattle.bb_cert.specs.declared.verdict.Side.{Side}
@@ -17,12 +19,14 @@ use Rattle.bb_cert.proofs.Facts.{record_has_one_step, stands_on, told_is_one, tr
 use Rattle.bb_decide.specs.Cycle.{IsFirstCycle}
 use Rattle.bb_decide.specs.Partner.{IsPartner}
 use Rattle.bb_decide.specs.Translation.{IsFirstTranslation}
+use Rattle.bb_decide.specs.Verdict.{IsVerdict}
 use Rattle.bb_decide.specs.Laws.{VerdictIsUnique, StepsAreBounded, StepsAreUnique}
 use Rattle.bb_decide.specs.Cost.{CycleSteps, MakesCycleSearch, MakesTranslationSearch, StepsIfMade}
 use Rattle.bb_decide.specs.Cost.{TranslationSteps}
-use Rattle.bb_decide.proofs.KnownOfVerdicts.{asked_before, extent_is_told, is_first_agreement, is_first_cycle}
-use Rattle.bb_decide.proofs.KnownOfVerdicts.{is_tree}
-use Rattle.bb_decide.proofs.LargerLimits.{found_before, same_limits}
+use Rattle.bb_decide.proofs.KnownOfVerdicts.{asked_before, cyclers_are_on, extent_is_told, is_first_agreement}
+use Rattle.bb_decide.proofs.KnownOfVerdicts.{is_first_cycle, is_halt_within, is_tree, no_halt_within}
+use Rattle.bb_decide.proofs.KnownOfVerdicts.{passes_cycles, passes_translations, passes_trees}
+use Rattle.bb_decide.proofs.KnownOfVerdicts.{translated_are_on, trees_are_on}
 use Rattle.bb_decide.proofs.Partners.{partner_is_unique}
 
 -- there is one first cycle
@@ -96,6 +100,23 @@ module _ (table : Table) (bounds : Bounds) where
       let told = told_is_one table s a b one_told other_told tells_one tells_here in
       cc
 
+-- what one verdict has found isn't passed over by one that comes later
+module _ (table : Table) (bounds : Bounds) (plan : Plan) where
+  found_before : (a b : Verdict) → IsVerdict table bounds plan a → IsVerdict table bounds plan b
+      → asked_before a < asked_before b → ⊥
+  found_before (Halt n ones) b one other later =
+      no_halt_within table bounds plan b other later n (is_halt_within plan one)
+  found_before (Cycler first second) b one other later = passes_cycles table bounds plan b other later
+      (cyclers_are_on plan one) first second (is_first_cycle plan one).cycle
+  found_before (Translated side first second extent) b one other later =
+      passes_translations table bounds plan b other later (translated_are_on plan extent one) side first second
+      (is_first_agreement plan extent one).translation
+  found_before (Backward levels nodes) b one other later =
+      (passes_trees table bounds plan b other later (trees_are_on plan one)).nowhere levels nodes
+      (is_tree plan one)
+  found_before (Undecided why) (Undecided because) one other later = absurd (omega (arith, later))
+  found_before (Undecided why) b one other later = absurd (omega (arith, later))
+
 pub verdict_is_unique : VerdictIsUnique
 verdict_is_unique table bounds plan (Halt n ones) (Halt m twos) a b =
     let same = outcome_is_unique table bounds (Halts n ones) (Halts m twos) a b in cc
@@ -123,11 +144,8 @@ verdict_is_unique table bounds plan (Undecided Cells) (Undecided Steps) a b =
     let same = outcome_is_unique table bounds NoCells NoSteps a.0 b.0 in cc
 verdict_is_unique table bounds plan one other a b =
     elim (cases_lt (asked_before one) (asked_before other)) [
-      | inl before ↦
-          absurd (found_before table bounds bounds (same_limits bounds) plan one other a b before)
-      | inr late ↦
-          absurd (found_before table bounds bounds (same_limits bounds) plan other one b a
-          (omega (arith, late)))
+      | inl before ↦ absurd (found_before table bounds plan one other a b before)
+      | inr late ↦ absurd (found_before table bounds plan other one b a (omega (arith, late)))
     ]
 
 module _ (table : Table) (bounds : Bounds) where
