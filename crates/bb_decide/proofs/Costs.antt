@@ -1,5 +1,5 @@
 -- What deciding a machine has counted.
-use Rattle.std.proofs.Common.{◌≡◌, ℕ, ◌+◌, ◌≤◌, max, Bool, true, false, not, IsTrue, Option, Some, None}
+use Rattle.std.proofs.Common.{◌≡◌, ℕ, ◌+◌, max, Bool, true, false, not, IsTrue, Option, Some, None}
 use Rattle.std.proofs.Common.{Result, Ok, Err, inl, inr, refl, ap, ◌∙◌, arith}
 use Rattle.std.specs.Prelude.{IfOk, OnOk}
 use Rattle.bb_machine.specs.Limits.{Bounds}
@@ -7,7 +7,7 @@ use Rattle.bb_machine.specs.Machine.{Table}
 use Rattle.bb_sim.specs.declared.meter.Meter.{Meter}
 use Rattle.bb_sim.specs.Meter.{zero_meter, counted, CountsRun, CountsTo}
 use Rattle.bb_sim.specs.Outcome.{HaltsInside, HaltsNowhere}
-use Rattle.bb_sim.specs.Span.{span, IsLastInside}
+use Rattle.bb_sim.specs.Span.{span, Inside, IsLastInside}
 use Rattle.bb_sim.proofs.Facts.{span_grows}
 use Rattle.bb_cert.specs.declared.verdict.Verdict.{Verdict}
 use Rattle.bb_cert.specs.declared.verdict.Verdict.TheVariants.{Cycler, Translated, Backward}
@@ -137,8 +137,7 @@ module _ (table : Table) (bounds : Bounds) where
         most_levels = ap (λ (m : Meter). m.most_levels) same;
       }
 
-  adds_run : (n : ℕ) (old new : Meter) → ((last : ℕ) → IsLastInside table bounds last → n ≤ last)
-      → CountsTo table n old new
+  adds_run : (n : ℕ) (old new : Meter) → Inside table bounds n → CountsTo table n old new
       → Adds table bounds n old new
   adds_run n old new inside counts =
       let steps : new.steps ≡ old.steps + n = ap (λ (m : Meter). m.steps) counts in
@@ -147,7 +146,7 @@ module _ (table : Table) (bounds : Bounds) where
       record {
         steps = steps;
         cells_kept = omega (arith, cells);
-        cells = λ last is_last. let grows = span_grows table n last (inside last is_last) in omega
+        cells = λ last is_last. let grows = span_grows table n last (is_last.greatest n inside) in omega
             (arith, cells, grows);
         nodes = ap (λ (m : Meter). m.nodes) counts;
         most_levels = ap (λ (m : Meter). m.most_levels) counts;
@@ -190,13 +189,12 @@ module _ (table : Table) (bounds : Bounds) where
   cycles_searched Made None old new made counts none = record {
     steps = counts.last;
     is_steps = inl (made, inr (none, counts.is_last));
-    adds = adds_run counts.last old new (λ last is_last. is_last.greatest counts.last counts.is_last.inside)
-        counts.counts;
+    adds = adds_run counts.last old new counts.is_last.inside counts.counts;
   }
   cycles_searched Made (Some (Cycler first second)) old new made counts finds = record {
     steps = second;
     is_steps = inl (made, inl (first, finds));
-    adds = adds_run second old new (λ last is_last. is_last.greatest second finds.cycle.inside) counts;
+    adds = adds_run second old new finds.cycle.inside counts;
   }
   cycles_searched Made (Some verdict) old new made counts finds = absurd finds
 
@@ -206,14 +204,12 @@ module _ (table : Table) (bounds : Bounds) where
   translations_searched Made None old new made counts none = record {
     steps = counts.last;
     is_steps = inl (made, inr (none, counts.is_last));
-    adds = adds_run counts.last old new (λ last is_last. is_last.greatest counts.last counts.is_last.inside)
-        counts.counts;
+    adds = adds_run counts.last old new counts.is_last.inside counts.counts;
   }
   translations_searched Made (Some (Translated side first second extent)) old new made counts finds = record {
     steps = second;
     is_steps = inl (made, inl (side, first, finds.0));
-    adds = adds_run second old new (λ last is_last. is_last.greatest second finds.0.translation.inside)
-        counts;
+    adds = adds_run second old new finds.0.translation.inside counts;
   }
   translations_searched Made (Some verdict) old new made counts finds = absurd finds
 

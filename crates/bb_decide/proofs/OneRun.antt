@@ -85,9 +85,7 @@ module _ (table : Table) (bounds : Bounds) (key : ℤ → ℕ) (old new : Meter)
   pub watched_costs : (ending : Ending) → Watches table bounds key old new (Some ending)
       → EndingCosts key table bounds new.steps ending
   watched_costs (Ran outcome) watched = run_costs watched.1 outcome watched.2
-  watched_costs (Found (Translated side first second extent)) watched =
-      cycle_costs (Found (Translated side first second extent)) tt watched.1
-  watched_costs (Found verdict) watched = absurd watched.0
+  watched_costs (Found verdict) watched = cycle_costs (Found verdict) tt watched.1
 
 -- after a suspicion
 module _ {table : Table} {bounds : Bounds} {key : ℤ → ℕ} {n : ℕ} (here : IsSuspected table bounds key n) where
