@@ -6,7 +6,7 @@ use Rattle.bb_machine.specs.Machine.{Table}
 use Rattle.bb_machine.specs.declared.plan.Plan.{Plan}
 use Rattle.bb_tape.specs.declared.tape.Memory.{Memory}
 use Rattle.bb_cert.specs.declared.verdict.Verdict.{Verdict}
-use Rattle.bb_cert.specs.declared.verdict.Verdict.TheVariants.{Halt, Cycler, Translated, Backward, Undecided}
+use Rattle.bb_cert.specs.declared.verdict.Verdict.TheVariants.{Backward, Undecided}
 use Rattle.bb_decide.specs.Fingerprint.{AgreesByChance, CostsWhatItNames, named_step}
 use Rattle.bb_decide.specs.Keys.{spread}
 use Rattle.bb_decide.specs.Sure.{IsFoundByRun}
@@ -53,22 +53,17 @@ module _ (table : Table) (lower upper : Bounds) (plan : Plan) where
   -- what a run finds names the same step within all limits
   pub costs_first_try : (steps : ℕ) (verdict : Verdict) → IsFoundByRun verdict
       → CostsWhatItNames spread table lower steps verdict → CostsInTwoTries table upper plan steps verdict
-  costs_first_try steps (Halt n ones) found costs = costs_one_try table upper plan steps (Halt n ones) costs
-  costs_first_try steps (Cycler a b) found costs = costs_one_try table upper plan steps (Cycler a b) costs
-  costs_first_try steps (Translated side a b extent) found costs =
-      costs_one_try table upper plan steps (Translated side a b extent) costs
   costs_first_try steps (Backward levels nodes) found costs = absurd found
   costs_first_try steps (Undecided why) found costs = absurd found
+  costs_first_try steps verdict found costs = costs_one_try table upper plan steps verdict costs
 
   -- a try in which a run finds nothing costs no more than its limit
   costs_limit : (steps : ℕ) (verdict : Verdict) → (IsFoundByRun verdict → ⊥)
       → CostsWhatItNames spread table lower steps verdict → (AgreesByChance spread table lower.steps → ⊥)
       → steps ≤ lower.steps
-  costs_limit steps (Halt n ones) apart costs none = absurd (apart tt)
-  costs_limit steps (Cycler a b) apart costs none = absurd (apart tt)
-  costs_limit steps (Translated side a b extent) apart costs none = absurd (apart tt)
   costs_limit steps (Backward levels nodes) apart costs none = costs none
   costs_limit steps (Undecided why) apart costs none = costs none
+  costs_limit steps verdict apart costs none = absurd (apart tt)
 
   -- no other verdict within its limits is one that a run finds
   finds_nothing : (first : Verdict) → lower ≡ few_bounds upper

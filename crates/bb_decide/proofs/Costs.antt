@@ -1,5 +1,5 @@
 -- What deciding a machine has counted.
-use Rattle.std.proofs.Common.{◌≡◌, ℕ, ◌+◌, ◌≤◌, max, Bool, true, false, not, IsTrue, Option, Some, None}
+use Rattle.std.proofs.Common.{◌≡◌, ℕ, ◌+◌, max, Bool, true, false, not, IsTrue, Option, Some, None}
 use Rattle.std.proofs.Common.{Result, Ok, Err, inl, inr, refl, ap, ◌∙◌, arith}
 use Rattle.std.specs.Prelude.{IfOk, OnOk}
 use Rattle.bb_machine.specs.Limits.{Bounds}
@@ -7,10 +7,10 @@ use Rattle.bb_machine.specs.Machine.{Table}
 use Rattle.bb_sim.specs.declared.meter.Meter.{Meter}
 use Rattle.bb_sim.specs.Meter.{zero_meter, counted, CountsRun, CountsTo}
 use Rattle.bb_sim.specs.Outcome.{HaltsInside, HaltsNowhere}
-use Rattle.bb_sim.specs.Span.{span, IsLastInside}
+use Rattle.bb_sim.specs.Span.{span, Inside, IsLastInside}
 use Rattle.bb_sim.proofs.Facts.{span_grows}
 use Rattle.bb_cert.specs.declared.verdict.Verdict.{Verdict}
-use Rattle.bb_cert.specs.declared.verdict.Verdict.TheVariants.{Halt, Cycler, Translated, Backward, Undecided}
+use Rattle.bb_cert.specs.declared.verdict.Verdict.TheVariants.{Cycler, Translated, Backward}
 use Rattle.bb_cert.specs.tree.Tree.{Back}
 use Rattle.bb_cert.specs.tree.WalkMeter.{IsWithinWalk, walked}
 use Rattle.bb_cert.proofs.Facts.{tree_has_one_end}
@@ -137,8 +137,7 @@ module _ (table : Table) (bounds : Bounds) where
         most_levels = ap (λ (m : Meter). m.most_levels) same;
       }
 
-  adds_run : (n : ℕ) (old new : Meter) → ((last : ℕ) → IsLastInside table bounds last → n ≤ last)
-      → CountsTo table n old new
+  adds_run : (n : ℕ) (old new : Meter) → Inside table bounds n → CountsTo table n old new
       → Adds table bounds n old new
   adds_run n old new inside counts =
       let steps : new.steps ≡ old.steps + n = ap (λ (m : Meter). m.steps) counts in
@@ -147,7 +146,7 @@ module _ (table : Table) (bounds : Bounds) where
       record {
         steps = steps;
         cells_kept = omega (arith, cells);
-        cells = λ last is_last. let grows = span_grows table n last (inside last is_last) in omega
+        cells = λ last is_last. let grows = span_grows table n last (is_last.greatest n inside) in omega
             (arith, cells, grows);
         nodes = ap (λ (m : Meter). m.nodes) counts;
         most_levels = ap (λ (m : Meter). m.most_levels) counts;
@@ -190,18 +189,14 @@ module _ (table : Table) (bounds : Bounds) where
   cycles_searched Made None old new made counts none = record {
     steps = counts.last;
     is_steps = inl (made, inr (none, counts.is_last));
-    adds = adds_run counts.last old new (λ last is_last. is_last.greatest counts.last counts.is_last.inside)
-        counts.counts;
+    adds = adds_run counts.last old new counts.is_last.inside counts.counts;
   }
   cycles_searched Made (Some (Cycler first second)) old new made counts finds = record {
     steps = second;
     is_steps = inl (made, inl (first, finds));
-    adds = adds_run second old new (λ last is_last. is_last.greatest second finds.cycle.inside) counts;
+    adds = adds_run second old new finds.cycle.inside counts;
   }
-  cycles_searched Made (Some (Halt steps score)) old new made counts finds = absurd finds
-  cycles_searched Made (Some (Translated side first second extent)) old new made counts finds = absurd finds
-  cycles_searched Made (Some (Backward levels nodes)) old new made counts finds = absurd finds
-  cycles_searched Made (Some (Undecided why)) old new made counts finds = absurd finds
+  cycles_searched Made (Some verdict) old new made counts finds = absurd finds
 
   translations_searched : (Made : Type 0) (found : Option Verdict) (old new : Meter) → Made
       → CountsSearch table bounds old new found → FindsTranslation table bounds found
@@ -209,19 +204,14 @@ module _ (table : Table) (bounds : Bounds) where
   translations_searched Made None old new made counts none = record {
     steps = counts.last;
     is_steps = inl (made, inr (none, counts.is_last));
-    adds = adds_run counts.last old new (λ last is_last. is_last.greatest counts.last counts.is_last.inside)
-        counts.counts;
+    adds = adds_run counts.last old new counts.is_last.inside counts.counts;
   }
   translations_searched Made (Some (Translated side first second extent)) old new made counts finds = record {
     steps = second;
     is_steps = inl (made, inl (side, first, finds.0));
-    adds = adds_run second old new (λ last is_last. is_last.greatest second finds.0.translation.inside)
-        counts;
+    adds = adds_run second old new finds.0.translation.inside counts;
   }
-  translations_searched Made (Some (Halt steps score)) old new made counts finds = absurd finds
-  translations_searched Made (Some (Cycler first second)) old new made counts finds = absurd finds
-  translations_searched Made (Some (Backward levels nodes)) old new made counts finds = absurd finds
-  translations_searched Made (Some (Undecided why)) old new made counts finds = absurd finds
+  translations_searched Made (Some verdict) old new made counts finds = absurd finds
 
 -- no cycle was found, or none was searched for
 pub record PassedCycles (table : Table) (bounds : Bounds) (plan : Plan) (old new : Meter) : Type 0 where
@@ -232,10 +222,7 @@ pub record PassedCycles (table : Table) (bounds : Bounds) (plan : Plan) (old new
 not_passed : (table : Table) (bounds : Bounds) (plan : Plan) (verdict : Verdict) → IsTrue plan.cyclers
     → FindsCycle table bounds (Some verdict) → PassesCycles table bounds plan → ⊥
 not_passed table bounds plan (Cycler first second) on found passes = passes on first second found.cycle
-not_passed table bounds plan (Halt steps score) on found passes = absurd found
-not_passed table bounds plan (Translated side first second extent) on found passes = absurd found
-not_passed table bounds plan (Backward levels nodes) on found passes = absurd found
-not_passed table bounds plan (Undecided why) on found passes = absurd found
+not_passed table bounds plan verdict on found passes = absurd found
 
 module _ {table : Table} {bounds : Bounds} {plan : Plan} {old new : Meter} where
   pub passed_on : IsTrue plan.cyclers → FindsCycle table bounds None
@@ -296,10 +283,7 @@ pub cycle_of_searches : (table : Table) (bounds : Bounds) (plan : Plan) (verdict
     → IsTrue plan.cyclers → FindsCycle table bounds (Some verdict)
     → SearchesFind table bounds plan (Some verdict)
 cycle_of_searches table bounds plan (Cycler first second) on found = (on, found)
-cycle_of_searches table bounds plan (Halt steps score) on found = absurd found
-cycle_of_searches table bounds plan (Translated side first second extent) on found = absurd found
-cycle_of_searches table bounds plan (Backward levels nodes) on found = absurd found
-cycle_of_searches table bounds plan (Undecided why) on found = absurd found
+cycle_of_searches table bounds plan verdict on found = absurd found
 
 -- ---- what the walk finds and counts
 
@@ -345,10 +329,7 @@ module _ (table : Table) (bounds : Bounds) (plan : Plan) (passes : PassesCycles 
       walk_of_none (ReachesWalk table bounds plan) table bounds old new counts finds (reached on)
   counts_walk (Some (Backward h k)) old new on finds counts =
       walk_of_tree (ReachesWalk table bounds plan) table bounds old new h k counts finds (reached on)
-  counts_walk (Some (Halt steps score)) old new on finds counts = absurd finds
-  counts_walk (Some (Cycler first second)) old new on finds counts = absurd finds
-  counts_walk (Some (Translated side first second extent)) old new on finds counts = absurd finds
-  counts_walk (Some (Undecided why)) old new on finds counts = absurd finds
+  counts_walk (Some verdict) old new on finds counts = absurd finds
 
   -- neither steps nor cells
   walk_keeps : (found : Option Verdict) (old new : Meter) → CountsTree bounds old new found
@@ -356,10 +337,7 @@ module _ (table : Table) (bounds : Bounds) (plan : Plan) (passes : PassesCycles 
   walk_keeps None old new counts = (counts.steps, counts.most_cells)
   walk_keeps (Some (Backward h k)) old new counts =
       (ap (λ (m : Meter). m.steps) counts, ap (λ (m : Meter). m.most_cells) counts)
-  walk_keeps (Some (Halt steps score)) old new counts = absurd counts
-  walk_keeps (Some (Cycler first second)) old new counts = absurd counts
-  walk_keeps (Some (Translated side first second extent)) old new counts = absurd counts
-  walk_keeps (Some (Undecided why)) old new counts = absurd counts
+  walk_keeps (Some verdict) old new counts = absurd counts
 
   -- where the searches found nothing, the walk is made where it is on
   pub counts_all : (found : Option Verdict) (begin old new : Meter)
@@ -383,9 +361,7 @@ module _ (table : Table) (bounds : Bounds) (plan : Plan) where
   not_reached (Cycler first second) found cycles translations = cycles found.0 first second found.1.cycle
   not_reached (Translated side first second extent) found cycles translations =
       translations found.1 side first second found.2.translation
-  not_reached (Halt steps score) found cycles translations = absurd found
-  not_reached (Backward levels nodes) found cycles translations = absurd found
-  not_reached (Undecided why) found cycles translations = absurd found
+  not_reached verdict found cycles translations = absurd found
 
   pub counts_searches : (verdict : Verdict) (begin new : Meter) → begin.most_levels ≡ 0 → begin.nodes ≡ 0
       → SearchesFind table bounds plan (Some verdict) → SearchesCount table bounds plan begin new
@@ -404,9 +380,7 @@ module _ (table : Table) (bounds : Bounds) (plan : Plan) where
       → DecidersFind table bounds plan (Some verdict)
   search_of_all (Cycler first second) found = found
   search_of_all (Translated side first second extent) found = found
-  search_of_all (Halt steps score) found = absurd found
-  search_of_all (Backward levels nodes) found = absurd found
-  search_of_all (Undecided why) found = absurd found
+  search_of_all verdict found = absurd found
 
 -- a test that was turned round
 pub on_where_not : (test : Bool) → not test ≡ false → IsTrue test
@@ -437,5 +411,4 @@ verdict_of_deciders table bounds plan (Translated side first second extent) nowh
     (nowhere, found.0, found.1, found.2, found.3)
 verdict_of_deciders table bounds plan (Backward levels nodes) nowhere found =
     (nowhere, found.0, found.1, found.2, found.3)
-verdict_of_deciders table bounds plan (Halt steps score) nowhere found = absurd found
-verdict_of_deciders table bounds plan (Undecided why) nowhere found = absurd found
+verdict_of_deciders table bounds plan verdict nowhere found = absurd found

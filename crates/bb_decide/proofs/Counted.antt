@@ -5,7 +5,7 @@ use Rattle.bb_machine.specs.Machine.{Table}
 use Rattle.bb_tape.specs.TapeView.{TapeView}
 use Rattle.bb_sim.specs.declared.meter.Meter.{Meter}
 use Rattle.bb_sim.specs.declared.runner.Moved.{Moved}
-use Rattle.bb_sim.specs.declared.runner.Moved.TheVariants.{Halted, NoCells, NoSteps, Stepped}
+use Rattle.bb_sim.specs.declared.runner.Moved.TheVariants.{Stepped}
 use Rattle.bb_sim.specs.declared.runner.Runner.{Runner}
 use Rattle.bb_sim.specs.CellsBetween.{cells_between}
 use Rattle.bb_sim.specs.Meter.{IsWithinRun, counted}
@@ -35,9 +35,7 @@ module _ {table : Table} {bounds : Bounds} {old new : Runner} {view_old view_new
   pub counts_on : (moved : Moved) → Moves table old new view_old view_new other_old other_new moved
       → Moves table old new view_old view_new (counted_to table first old) (counted_to table first new) moved
   counts_on Stepped moves = (moves.0, rw moves.0 (sym (counts_next table (steps_of old) first refl refl)))
-  counts_on Halted stays = stays_counted stays
-  counts_on NoSteps stays = stays_counted stays
-  counts_on NoCells stays = stays_counted stays
+  counts_on moved stays = stays_counted stays
 
   -- where it stepped
   pub has_counted : (moved : Moved) → Reaches table bounds new view_new moved

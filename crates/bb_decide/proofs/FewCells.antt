@@ -1,6 +1,6 @@
 -- Why what stays in few cells is always decided.
 use Rattle.std.proofs.Common.{◌≡◌, ℕ, zero, suc, ◌+◌, ◌*◌, ◌-◌, ◌^◌, ◌<◌, ◌≤◌, ◌⊎◌, inl, inr, Option}
-use Rattle.std.proofs.Common.{Some, None, refl, subst, arith}
+use Rattle.std.proofs.Common.{Some, refl, subst, arith}
 use Rattle.std.proofs.Math.Pow.{pow_mono}
 use Rattle.std.proofs.lemmas.Bool.{cases_lt}
 use Rattle.bb_machine.specs.Limits.{Bounds}
@@ -9,12 +9,13 @@ use Rattle.bb_sim.specs.FewCells.{configurations_in, IsRunning}
 use Rattle.bb_sim.specs.Span.{Inside}
 use Rattle.bb_sim.proofs.Facts.{earlier_is_inside, few_cells_repeat_before, runs_on}
 use Rattle.bb_cert.specs.declared.verdict.Verdict.{Verdict}
-use Rattle.bb_cert.specs.declared.verdict.Verdict.TheVariants.{Halt, Cycler, Translated, Backward, Undecided}
-use Rattle.bb_cert.specs.declared.verdict.Why.TheVariants.{Steps, Cells}
+use Rattle.bb_cert.specs.declared.verdict.Verdict.TheVariants.{Cycler, Translated, Undecided}
+use Rattle.bb_cert.specs.declared.verdict.Why.TheVariants.{Steps}
 use Rattle.bb_cert.specs.claims.Repeat.{Same}
 use Rattle.bb_decide.specs.Cycle.{FindsCycle}
 use Rattle.bb_decide.specs.FewCells.{HasStepsForCells, FindsInFewCells, FewCellsAreDecided}
 use Rattle.bb_decide.specs.Sure.{IsFoundBy, IsLeastPower}
+use Rattle.bb_decide.proofs.KnownOfVerdicts.{passes_cycles}
 use Rattle.bb_decide.proofs.Sure.{finds_repeats, repeats_are_found}
 
 -- the least power of two that is not below a number, which isn't 0; it is below the double
@@ -151,12 +152,9 @@ module _ (table : Table) (bounds : Bounds) (machine : IsMachine table) (many : H
 -- what is found by a step is found by a later one
 found_later : (one other : ℕ) (found : Option Verdict) → one ≤ other → IsFoundBy one found
     → IsFoundBy other found
-found_later one other None few is = is
 found_later one other (Some (Cycler first second)) few is = omega (arith, few, is)
 found_later one other (Some (Translated side first second extent)) few is = omega (arith, few, is)
-found_later one other (Some (Halt steps score)) few is = is
-found_later one other (Some (Backward levels nodes)) few is = is
-found_later one other (Some (Undecided why)) few is = is
+found_later one other found few is = is
 
 pub finds_in_few_cells : (table : Table) (bounds : Bounds) → IsMachine table → (found : Option Verdict)
     → FindsCycle table bounds found → FindsInFewCells table bounds found
@@ -167,14 +165,12 @@ finds_in_few_cells table bounds machine found finds many inside running =
     found_later (reach.power + reach.period) (3 * configurations_in table bounds.cells) found reach.early sure
 
 pub few_cells_are_decided : FewCellsAreDecided
-few_cells_are_decided table bounds plan (Halt steps score) machine is on many = λ e. cc
-few_cells_are_decided table bounds plan (Cycler first second) machine is on many = λ e. cc
-few_cells_are_decided table bounds plan (Translated side first second extent) machine is on many = λ e. cc
-few_cells_are_decided table bounds plan (Backward levels nodes) machine is on many = λ e. cc
-few_cells_are_decided table bounds plan (Undecided Cells) machine is on many = λ e. cc
 few_cells_are_decided table bounds plan (Undecided Steps) machine is on many =
-    let goes = runs_on table bounds is.0.0 is.0.1 in
+    let outcome = is.0 in
+    let goes = runs_on table bounds outcome.0 outcome.1 in
     let reach = reached table bounds machine many goes.inside goes.running in
-    absurd (is.1.0 on reach.power (reach.power + reach.period)
+    absurd (passes_cycles table bounds plan (Undecided Steps) is (omega arith) on reach.power
+    (reach.power + reach.period)
     (repeats_are_found table bounds reach.at reach.period reach.power reach.positive reach.same reach.is_power
     reach.inside))
+few_cells_are_decided table bounds plan verdict machine is on many = λ e. cc

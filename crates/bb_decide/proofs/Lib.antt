@@ -8,6 +8,7 @@ pub mod Facts
 pub mod FewCells
 pub mod Fingerprints
 pub mod Halting
+pub mod KnownOfVerdicts
 pub mod OneRun
 pub mod OneSide
 pub mod Partners

@@ -12,11 +12,11 @@ use Rattle.bb_sim.specs.declared.simulation.Outcome.TheVariants as outcomes
 use Rattle.bb_sim.specs.Meter.{CountsRun, CountsTo}
 use Rattle.bb_sim.specs.Outcome.{HaltsInside, HaltsNowhere, IsOutcome}
 use Rattle.bb_sim.specs.Run.{Never}
-use Rattle.bb_sim.specs.Span.{IsLastInside}
+use Rattle.bb_sim.specs.Span.{Inside}
 use Rattle.bb_sim.proofs.Facts.{halts_last}
 use Rattle.bb_cert.specs.declared.verdict.Side.{Side}
 use Rattle.bb_cert.specs.declared.verdict.Verdict.{Verdict}
-use Rattle.bb_cert.specs.declared.verdict.Verdict.TheVariants.{Halt, Cycler, Translated, Backward, Undecided}
+use Rattle.bb_cert.specs.declared.verdict.Verdict.TheVariants.{Cycler, Translated}
 use Rattle.bb_cert.proofs.Facts.{agreeing_records_never_halt, agreeing_records_never_repeat, repeats_never_halt}
 use Rattle.bb_decide.specs.declared.ending.Ending.{Ending}
 use Rattle.bb_decide.specs.declared.ending.Ending.TheVariants.{Found, Ran}
@@ -34,7 +34,7 @@ use Rattle.bb_decide.proofs.Costs.{counts_walk, no_walk_counted, not_reached}
 
 module _ (table : Table) (bounds : Bounds) where
   -- where records agree, no configuration comes again
-  no_cycle_beside : (side : Side) (a b : ℕ) → IsFirstTranslation table bounds side a b → HasNoCycle table bounds
+  pub no_cycle_beside : (side : Side) (a b : ℕ) → IsFirstTranslation table bounds side a b → HasNoCycle table bounds
   no_cycle_beside side a b first c d cycle =
       agreeing_records_never_repeat table side a b c d (pair_agrees table side a b first.translation.pair)
       cycle.partner.below cycle.same
@@ -45,20 +45,21 @@ module _ (table : Table) (bounds : Bounds) where
       (agreeing_records_never_halt table side a b (pair_agrees table side a b translation.pair)).never n
       halts.halts
 
-  -- the last step inside is no later than the step that an outcome names
-  named_by_outcome : (outcome : Outcome) → IsOutcome table bounds outcome → (n : ℕ) → IsLastInside table bounds n
-      → n ≤ most_steps bounds (verdict_of_outcome outcome)
-  named_by_outcome (outcomes.Halt steps score) is n last =
-      (halts_last table bounds steps is.0.inside is.0.halts).greatest n last.inside
-  named_by_outcome outcomes.NoSteps is n last = last.inside.within_steps
-  named_by_outcome outcomes.NoCells is n last = last.inside.within_steps
+  -- no step inside is later than the step that an outcome names
+  named_by_outcome : (outcome : Outcome) → IsOutcome table bounds outcome → (n : ℕ) → Inside table bounds n
+      → (n ≤ named_step bounds (verdict_of_outcome outcome)) × (n ≤ most_steps bounds (verdict_of_outcome outcome))
+  named_by_outcome (outcomes.Halt steps score) is n inside =
+      let no_later = (halts_last table bounds steps is.0.inside is.0.halts).greatest n inside in
+      (no_later, no_later)
+  named_by_outcome outcomes.NoSteps is n inside = (inside.within_steps, inside.within_steps)
+  named_by_outcome outcomes.NoCells is n inside = (inside.within_steps, inside.within_steps)
 
 module _ (table : Table) (bounds : Bounds) (key : ℤ → ℕ) (old new : Meter) (zero : old.steps ≡ 0) where
   pub run_costs : CountsRun table bounds old new → (outcome : Outcome) → IsOutcome table bounds outcome
       → EndingCosts key table bounds new.steps (Ran outcome)
   run_costs counts outcome is none =
       let steps : new.steps ≡ old.steps + counts.last = ap (λ (m : Meter). m.steps) counts.counts in
-      let named = named_by_outcome table bounds outcome is counts.last counts.is_last in
+      let named = (named_by_outcome table bounds outcome is counts.last counts.is_last.inside).1 in
       omega (arith, steps, zero, named)
 
   -- one search alone
@@ -71,9 +72,7 @@ module _ (table : Table) (bounds : Bounds) (key : ℤ → ℕ) (old new : Meter)
   cycle_costs (Found (Translated side first second extent)) ran counts none =
       let steps : new.steps ≡ old.steps + second = ap (λ (m : Meter). m.steps) counts in
       omega (arith, steps, zero)
-  cycle_costs (Found (Halt steps score)) ran counts none = absurd counts
-  cycle_costs (Found (Backward levels nodes)) ran counts none = absurd counts
-  cycle_costs (Found (Undecided why)) ran counts none = absurd counts
+  cycle_costs (Found verdict) ran counts none = absurd counts
 
   -- the watched run
   pub watched_ends : (ending : Ending) → Watches table bounds key old new (Some ending)
@@ -81,20 +80,12 @@ module _ (table : Table) (bounds : Bounds) (key : ℤ → ℕ) (old new : Meter)
   watched_ends (Ran outcome) watched = (watched.2, watched.3, watched.0)
   watched_ends (Found (Translated side first second extent)) watched =
       (no_cycle_beside table bounds side first second watched.0.0, watched.0.0, watched.0.1)
-  watched_ends (Found (Cycler first second)) watched = absurd watched.0
-  watched_ends (Found (Halt steps score)) watched = absurd watched.0
-  watched_ends (Found (Backward levels nodes)) watched = absurd watched.0
-  watched_ends (Found (Undecided why)) watched = absurd watched.0
+  watched_ends (Found verdict) watched = absurd watched.0
 
   pub watched_costs : (ending : Ending) → Watches table bounds key old new (Some ending)
       → EndingCosts key table bounds new.steps ending
   watched_costs (Ran outcome) watched = run_costs watched.1 outcome watched.2
-  watched_costs (Found (Translated side first second extent)) watched =
-      cycle_costs (Found (Translated side first second extent)) tt watched.1
-  watched_costs (Found (Cycler first second)) watched = absurd watched.0
-  watched_costs (Found (Halt steps score)) watched = absurd watched.0
-  watched_costs (Found (Backward levels nodes)) watched = absurd watched.0
-  watched_costs (Found (Undecided why)) watched = absurd watched.0
+  watched_costs (Found verdict) watched = cycle_costs (Found verdict) tt watched.1
 
 -- after a suspicion
 module _ {table : Table} {bounds : Bounds} {key : ℤ → ℕ} {n : ℕ} (here : IsSuspected table bounds key n) where
@@ -118,12 +109,10 @@ module _ {table : Table} {bounds : Bounds} {key : ℤ → ℕ} {n : ℕ} (here :
   not_earlier b never = elim (cases_lt b n) [ inl less ↦ absurd (never less) | inr late ↦ late ]
 
   -- the step that an outcome names is no earlier
-  late_outcome : (outcome : Outcome) → IsOutcome table bounds outcome
-      → n ≤ named_step bounds (verdict_of_outcome outcome)
-  late_outcome (outcomes.Halt steps score) is =
-      (halts_last table bounds steps is.0.inside is.0.halts).greatest n here.inside
-  late_outcome outcomes.NoSteps is = here.inside.within_steps
-  late_outcome outcomes.NoCells is = here.inside.within_steps
+  outcome_by_chance : HasNoCycle table bounds → (outcome : Outcome) → IsOutcome table bounds outcome
+      → AgreesByChance key table (named_step bounds (verdict_of_outcome outcome))
+  outcome_by_chance none outcome is = by_chance none (named_step bounds (verdict_of_outcome outcome))
+      (named_by_outcome table bounds outcome is n here.inside).0
 
   -- what the exact search for cycles finds costs no more than it may
   pub exact_costs : (old mid new : Meter) → old.steps ≡ 0 → CountsTo table n old mid → (ending : Ending)
@@ -135,11 +124,8 @@ module _ {table : Table} {bounds : Bounds} {key : ℤ → ℕ} {n : ℕ} (here :
       let late = not_earlier second (λ less. here.no_cycle first second less found.cycle) in
       omega (arith, one, two, late, zero)
   exact_costs old mid new zero counts (Ran outcome) found ran searched none =
-      absurd (none (by_chance found (named_step bounds (verdict_of_outcome outcome)) (late_outcome outcome ran)))
-  exact_costs old mid new zero counts (Found (Halt steps score)) found ran searched none = absurd found
-  exact_costs old mid new zero counts (Found (Translated side first second extent)) found ran searched none = absurd found
-  exact_costs old mid new zero counts (Found (Backward levels nodes)) found ran searched none = absurd found
-  exact_costs old mid new zero counts (Found (Undecided why)) found ran searched none = absurd found
+      absurd (none (outcome_by_chance found outcome ran))
+  exact_costs old mid new zero counts (Found verdict) found ran searched none = absurd found
 
   -- where that finds none, the fingerprints agree by chance
   pub chance_costs : HasNoCycle table bounds → (steps : ℕ) (ending : Ending)
@@ -149,11 +135,8 @@ module _ {table : Table} {bounds : Bounds} {key : ℤ → ℕ} {n : ℕ} (here :
       absurd (none (by_chance nowhere second
       (not_earlier second (λ less. here.no_translation side first second less found.0.translation))))
   chance_costs nowhere steps (Ran outcome) found ran none =
-      absurd (none (by_chance nowhere (named_step bounds (verdict_of_outcome outcome)) (late_outcome outcome ran)))
-  chance_costs nowhere steps (Found (Halt s score)) found ran none = absurd found
-  chance_costs nowhere steps (Found (Cycler first second)) found ran none = absurd found
-  chance_costs nowhere steps (Found (Backward levels nodes)) found ran none = absurd found
-  chance_costs nowhere steps (Found (Undecided why)) found ran none = absurd found
+      absurd (none (outcome_by_chance nowhere outcome ran))
+  chance_costs nowhere steps (Found verdict) found ran none = absurd found
 
 module _ (table : Table) (bounds : Bounds) where
   -- the exact search ended with a pair or a halt
@@ -162,12 +145,8 @@ module _ (table : Table) (bounds : Bounds) where
   settled_ends (Found (Cycler first second)) settled found ran = found
   settled_ends (Ran (outcomes.Halt n score)) settled found ran =
       (ran, found, no_translation_beside table bounds n ran.0)
-  settled_ends (Ran outcomes.NoSteps) settled found ran = absurd cc
-  settled_ends (Ran outcomes.NoCells) settled found ran = absurd cc
-  settled_ends (Found (Halt n score)) settled found ran = absurd found
-  settled_ends (Found (Translated side first second extent)) settled found ran = absurd found
-  settled_ends (Found (Backward levels nodes)) settled found ran = absurd found
-  settled_ends (Found (Undecided why)) settled found ran = absurd found
+  settled_ends (Ran outcome) settled found ran = absurd cc
+  settled_ends (Found verdict) settled found ran = absurd found
 
   -- else it found none
   pub open_finds_none : (ending : Ending) → is_settled ending ≡ false → FindsCycle table bounds (found_of ending)
@@ -180,10 +159,7 @@ module _ (table : Table) (bounds : Bounds) where
       → RanAs table bounds ending → EndsBoth table bounds ending
   both_end nowhere (Found (Translated side first second extent)) found ran = (nowhere, found.0, found.1)
   both_end nowhere (Ran outcome) found ran = (ran, nowhere, found)
-  both_end nowhere (Found (Halt n score)) found ran = absurd found
-  both_end nowhere (Found (Cycler first second)) found ran = absurd found
-  both_end nowhere (Found (Backward levels nodes)) found ran = absurd found
-  both_end nowhere (Found (Undecided why)) found ran = absurd found
+  both_end nowhere (Found verdict) found ran = absurd found
 
   -- by a plan
   pub both_on : (plan : Plan) → IsTrue plan.cyclers → IsTrue plan.translated → (ending : Ending)
@@ -192,19 +168,14 @@ module _ (table : Table) (bounds : Bounds) where
   both_on plan cyclers translated (Found (Translated side first second extent)) ends =
       (λ on. ends.0, translated, ends.1, ends.2)
   both_on plan cyclers translated (Ran outcome) ends = (ends.0, (λ on. ends.1, λ on. ends.2))
-  both_on plan cyclers translated (Found (Halt n score)) ends = absurd ends
-  both_on plan cyclers translated (Found (Backward levels nodes)) ends = absurd ends
-  both_on plan cyclers translated (Found (Undecided why)) ends = absurd ends
+  both_on plan cyclers translated (Found verdict) ends = absurd ends
 
   pub cyclers_on : (plan : Plan) → IsTrue plan.cyclers → (IsTrue plan.translated → ⊥) → (ending : Ending)
       → FindsCycle table bounds (found_of ending) → RanAs table bounds ending
       → EndsSearches table bounds plan ending
   cyclers_on plan cyclers off (Found (Cycler first second)) found ran = (cyclers, found)
   cyclers_on plan cyclers off (Ran outcome) found ran = (ran, (λ on. found, λ on. absurd (off on)))
-  cyclers_on plan cyclers off (Found (Halt n score)) found ran = absurd found
-  cyclers_on plan cyclers off (Found (Translated side first second extent)) found ran = absurd found
-  cyclers_on plan cyclers off (Found (Backward levels nodes)) found ran = absurd found
-  cyclers_on plan cyclers off (Found (Undecided why)) found ran = absurd found
+  cyclers_on plan cyclers off (Found verdict) found ran = absurd found
 
   pub translated_on : (plan : Plan) → (IsTrue plan.cyclers → ⊥) → IsTrue plan.translated → (ending : Ending)
       → FindsTranslation table bounds (found_of ending) → RanAs table bounds ending
@@ -212,10 +183,7 @@ module _ (table : Table) (bounds : Bounds) where
   translated_on plan off translated (Found (Translated side first second extent)) found ran =
       (λ on. absurd (off on), translated, found.0, found.1)
   translated_on plan off translated (Ran outcome) found ran = (ran, (λ on. absurd (off on), λ on. found))
-  translated_on plan off translated (Found (Halt n score)) found ran = absurd found
-  translated_on plan off translated (Found (Cycler first second)) found ran = absurd found
-  translated_on plan off translated (Found (Backward levels nodes)) found ran = absurd found
-  translated_on plan off translated (Found (Undecided why)) found ran = absurd found
+  translated_on plan off translated (Found verdict) found ran = absurd found
 
 -- what holds of an answer, from two things that hold of it
 pub if_ok_both : {A E : Type 0} (r : Result A E) (P Q R : A → Type 0) → ((x : A) → P x → Q x → R x)
@@ -243,9 +211,7 @@ module _ (table : Table) (bounds : Bounds) (plan : Plan) where
     found.2,
     found.3,
   )
-  found_is_verdict (Halt n score) found = absurd found
-  found_is_verdict (Backward levels nodes) found = absurd found
-  found_is_verdict (Undecided why) found = absurd found
+  found_is_verdict verdict found = absurd found
 
   -- no walk is made then, nor where the machine halts
   pub no_walk_beside : (verdict : Verdict) (meter : Meter) → SearchesFind table bounds plan (Some verdict)

@@ -1,11 +1,14 @@
 -- Why no machine has two verdicts, nor two counts of steps.
 use Rattle.std.proofs.Common.{◌≡◌, ℕ, ◌≤◌, ◌<◌, Option, ℤ, pos, neg_ℤ, inl, inr, refl, sym, subst, ◌∙◌, arith}
+use Rattle.std.proofs.lemmas.Bool.{cases_lt}
 use Rattle.std.proofs.lemmas.Int.{ints}
 use Rattle.bb_machine.specs.Limits.{Bounds}
 use Rattle.bb_machine.specs.Machine.{Table}
 use Rattle.bb_sim.specs.declared.simulation.Outcome.TheVariants.{Halt as Halts, NoSteps, NoCells}
 use Rattle.bb_sim.proofs.Facts.{last_step_is_unique, outcome_is_unique}
 use Rattle.bb_cert.specs.declared.verdict.Why.TheVariants.{Steps, Cells}
+use Rattle.bb_machine.specs.declared.plan.Plan.{Plan}
+use Rattle.bb_cert.specs.declared.verdict.Verdict.{Verdict}
 use Rattle.bb_cert.specs.declared.verdict.Verdict.TheVariants.{Halt, Cycler, Translated, Backward, Undecided}
 use Rattle.bb_cert.specs.declared.verdict.Extent.{Extent}
 use Rattle.bb_cert.specs.declared.verdict.Side.{Side}
@@ -16,9 +19,14 @@ use Rattle.bb_cert.proofs.Facts.{record_has_one_step, stands_on, told_is_one, tr
 use Rattle.bb_decide.specs.Cycle.{IsFirstCycle}
 use Rattle.bb_decide.specs.Partner.{IsPartner}
 use Rattle.bb_decide.specs.Translation.{IsFirstTranslation}
+use Rattle.bb_decide.specs.Verdict.{IsVerdict}
 use Rattle.bb_decide.specs.Laws.{VerdictIsUnique, StepsAreBounded, StepsAreUnique}
 use Rattle.bb_decide.specs.Cost.{CycleSteps, MakesCycleSearch, MakesTranslationSearch, StepsIfMade}
 use Rattle.bb_decide.specs.Cost.{TranslationSteps}
+use Rattle.bb_decide.proofs.KnownOfVerdicts.{asked_before, cyclers_are_on, extent_is_told, is_first_agreement}
+use Rattle.bb_decide.proofs.KnownOfVerdicts.{is_first_cycle, is_halt_within, is_tree, no_halt_within}
+use Rattle.bb_decide.proofs.KnownOfVerdicts.{passes_cycles, passes_translations, passes_trees}
+use Rattle.bb_decide.proofs.KnownOfVerdicts.{translated_are_on, trees_are_on}
 use Rattle.bb_decide.proofs.Partners.{partner_is_unique}
 
 -- there is one first cycle
@@ -92,79 +100,53 @@ module _ (table : Table) (bounds : Bounds) where
       let told = told_is_one table s a b one_told other_told tells_one tells_here in
       cc
 
+-- what one verdict has found isn't passed over by one that comes later
+module _ (table : Table) (bounds : Bounds) (plan : Plan) where
+  found_before : (a b : Verdict) → IsVerdict table bounds plan a → IsVerdict table bounds plan b
+      → asked_before a < asked_before b → ⊥
+  found_before (Halt n ones) b one other later =
+      no_halt_within table bounds plan b other later n (is_halt_within plan one)
+  found_before (Cycler first second) b one other later = passes_cycles table bounds plan b other later
+      (cyclers_are_on plan one) first second (is_first_cycle plan one).cycle
+  found_before (Translated side first second extent) b one other later =
+      passes_translations table bounds plan b other later (translated_are_on plan extent one) side first second
+      (is_first_agreement plan extent one).translation
+  found_before (Backward levels nodes) b one other later =
+      (passes_trees table bounds plan b other later (trees_are_on plan one)).nowhere levels nodes
+      (is_tree plan one)
+  found_before (Undecided why) (Undecided because) one other later = absurd (omega (arith, later))
+  found_before (Undecided why) b one other later = absurd (omega (arith, later))
+
 pub verdict_is_unique : VerdictIsUnique
 verdict_is_unique table bounds plan (Halt n ones) (Halt m twos) a b =
     let same = outcome_is_unique table bounds (Halts n ones) (Halts m twos) a b in cc
-verdict_is_unique table bounds plan (Halt n ones) (Undecided Steps) a b =
-    let same = outcome_is_unique table bounds (Halts n ones) NoSteps a b.0 in cc
-verdict_is_unique table bounds plan (Halt n ones) (Undecided Cells) a b =
-    let same = outcome_is_unique table bounds (Halts n ones) NoCells a b.0 in cc
-verdict_is_unique table bounds plan (Halt n ones) (Cycler first second) a b = absurd (b.0 n a.0)
-verdict_is_unique table bounds plan (Cycler first second) (Halt n ones) a b = absurd (a.0 n b.0)
 verdict_is_unique table bounds plan (Cycler first second) (Cycler third fourth) a b =
-    let firsts = partner_of_cycle_is_one table bounds first second third fourth a.2 b.2 in
-    let seconds = first_cycle_is_one table bounds first second third fourth a.2 b.2 in
+    let one = is_first_cycle plan a in
+    let other = is_first_cycle plan b in
+    let firsts = partner_of_cycle_is_one table bounds first second third fourth one other in
+    let seconds = first_cycle_is_one table bounds first second third fourth one other in
     cc
-verdict_is_unique table bounds plan (Cycler first second) (Undecided Steps) a b =
-    absurd (b.1.0 a.1 first second a.2.cycle)
-verdict_is_unique table bounds plan (Cycler first second) (Undecided Cells) a b =
-    absurd (b.1.0 a.1 first second a.2.cycle)
-verdict_is_unique table bounds plan (Undecided Steps) (Halt m twos) a b =
-    let same = outcome_is_unique table bounds NoSteps (Halts m twos) a.0 b in cc
-verdict_is_unique table bounds plan (Undecided Cells) (Halt m twos) a b =
-    let same = outcome_is_unique table bounds NoCells (Halts m twos) a.0 b in cc
-verdict_is_unique table bounds plan (Undecided Steps) (Cycler first second) a b =
-    absurd (a.1.0 b.1 first second b.2.cycle)
-verdict_is_unique table bounds plan (Undecided Cells) (Cycler first second) a b =
-    absurd (a.1.0 b.1 first second b.2.cycle)
+verdict_is_unique table bounds plan (Translated side first second extent)
+    (Translated other third fourth told) a b =
+    translations_are_one table bounds side other first second third fourth extent told
+    (is_first_agreement plan extent a) (is_first_agreement plan told b) (extent_is_told plan extent a)
+    (extent_is_told plan told b)
+verdict_is_unique table bounds plan (Backward levels nodes) (Backward h k) a b =
+    let same = tree_has_one_end table levels nodes h k (is_tree plan a).ends (is_tree plan b).ends in
+    let levels_same = same.0 in
+    let nodes_same = same.1 in
+    cc
 verdict_is_unique table bounds plan (Undecided Steps) (Undecided Steps) a b = refl
 verdict_is_unique table bounds plan (Undecided Cells) (Undecided Cells) a b = refl
 verdict_is_unique table bounds plan (Undecided Steps) (Undecided Cells) a b =
     let same = outcome_is_unique table bounds NoSteps NoCells a.0 b.0 in cc
 verdict_is_unique table bounds plan (Undecided Cells) (Undecided Steps) a b =
     let same = outcome_is_unique table bounds NoCells NoSteps a.0 b.0 in cc
-verdict_is_unique table bounds plan (Translated side first second extent) (Halt m twos) a b =
-    absurd (a.0 m b.0)
-verdict_is_unique table bounds plan (Translated side first second extent) (Cycler third fourth) a b =
-    absurd (a.1 b.1 third fourth b.2.cycle)
-verdict_is_unique table bounds plan (Translated side first second extent)
-    (Translated other third fourth told) a b =
-    translations_are_one table bounds side other first second third fourth extent told a.3 b.3 a.4 b.4
-verdict_is_unique table bounds plan (Translated side first second extent) (Undecided Steps) a b =
-    absurd (b.1.1 a.2 side first second a.3.translation)
-verdict_is_unique table bounds plan (Translated side first second extent) (Undecided Cells) a b =
-    absurd (b.1.1 a.2 side first second a.3.translation)
-verdict_is_unique table bounds plan (Halt n ones) (Translated side third fourth extent) a b =
-    absurd (b.0 n a.0)
-verdict_is_unique table bounds plan (Cycler first second) (Translated side third fourth extent) a b =
-    absurd (b.1 a.1 first second a.2.cycle)
-verdict_is_unique table bounds plan (Undecided Steps) (Translated side third fourth extent) a b =
-    absurd (a.1.1 b.2 side third fourth b.3.translation)
-verdict_is_unique table bounds plan (Undecided Cells) (Translated side third fourth extent) a b =
-    absurd (a.1.1 b.2 side third fourth b.3.translation)
-verdict_is_unique table bounds plan (Backward levels nodes) (Halt m twos) a b = absurd (a.0 m b.0)
-verdict_is_unique table bounds plan (Backward levels nodes) (Cycler third fourth) a b =
-    absurd (a.1 b.1 third fourth b.2.cycle)
-verdict_is_unique table bounds plan (Backward levels nodes) (Translated side third fourth extent) a b =
-    absurd (a.2 b.2 side third fourth b.3.translation)
-verdict_is_unique table bounds plan (Backward levels nodes) (Backward h k) a b =
-    let same = tree_has_one_end table levels nodes h k a.4.ends b.4.ends in
-    let levels_same = same.0 in
-    let nodes_same = same.1 in
-    cc
-verdict_is_unique table bounds plan (Backward levels nodes) (Undecided Steps) a b =
-    absurd ((b.1.2 a.3).nowhere levels nodes a.4)
-verdict_is_unique table bounds plan (Backward levels nodes) (Undecided Cells) a b =
-    absurd ((b.1.2 a.3).nowhere levels nodes a.4)
-verdict_is_unique table bounds plan (Halt n ones) (Backward levels nodes) a b = absurd (b.0 n a.0)
-verdict_is_unique table bounds plan (Cycler first second) (Backward levels nodes) a b =
-    absurd (b.1 a.1 first second a.2.cycle)
-verdict_is_unique table bounds plan (Translated side first second extent) (Backward levels nodes) a b =
-    absurd (b.2 a.2 side first second a.3.translation)
-verdict_is_unique table bounds plan (Undecided Steps) (Backward levels nodes) a b =
-    absurd ((a.1.2 b.3).nowhere levels nodes b.4)
-verdict_is_unique table bounds plan (Undecided Cells) (Backward levels nodes) a b =
-    absurd ((a.1.2 b.3).nowhere levels nodes b.4)
+verdict_is_unique table bounds plan one other a b =
+    elim (cases_lt (asked_before one) (asked_before other)) [
+      | inl before ↦ absurd (found_before table bounds plan one other a b before)
+      | inr late ↦ absurd (found_before table bounds plan other one b a (omega (arith, late)))
+    ]
 
 module _ (table : Table) (bounds : Bounds) where
   cycle_steps_are_one : (n m : ℕ) → CycleSteps table bounds n → CycleSteps table bounds m → n ≡ m

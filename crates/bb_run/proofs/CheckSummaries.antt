@@ -1,5 +1,5 @@
 -- What checking the lines of a list is summed up in, from what each line did to it.
-use Rattle.std.proofs.Common.{◌≡◌, ℕ, ◌≤◌, ◌&&◌, ◌⊎◌, max, Bool, true, false, List, [], ◌∷◌, ◌++◌, refl, sym}
+use Rattle.std.proofs.Common.{◌≡◌, ℕ, ◌≤◌, ◌⊎◌, max, true, List, [], ◌∷◌, ◌++◌, refl, sym}
 use Rattle.std.proofs.Common.{subst, ap, ◌∙◌, inl, inr, arith}
 use Rattle.std.specs.Prelude.{slice_index_or}
 use Rattle.std.specs.List.{FoldsTo}
@@ -25,9 +25,8 @@ use Rattle.bb_run.proofs.CheckReplies.{opened}
 word_if_fine : (given : Answer) → is_fine given ≡ true
     → (answer_text given ≡ answer_text answer.Ok) ⊎ (answer_text given ≡ answer_text answer.Open)
 word_if_fine answer.Ok e = inl refl
-word_if_fine answer.Bad e = cc
-word_if_fine answer.Over e = cc
 word_if_fine answer.Open e = inr refl
+word_if_fine given e = cc
 
 pub fine_by_word : (given : Answer)
     → (answer_text given ≡ answer_text answer.Ok) ⊎ (answer_text given ≡ answer_text answer.Open)

@@ -13,9 +13,9 @@ use Rattle.bb_sim.proofs.Facts.{last_step_is_unique}
 use Rattle.bb_cert.specs.declared.verdict.Verdict.TheVariants.{Backward}
 use Rattle.bb_decide.specs.Cost.{DecisionSteps}
 use Rattle.bb_decide.specs.Verdict.{IsVerdict}
-use Rattle.bb_decide.proofs.Facts.{steps_are_bounded, steps_are_unique}
+use Rattle.bb_decide.proofs.Facts.{is_tree, steps_are_bounded, steps_are_unique, walk_is_made}
 use Rattle.bb_lines.specs.declared.fault.Fault.{Fault}
-use Rattle.bb_lines.specs.declared.fault.Fault.TheVariants.{Memory, Read, Write}
+use Rattle.bb_lines.specs.declared.fault.Fault.TheVariants.{Memory}
 use Rattle.bb_lines.specs.Ends.{ListEnds}
 use Rattle.bb_run.specs.declared.summary.Summary.{Summary}
 use Rattle.bb_run.specs.Seen.{CountsExactly, CountsInOneRun, SawBy, SawLine, SawLines, SawMachine, SawRefusal}
@@ -96,7 +96,7 @@ module _ (one : TextsDiffer) (bounds : Bounds) (plan : Plan) where
         is_tree_within h k other =
             let e = same_table one line other.table saw.table other.of saw.of in
             let verdict = subst (λ t. IsVerdict t bounds plan (Backward h k)) e other.is_verdict in
-            let counted = limited.walk.of_tree (verdict.0, verdict.1, verdict.2, verdict.3) h k verdict.4 in
+            let counted = limited.walk.of_tree (walk_is_made plan verdict) h k (is_tree plan verdict) in
             (omega (arith, counted.0, levels), omega (arith, counted.1, nodes))
 
     refusal_summed : IsOneRunSummary bounds plan lines old → SawRefusal old line new cost
@@ -230,5 +230,4 @@ pub ends_by : (Reply : List ℕ → List ℕ → Type 0) {Sums Others : List (Li
 ends_by Reply left left_then held held_then follows (Ok summary) (taken, consumed, ends) =
     (taken, consumed, (ends.0, ends.1, follows _ summary ends.2))
 ends_by Reply left left_then held held_then follows (Err Memory) ends = ends
-ends_by Reply left left_then held held_then follows (Err Read) ends = ends
-ends_by Reply left left_then held held_then follows (Err Write) ends = ends
+ends_by Reply left left_then held held_then follows end ends = ends

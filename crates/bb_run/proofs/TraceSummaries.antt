@@ -13,7 +13,7 @@ use Rattle.bb_machine.specs.Column.{IsColumn}
 use Rattle.bb_sim.specs.Span.{span, IsLastInside}
 use Rattle.bb_cert.specs.verdict.Line.{refusal_text}
 use Rattle.bb_lines.specs.declared.fault.Fault.{Fault}
-use Rattle.bb_lines.specs.declared.fault.Fault.TheVariants.{Memory, Read, Write}
+use Rattle.bb_lines.specs.declared.fault.Fault.TheVariants.{Memory, Write}
 use Rattle.bb_lines.specs.Ends.{AppendsPrefix, MatchEnd}
 use Rattle.bb_lines.specs.Output.{Sends}
 use Rattle.bb_run.specs.declared.summary.Summary.{Summary}
@@ -83,8 +83,7 @@ module _ {bounds : Bounds} {from every : ℕ} {line : List ℕ} where
           (AppendsPrefix old new (lines_text (sampled_lines table from every count)))
       by_line (Ok whole) ends = (ends.0, uncut one of whole ends.1)
       by_line (Err Memory) ends = record { run = run; stops = ends }
-      by_line (Err Read) ends = ends
-      by_line (Err Write) ends = ends
+      by_line r ends = ends
 
   module _ {column : ℕ} (no_machine : IsMachineLine line → ⊥) (is_column : IsColumn line column) where
     refused : IsSampledTrace bounds from every line (refusal_text column ∷ [])
@@ -161,10 +160,8 @@ module _ {bounds : Bounds} {from every : ℕ} {line : List ℕ} {old new : Optio
 pub sampled_ends : {bounds : Bounds} {from every : ℕ} {line : List ℕ} (old new : Option (List ℕ))
     (r : Result Summary Fault) → WrittenEnds bounds from every line old new r
     → SampledEnds bounds from every line old new r
-sampled_ends old new (Ok summary) ends = ends
 sampled_ends old new (Err Memory) ends = (ends.0, ends.1, first_lines ends.2)
-sampled_ends old new (Err Read) ends = ends
-sampled_ends old new (Err Write) ends = ends
+sampled_ends old new r ends = ends
 
 -- from step 0 on each step is told
 all_told : (table : Table) (count : ℕ) → sampled_lines table 0 1 count ≡ step_lines table count
@@ -216,7 +213,5 @@ some_lines early =
 
 pub trace_ends : {bounds : Bounds} {line : List ℕ} (old new : Option (List ℕ)) (r : Result Summary Fault)
     → WrittenEnds bounds 0 1 line old new r → TraceEnds bounds line old new r
-trace_ends old new (Ok summary) ends = (ends.0, all_trace ends.1, ends.2)
 trace_ends old new (Err Memory) ends = (ends.0, all_trace ends.1, some_lines ends.2)
-trace_ends old new (Err Read) ends = (ends.0, all_trace ends.1, ends.2)
-trace_ends old new (Err Write) ends = (ends.0, all_trace ends.1, ends.2)
+trace_ends old new r ends = (ends.0, all_trace ends.1, ends.2)

@@ -16,7 +16,7 @@ ghost use Rattle.bb_lines.specs.Watched.{is_marked, watched_inner};
 ghost use Rattle.bb_run.specs.Ends.{TraceEnds};
 ghost use Rattle.bb_run.specs.Sample.{IsSampledTrace, IsSampleSize, SampledEnds, sampled_lines};
 ghost use Rattle.bb_run.specs.Trace.{IsTraceSummary, IsUncut, cells_text, head_text, lines_text, step_text};
-ghost use Rattle.bb_run.specs.inside.RunningOn.{EndsEarly, IsWantedBefore, RunsOnTo, StopsBefore};
+ghost use Rattle.bb_run.specs.inside.RunningOn.{EndsEarly, RunsOn, StopsBefore};
 
 use crate::summary::Summary;
 use arrayvec::ArrayVec;
@@ -252,12 +252,8 @@ fn run_on<T: Tape>(
     requires stands { Stands machine.now runner.old (T.view tape.old) }
     requires limit { (T.view tape.old).limit ≡ limits.now.cells }
     requires steps { steps_of runner.old ≤ limits.now.steps }
-    ensures stands { OnOk result (Stands machine.now runner.new (T.view tape.new)) }
-    ensures ran { IfOk result (RunsOnTo machine.now limits.now (steps_of runner.old) count
-        (steps_of runner.new)) }
-    ensures limit { (T.view tape.new).limit ≡ (T.view tape.old).limit }
-    ensures memory { OnErr result (IsTrue T.GROWS) }
-    ensures wanted { OnErr result (IsWantedBefore machine.now limits.now (steps_of runner.old) count) }
+    ensures { RunsOn T.GROWS machine.now limits.now runner.old runner.new (T.view tape.old)
+        (T.view tape.new) count result }
 {
     let limits = *limits;
     let mut running = *runner;
@@ -278,12 +274,8 @@ fn make_steps<T: Tape>(
     requires stands { Stands machine.now runner.old (T.view tape.old) }
     requires limit { (T.view tape.old).limit ≡ limits.now.cells }
     requires steps { steps_of runner.old ≤ limits.now.steps }
-    ensures stands { OnOk result (Stands machine.now runner.new (T.view tape.new)) }
-    ensures ran { IfOk result (RunsOnTo machine.now limits.now (steps_of runner.old) count
-        (steps_of runner.new)) }
-    ensures limit { (T.view tape.new).limit ≡ (T.view tape.old).limit }
-    ensures memory { OnErr result (IsTrue T.GROWS) }
-    ensures wanted { OnErr result (IsWantedBefore machine.now limits.now (steps_of runner.old) count) }
+    ensures { RunsOn T.GROWS machine.now limits.now runner.old runner.new (T.view tape.old)
+        (T.view tape.new) count result }
 {
     limits.show_accepted();
     let mut meter = Meter::new();

@@ -1,15 +1,17 @@
 -- Why a changed machine has the changed verdict, claims and answers.
-use Rattle.std.proofs.Common.{◌≡◌, ℕ, zero, suc, ◌<◌, ◌≤◌, Bool, true, false, Option, List, [], ◌∷◌, length}
+use Rattle.std.proofs.Common.{◌≡◌, ℕ, zero, suc, ◌<◌, Bool, true, false, Option, List, [], ◌∷◌, length}
 use Rattle.std.proofs.Common.{get_or, refl, ap, sym, subst, ◌∙◌, arith}
 use Rattle.bb_machine.specs.declared.entry.Entry.{Entry}
 use Rattle.bb_machine.specs.declared.entry.Entry.TheVariants.{Undefined, Go}
 use Rattle.bb_machine.specs.declared.entry.Next.TheVariants as to
 use Rattle.bb_machine.specs.declared.plan.Plan.{Plan}
 use Rattle.bb_machine.specs.Limits.{Bounds}
-use Rattle.bb_machine.specs.Machine.{Table, IsMachine, entry_of, symbols_of}
+use Rattle.bb_machine.specs.Machine.{Table, IsMachine, entry_of}
 use Rattle.bb_tape.specs.Content.{cell}
 use Rattle.bb_sim.specs.Configuration.{Configuration, start}
-use Rattle.bb_sim.specs.Outcome.{HaltsInside, HaltsNowhere}
+use Rattle.bb_sim.specs.declared.simulation.Outcome.{Outcome}
+use Rattle.bb_sim.specs.declared.simulation.Outcome.TheVariants.{Halt as Halts, NoSteps, NoCells}
+use Rattle.bb_sim.specs.Outcome.{HaltsInside, HaltsNowhere, IsOutcome}
 use Rattle.bb_sim.specs.Run.{after, IsScore}
 use Rattle.bb_sim.specs.Span.{span}
 use Rattle.bb_cert.specs.declared.verdict.Extent.{Extent}
@@ -19,7 +21,7 @@ use Rattle.bb_cert.specs.declared.verdict.Verdict.{Verdict}
 use Rattle.bb_cert.specs.declared.verdict.Verdict.TheVariants.{Halt, Cycler, Translated, Backward}
 use Rattle.bb_cert.specs.declared.verdict.Verdict.TheVariants.{Undecided}
 use Rattle.bb_cert.specs.declared.verdict.Why.TheVariants.{Steps, Cells}
-use Rattle.bb_cert.specs.checker.Answer.{Applies, Rule, undecided, too_much_named, out_of_order}
+use Rattle.bb_cert.specs.checker.Answer.{Applies, Rule}
 use Rattle.bb_cert.specs.checker.Answer.{too_much_needed, claim_holds, all_else}
 use Rattle.bb_cert.specs.claims.Claim.{Claim}
 use Rattle.bb_cert.specs.tree.Tree.{MatchesOne, level, Ends, Clear, EndsWithin, HaltsNextAfter, goes_to}
@@ -30,6 +32,8 @@ use Rattle.bb_decide.specs.Backward.{HasNoTree}
 use Rattle.bb_decide.specs.Cycle.{HasNoCycle, IsFirstCycle}
 use Rattle.bb_decide.specs.Translation.{AgreesWithPartner, HasNoTranslation, IsFirstTranslation}
 use Rattle.bb_decide.specs.Verdict.{IsVerdict, PassesAll}
+use Rattle.bb_decide.proofs.Facts.{cyclers_are_on, extent_is_told, is_first_agreement, is_first_cycle, is_tree}
+use Rattle.bb_decide.proofs.Facts.{passes_all, translated_are_on, trees_are_on}
 use Rattle.laws_of_verdicts.specs.Change.{Change, ChangesKeepAnswers, ChangesKeepClaims}
 use Rattle.laws_of_verdicts.specs.Change.{ChangesKeepVerdicts, IsChanged, changed_entry, changed_next}
 use Rattle.laws_of_verdicts.specs.Change.{changed_verdict, turned_side}
@@ -215,96 +219,69 @@ module _ (change : Change) (table changed : Table) (machine : IsMachine table)
   no_translation_image bounds none side a b found = none (turned_side change.mirrored side) a b
       (translation_image (back change) changed table b (here b) bounds side a found)
 
--- no tree of the machine means none of the changed one
-module _ (change : Change) (table changed : Table) (machine : IsMachine table)
-    (machine_too : IsMachine changed) (is : IsChanged change table changed) where
-  no_tree_image : (bounds : Bounds) → HasNoTree table bounds → HasNoTree changed bounds
-  no_tree_image bounds none = record {
-    nowhere = λ h k ends. none.nowhere h k (ends_within_image (back change) changed table machine_too machine
-        (changed_back change table changed is) bounds.depth bounds.nodes h k ends);
-  }
-
-  passes_image : (bounds : Bounds) (plan : Plan) → PassesAll table bounds plan → PassesAll changed bounds plan
-  passes_image bounds plan passes = (
-    λ on. no_cycle_image change table changed machine machine_too is bounds (passes.0 on),
-    λ on. no_translation_image change table changed machine machine_too is bounds (passes.1 on),
-    λ on. no_tree_image bounds (passes.2 on),
-  )
-
-  verdict_image : (bounds : Bounds) (plan : Plan) (verdict : Verdict) → IsVerdict table bounds plan verdict
-      → IsVerdict changed bounds plan (changed_verdict change verdict)
-  verdict_image bounds plan (Halt n ones) given = (
-    halts_inside_image change table changed machine machine_too is bounds n given.0,
-    scores change table changed machine machine_too is n ones given.1,
-  )
-  verdict_image bounds plan (Cycler a b) given = (
-    no_halt_image change table changed machine machine_too is bounds given.0,
-    given.1,
-    first_cycle_image change table changed machine machine_too is bounds a b given.2,
-  )
-  verdict_image bounds plan (Translated side a b extent) given = (
-    no_halt_image change table changed machine machine_too is bounds given.0,
-    λ on. no_cycle_image change table changed machine machine_too is bounds (given.1 on),
-    given.2,
-    first_translation_image change table changed machine machine_too is bounds side a b given.3,
-    tells change table changed machine machine_too is side a b extent given.3.translation.pair given.4,
-  )
-  verdict_image bounds plan (Backward levels nodes) given = (
-    no_halt_image change table changed machine machine_too is bounds given.0,
-    λ on. no_cycle_image change table changed machine machine_too is bounds (given.1 on),
-    λ on. no_translation_image change table changed machine machine_too is bounds (given.2 on),
-    given.3,
-    ends_within_image change table changed machine machine_too is bounds.depth bounds.nodes levels
-        nodes given.4,
-  )
-  verdict_image bounds plan (Undecided Steps) given = (
-    (
-      no_halt_image change table changed machine machine_too is bounds given.0.0,
-      rw (spans change table changed machine machine_too is bounds.steps) given.0.1,
-    ),
-    passes_image bounds plan given.1,
-  )
-  verdict_image bounds plan (Undecided Cells) given = (
-    (
-      no_halt_image change table changed machine machine_too is bounds given.0.0,
-      rw (spans change table changed machine machine_too is bounds.steps) given.0.1,
-    ),
-    passes_image bounds plan given.1,
-  )
-
   -- each rule of the checker applies to both
   rule_image : (bounds : Bounds) (verdict : Verdict) (rule : Rule) → Applies table bounds verdict rule
       → Applies changed bounds (changed_verdict change verdict) rule
-  rule_image bounds (Halt n ones) undecided applies = applies
-  rule_image bounds (Cycler a b) undecided applies = applies
-  rule_image bounds (Translated side a b extent) undecided applies = applies
-  rule_image bounds (Backward levels nodes) undecided applies = applies
-  rule_image bounds (Undecided why) undecided applies = applies
-  rule_image bounds (Halt n ones) too_much_named applies = applies
-  rule_image bounds (Cycler a b) too_much_named applies = applies
-  rule_image bounds (Translated side a b extent) too_much_named applies = applies
-  rule_image bounds (Backward levels nodes) too_much_named applies = applies
-  rule_image bounds (Undecided why) too_much_named applies = applies
-  rule_image bounds (Halt n ones) out_of_order applies = applies
-  rule_image bounds (Cycler a b) out_of_order applies = applies
-  rule_image bounds (Translated side a b extent) out_of_order applies = applies
-  rule_image bounds (Backward levels nodes) out_of_order applies = applies
-  rule_image bounds (Undecided why) out_of_order applies = applies
-  rule_image bounds (Halt n ones) too_much_needed applies =
-      rw (spans change table changed machine machine_too is n) applies
-  rule_image bounds (Cycler a b) too_much_needed applies =
-      rw (spans change table changed machine machine_too is b) applies
-  rule_image bounds (Translated side a b extent) too_much_needed applies =
-      rw (spans change table changed machine machine_too is b) applies
-  rule_image bounds (Backward levels nodes) too_much_needed applies = applies
-  rule_image bounds (Undecided why) too_much_needed applies = applies
-  rule_image bounds verdict claim_holds applies =
-      claim_image change table changed machine machine_too is verdict applies
+  rule_image bounds (Halt n ones) too_much_needed applies = rw (spans n) applies
+  rule_image bounds (Cycler a b) too_much_needed applies = rw (spans b) applies
+  rule_image bounds (Translated side a b extent) too_much_needed applies = rw (spans b) applies
+  rule_image bounds verdict claim_holds applies = claim_image verdict applies
   rule_image bounds verdict all_else applies = tt
+  rule_image bounds verdict other applies = applies
+
+  outcome_image : (bounds : Bounds) (outcome : Outcome) → IsOutcome table bounds outcome
+      → IsOutcome changed bounds outcome
+  outcome_image bounds (Halts n ones) given = (halts_inside_image bounds n given.0, scores n ones given.1)
+  outcome_image bounds outcome given = (no_halt_image bounds given.0, rw (spans bounds.steps) given.1)
+
+  -- no tree of the machine means none of the changed one, since each of that is one of the machine
+  module _ (ends_back : (levels nodes h k : ℕ) → EndsWithin changed levels nodes h k
+      → EndsWithin table levels nodes h k) where
+    no_tree_image : (bounds : Bounds) → HasNoTree table bounds → HasNoTree changed bounds
+    no_tree_image bounds none =
+        record { nowhere = λ h k ends. none.nowhere h k (ends_back bounds.depth bounds.nodes h k ends) }
+
+    passes_image : (bounds : Bounds) (plan : Plan) → PassesAll table bounds plan
+        → PassesAll changed bounds plan
+    passes_image bounds plan passes = (
+      λ on. no_cycle_image bounds (passes.0 on),
+      λ on. no_translation_image bounds (passes.1 on),
+      λ on. no_tree_image bounds (passes.2 on),
+    )
+
+    verdict_image : (bounds : Bounds) (plan : Plan) (verdict : Verdict) → IsVerdict table bounds plan verdict
+        → IsVerdict changed bounds plan (changed_verdict change verdict)
+    verdict_image bounds plan (Halt n ones) given = outcome_image bounds (Halts n ones) given
+    verdict_image bounds plan (Cycler a b) given = (
+      no_halt_image bounds given.0,
+      cyclers_are_on plan given,
+      first_cycle_image bounds a b (is_first_cycle plan given),
+    )
+    verdict_image bounds plan (Translated side a b extent) given =
+        let first = is_first_agreement plan extent given in (
+          no_halt_image bounds given.0,
+          λ on. no_cycle_image bounds (given.1 on),
+          translated_are_on plan extent given,
+          first_translation_image bounds side a b first,
+          tells side a b extent first.translation.pair (extent_is_told plan extent given),
+        )
+    verdict_image bounds plan (Backward levels nodes) given = (
+      no_halt_image bounds given.0,
+      λ on. no_cycle_image bounds (given.1 on),
+      λ on. no_translation_image bounds (given.2 on),
+      trees_are_on plan given,
+      ends_within_image bounds.depth bounds.nodes levels nodes (is_tree plan given),
+    )
+    verdict_image bounds plan (Undecided Steps) given =
+        (outcome_image bounds NoSteps given.0, passes_image bounds plan (passes_all plan Steps given))
+    verdict_image bounds plan (Undecided Cells) given =
+        (outcome_image bounds NoCells given.0, passes_image bounds plan (passes_all plan Cells given))
 
 pub changes_keep_verdicts : ChangesKeepVerdicts
 changes_keep_verdicts change table changed bounds plan verdict machine machine_too is given =
-    verdict_image change table changed machine machine_too is bounds plan verdict given
+    verdict_image change table changed machine machine_too is
+    (ends_within_image (back change) changed table machine_too machine (changed_back change table changed is))
+    bounds plan verdict given
 
 pub changes_keep_claims : ChangesKeepClaims
 changes_keep_claims change table changed verdict machine machine_too is claim =

@@ -10,22 +10,21 @@ use Rattle.bb_machine.specs.Machine.{Table}
 use Rattle.bb_tape.specs.Content.{cell}
 use Rattle.bb_sim.specs.Configuration.{Configuration, followed, entry_at, next}
 use Rattle.bb_sim.specs.Run.{conf, Exists, HaltsAt, Never}
-use Rattle.bb_sim.proofs.Facts.{conf-start, halt_is_last}
+use Rattle.bb_sim.proofs.Facts.{halt_is_last}
 use Rattle.bb_cert.specs.declared.verdict.Side.{Side}
 use Rattle.bb_cert.specs.declared.verdict.Verdict.{Verdict}
-use Rattle.bb_cert.specs.declared.verdict.Verdict.TheVariants.{Halt, Cycler, Translated, Backward}
-use Rattle.bb_cert.specs.declared.verdict.Verdict.TheVariants.{Undecided}
+use Rattle.bb_cert.specs.declared.verdict.Verdict.TheVariants.{Halt, Cycler, Translated}
 use Rattle.bb_cert.specs.declared.checker.answer.Answer.TheVariants.{Ok}
 use Rattle.bb_cert.specs.checker.Answer.{Applies, IsAnswer, NeedsTooMuch, Rule, answer_by, rank, undecided}
 use Rattle.bb_cert.specs.checker.Answer.{too_much_named, out_of_order, too_much_needed, claim_holds}
-use Rattle.bb_cert.specs.checker.Answer.{all_else}
 use Rattle.bb_cert.specs.claims.Claim.{Claim}
 use Rattle.bb_cert.proofs.Facts.{steps_of_never, agreeing_records_never_halt, earlier, moves}
 use Rattle.bb_cert.proofs.Facts.{repeats_never_halt}
 use Rattle.bb_decide.specs.Cycle.{HasNoCycle, IsFirstCycle}
 use Rattle.bb_decide.specs.Translation.{IsFirstTranslation}
 use Rattle.bb_decide.specs.Verdict.{IsVerdict}
-use Rattle.bb_decide.proofs.Facts.{verdicts_hold}
+use Rattle.bb_decide.proofs.Facts.{cyclers_are_on, extent_is_told, found_is_verdict, is_first_agreement}
+use Rattle.bb_decide.proofs.Facts.{is_first_cycle, is_halt_within, translated_are_on, verdicts_hold}
 use Rattle.laws_of_verdicts.specs.Completion.{IsCompletion, IsInZ, MeetsNoGap, CompletionsKeepAnswers}
 use Rattle.laws_of_verdicts.specs.Completion.{CompletionsKeepClaims, CompletionsKeepVerdicts}
 use Rattle.laws_of_verdicts.specs.Completion.{CompletionsNeverHalt}
@@ -157,41 +156,32 @@ module _ (table filled : Table) (completion : IsCompletion table filled) where
         pair_image unchanged table filled b alike side a claim.0,
         says_image unchanged table filled b alike side a extent (omega (arith, in_order)) claim.1,
       )
-  claim_kept (Backward levels nodes) at claim = absurd at
-  claim_kept (Undecided why) at claim = absurd at
+  claim_kept verdict at claim = absurd at
 
   verdict_kept : (bounds : Bounds) (plan : _) (verdict : Verdict) → MeetsNoGap table verdict
       → IsVerdict table bounds plan verdict → IsVerdict filled bounds plan verdict
   verdict_kept bounds plan (Halt n ones) at is =
-      let claim = claim_kept (Halt n ones) at (is.0.halts, is.1) in
-      let alike = alike_to n (record { here = at.here; exists = at.exists }) in (
-        record { halts = claim.0; inside = inside_image unchanged table filled n alike bounds is.0.inside },
-        claim.1,
-      )
+      let claim = claim_kept (Halt n ones) at (verdicts_hold table bounds plan (Halt n ones) is) in
+      let alike = alike_to n (record { here = at.here; exists = at.exists }) in
+      let inside = inside_image unchanged table filled n alike bounds (is_halt_within plan is).inside in
+      (record { halts = claim.0; inside = inside }, claim.1)
   verdict_kept bounds plan (Cycler a b) at is =
       let claim = verdicts_hold table bounds plan (Cycler a b) is in
       let never = repeats_never_halt table a b claim.0 claim.1 in
-      let kept = claim_kept (Cycler a b) at claim in
-      let stays = repeats_never_halt filled a b kept.0 kept.1 in (
-        λ n halts. stays.never n halts.halts,
-        is.1,
-        first_cycle_kept never bounds a b is.2,
-      )
+      found_is_verdict filled bounds plan (Cycler a b)
+      (cyclers_are_on plan is, first_cycle_kept never bounds a b (is_first_cycle plan is))
   verdict_kept bounds plan (Translated side a b extent) at is =
-      let claim = verdicts_hold table bounds plan (Translated side a b extent) is in
-      let never = agreeing_records_never_halt table side a b claim.0 in
-      let kept = claim_kept (Translated side a b extent) at claim in
-      let stays = agreeing_records_never_halt filled side a b kept.0 in
-      let in_order = claim.0.in_order in (
-        λ n halts. stays.never n halts.halts,
+      let claim = (verdicts_hold table bounds plan (Translated side a b extent) is).0 in
+      let never = agreeing_records_never_halt table side a b claim in
+      let less = claim.in_order in
+      found_is_verdict filled bounds plan (Translated side a b extent) (
         λ on. no_cycle_kept never bounds (is.1 on),
-        is.2,
-        first_translation_kept never bounds side a b is.3,
-        tells_image unchanged table filled b (alike_always never b) side a extent (omega (arith, in_order))
-            is.4,
+        translated_are_on plan extent is,
+        first_translation_kept never bounds side a b (is_first_agreement plan extent is),
+        tells_image unchanged table filled b (alike_always never b) side a extent (omega (arith, less))
+            (extent_is_told plan extent is),
       )
-  verdict_kept bounds plan (Backward levels nodes) at is = absurd at
-  verdict_kept bounds plan (Undecided why) at is = absurd at
+  verdict_kept bounds plan verdict at is = absurd at
 
   -- the last step that is named exists, so the span up to it is the same
   needs_back : (bounds : Bounds) (verdict : Verdict) → MeetsNoGap table verdict → Claim table verdict
@@ -205,18 +195,12 @@ module _ (table filled : Table) (completion : IsCompletion table filled) where
   needs_back bounds (Translated side a b extent) at claim needs =
       let alike = alike_to b (record { here = claim.0.agree.second; exists = claim.0.agree.at_second }) in
       rw (← span_image unchanged table filled b alike) needs
-  needs_back bounds (Backward levels nodes) at claim needs = absurd at
-  needs_back bounds (Undecided why) at claim needs = absurd at
+  needs_back bounds verdict at claim needs = absurd at
 
   answer_kept : (bounds : Bounds) (verdict : Verdict) → MeetsNoGap table verdict → (rule : Rule)
       → Ok ≡ answer_by rule → Applies table bounds verdict rule
       → ((other : Rule) → Applies table bounds verdict other → rank rule ≤ rank other)
       → IsAnswer filled bounds verdict Ok
-  answer_kept bounds verdict at undecided is applies first = absurd cc
-  answer_kept bounds verdict at too_much_named is applies first = absurd cc
-  answer_kept bounds verdict at out_of_order is applies first = absurd cc
-  answer_kept bounds verdict at too_much_needed is applies first = absurd cc
-  answer_kept bounds verdict at all_else is applies first = absurd cc
   answer_kept bounds verdict at claim_holds is claim first = record {
     rule = claim_holds;
     is = is;
@@ -228,8 +212,8 @@ module _ (table filled : Table) (completion : IsCompletion table filled) where
     comes_first too_much_named applies = first too_much_named applies
     comes_first out_of_order applies = first out_of_order applies
     comes_first too_much_needed applies = first too_much_needed (needs_back bounds verdict at claim applies)
-    comes_first claim_holds applies = omega arith
-    comes_first all_else applies = omega arith
+    comes_first other applies = omega arith
+  answer_kept bounds verdict at rule is applies first = absurd cc
 
 pub completions_keep_verdicts : CompletionsKeepVerdicts
 completions_keep_verdicts table filled bounds plan verdict completion at is =

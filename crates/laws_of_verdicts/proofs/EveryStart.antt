@@ -1,23 +1,16 @@
 -- Why a machine whose tree ends halts soon or never, from every start.
-use Rattle.std.proofs.Common.{◌≡◌, ℕ, zero, suc, ◌<◌, ◌≤◌, inl, inr, Option, Some, None, List, [], length}
-use Rattle.std.proofs.Common.{get_or, ℤ, option_and_then, refl, ap, sym, subst, ◌∙◌, arith}
+use Rattle.std.proofs.Common.{◌≡◌, ℕ, zero, suc, ◌<◌, ◌≤◌, inl, inr, Option, Some, None, List}
+use Rattle.std.proofs.Common.{option_and_then, refl, ap, sym, subst, ◌∙◌, arith}
 use Rattle.std.proofs.lemmas.Bool.{cases_lt}
-use Rattle.std.proofs.lemmas.List.Elements.{All-from_recursion}
 use Rattle.bb_machine.specs.declared.entry.Next.{Next}
 use Rattle.bb_machine.specs.declared.entry.Next.TheVariants.{State, Halt}
-use Rattle.bb_machine.specs.declared.entry.Entry.{Entry}
-use Rattle.bb_machine.specs.declared.entry.Entry.TheVariants.{Undefined, Go}
-use Rattle.bb_machine.specs.Entry.{IsEntryOf, IsNextOf}
-use Rattle.bb_machine.specs.Machine.{Table, IsGroup, IsMachine, symbols_of}
-use Rattle.bb_machine.proofs.Facts.{entry_named}
-use Rattle.bb_tape.specs.Content.{Content, cell, with_cell}
-use Rattle.bb_tape.proofs.Facts.{cell-with_cell-same, cell-with_cell-other, by_position}
-use Rattle.bb_sim.specs.Configuration.{Configuration, followed, entry_at, next}
+use Rattle.bb_machine.specs.Machine.{Table, IsMachine}
+use Rattle.bb_sim.specs.Configuration.{Configuration, next}
 use Rattle.bb_sim.specs.Run.{after}
 use Rattle.bb_sim.proofs.Facts.{IsNamed, next_named}
-use Rattle.bb_cert.specs.tree.Tree.{Node, MatchesOne, goes_to, IsAtHaltingEntry, Ends}
+use Rattle.bb_cert.specs.tree.Tree.{Node, MatchesOne, IsAtHaltingEntry, Ends}
 use Rattle.bb_cert.proofs.Facts.{at_end, before_z, matches_level, empty_levels_stay}
-use Rattle.laws_of_verdicts.specs.EveryStart.{IsStartOf, HaltsFrom, EveryStartHaltsSoonOrNever}
+use Rattle.laws_of_verdicts.specs.EveryStart.{HaltsFrom, EveryStartHaltsSoonOrNever}
 
 -- a step of a run from c, and the one before it
 record Steps (table : Table) (c : Configuration) (n : ℕ) (d : Configuration) : Type 0 where

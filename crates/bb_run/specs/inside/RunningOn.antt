@@ -1,9 +1,13 @@
 -- How far a call goes on with a run, and what a sampled trace has sent where it stops early. This project's
 -- own.
-use Rattle.std.specs.Prelude.{◌≡◌, ℕ, ◌+◌, ◌<◌, ◌≤◌, List, Option}
+use Rattle.std.specs.Prelude.{◌≡◌, ℕ, ◌+◌, ◌<◌, ◌≤◌, Bool, IfOk, IsTrue, List, OnErr, OnOk, Option, Result}
 use Rattle.std.specs.Io.KnownBytes.{Appends}
 use Rattle.bb_machine.specs.Limits.{Bounds}
 use Rattle.bb_machine.specs.Machine.{Table}
+use Rattle.bb_tape.specs.TapeView.{TapeView}
+use Rattle.bb_tape.specs.declared.tape.Memory.{Memory}
+use Rattle.bb_sim.specs.declared.runner.Runner.{Runner}
+use Rattle.bb_sim.specs.Runner.{Stands, steps_of}
 use Rattle.bb_sim.specs.Span.{span, Inside, IsLastInside}
 use Rattle.bb_run.specs.declared.tracing.RanOn.{RanOn}
 use Rattle.bb_run.specs.declared.tracing.RanOn.TheVariants.{Whole, Ended, Cut}
@@ -31,6 +35,20 @@ pub record IsWantedBefore (table : Table) (bounds : Bounds) (old count : ℕ) : 
   pub from_old : old ≤ at
   pub few : at < old + count
   pub next : Inside table bounds (at + 1)
+
+-- what `run_on` promises of a call, said once for it and for the half that is inlined there
+pub record RunsOn (grows : Bool) (table : Table) (bounds : Bounds) (old new : Runner)
+    (view_old view_new : TapeView) (count : ℕ) (result : Result RanOn Memory) : Type 0 where
+  -- the runner stands on the tape, but after an error
+  pub stands : OnOk result (Stands table new view_new)
+  -- how far it went on
+  pub ran : IfOk result (RunsOnTo table bounds (steps_of old) count (steps_of new))
+  -- the tape's limit stays
+  pub limit : view_new.limit ≡ view_old.limit
+  -- an error comes only on a tape that grows
+  pub memory : OnErr result (IsTrue grows)
+  -- and only where one of so many steps was still to be made
+  pub wanted : OnErr result (IsWantedBefore table bounds (steps_of old) count)
 
 -- known bytes grow by the sampled lines up to a step before the last
 pub record StopsBefore (table : Table) (from every last : ℕ) (old new : Option (List ℕ)) : Type 0 where
