@@ -1,6 +1,6 @@
 -- A table's rules, gathered row by row and ordered by where they lead.
 use Rattle.std.proofs.Common.{◌≡◌, ℕ, ◌+◌, ◌-◌, ◌<◌, ◌≤◌, false, cond, inl, inr, List, [], ◌∷◌}
-use Rattle.std.proofs.Common.{◌++◌, length, get_or, take, drop, refl, ap, sym, subst, ◌∙◌, append_assoc}
+use Rattle.std.proofs.Common.{◌++◌, length, get_or, take, drop, refl, ap, sym, ◌∙◌, append_assoc}
 use Rattle.std.proofs.Common.{append-nil, length-append, arith}
 use Rattle.std.specs.List.{filter, refill}
 use Rattle.std.specs.List.Sorted.{IsPermutation}
@@ -25,65 +25,43 @@ differs a b apart = elim (cases_Bool (is_same a b)) [
   | inr e ↦ e
 ]
 
--- one entry of a row
+-- one entry of a row, as the code read it
 
-module _ (next : Next) (state symbol : ℕ) (group : List Entry) (within : symbol < length group) where
-  abbrev here : Rule
-  here = rule state symbol (get_or group symbol Undefined)
+module _ (next : Next) (state symbol : ℕ) (group : List Entry) (within : symbol < length group) (entry : Entry)
+    (is : entry ≡ get_or group symbol Undefined) where
+  abbrev here : List Rule
+  here = rule state symbol entry ∷ []
 
   abbrev further : List Rule
   further = filter (leads_to next) (rules_in state (symbol + 1) (drop (symbol + 1) group))
 
-  row_step : filter (leads_to next) (rules_in state symbol (drop symbol group)) ≡ cond
-      (leads_to next here) (here ∷ further) further
-  row_step = ap (λ es. filter (leads_to next) (rules_in state symbol es))
-      (drop_more group symbol Undefined within)
+  row_step : filter (leads_to next) (rules_in state symbol (drop symbol group))
+      ≡ cond (is_same (goes_to entry) next) (rule state symbol entry ∷ further) further
+  row_step = rw is (ap (λ es. filter (leads_to next) (rules_in state symbol es))
+      (drop_more group symbol Undefined within))
 
-  row_with : goes_to (get_or group symbol Undefined) ≡ next → filter (leads_to next)
-      (rules_in state symbol (drop symbol group)) ≡ here ∷ further
-  row_with leads = row_step ∙ ap (λ b. cond b (here ∷ further) further) (is_same-itself (goes_to
-      (get_or group symbol Undefined)) next leads)
-
-  pub row_keeps : (list all : List Rule) → goes_to (get_or group symbol Undefined) ≡ next → list ++ filter
-      (leads_to next) (rules_in state symbol (drop symbol group)) ≡ all → (list ++
-      (here ∷ [])) ++ further ≡ all
-  row_keeps list all leads e = append_assoc list (here ∷ []) further ∙ ap (λ l. list ++ l) (sym
-      (row_with leads)) ∙ e
-
-  pub row_skips : (list all : List Rule) → (goes_to (get_or group symbol Undefined) ≡ next → ⊥)
+  pub pushed_keeps : (list then_list all : List Rule) → goes_to entry ≡ next → then_list ≡ list ++ here
       → list ++ filter (leads_to next) (rules_in state symbol (drop symbol group)) ≡ all
-      → list ++ further ≡ all
-  row_skips list all apart e = ap (λ l. list ++ l) (sym (row_step ∙ ap (λ b. cond b
-      (here ∷ further) further) (differs (goes_to (get_or group symbol Undefined)) next apart))) ∙ e
+      → then_list ++ further ≡ all
+  pushed_keeps list then_list all leads pushed so_far =
+      rw pushed (append_assoc list here further
+      ∙ ap (λ b. list ++ cond b (rule state symbol entry ∷ further) further)
+      (sym (is_same-itself (goes_to entry) next leads)) ∙ ap (λ l. list ++ l) (sym row_step) ∙ so_far)
 
-  pub row_room : (list all : List Rule) (most : ℕ) → goes_to (get_or group symbol Undefined) ≡ next
+  pub passed_keeps : (list then_list all : List Rule) → (goes_to entry ≡ next → ⊥) → then_list ≡ list
       → list ++ filter (leads_to next) (rules_in state symbol (drop symbol group)) ≡ all
-      → length all ≤ most → length list < most
-  row_room list all most leads e room =
-      let n = ap length (row_keeps list all leads e) in
-      omega (arith, n, length-append (list ++ (here ∷ [])) further, length-append list (here ∷ []), room)
+      → then_list ++ further ≡ all
+  passed_keeps list then_list all apart kept so_far =
+      rw kept (ap (λ b. list ++ cond b (rule state symbol entry ∷ further) further)
+      (sym (differs (goes_to entry) next apart)) ∙ ap (λ l. list ++ l) (sym row_step) ∙ so_far)
 
-  -- the entry as the code read it
-  module _ (entry : Entry) (is : entry ≡ get_or group symbol Undefined) where
-    pub pushed_keeps : (list then_list all : List Rule) → goes_to entry ≡ next → then_list ≡ list ++
-        (rule state symbol entry ∷ []) → list ++ filter (leads_to next) (rules_in state symbol
-        (drop symbol group)) ≡ all → then_list ++ further ≡ all
-    pushed_keeps list then_list all leads pushed so_far =
-        ap (λ l. l ++ further) (pushed ∙ ap (λ e. list ++ (rule state symbol e ∷ [])) is)
-        ∙ row_keeps list all (ap goes_to (sym is) ∙ leads) so_far
-
-    pub passed_keeps : (list then_list all : List Rule) → (goes_to entry ≡ next → ⊥) → then_list ≡ list
-        → list ++ filter (leads_to next) (rules_in state symbol (drop symbol group)) ≡ all
-        → then_list ++ further ≡ all
-    passed_keeps list then_list all apart kept so_far =
-        ap (λ l. l ++ further) kept ∙ row_skips list all (λ e. apart (ap goes_to is ∙ e)) so_far
-
-    pub pushed_room : (list olds more : List Rule) (most : ℕ) → goes_to entry ≡ next → list ++ filter
-        (leads_to next) (rules_in state symbol (drop symbol group)) ≡ olds ++ more
-        → length olds + length more ≤ most → length list < most
-    pushed_room list olds more most leads so_far room =
-        let n = length-append olds more in
-        row_room list (olds ++ more) most (ap goes_to (sym is) ∙ leads) so_far (omega (arith, n, room))
+  pub pushed_room : (list olds more : List Rule) (most : ℕ) → goes_to entry ≡ next
+      → list ++ filter (leads_to next) (rules_in state symbol (drop symbol group)) ≡ olds ++ more
+      → length olds + length more ≤ most → length list < most
+  pushed_room list olds more most leads so_far room =
+      let n = ap length (pushed_keeps list (list ++ here) (olds ++ more) leads refl so_far) in
+      let a = length-append (list ++ here) further in
+      omega (arith, n, a, length-append list here, length-append olds more, room)
 
 pub in_row : (table : Table) (state symbol symbols : ℕ) → IsMachine table → state < length table
     → symbols ≡ symbols_of table → symbol < symbols → symbol < length (get_or table state [])
@@ -105,81 +83,48 @@ row_ends next state symbol group list all past e =
 -- one row of a table
 
 module _ (next : Next) (state : ℕ) (table : Table) (within : state < length table) where
-  table_step : filter (leads_to next) (rules_from state (drop state table)) ≡ filter (leads_to next)
-      (rules_in state 0 (get_or table state [])) ++ filter (leads_to next) (rules_from (state + 1) (drop
-      (state + 1) table))
-  table_step =
-      ap (λ gs. filter (leads_to next) (rules_from state gs)) (drop_more table state [] within)
-      ∙ filter-append (leads_to next) (rules_in state 0 (get_or table state [])) (rules_from (state + 1)
-      (drop (state + 1) table))
+  abbrev row : List Rule
+  row = filter (leads_to next) (rules_in state 0 (get_or table state []))
 
-  pub table_keeps : (list then_list all : List Rule) → then_list ≡ list ++ filter (leads_to next)
-      (rules_in state 0 (get_or table state [])) → list ++ filter (leads_to next) (rules_from state
-      (drop state table)) ≡ all → then_list ++ filter (leads_to next) (rules_from (state + 1) (drop
-      (state + 1) table)) ≡ all
+  abbrev rows : List Rule
+  rows = filter (leads_to next) (rules_from (state + 1) (drop (state + 1) table))
+
+  pub table_keeps : (list then_list all : List Rule) → then_list ≡ list ++ row
+      → list ++ filter (leads_to next) (rules_from state (drop state table)) ≡ all → then_list ++ rows ≡ all
   table_keeps list then_list all e so_far =
-      ap (λ l. l ++ filter (leads_to next) (rules_from (state + 1) (drop (state + 1) table))) e
-      ∙ append_assoc list (filter (leads_to next) (rules_in state 0 (get_or table state []))) (filter
-      (leads_to next) (rules_from (state + 1) (drop (state + 1) table)))
-      ∙ ap (λ l. list ++ l) (sym table_step) ∙ so_far
+      let step = ap (λ gs. filter (leads_to next) (rules_from state gs)) (drop_more table state [] within)
+      ∙ filter-append (leads_to next) (rules_in state 0 (get_or table state []))
+      (rules_from (state + 1) (drop (state + 1) table)) in
+      rw e (append_assoc list row rows ∙ ap (λ l. list ++ l) (sym step) ∙ so_far)
 
-  pub table_room : (list all : List Rule) (most : ℕ) → list ++ filter (leads_to next) (rules_from state
-      (drop state table)) ≡ all → length all ≤ most → length list + length (filter (leads_to next)
-      (rules_in state 0 (get_or table state []))) ≤ most
-  table_room list all most so_far room =
-      let n = ap length (table_keeps list _ all refl so_far) in
-      let a = length-append (list ++ filter (leads_to next) (rules_in state 0 (get_or table state [])))
-      (filter (leads_to next) (rules_from (state + 1) (drop (state + 1) table))) in
-      let b = length-append list (filter (leads_to next) (rules_in state 0 (get_or table state []))) in
-      omega (arith, n, a, b, room)
-
-  pub rows_room : (list olds more : List Rule) (most : ℕ) → list ++ filter (leads_to next)
-      (rules_from state (drop state table)) ≡ olds ++ more → length olds + length more ≤ most
-      → length list + length (filter (leads_to next) (rules_in state 0 (get_or table state []))) ≤ most
+  pub rows_room : (list olds more : List Rule) (most : ℕ)
+      → list ++ filter (leads_to next) (rules_from state (drop state table)) ≡ olds ++ more
+      → length olds + length more ≤ most → length list + length row ≤ most
   rows_room list olds more most so_far room =
-      table_room list (olds ++ more) most so_far (omega (arith, length-append olds more, room))
+      let n = ap length (table_keeps list (list ++ row) (olds ++ more) refl so_far) in
+      omega (arith, n, length-append (list ++ row) rows, length-append list row, length-append olds more, room)
 
 -- the end of a list was put in order, in place
-module _ (olds rules list seen : List Rule) (from : ℕ) (is : list ≡ olds ++ rules) (same : seen ≡ list)
-    (at : from ≡ length olds) (sorted : List Rule)
-    (moved : IsPermutation (take (length seen - from) (drop from seen)) sorted) where
-  seen_is : seen ≡ olds ++ rules
-  seen_is = same ∙ is
-
-  rest_is : drop from seen ≡ rules
-  rest_is = ap (drop from) seen_is ∙ drop_at olds rules from (sym at)
-
-  long : length seen ≡ length olds + length rules
-  long = ap length seen_is ∙ length-append olds rules
-
-  sorted_are : IsPermutation rules sorted
-  sorted_are =
-      subst (λ l. IsPermutation l sorted)
-      (ap (take (length seen - from)) rest_is
-      ∙ take_all (length seen - from) rules (omega (arith, long, at))) moved
-
-  abbrev written : List Rule
-  written = take from seen ++ (sorted ++ drop (length seen - from) (drop from seen))
-
-  written_is : written ≡ olds ++ sorted
-  written_is =
-      ap (λ l. take from l ++ (sorted ++ drop (length seen - from) (drop from seen))) seen_is
-      ∙ ap (λ l. l ++ (sorted ++ drop (length seen - from) (drop from seen)))
-      (take_at olds rules from (sym at))
-      ∙ ap (λ l. olds ++ (sorted ++ l)) (ap (drop (length seen - from)) rest_is
-      ∙ drop_all (length seen - from) rules (omega (arith, long, at)))
-      ∙ ap (λ l. olds ++ l) (append-nil sorted)
-
-  pub put_in_order : AddsRules rules olds (refill (length list) list written)
-  put_in_order =
-      let n = ap length is ∙ length-append olds rules in
-      record {
-        added = sorted;
-        is = ap (refill (length list) list) written_is
-            ∙ take_at (olds ++ sorted) (drop (length (olds ++ sorted)) list) (length list)
-            (omega (arith, length-append olds sorted, n, length_permutation rules sorted sorted_are));
-        are = sorted_are;
-      }
+pub put_in_order : (olds rules list seen : List Rule) (from : ℕ) → list ≡ olds ++ rules → seen ≡ list
+    → from ≡ length olds → (sorted : List Rule)
+    → IsPermutation (take (length seen - from) (drop from seen)) sorted
+    → AddsRules rules olds (refill (length list) list
+    (take from seen ++ (sorted ++ drop (length seen - from) (drop from seen))))
+put_in_order olds rules list seen from is same at sorted moved =
+    let front : take from seen ≡ olds = ap (take from) (same ∙ is) ∙ take_at olds rules from (sym at) in
+    let end : drop from seen ≡ rules = ap (drop from) (same ∙ is) ∙ drop_at olds rules from (sym at) in
+    let long = ap length is ∙ length-append olds rules in
+    let count : length seen - from ≡ length rules = omega (arith, ap length same, long, at) in
+    let are : IsPermutation rules sorted =
+    rw (count, end, take_all (length rules) rules (omega arith)) at moved in
+    let most : length (olds ++ sorted) ≡ length list =
+    omega (arith, length-append olds sorted, long, length_permutation rules sorted are) in
+    record {
+      added = sorted;
+      is = rw (front, count, end, drop_all (length rules) rules (omega arith), append-nil sorted)
+          (take_at (olds ++ sorted) (drop (length (olds ++ sorted)) list) (length list) most);
+      are = are;
+    }
 
 -- no row is left
 pub rows_end : (next : Next) (state : ℕ) (table : Table) (list all : List Rule) → length table ≤ state

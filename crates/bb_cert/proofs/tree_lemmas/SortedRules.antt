@@ -1,16 +1,15 @@
 -- A table's rules, all of them, ordered by where they lead.
-use Rattle.std.proofs.Common.{◌≡◌, ℕ, suc, ◌+◌, ◌-◌, ◌*◌, ◌<◌, ◌≤◌, Bool, true, false, cond, inl, inr}
-use Rattle.std.proofs.Common.{List, [], ◌∷◌, ◌++◌, length, get_or, take, drop, slice_range, refl}
+use Rattle.std.proofs.Common.{◌≡◌, ℕ, zero, suc, ◌+◌, ◌-◌, ◌*◌, ◌<◌, ◌≤◌, Bool, true, false, cond, inl, inr}
+use Rattle.std.proofs.Common.{List, [], ◌∷◌, ◌++◌, length, get_or, take, slice_range, refl}
 use Rattle.std.proofs.Common.{ap, sym, subst, ◌∙◌, append_assoc, append-nil, length-append, arith}
 use Rattle.std.specs.Prelude.{nat_lt}
 use Rattle.std.proofs.Math.Nat.{mul-le-mul_left}
-use Rattle.std.specs.List.{AllByRecursion, filter}
+use Rattle.std.specs.List.{AllByRecursion, count_by}
 use Rattle.std.specs.List.Sorted.{IsPermutation}
-use Rattle.std.proofs.lemmas.Bool.{cases_eq}
-use Rattle.std.proofs.lemmas.List.{drop_at, drop-append-le, get_or_append_left, get_or_push, take-append-le}
-use Rattle.std.proofs.lemmas.List.{take_all, length-drop}
-use Rattle.std.proofs.lemmas.List.Elements.{All-filter, All-from_recursion, recursion_from_All}
-use Rattle.std.proofs.lemmas.List.Sorted.{All-permutation, length_permutation}
+use Rattle.std.proofs.lemmas.Bool.{cases_eq, lt-ltb, le-ltb}
+use Rattle.std.proofs.lemmas.List.{drop_at, get_or_append_left, get_or_push, take_at}
+use Rattle.std.proofs.lemmas.List.Sorted.{IsPermutation-sym, length_permutation}
+use Rattle.std.proofs.lemmas.List.Sums.{count_by-le-length, length-filter, sum_by-cons}
 use Rattle.bb_machine.specs.declared.machine.TheConstants.{MAX_STATES, MAX_SYMBOLS}
 use Rattle.bb_machine.specs.declared.entry.Dir.TheVariants.{L, R}
 use Rattle.bb_machine.specs.declared.entry.Next.{Next}
@@ -19,59 +18,55 @@ use Rattle.bb_machine.specs.declared.entry.Entry.{Entry}
 use Rattle.bb_machine.specs.declared.entry.Entry.TheVariants.{Undefined, Go}
 use Rattle.bb_machine.specs.Entry.{IsEntryOf}
 use Rattle.bb_machine.specs.Machine.{Table, IsGroup, IsMachine, symbols_of}
-use Rattle.bb_machine.proofs.Facts.{every-append}
+use Rattle.bb_machine.proofs.Facts.{entry_named, every-append}
 use Rattle.bb_cert.specs.declared.tree.rules.Rule.{Rule}
 use Rattle.bb_cert.specs.declared.tree.rules.Rules.{Rules}
-use Rattle.bb_cert.specs.tree.Tree.{goes_to, is_same, leads_to, rules_in, rules_from, rules_to}
+use Rattle.bb_cert.specs.tree.Tree.{OneOf, goes_to, is_same, leads_to, rules_in, rules_from, rules_to}
 use Rattle.bb_cert.specs.inside.Walk.{AddsAll, AddsRules, AreInOrder, AreRules, IsRange, IsRule, starts_of}
+use Rattle.bb_cert.proofs.tree_lemmas.OneOf.{one_permuted}
+use Rattle.bb_cert.proofs.tree_lemmas.RuleEntries.{one-in_table}
+use Rattle.bb_cert.proofs.tree_lemmas.TreeEnds.{group_long}
 
--- how many lead to the first n states
-abbrev among : ℕ → Next → ℕ
-among n (State q) = cond (nat_lt q n) 1 0
-among n Halt = 0
+-- what rules lead to has a place: each state its own, and Z the one after them
+abbrev at_place : ℕ → ℕ → Next
+at_place states n = cond (nat_lt n states) (State n) Halt
 
-abbrev leading : ℕ → List Rule → ℕ
-leading n [] = 0
-leading n (r ∷ rules) = among n (goes_to r.entry) + leading n rules
+abbrev pub IsPlace : ℕ → ℕ → Next → Type 0
+IsPlace states n next = (n ≤ states) × (next ≡ at_place states n)
 
-filter_one : (next : Next) (r : Rule) (rules : List Rule) (b : Bool) → leads_to next r ≡ b
-    → length (filter (leads_to next) (r ∷ rules)) ≡ cond b 1 0 + length (filter (leads_to next) rules)
-filter_one next r rules true e =
-    ap (λ b. length (cond b (r ∷ filter (leads_to next) rules) (filter (leads_to next) rules))) e
-    ∙ omega arith
-filter_one next r rules false e =
-    ap (λ b. length (cond b (r ∷ filter (leads_to next) rules) (filter (leads_to next) rules))) e
-    ∙ omega arith
+pub state_place : {n states : ℕ} (count : ℕ) → n < count → count ≡ states → IsPlace states n (State n)
+state_place {n} {states} count h e =
+    let less : n < states = omega (arith, h, e) in
+    (omega (arith, less), ap (λ b. cond b (State n) Halt) (sym (lt-ltb n states less)))
 
-leading_none : (rules : List Rule) → leading 0 rules ≡ 0
-leading_none [] = refl
-leading_none (r ∷ rules) = let past = leading_none rules in let none = none_first (goes_to r.entry) in
-    omega (arith, past, none) where
-      none_first : (to : Next) → among 0 to ≡ 0
-      none_first (State q) = grind arith
-      none_first Halt = refl
+pub halt_place : {n states : ℕ} (count : ℕ) → n ≤ count → count ≤ n → count ≡ states → IsPlace states n Halt
+halt_place {n} {states} count h past e =
+    (omega (arith, h, e), ap (λ b. cond b (State n) Halt) (sym (le-ltb n states (omega (arith, past, e)))))
 
--- of one state more
-leading_next : (n : ℕ) (rules : List Rule)
-    → leading (suc n) rules ≡ leading n rules + length (filter (leads_to (State n)) rules)
-leading_next n [] = refl
-leading_next n (r ∷ rules) =
-    let here = filter_one (State n) r rules _ refl in
-    omega (arith, leading_next n rules, here, one_more (goes_to r.entry)) where
-      one_more : (to : Next) → among (suc n) to ≡ among n to + cond (is_same to (State n)) 1 0
-      one_more (State q) = grind arith
-      one_more Halt = refl
+abbrev is_before : ℕ → ℕ → Next → Bool
+is_before states n (State q) = nat_lt q n
+is_before states n Halt = nat_lt states n
 
--- one rule leads to one place at most
-no_more_rules : (n : ℕ) (rules : List Rule)
-    → leading n rules + length (filter (leads_to Halt) rules) ≤ length rules
-no_more_rules n [] = omega arith
-no_more_rules n (r ∷ rules) =
-    let here = filter_one Halt r rules _ refl in
-    omega (arith, no_more_rules n rules, here, at_most_one (goes_to r.entry)) where
-      at_most_one : (to : Next) → among n to + cond (is_same to Halt) 1 0 ≤ 1
-      at_most_one (State q) = grind arith
-      at_most_one Halt = omega arith
+abbrev leads_before : ℕ → ℕ → Rule → Bool
+leads_before states n rule = is_before states n (goes_to rule.entry)
+
+counts_add : {X : Type 0} (p q s : X → Bool) → ((x : X) → cond (p x) 1 0 + cond (q x) 1 0 ≤ cond (s x) 1 0)
+    → (xs : List X) → count_by p xs + count_by q xs ≤ count_by s xs
+counts_add p q s each [] = omega arith
+counts_add {X} p q s each (x ∷ xs) =
+    let step : (t : X → Bool) → count_by t (x ∷ xs) ≡ cond (t x) 1 0 + count_by t xs =
+    λ t. sum_by-cons (λ y. cond (t y) 1 0) x xs in
+    omega (arith, each x, counts_add p q s each xs, step p, step q, step s)
+
+here_or_before : (states n : ℕ) (to : Next) (b : Bool) → nat_lt n states ≡ b → n ≤ states
+    → cond (is_same to (cond b (State n) Halt)) 1 0 + cond (is_before states n to) 1 0
+    ≤ cond (is_before states (n + 1) to) 1 0
+here_or_before states n (State q) true e h = grind arith
+here_or_before states n (State q) false e h = grind arith
+here_or_before states n Halt true e h = grind arith
+here_or_before states n Halt false e h = grind arith
+
+-- the rules are no more than the entries that a machine can have
 
 row_long : (state symbol : ℕ) (group : List Entry) → length (rules_in state symbol group) ≡ length group
 row_long state symbol [] = refl
@@ -86,52 +81,11 @@ table_long states symbols state (group ∷ groups) all =
     let full = (all.0).full in
     omega (arith, past, row, full, length-append (rules_in state 0 group) (rules_from (state + 1) groups))
 
-small_product : (a b : ℕ) → a ≤ MAX_STATES → b ≤ MAX_SYMBOLS → a * b ≤ MAX_STATES * MAX_SYMBOLS
-small_product a b h k = omega (arith, h, mul-le-mul_left a k)
-
-all_fit : (table : Table) → IsMachine table → (n : ℕ)
-    → leading n (rules_from 0 table) + length (rules_to table Halt) ≤ MAX_STATES * MAX_SYMBOLS
-all_fit table machine n =
-    let a = no_more_rules n (rules_from 0 table) in
-    let c = table_long (length table) (symbols_of table) 0 table machine.groups in
-    omega (arith, a, c, small_product (length table) (symbols_of table) machine.states machine.symbols)
-
--- a stretch of a list that has more after it
-slice_front : (xs ys : List Rule) (from to : ℕ) → from ≤ to → to ≤ length xs
-    → slice_range (xs ++ ys) from to ≡ slice_range xs from to
-slice_front xs ys from to order within =
-    ap (take (to - from)) (drop-append-le from xs ys (omega (arith, order, within)))
-    ∙ take-append-le (to - from) (drop from xs) ys (omega (arith, order, within, length-drop from xs))
-
-slice_end : (xs ys : List Rule) (to : ℕ) → to ≡ length (xs ++ ys) → slice_range (xs ++ ys) (length xs) to ≡ ys
-slice_end xs ys to e =
-    ap (take (to - length xs)) (drop_at xs ys (length xs) refl)
-    ∙ take_all (to - length xs) ys (omega (arith, length-append xs ys, e))
-
-range_kept : (table : Table) (list more : List Rule) (from to : ℕ) (next : Next)
-    → IsRange table list from to next → IsRange table (list ++ more) from to next
-range_kept table list more from to next range =
-    let within = range.within in
-    record {
-      in_order = range.in_order;
-      within = omega (arith, within, length-append list more);
-      are = subst (IsPermutation (rules_to table next))
-          (sym (slice_front list more from to range.in_order range.within)) range.are;
-    }
-
-range_added : (table : Table) (list then_list : List Rule) (from to : ℕ) (next : Next)
-    → AddsRules (rules_to table next) list then_list → from ≡ length list → to ≡ length then_list
-    → IsRange table then_list from to next
-range_added table list then_list from to next adds begins ends =
-    let long = ap length adds.is ∙ length-append list adds.added in
-    record {
-      in_order = omega (arith, long, begins, ends);
-      within = omega (arith, ends);
-      are = subst (IsPermutation (rules_to table next))
-          (sym (ap (λ xs. slice_range xs from to) adds.is
-          ∙ ap (λ n. slice_range (list ++ adds.added) n to) begins
-          ∙ slice_end list adds.added to (ends ∙ ap length adds.is))) adds.are;
-    }
+all_fit : (table : Table) → IsMachine table → length (rules_from 0 table) ≤ MAX_STATES * MAX_SYMBOLS
+all_fit table machine =
+    let long = table_long (length table) (symbols_of table) 0 table machine.groups in
+    let most = mul-le-mul_left (length table) machine.symbols in
+    omega (arith, long, most, machine.states)
 
 -- the rules name only states and symbols of their machine
 
@@ -141,179 +95,146 @@ more_symbols states symbols Undefined h of_table = tt
 more_symbols states symbols (Go write dir next) h of_table =
     (let w = of_table.0 in omega (arith, w, h), of_table.1)
 
-row_named : (states symbols state symbol : ℕ) (group : List Entry) → state < states → symbols ≤ MAX_SYMBOLS
-    → symbol + length group ≤ symbols → AllByRecursion (IsEntryOf states symbols) group
-    → AllByRecursion (IsRule states) (rules_in state symbol group)
-row_named states symbols state symbol [] h few long all = tt
-row_named states symbols state symbol (entry ∷ entries) h few long all = (
-  record {
-    state = h;
-    symbol = omega (arith, few, long);
-    entry = more_symbols states symbols entry few all.0;
-  },
-  row_named states symbols state (symbol + 1) entries h few (omega (arith, long)) all.1,
-)
+in_table : (table : Table) (state symbol : ℕ) → symbol < length (get_or table state []) → state < length table
+in_table [] state symbol h = absurd (omega (arith, h))
+in_table (group ∷ groups) zero symbol h = omega arith
+in_table (group ∷ groups) (suc state) symbol h = let further = in_table groups state symbol h in
+    omega (arith, further)
 
-rules_named : (states symbols state : ℕ) (table : Table) → state + length table ≤ states
-    → symbols ≤ MAX_SYMBOLS → AllByRecursion (IsGroup states symbols) table
-    → AllByRecursion (IsRule states) (rules_from state table)
-rules_named states symbols state [] long few all = tt
-rules_named states symbols state (group ∷ groups) long few all =
-    let full = (all.0).full in
-    every-append (IsRule states) (rules_in state 0 group) (rules_from (state + 1) groups)
-    (row_named states symbols state 0 group (omega (arith, long)) few (omega (arith, full)) (all.0).entries)
-    (rules_named states symbols (state + 1) groups (omega (arith, long)) few all.1)
+rule_named : (table : Table) (next : Next) (rule : Rule) → IsMachine table
+    → OneOf (λ other. other ≡ rule) (rules_to table next) → IsRule (length table) rule
+rule_named table next rule machine one =
+    let found = one-in_table (λ other. other ≡ rule) table next one in
+    let state = in_table table found.state found.symbol found.within in
+    let long = group_long (length table) (symbols_of table) table machine.groups found.state state in
+    let symbol : found.symbol < symbols_of table = omega (arith, long, found.within) in
+    subst (IsRule (length table)) found.holds (record {
+      state = state;
+      symbol = omega (arith, symbol, machine.symbols);
+      entry = more_symbols (length table) (symbols_of table) _ machine.symbols
+          (entry_named MAX_STATES MAX_SYMBOLS table found.state found.symbol machine state symbol);
+    })
 
-added_named : (table : Table) (next : Next) (list then_list : List Rule) → IsMachine table
-    → (adds : AddsRules (rules_to table next) list then_list)
-    → AllByRecursion (IsRule (length table)) adds.added
-added_named table next list then_list machine adds =
-    let is_rule = IsRule (length table) in
-    recursion_from_All is_rule adds.added (All-permutation is_rule (rules_to table next) adds.added adds.are
-    (All-filter (leads_to next) is_rule (rules_from 0 table) (All-from_recursion is_rule (rules_from 0 table)
-    (rules_named (length table) (symbols_of table) 0 table (omega arith) machine.symbols machine.groups))))
+each_named : {states : ℕ} (rules : List Rule)
+    → ((rule : Rule) → OneOf (λ other. other ≡ rule) rules → IsRule states rule)
+    → AllByRecursion (IsRule states) rules
+each_named [] named = tt
+each_named (rule ∷ rules) named = (named rule (inl refl), each_named rules (λ r one. named r (inr one)))
 
--- the rules that lead to the first n states were appended, and where those of each begin was put down
+-- the rules that lead to the first n places were appended, and where those of each begin was put down
 pub record AreGathered (table : Table) (before list : List Rule) (starts : List ℕ) (n : ℕ) : Type 0 where
   pub added : List Rule
   pub is : list ≡ before ++ added
-  pub size : length added ≡ leading n (rules_from 0 table)
+  pub size : length added ≤ count_by (leads_before (length table) n) (rules_from 0 table)
   pub named : AllByRecursion (IsRule (length table)) added
   pub long : length starts ≡ n + 1
   pub last : get_or starts n 0 ≡ length list
-  pub ranges : (q : ℕ) → q < n → IsRange table list (get_or starts q 0) (get_or starts (q + 1) 0) (State q)
+  pub ranges : (q : ℕ) (more : List Rule) → q < n
+      → IsRange table (list ++ more) (get_or starts q 0) (get_or starts (q + 1) 0) (at_place (length table) q)
 
 pub gathering_begins : (table : Table) (list : List Rule) → AreGathered table list list (length list ∷ []) 0
 gathering_begins table list = record {
   added = [];
   is = sym (append-nil list);
-  size = sym (leading_none (rules_from 0 table));
+  size = omega arith;
   named = tt;
   long = omega arith;
   last = refl;
-  ranges = λ q h. absurd (omega (arith, h));
+  ranges = λ q more h. absurd (omega (arith, h));
 }
 
-module _ {table : Table} (machine : IsMachine table) {before list : List Rule} {starts : List ℕ} {n : ℕ}
-    (now : AreGathered table before list starts n) where
-  list_long : length list ≡ length before + leading n (rules_from 0 table)
-  list_long =
-      omega (arith, ap length now.is, length-append before now.added, now.size)
-
-  pub room_for_state : (most : ℕ) → length before + MAX_STATES * MAX_SYMBOLS ≤ most
-      → length list + length (rules_to table (State n)) ≤ most
-  room_for_state most room =
-      omega (arith, all_fit table machine (suc n), list_long, leading_next n (rules_from 0 table), room)
-
-  pub room_for_halt : (most : ℕ) → length before + MAX_STATES * MAX_SYMBOLS ≤ most
-      → length list + length (rules_to table Halt) ≤ most
-  room_for_halt most room =
-      omega (arith, all_fit table machine n, list_long, room)
-
-  pub room_for_start : {states : ℕ} → n ≤ states → states ≡ length table → length starts < MAX_STATES + 2
-  room_for_start h all =
-      omega (arith, now.long, machine.states, h, all)
-
-  module _ (next : Next) {then_list : List Rule} {then_starts : List ℕ}
-      (adds : AddsRules (rules_to table next) list then_list)
-      (put_down : then_starts ≡ starts ++ (length then_list ∷ [])) where
-    then_long : length then_starts ≡ n + 2
-    then_long =
-        omega (arith, ap length put_down, length-append starts (length then_list ∷ []), now.long)
-
-    start_kept : (q : ℕ) → q ≤ n → get_or then_starts q 0 ≡ get_or starts q 0
-    start_kept q h =
-        ap (λ xs. get_or xs q 0) put_down
-        ∙ get_or_append_left starts (length then_list ∷ []) 0 q (omega (arith, h, now.long))
-
-    start_added : get_or then_starts (n + 1) 0 ≡ length then_list
-    start_added = ap (λ xs. get_or xs (n + 1) 0) put_down
-        ∙ get_or_push starts (length then_list) 0 (n + 1) now.long
-
-    earlier_range : (q : ℕ) → q < n
-        → IsRange table then_list (get_or then_starts q 0) (get_or then_starts (q + 1) 0) (State q)
-    earlier_range q h =
-        rw (adds.is, start_kept q (omega (arith, h)), start_kept (q + 1) (omega (arith, h)))
-        (range_kept table list adds.added (get_or starts q 0) (get_or starts (q + 1) 0) (State q)
-        (now.ranges q h))
-
-    last_range : IsRange table then_list (get_or then_starts n 0) (get_or then_starts (n + 1) 0) next
-    last_range = range_added table list then_list (get_or then_starts n 0) (get_or then_starts (n + 1) 0) next
-        adds (start_kept n (omega arith) ∙ now.last) start_added
-
-    then_is : then_list ≡ before ++ (now.added ++ adds.added)
-    then_is = adds.is ∙ ap (λ xs. xs ++ adds.added) now.is ∙ append_assoc before now.added adds.added
-
-    then_named : AllByRecursion (IsRule (length table)) (now.added ++ adds.added)
-    then_named = every-append (IsRule (length table)) now.added adds.added now.named
-        (added_named table next list then_list machine adds)
-
-    then_size : length (now.added ++ adds.added)
-        ≡ leading n (rules_from 0 table) + length (rules_to table next)
-    then_size =
-        let a = length-append now.added adds.added in
-        omega (arith, a, length_permutation (rules_to table next) adds.added adds.are, now.size)
-
-    pub gathering_goes_on : next ≡ State n → AreGathered table before then_list then_starts (n + 1)
-    gathering_goes_on there =
-        let more : n + 1 ≡ suc n = omega arith in
-        let size = then_size in
-        let same = ap (λ to. length (rules_to table to)) there in
-        let last =
-        subst (IsRange table then_list (get_or then_starts n 0) (get_or then_starts (n + 1) 0)) there
-        last_range in
-        record {
-          added = now.added ++ adds.added;
-          is = then_is;
-          size = omega (arith, size, same) ∙ sym (leading_next n (rules_from 0 table))
-              ∙ ap (λ k. leading k (rules_from 0 table)) (sym more);
-          named = then_named;
-          long = let long = then_long in omega (arith, long);
-          last = start_added;
-          ranges = λ q h. elim (cases_eq q n) [
-            | inl same_state ↦ rw same_state last
-            | inr apart ↦ earlier_range q (omega (arith, h, apart))
-          ];
-        }
-
-    pub all_gathered : next ≡ Halt → n ≡ length table → AddsAll table before then_list then_starts
-    all_gathered there all = record {
-      added = now.added ++ adds.added;
-      is = then_is;
-      few =
-          let same = ap (λ to. length (rules_to table to)) there in
-          omega (arith, then_size, same, all_fit table machine n);
-      named = then_named;
-      in_order = record {
-        count = let long = then_long in omega (arith, long, all);
-        to_state = λ q h. earlier_range q (omega (arith, h, all));
-        halting = rw (sym all, sym there) last_range;
-      };
+range_added : (table : Table) (list added more : List Rule) (next : Next)
+    → IsPermutation (rules_to table next) added
+    → IsRange table ((list ++ added) ++ more) (length list) (length (list ++ added)) next
+range_added table list added more next are =
+    let long = length-append list added in
+    let here : length added ≡ length (list ++ added) - length list = omega (arith, long) in
+    record {
+      in_order = omega (arith, long);
+      within = omega (arith, length-append (list ++ added) more);
+      are = subst (IsPermutation (rules_to table next))
+          (sym (ap (λ xs. slice_range xs (length list) (length (list ++ added))) (append_assoc list added more)
+          ∙ ap (take (length (list ++ added) - length list)) (drop_at list (added ++ more) (length list) refl)
+          ∙ take_at added more (length (list ++ added) - length list) here)) are;
     }
 
-order_kept : (table : Table) (list more : List Rule) (starts : List ℕ) → AreInOrder table list starts
-    → AreInOrder table (list ++ more) starts
-order_kept table list more starts order = record {
-  count = order.count;
-  to_state = λ q h. range_kept table list more (get_or starts q 0) (get_or starts (q + 1) 0) (State q)
-      (order.to_state q h);
-  halting = range_kept table list more (get_or starts (length table) 0) (get_or starts (length table + 1) 0)
-      Halt order.halting;
-}
+module _ {table : Table} (machine : IsMachine table) {before list : List Rule} {starts : List ℕ} {n : ℕ}
+    (now : AreGathered table before list starts n) {next : Next} (place : IsPlace (length table) n next) where
+  size_then : length now.added + length (rules_to table next)
+      ≤ count_by (leads_before (length table) (n + 1)) (rules_from 0 table)
+  size_then =
+      let here = length-filter (leads_to next) (rules_from 0 table) in
+      let both = counts_add (leads_to next) (leads_before (length table) n) (leads_before (length table) (n + 1))
+      (λ r. rw place.1 (here_or_before (length table) n (goes_to r.entry) _ refl place.0))
+      (rules_from 0 table) in
+      omega (arith, here, both, now.size)
+
+  pub room_for_more : (most : ℕ) → length before + MAX_STATES * MAX_SYMBOLS ≤ most
+      → length list + length (rules_to table next) ≤ most
+  room_for_more most room =
+      let long = ap length now.is ∙ length-append before now.added in
+      let few = count_by-le-length (leads_before (length table) (n + 1)) (rules_from 0 table) in
+      omega (arith, long, few, size_then, all_fit table machine, room)
+
+  pub gathering_goes_on : {then_list : List Rule} {then_starts : List ℕ}
+      → AddsRules (rules_to table next) list then_list → then_starts ≡ starts ++ (length then_list ∷ [])
+      → AreGathered table before then_list then_starts (n + 1)
+  gathering_goes_on {then_list} {then_starts} adds put_down =
+      let kept : (q : ℕ) → q ≤ n → get_or then_starts q 0 ≡ get_or starts q 0 = λ q h.
+      ap (λ xs. get_or xs q 0) put_down ∙ get_or_append_left starts (length then_list ∷ []) 0 q
+      (omega (arith, h, now.long)) in
+      let end : get_or then_starts (n + 1) 0 ≡ length then_list =
+      ap (λ xs. get_or xs (n + 1) 0) put_down ∙ get_or_push starts (length then_list) 0 (n + 1) now.long in
+      record {
+        added = now.added ++ adds.added;
+        is = adds.is ∙ ap (λ xs. xs ++ adds.added) now.is ∙ append_assoc before now.added adds.added;
+        size = omega (arith, length-append now.added adds.added, size_then, length_permutation _ _ adds.are);
+        named = every-append (IsRule (length table)) now.added adds.added now.named
+            (each_named adds.added (λ r one. rule_named table next r machine (one_permuted _ _ _
+            (IsPermutation-sym _ _ adds.are) one)));
+        long = omega (arith, ap length put_down, length-append starts (length then_list ∷ []), now.long);
+        last = end;
+        ranges = λ q more h. elim (cases_eq q n) [
+          | inl same ↦ rw (same, end, kept n (omega arith), now.last, ← place.1, adds.is)
+              (range_added table list adds.added more next adds.are)
+          | inr apart ↦
+              let less : q < n = omega (arith, h, apart) in
+              rw (kept q (omega (arith, less)), kept (q + 1) (omega (arith, less)), adds.is)
+              (rw (append_assoc list adds.added more) (now.ranges q (adds.added ++ more) less))
+        ];
+      }
+
+  pub all_gathered : (count : ℕ) → n ≤ count → count ≤ n → count ≡ length table → {then_list : List Rule}
+      {then_starts : List ℕ} → AddsRules (rules_to table next) list then_list
+      → then_starts ≡ starts ++ (length then_list ∷ []) → AddsAll table before then_list then_starts
+  all_gathered count h past e adds put_down =
+      let all : n ≡ length table = omega (arith, h, past, e) in
+      let then = gathering_goes_on adds put_down in
+      let few = count_by-le-length (leads_before (length table) (n + 1)) (rules_from 0 table) in
+      record {
+        added = then.added;
+        is = then.is;
+        few = omega (arith, few, then.size, all_fit table machine);
+        named = then.named;
+        in_order = λ more. record {
+          count = omega (arith, then.long, all);
+          to_state = λ q less. rw (state_place (length table) less refl).1
+              (then.ranges q more (omega (arith, less, all)));
+          halting = rw (halt_place {n = length table} (length table) (omega arith) (omega arith) refl).1
+              (then.ranges (length table) more (omega (arith, all)));
+        };
+      }
 
 -- all rules were appended for one direction, and then for the other
-module _ {table : Table} {left : List Rule} (rules : Rules)
-    (once : AddsAll table [] left rules.left_first.items)
-    (twice : AddsAll table left rules.list.items rules.right_first.items) where
-  both_named : AllByRecursion (IsRule (length table)) rules.list.items
-  both_named = rw twice.is (every-append (IsRule (length table)) left twice.added (rw once.is once.named)
-      twice.named)
-
-  pub both_added : AreRules table rules.list.items (starts_of rules)
-  both_added = record {
-    named = both_named;
-    in_order = λ first. elim first as (λ d. AreInOrder table rules.list.items (starts_of rules d)) [
-      | L ↦ rw twice.is (order_kept table left twice.added rules.left_first.items once.in_order)
-      | R ↦ twice.in_order
-    ];
-  }
+pub both_added : {table : Table} {left : List Rule} (rules : Rules)
+    → AddsAll table [] left rules.left_first.items
+    → AddsAll table left rules.list.items rules.right_first.items
+    → AreRules table rules.list.items (starts_of rules)
+both_added {table} {left} rules once twice = record {
+  named = rw twice.is (every-append (IsRule (length table)) left twice.added (rw once.is once.named)
+      twice.named);
+  in_order = λ first. elim first as (λ d. AreInOrder table rules.list.items (starts_of rules d)) [
+    | L ↦ rw twice.is (once.in_order twice.added)
+    | R ↦ rw (append-nil rules.list.items) at (twice.in_order [])
+  ];
+}

@@ -136,13 +136,13 @@ pub record AddsRules (rules old new : List Rule) : Type 0 where
   pub is : new ≡ old ++ added
   pub are : IsPermutation rules added
 
--- a list was made longer by the rules of a table, ordered by where they lead
+-- a list was made longer by the rules of a table, ordered by where they lead, whatever comes after them
 pub record AddsAll (table : Table) (old new : List Rule) (starts : List ℕ) : Type 0 where
   pub added : List Rule
   pub is : new ≡ old ++ added
   pub few : length added ≤ MAX_STATES * MAX_SYMBOLS
   pub named : AllByRecursion (IsRule (length table)) added
-  pub in_order : AreInOrder table new starts
+  pub in_order : (more : List Rule) → AreInOrder table (new ++ more) starts
 
 -- what could come before a node, as the tape shows that node, on a level
 pub record IsBranch (states : ℕ) (content : Content) (level : ℕ) (branch : Branch) : Type 0 where
