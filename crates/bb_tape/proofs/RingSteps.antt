@@ -1,10 +1,11 @@
 -- What the calls on a ring do to its cells.
-use Rattle.std.proofs.Common.{◌≡◌, ◌≢◌, ◌⊎◌, inl, inr, ℕ, ◌<◌, ◌≤◌, ℤ, pos, ◌+ℤ◌, ◌-ℤ◌, ◌≤ℤ◌, List}
+use Rattle.std.proofs.Common.{◌≡◌, ◌≢◌, ◌⊎◌, inl, inr, ℕ, ◌<◌, ◌≤◌, ℤ, pos, ◌+ℤ◌, ◌-ℤ◌, ◌≤ℤ◌, ◌<ℤ◌, List}
 use Rattle.std.proofs.Common.{get_or, set, length, sym, ap, ◌∙◌, arith, get_or-set_same, get_or-set_other}
 use Rattle.std.proofs.Common.{◌++◌, take, drop, w64, to_z, of_z}
 use Rattle.std.proofs.Math.Seq.{take-append_seam}
 use Rattle.std.proofs.lemmas.Int.{ints, clamps, by_lt_z, to_z-of_z}
 use Rattle.std.proofs.lemmas.Bool.{cases_lt}
+use Rattle.std.proofs.lemmas.Grind.{same_number_lists}
 use Rattle.std.specs.Prelude.{unsigned_abs}
 use Rattle.std.specs.Int.{int_min, int_max}
 use mir.Val.{SFits}
@@ -68,17 +69,6 @@ ring_written cells w p v whole low high = same_content _ _ (λ q.
     let other : q ≢ p = λ e. omega (arith, ints, e) in
     cell-ring-above (set cells (ring_index w.limit p) v) w q above
     ∙ sym (cell-with_cell-other (ring_content cells w) p v q other ∙ cell-ring-above cells w q above)))
-
--- the same cells in a window of the same positions
-pub ring_same : (cells dells : List ℕ) (w : Window)
-    → ((q : ℤ) → w.low ≤ℤ q → q ≤ℤ w.high
-    → get_or cells (ring_index w.limit q) 0 ≡ get_or dells (ring_index w.limit q) 0)
-    → ring_content cells w ≡ ring_content dells w
-ring_same cells dells w alike = same_content _ _ (λ q.
-    by_window w q
-    (λ a b. cell-ring-inside cells w q a b ∙ alike q a b ∙ sym (cell-ring-inside dells w q a b))
-    (λ below. cell-ring-below cells w q below ∙ sym (cell-ring-below dells w q below))
-    (λ above. cell-ring-above cells w q above ∙ sym (cell-ring-above dells w q above)))
 
 -- a window that takes in the position next to it, below or above, where all but the window's cells is 0
 module _ (cells : List ℕ) (w v : Window) (p : ℤ) (clear : IsClear cells w) (limit : v.limit ≡ w.limit)
@@ -226,21 +216,19 @@ all_clear cells dells w front back clear ef eb low high between k =
       ]
     ]
 
--- what is copied onto a ring whose window is the cell 0 leaves the rest clear
-pub clear_copied : (cells dells : List ℕ) (w v : Window) (front back : ℕ) → IsClear cells w → w.low ≡ pos 0
-    → w.high ≡ pos 0 → w.limit ≡ v.limit → pos front ≡ v.high +ℤ pos 1 → pos back ≡ v.low +ℤ pos v.limit
-    → ((k : ℕ) → front ≤ k → k < back → get_or dells k 0 ≡ get_or cells k 0) → IsClear dells v
-clear_copied cells dells w v front back clear wl wh limit ef eb between k above below =
-    let up = v.valid.to_zero in
-    between k (omega (arith, ints, ef, above)) (omega (arith, ints, eb, below))
-    ∙ clear k (omega (arith, ints, wh, above, up)) (omega (arith, ints, wl, below, v.valid.from_zero, limit))
-
--- what is copied of another ring: all before `front`, and all from `back` on
-pub ring_copied : (cells dells : List ℕ) (w : Window) (front back : ℕ) → pos front ≡ w.high +ℤ pos 1
-    → pos back ≡ w.low +ℤ pos w.limit → ((k : ℕ) → k < front → get_or cells k 0 ≡ get_or dells k 0)
-    → ((k : ℕ) → back ≤ k → get_or cells k 0 ≡ get_or dells k 0) → ring_content cells w ≡ ring_content dells w
-ring_copied cells dells w front back ef eb low high = ring_same cells dells w (λ q a b.
-    elim (index_in w.low w.high w.limit w.valid q a b) [
-      | inl c ↦ low (ring_index w.limit q) (omega (arith, ints, c.1))
-      | inr c ↦ high (ring_index w.limit q) (omega (arith, ints, c.1))
+-- a list that is a ring at both its ends, which its window doesn't reach beyond, and 0 between them
+pub ring_copied : (cells dells : List ℕ) (w : Window) (front back : ℕ) → length cells ≡ length dells
+    → IsClear dells w → w.high <ℤ pos front → pos back ≤ℤ (w.low +ℤ pos w.limit)
+    → ((k : ℕ) → k < front → get_or cells k 0 ≡ get_or dells k 0)
+    → ((k : ℕ) → back ≤ k → get_or cells k 0 ≡ get_or dells k 0)
+    → ((k : ℕ) → front ≤ k → k < back → get_or cells k 0 ≡ 0) → cells ≡ dells
+ring_copied cells dells w front back long clear ef eb low high between =
+    same_number_lists cells dells long (λ k h.
+    elim (cases_lt k front) [
+      | inl lt ↦ low k lt
+      | inr ge ↦ elim (cases_lt k back) [
+        | inl lt ↦ between k (omega (arith, ge)) lt
+            ∙ sym (clear k (omega (arith, ints, ef, ge)) (omega (arith, ints, eb, lt)))
+        | inr past ↦ high k (omega (arith, past))
+      ]
     ])

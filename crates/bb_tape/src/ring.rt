@@ -9,7 +9,7 @@ ghost use Rattle.bb_tape.specs.Ring.{IsClear, ring_content, symbols};
 
 use crate::kernels::{count_nonzero, equal};
 use crate::tape::{MAX_CELLS, Memory, Tape, TapeFault};
-use crate::window::Window;
+use crate::window::{NEAR, Window};
 use std::alloc::Global;
 
 /// A tape of a fixed number of cells, made once: it takes no memory after that.
@@ -124,7 +124,9 @@ fn clear_ends(cells: &mut [u8], front: usize, back: usize)
     cells[back..].fill(0);
 }
 
-/// Copies the bytes before `front` and those from `back` on.
+/// Copies the bytes before `front` and those from `back` on. It is inlined, so that where both are constants
+/// no call is left of it.
+#[inline(always)]
 fn copy_ends(to: &mut [u8], from: &[u8], front: usize, back: usize)
     requires same { length to.old ≡ length from.now }
     requires front { front ≤ length from.now }
@@ -136,6 +138,26 @@ fn copy_ends(to: &mut [u8], from: &[u8], front: usize, back: usize)
 {
     to[..front].copy_from_slice(&from[..front]);
     to[back..].copy_from_slice(&from[back..]);
+}
+
+/// Makes a ring's cells, of which those outside the window `old` are 0, the cells of another of the same
+/// size, of which those outside the window `new` are 0. Most windows lie near cell 0: of those rings as many
+/// cells at each end are copied whatever the windows are, which clears what was there and leaves no length
+/// to branch on.
+fn copy_cells(to: &mut [u8], old: &Window, from: &[u8], new: &Window)
+    requires same { length to.old ≡ length from.now }
+    requires whole_to { length to.old ≡ old.now.limit }
+    requires whole_from { length from.now ≡ new.now.limit }
+    requires clear_to { IsClear to.old old.now }
+    requires clear_from { IsClear from.now new.now }
+    ensures { to.new ≡ from.now }
+{
+    if old.is_near() && new.is_near() {
+        copy_ends(to, from, NEAR, from.len() - NEAR);
+    } else {
+        clear_ends(to, old.upper(), old.lower_at());
+        copy_ends(to, from, new.upper(), new.lower_at());
+    }
 }
 
 impl Tape for RingTape {
@@ -206,15 +228,14 @@ impl Tape for RingTape {
     }
 
     fn copy_from(&mut self, other: &Self) -> Result<(), TapeFault> {
-        let window = other.window;
-        self.reset();
-        copy_ends(
+        let old = self.window;
+        copy_cells(
             self.cells.as_mut_slice(),
+            &old,
             other.cells.as_slice(),
-            window.upper(),
-            window.lower_at(),
+            &other.window,
         );
-        self.window = window;
+        self.window = other.window;
         Ok(())
     }
 

@@ -1,11 +1,14 @@
 //! The window of a tape's visited positions.
 
-ghost use Rattle.std.specs.Prelude.{◌≡◌, ◌↔◌, ◌≤◌, ◌<◌, IsTrue, pos, ◌+ℤ◌, ◌-ℤ◌, ◌<ℤ◌, ◌≤ℤ◌};
+ghost use Rattle.std.specs.Prelude.{◌≡◌, ◌↔◌, ◌≤◌, ◌<◌, ◌*◌, IsTrue, pos, ◌+ℤ◌, ◌-ℤ◌, ◌<ℤ◌, ◌≤ℤ◌};
 ghost use Rattle.std.specs.Int.{int_min, int_max};
 ghost use Rattle.bb_tape.specs.Window.{IsWindow};
 ghost use Rattle.bb_tape.specs.RingIndex.{ring_index};
 
 use crate::tape::MAX_CELLS;
+
+/// How far from 0 a window reaches that is near: most windows of short runs are.
+pub(crate) const NEAR: usize = 16;
 
 /// The positions from `low` to `high`, both counted. 0 is among them.
 #[derive(Clone, Copy)]
@@ -83,6 +86,16 @@ impl Window {
             high: self.high.min(other.high),
             limit: self.limit,
         }
+    }
+
+    /// Whether it lies within `NEAR` cells on either side of where a ring begins and ends, and the ring has
+    /// more cells than those.
+    #[inline]
+    pub(crate) fn is_near(&self) -> bool
+        ensures { IsTrue result ↔ (((pos 0 -ℤ pos NEAR) ≤ℤ self.now.low) × (self.now.high <ℤ pos NEAR)
+            × (2 * NEAR ≤ self.now.limit)) }
+    {
+        self.low >= -(NEAR as i64) && self.high < NEAR as i64 && self.limit >= 2 * NEAR as u64
     }
 
     /// How many positions it has.
