@@ -1,5 +1,5 @@
 -- The cells of a tape that is kept as a ring: this project's own.
-use Rattle.std.specs.Prelude.{◌≡◌, ℕ, ◌+◌, ℤ, pos, ◌+ℤ◌, ◌-ℤ◌, ◌<ℤ◌, List, [], ◌∷◌, map, slice_index}
+use Rattle.std.specs.Prelude.{◌≡◌, ℕ, ◌+◌, ℤ, pos, ◌+ℤ◌, ◌-ℤ◌, ◌<ℤ◌, List, [], ◌∷◌, length, map, slice_index}
 use Rattle.std.specs.Prelude.{unsigned_abs}
 use Rattle.std.specs.List.{range_with_len}
 use Rattle.bb_tape.specs.declared.window.Window.{Window}
@@ -25,3 +25,11 @@ ring_content cells w =
 -- what stands at no index of a position of the window is 0
 abbrev pub IsClear : List ℕ → Window → Type 0
 IsClear cells w = (k : ℕ) → w.high <ℤ pos k → pos k <ℤ (w.low +ℤ pos w.limit) → slice_index cells k ≡ 0
+
+-- a ring with the window old can take over the cells of one with the window new
+pub record CanCopy (to from : List ℕ) (old new : Window) : Type 0 where
+  pub same : length to ≡ length from
+  pub whole_to : length to ≡ old.limit
+  pub whole_from : length from ≡ new.limit
+  pub clear_to : IsClear to old
+  pub clear_from : IsClear from new

@@ -5,7 +5,7 @@ ghost use Rattle.std.specs.Prelude.{length, slice_index, pos, ◌+ℤ◌, ◌≤
 ghost use Rattle.bb_tape.specs.Content.{cell};
 ghost use Rattle.bb_tape.specs.TapeView.{fresh, IsSound, IsStretch};
 ghost use Rattle.bb_tape.specs.Windowed.{view_of};
-ghost use Rattle.bb_tape.specs.Ring.{IsClear, ring_content, symbols};
+ghost use Rattle.bb_tape.specs.Ring.{CanCopy, IsClear, ring_content, symbols};
 
 use crate::kernels::{count_nonzero, equal};
 use crate::tape::{MAX_CELLS, Memory, Tape, TapeFault};
@@ -140,24 +140,30 @@ fn copy_ends(to: &mut [u8], from: &[u8], front: usize, back: usize)
     to[back..].copy_from_slice(&from[back..]);
 }
 
-/// Makes a ring's cells, of which those outside the window `old` are 0, the cells of another of the same
-/// size, of which those outside the window `new` are 0. Most windows lie near cell 0: of those rings as many
-/// cells at each end are copied whatever the windows are, which clears what was there and leaves no length
-/// to branch on.
+/// Makes a ring's cells, whose window is `old`, those of another with the window `new`. Most windows lie near
+/// cell 0: of those rings as many cells at each end are copied whatever the windows are, which clears what
+/// was there, and leaves no length to branch on.
+#[inline(always)]
 fn copy_cells(to: &mut [u8], old: &Window, from: &[u8], new: &Window)
-    requires same { length to.old ≡ length from.now }
-    requires whole_to { length to.old ≡ old.now.limit }
-    requires whole_from { length from.now ≡ new.now.limit }
-    requires clear_to { IsClear to.old old.now }
-    requires clear_from { IsClear from.now new.now }
+    requires { CanCopy to.old from.now old.now new.now }
     ensures { to.new ≡ from.now }
 {
     if old.is_near() && new.is_near() {
         copy_ends(to, from, NEAR, from.len() - NEAR);
     } else {
-        clear_ends(to, old.upper(), old.lower_at());
-        copy_ends(to, from, new.upper(), new.lower_at());
+        copy_far(to, old, from, new);
     }
+}
+
+/// `copy_cells`, whatever the windows are. It is not inlined, so that what copies a ring stays small.
+#[cold]
+#[inline(never)]
+fn copy_far(to: &mut [u8], old: &Window, from: &[u8], new: &Window)
+    requires { CanCopy to.old from.now old.now new.now }
+    ensures { to.new ≡ from.now }
+{
+    clear_ends(to, old.upper(), old.lower_at());
+    copy_ends(to, from, new.upper(), new.lower_at());
 }
 
 impl Tape for RingTape {
@@ -227,11 +233,11 @@ impl Tape for RingTape {
         Ok(())
     }
 
+    #[inline]
     fn copy_from(&mut self, other: &Self) -> Result<(), TapeFault> {
-        let old = self.window;
         copy_cells(
             self.cells.as_mut_slice(),
-            &old,
+            &self.window,
             other.cells.as_slice(),
             &other.window,
         );
