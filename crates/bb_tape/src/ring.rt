@@ -233,7 +233,7 @@ impl Tape for RingTape {
         Ok(())
     }
 
-    #[inline]
+    #[inline(always)]
     fn copy_from(&mut self, other: &Self) -> Result<(), TapeFault> {
         copy_cells(
             self.cells.as_mut_slice(),
