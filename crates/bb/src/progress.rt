@@ -87,7 +87,10 @@ impl<'a> Progress<'a> {
         let _ = self.rt.eprint(self.line().as_str());
     }
 
-    /// The line, as a terminal takes it: from the left, and nothing after it.
+    /// The line, as a terminal takes it: from the left, and nothing after it. It is made a few times a second
+    /// and isn't inlined, so that `show`, which each read and each write calls, stays small.
+    #[cold]
+    #[inline(never)]
     fn line(&self) -> ArrayString<100> {
         let mut line = ArrayString::new();
         let _ = write!(line, "\r");
