@@ -1,5 +1,5 @@
 -- Where bytes are no entry's text.
-use Rattle.std.proofs.Common.{◌≡◌, ◌≢◌, ℕ, ◌+◌, ◌<◌, ◌≤◌, List, [], ◌∷◌, ◌++◌, length, take, get_or, refl}
+use Rattle.std.proofs.Common.{◌≡◌, ◌≢◌, ℕ, ◌+◌, ◌<◌, ◌≤◌, List, [], ◌∷◌, ◌++◌, length, take, drop, get_or, refl}
 use Rattle.std.proofs.Common.{sym, ◌∙◌, ap, arith}
 use Rattle.std.proofs.lemmas.List.{get_or-take, length-take-le}
 use Rattle.std.proofs.lemmas.List.Prefix.{front_reads}
@@ -30,6 +30,43 @@ two : (bytes : List ℕ) → get_or bytes 1 0 ≢ 0 → (take 2 bytes ≡ get_or
 two [] some = absurd (some refl)
 two (x ∷ []) some = absurd (some refl)
 two (x ∷ y ∷ bytes) some = (refl, omega arith)
+
+-- the first three bytes and the others
+pub three : (bytes : List ℕ) → 3 ≤ length bytes
+    → bytes ≡ get_or bytes 0 0 ∷ get_or bytes 1 0 ∷ get_or bytes 2 0 ∷ drop 3 bytes
+three [] room = absurd (omega arith)
+three (x ∷ []) room = absurd (omega arith)
+three (x ∷ y ∷ []) room = absurd (omega arith)
+three (x ∷ y ∷ z ∷ bytes) room = refl
+
+-- an entry that goes somewhere stands where its letters do
+pub letters_make : (bytes : List ℕ) (states symbols w : ℕ) (d : Dir) (n : Next) → 3 ≤ length bytes
+    → w < symbols → IsNextOf states n → 48 + w ≡ get_or bytes 0 0 → dir_letter d ≡ get_or bytes 1 0
+    → next_letter n ≡ get_or bytes 2 0
+    → (e : Entry) × IsEntryOf states symbols e × BeginsWith bytes (entry_text e)
+letters_make bytes states symbols w d n room below named first second third =
+    let is : bytes ≡ get_or bytes 0 0 ∷ get_or bytes 1 0 ∷ get_or bytes 2 0 ∷ drop 3 bytes =
+    three bytes room in
+    let letters : get_or bytes 0 0 ∷ get_or bytes 1 0 ∷ get_or bytes 2 0 ∷ drop 3 bytes
+    ≡ (48 + w) ∷ dir_letter d ∷ next_letter n ∷ drop 3 bytes = cc in
+    (Go w d n, (below, named), (drop 3 bytes, is ∙ letters))
+
+-- the letters of an entry that goes somewhere
+pub record HasLetters (bytes : List ℕ) (states symbols : ℕ) : Type 0 where
+  pub digit : (w : ℕ) × (w < symbols) × (48 + w ≡ get_or bytes 0 0)
+  pub dir : (d : Dir) × (dir_letter d ≡ get_or bytes 1 0)
+  pub next : (n : Next) × IsNextOf states n × (next_letter n ≡ get_or bytes 2 0)
+
+pub letters_of : (bytes : List ℕ) (states symbols : ℕ) → get_or bytes 0 0 ≢ 45 → (e : Entry)
+    → IsEntryOf states symbols e → BeginsWith bytes (entry_text e) → HasLetters bytes states symbols
+letters_of bytes states symbols no_dash Undefined named begins =
+    absurd (no_dash (ap (λ x. get_or x 0 0) begins.1))
+letters_of bytes states symbols no_dash (Go w d n) named begins =
+    record {
+      digit = (w, named.0, sym (ap (λ x. get_or x 0 0) begins.1));
+      dir = (d, sym (ap (λ x. get_or x 1 0) begins.1));
+      next = (n, named.1, sym (ap (λ x. get_or x 2 0) begins.1));
+    }
 
 module _ (s k : ℕ) (bytes : List ℕ) where
   -- neither `-` nor a symbol

@@ -1,7 +1,8 @@
 -- Where entries stand in a text, and in the slots that are filled from it.
 use Rattle.std.proofs.Common.{ap, ◌≡◌, ℕ, zero, suc, ◌+◌, ◌-◌, ◌*◌, ◌<◌, ◌≤◌, List, [], ◌∷◌, ◌++◌, length}
-use Rattle.std.proofs.Common.{take, drop, get_or, set, refl, ◌∙◌, append_assoc, zero-mul, arith}
-use Rattle.std.proofs.lemmas.List.{length-append, drop-drop, take_rest, length-map, map-set, take_more}
+use Rattle.std.proofs.Common.{take, drop, get_or, set, refl, sym, ◌∙◌, append_assoc, zero-mul, arith}
+use Rattle.std.proofs.lemmas.List.{length-append, drop-drop, take_rest, length-map, map-set, take_more, get_or-append-add}
+use Rattle.std.proofs.lemmas.List.{get_or-drop}
 use Rattle.std.proofs.lemmas.List.Elements.{All-from_recursion}
 use Rattle.std.proofs.Math.Seq.{drop-append-add}
 use Rattle.std.proofs.Math.Nat.{mul-le-mul}
@@ -68,6 +69,19 @@ group_stands s k (g ∷ gs) (suc q) below p =
         more.1,
       ) refl,
     )
+
+-- the `_` before a group's text
+pub bar_stands : (s k : ℕ) (gs : List (List Entry)) (q : ℕ) → 0 < q → q < length gs
+    → AllByRecursion (IsGroup s k) gs → get_or (text gs) (q * (3 * k + 1) - 1) 0 ≡ 95
+bar_stands s k [] q later below _ = absurd (omega arith)
+bar_stands s k (g ∷ gs) zero later below _ = absurd (omega arith)
+bar_stands s k (g ∷ gs) (suc q) later below p =
+    let bar = tail_on s k gs q (omega arith) p.1 in
+    let at : suc q * (3 * k + 1) - 1 ≡ length (group_text g) + (q * (3 * k + 1) + 0) =
+    omega (arith, length-group_text g, p.0.full) in
+    ap (λ n. get_or (group_text g ++ tail_text gs) n 0) at
+    ∙ (get_or-append-add (group_text g) (tail_text gs) (q * (3 * k + 1) + 0) 0
+    ∙ (sym (get_or-drop (q * (3 * k + 1)) (tail_text gs) 0 0) ∙ ap (λ z. get_or z 0 0) bar.1))
 
 -- one more entry of a row
 pub row_grows : (ps : List Slot) (row symbols symbol : ℕ) (p : Slot) (g : List Entry) → length ps ≡ SLOTS

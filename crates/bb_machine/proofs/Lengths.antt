@@ -62,7 +62,7 @@ length-text-prefix (g ∷ gs) ys =
       length-append (group_text g) (tail_text (gs ++ ys)),
     )
 
-text-push : (gs : List (List Entry)) (g : List Entry) → 0 < length gs
+pub text-push : (gs : List (List Entry)) (g : List Entry) → 0 < length gs
     → text (gs ++ g ∷ []) ≡ text gs ++ 95 ∷ group_text g
 text-push [] g some = absurd (omega arith)
 text-push (h ∷ gs) g _ =

@@ -9,4 +9,5 @@ pub mod Entries
 pub mod Prefixes
 pub mod LawLemmas
 pub mod Filled
+pub mod Checked
 pub mod Facts

@@ -1,18 +1,16 @@
 -- From where the reader stops to the longest prefix of the whole line.
 use Rattle.std.proofs.Common.{◌≡◌, ℕ, ◌+◌, ◌-◌, ◌≤◌, List, [], ◌∷◌, ◌++◌, length, take, drop, sym, ◌∙◌, ap}
 use Rattle.std.proofs.Common.{subst, inl, inr, arith}
-use Rattle.std.proofs.lemmas.List.{append-nil, length-append, take-append-drop, length-drop, length-take-le}
+use Rattle.std.proofs.lemmas.List.{append-nil, length-append, length-drop, length-take-le}
 use Rattle.std.proofs.lemmas.List.{take_all}
 use Rattle.std.proofs.lemmas.Bool.{cases_lt}
 use Rattle.std.proofs.Math.Seq.{take-add}
 use Rattle.bb_machine.specs.declared.machine.TheConstants.{MAX_STATES, MAX_SYMBOLS, LINE}
-use Rattle.bb_machine.specs.declared.entry.Entry.{Entry}
-use Rattle.bb_machine.specs.Machine.{IsMachine, text}
+use Rattle.bb_machine.specs.Machine.{text}
 use Rattle.bb_machine.specs.Column.{IsViableWithin, IsViable, IsLongestPrefix}
 use Rattle.bb_machine.specs.inside.Draft.{Begun, begun_text, IsBegun, IsStopWithin, IsStop, table_of}
 use Rattle.bb_machine.proofs.Texts.{text_on}
 use Rattle.bb_machine.proofs.Viable.{viable_begun}
-use Rattle.bb_machine.proofs.Stops.{whole_text}
 use Rattle.bb_machine.proofs.Lengths.{text_short}
 
 -- where the rest of a line stops, the line does
@@ -23,7 +21,6 @@ stop_joined s k line at n here stop =
       within = omega (arith, length-drop at line, stop.within);
       holds = rw (take-add at n line) stop.holds;
       longest = longest;
-      none = λ gs machine is. stop.none gs machine (is ∙ sym (take-append-drop at line));
     }
   where
     longest : (m : ℕ) → m ≤ length line → IsViableWithin s k (take m line) → m ≤ at + n
@@ -67,12 +64,6 @@ whole_prefix line b begun is =
       holds = subst IsViable (is ∙ sym all) (viable_begun MAX_STATES MAX_SYMBOLS b begun);
       longest = λ m fits _. fits;
     }
-
--- of a line that was read whole only one table has the text
-pub whole_table : (line : List ℕ) (b : Begun) (gs : List (List Entry)) → IsBegun b → begun_text b ≡ line
-    → IsMachine gs → text gs ≡ line → gs ≡ table_of b
-whole_table line b gs begun is machine same =
-    whole_text MAX_STATES MAX_SYMBOLS (omega arith) (omega arith) b begun gs machine (same ∙ sym is)
 
 -- the text of the table of what was read
 pub text-table_of : (b : Begun) → text (table_of b) ≡ begun_text b

@@ -154,10 +154,9 @@ module _ (s k : ℕ) (few_states : s ≤ 25) (few_symbols : k ≤ 10) (b : Begun
 stop_by : (s k : ℕ) (before bytes : List ℕ) (n : ℕ) → n ≤ length bytes
     → IsViableWithin s k (before ++ take n bytes)
     → (n < length bytes → IsViableWithin s k (before ++ take (n + 1) bytes) → ⊥)
-    → (length bytes ≤ n → (gs : List (List Entry)) → IsMachineWithin s k gs → text gs ≡ before ++ bytes → ⊥)
     → IsStopWithin s k before bytes n
-stop_by s k before bytes n within holds further whole =
-    record { within = within; holds = holds; longest = longest; none = none }
+stop_by s k before bytes n within holds further =
+    record { within = within; holds = holds; longest = longest }
   where
     shorter : (m : ℕ) → n < m → IsViableWithin s k (before ++ take m bytes)
         → IsViableWithin s k (before ++ take (n + 1) bytes)
@@ -179,17 +178,6 @@ stop_by s k before bytes n within holds further whole =
               below
         ]
 
-    none : (gs : List (List Entry)) → IsMachineWithin s k gs → text gs ≡ before ++ bytes → ⊥
-    none gs machine is =
-        elim (cases_lt n (length bytes)) [
-          | inl inside ↦
-              (let parts : before ++ bytes ≡ (before ++ take (n + 1) bytes) ++ drop (n + 1) bytes =
-              ap (λ x. before ++ x) (sym (take-append-drop (n + 1) bytes))
-              ∙ sym (append_assoc before (take (n + 1) bytes) (drop (n + 1) bytes)) in
-              further inside (gs, machine, (drop (n + 1) bytes, is ∙ parts)))
-          | inr past ↦ whole past gs machine is
-        ]
-
 module _ (s k : ℕ) (few_states : s ≤ 25) (few_symbols : k ≤ 10) (b : Begun)
     (begun : IsBegunWithin s k b) where
   viable_here : IsViableWithin s k (begun_text b ++ [])
@@ -201,7 +189,6 @@ module _ (s k : ℕ) (few_states : s ≤ 25) (few_symbols : k ≤ 10) (b : Begun
   bar_stop_on x ys is refused =
       stop_by s k (begun_text b) (x ∷ ys) 0 (omega arith) viable_here
       (λ _ v. bar (v.0) (v.1) v.2.0 (v.2.1 ∙ append_assoc (begun_text b) (x ∷ []) v.2.0))
-      (λ past. absurd (omega arith))
     where
       bar : (gs : List (List Entry)) → IsMachineWithin s k gs → (rest : List ℕ)
           → text gs ≡ begun_text b ++ x ∷ rest → ⊥
@@ -218,7 +205,6 @@ module _ (s k : ℕ) (few_states : s ≤ 25) (few_symbols : k ≤ 10) (b : Begun
       (λ _ v.
       no_bar (full_follows s k few_states few_symbols b begun v.0 v.1 x v.2.0 full
       (v.2.1 ∙ append_assoc (begun_text b) (x ∷ []) v.2.0)))
-      (λ past. absurd (omega arith))
 
   viable_entry : (e : Entry) (prefix : List ℕ) → length b.group < symbols_limit k b.groups
       → IsEntryOf s (symbols_limit k b.groups) e → BeginsWith (entry_text e) prefix
@@ -239,7 +225,7 @@ module _ (s k : ℕ) (few_states : s ≤ 25) (few_symbols : k ≤ 10) (b : Begun
   entry_stop_on x ys n no_bar room stop =
       stop_by s k (begun_text b) (x ∷ ys) n stop.within
       (viable_entry stop.holds.0 (take n (x ∷ ys)) room stop.holds.1 stop.holds.2)
-      further whole
+      further
     where
       further : n < length (x ∷ ys) → IsViableWithin s k (begun_text b ++ take (n + 1) (x ∷ ys)) → ⊥
       further inside v =
@@ -258,14 +244,6 @@ module _ (s k : ℕ) (few_states : s ≤ 25) (few_symbols : k ≤ 10) (b : Begun
             follows.1,
             begins_by (entry_text follows.0) follows.2.0 (take (n + 1) (x ∷ ys)) v.2.0 same short,
           )
-
-      whole : length (x ∷ ys) ≤ n → (gs : List (List Entry)) → IsMachineWithin s k gs
-          → text gs ≡ begun_text b ++ x ∷ ys → ⊥
-      whole past gs machine eq =
-          let follows = entry_follows s k few_states few_symbols b begun gs machine x ys no_bar eq in
-          let lengths : length (x ∷ ys) ≡ length (entry_text follows.0) + length follows.2.0 =
-          ap length follows.2.1 ∙ length-append (entry_text follows.0) follows.2.0 in
-          omega (arith, entry_length follows.0, stop.part)
 
   -- the bytes ahead begin with a `_` for which it is too early, or for which there is no room
   pub bar_stop : (bytes : List ℕ) → 0 < length bytes → get_or bytes 0 0 ≡ 95

@@ -30,7 +30,7 @@ pub enum Entry {
 }
 
 impl Dir {
-    ghost use Rattle.std.specs.Prelude.{◌≡◌, ◌≢◌, MatchOption};
+    ghost use Rattle.std.specs.Prelude.{◌≡◌, ◌≢◌, ◌↔◌, IsTrue, MatchOption};
     ghost use Rattle.bb_machine.specs.declared.entry.Dir.{Dir};
     ghost use Rattle.bb_machine.specs.Entry.{dir_letter};
 
@@ -43,14 +43,18 @@ impl Dir {
         }
     }
 
-    /// Either letter is as likely as the other, so what is tested holds of both: a branch between them would
-    /// be guessed wrong half the time.
+    /// Whether a direction has the letter. Either is as likely as the other, so what is tested holds of both,
+    /// 3 before and 3 after `O`: a branch between them would be guessed wrong half the time.
+    fn has_letter(letter: u8) -> bool
+        ensures { IsTrue result ↔ ((d : Dir) × (dir_letter d ≡ letter)) }
+    {
+        letter.abs_diff(b'O') == 3
+    }
+
     fn read(letter: u8) -> Option<Dir>
         ensures { MatchOption result ((d : Dir) → dir_letter d ≢ letter) (λ d. dir_letter d ≡ letter) }
     {
-        const APART: u8 = b'R' - b'L';
-        let distance = letter.checked_sub(b'L')?;
-        if distance <= APART && distance % APART == 0 {
+        if Dir::has_letter(letter) {
             Some(Dir::of_letter(letter))
         } else {
             None
@@ -69,7 +73,7 @@ impl Dir {
 }
 
 impl Next {
-    ghost use Rattle.std.specs.Prelude.{◌≡◌, ◌≢◌, MatchOption};
+    ghost use Rattle.std.specs.Prelude.{◌≡◌, ◌≢◌, ◌≤◌, ◌↔◌, IsTrue, MatchOption};
     ghost use Rattle.bb_machine.specs.declared.entry.Next.{Next};
     ghost use Rattle.bb_machine.specs.Entry.{next_letter, IsNextOf};
 
@@ -84,17 +88,21 @@ impl Next {
         }
     }
 
+    /// Whether the letter is that of a state of a machine with so many, or `Z`.
+    fn has_letter(letter: u8, states: u8) -> bool
+        requires { states ≤ MAX_STATES }
+        ensures { IsTrue result ↔ ((n : Next) × IsNextOf states n × (next_letter n ≡ letter)) }
+    {
+        letter == b'Z' || letter.wrapping_sub(b'A') < states
+    }
+
     fn read(letter: u8) -> Option<Next>
         ensures { MatchOption result
             ((n : Next) → IsNextOf MAX_STATES n → next_letter n ≢ letter)
             (λ n. IsNextOf MAX_STATES n × (next_letter n ≡ letter)) }
     {
-        if letter == b'Z' {
-            return Some(Next::Halt);
-        }
-        let state = letter.checked_sub(b'A')?;
-        if (state as usize) < MAX_STATES {
-            Some(Next::State(state))
+        if Next::has_letter(letter, MAX_STATES as u8) {
+            Some(Next::of_letter(letter))
         } else {
             None
         }
@@ -113,7 +121,7 @@ impl Next {
 }
 
 impl Entry {
-    ghost use Rattle.std.specs.Prelude.{◌≡◌, ℕ, ◌≤◌, ◌<◌, ◌↔◌, IfOk, IfErr, length, take};
+    ghost use Rattle.std.specs.Prelude.{◌≡◌, ℕ, ◌≤◌, ◌<◌, ◌↔◌, IfOk, IfErr, IsTrue, length, take};
     ghost use Rattle.bb_machine.specs.declared.entry.Entry.{Entry};
     ghost use Rattle.bb_machine.specs.Entry.{entry_text, IsEntryOf};
     ghost use Rattle.bb_machine.specs.Column.{BeginsWith};
@@ -130,41 +138,30 @@ impl Entry {
         }
     }
 
-    /// The fewest states and symbols of a machine that may have the entry.
-    pub(crate) fn named(self) -> (usize, usize)
-        ensures { (states symbols : ℕ) → IsEntryOf states symbols self
-            ↔ ((result.0 ≤ states) × (result.1 ≤ symbols)) }
+    /// The fewest symbols of a machine that may have the entry.
+    pub(crate) fn named_symbols(self) -> usize
+        ensures { (k symbols : ℕ) → IsEntryOf MAX_STATES k self
+            → IsEntryOf MAX_STATES symbols self ↔ (result ≤ symbols) }
     {
         match self {
-            Entry::Undefined => (0, 0),
-            Entry::Go {
-                write,
-                dir: _,
-                next: Next::State(state),
-            } => (state as usize + 1, write as usize + 1),
-            Entry::Go {
-                write,
-                dir: _,
-                next: Next::Halt,
-            } => (0, write as usize + 1),
+            Entry::Undefined => 0,
+            Entry::Go { write, .. } => write as usize + 1,
         }
     }
 
-    /// The entry whose text the first bytes are.
-    pub(crate) fn at_first(bytes: &[u8]) -> Entry
-        requires { (e : Entry) × IsEntryOf MAX_STATES MAX_SYMBOLS e × BeginsWith bytes.now (entry_text e) }
-        ensures { (e : Entry) → IsEntryOf MAX_STATES MAX_SYMBOLS e → BeginsWith bytes.now (entry_text e)
-            → result ≡ e }
+    /// Whether the first bytes are the text of an entry of a machine with so many states and symbols.
+    pub(crate) fn is_at_first(bytes: &[u8], states: u8, symbols: u8) -> bool
+        requires room { 3 ≤ length bytes.now }
+        requires states { states ≤ MAX_STATES }
+        requires symbols { symbols ≤ MAX_SYMBOLS }
+        ensures { IsTrue result
+            ↔ ((e : Entry) × IsEntryOf states symbols e × BeginsWith bytes.now (entry_text e)) }
     {
-        let digit = bytes[0];
-        if digit == b'-' {
-            return Entry::Undefined;
+        let (first, second, third) = (bytes[0], bytes[1], bytes[2]);
+        if first == b'-' {
+            return second == b'-' && third == b'-';
         }
-        Entry::Go {
-            write: digit - b'0',
-            dir: Dir::of_letter(bytes[1]),
-            next: Next::of_letter(bytes[2]),
-        }
+        is_digit(first, symbols) && Dir::has_letter(second) && Next::has_letter(third, states)
     }
 
     /// The entry whose text stands first in the bytes, or how many of them begin an entry's text.
@@ -198,7 +195,7 @@ impl Entry {
     }
 }
 
-ghost use Rattle.std.specs.Prelude.{◌≡◌, ◌≢◌, ◌≤◌, ◌<◌, ◌+◌, ℕ, MatchOption, slice_index};
+ghost use Rattle.std.specs.Prelude.{◌≡◌, ◌≢◌, ◌≤◌, ◌<◌, ◌+◌, ◌↔◌, ℕ, IsTrue, MatchOption, slice_index};
 
 /// The first three bytes, with 0, which no text has, for those past the end.
 fn first_bytes(bytes: &[u8]) -> (u8, u8, u8)
@@ -216,17 +213,22 @@ fn byte_at(bytes: &[u8], index: usize) -> u8
     bytes.get(index).copied().unwrap_or(0)
 }
 
+/// Whether the byte is the digit of one of so many symbols.
+fn is_digit(byte: u8, symbols: u8) -> bool
+    requires { symbols ≤ MAX_SYMBOLS }
+    ensures { IsTrue result ↔ ((w : ℕ) × (w < symbols) × (48 + w ≡ byte)) }
+{
+    byte.wrapping_sub(b'0') < symbols
+}
+
 fn read_digit(byte: u8, symbols: usize) -> Option<u8>
+    requires { symbols ≤ MAX_SYMBOLS }
     ensures { MatchOption result
         ((w : ℕ) → w < symbols → 48 + w ≢ byte)
         (λ w. (w < symbols) × (48 + w ≡ byte)) }
 {
-    if byte < b'0' {
-        return None;
-    }
-    let digit = byte - b'0';
-    if (digit as usize) < symbols {
-        Some(digit)
+    if is_digit(byte, symbols as u8) {
+        Some(byte - b'0')
     } else {
         None
     }

@@ -4,7 +4,7 @@ use Rattle.std.specs.List.{AllByRecursion, flat_map}
 use Rattle.bb_machine.specs.declared.machine.TheConstants.{MAX_STATES, MAX_SYMBOLS}
 use Rattle.bb_machine.specs.declared.entry.Entry.{Entry}
 use Rattle.bb_machine.specs.Entry.{entry_text, IsEntryOf}
-use Rattle.bb_machine.specs.Machine.{IsGroup, IsMachineWithin, group_text, text}
+use Rattle.bb_machine.specs.Machine.{IsGroup, group_text}
 use Rattle.bb_machine.specs.declared.machine.reader.Draft.{Draft}
 use Rattle.bb_machine.specs.Column.{BeginsWith, IsViableWithin}
 
@@ -38,14 +38,14 @@ IsBegun b = IsBegunWithin MAX_STATES MAX_SYMBOLS b
 abbrev pub begun_entries : Begun → List Entry
 begun_entries b = flat_map (λ g. g) b.groups ++ b.group
 
--- the draft counts what was read, and names the fewest states and symbols that all its entries allow
+-- the draft counts what was read, and names the fewest symbols that all its entries allow
 pub record IsDraft (d : Draft) (b : Begun) : Type 0 where
   pub begun : IsBegun b
   pub states_is : length b.groups + 1 ≡ d.states
   pub symbols_is : symbols_limit MAX_SYMBOLS b.groups ≡ d.symbols
   pub filled_is : length b.group ≡ d.filled
-  pub named : (states symbols : ℕ) → AllByRecursion (IsEntryOf states symbols) (begun_entries b)
-      ↔ ((d.named_states ≤ states) × (d.named_symbols ≤ symbols))
+  pub named : (symbols : ℕ) → AllByRecursion (IsEntryOf MAX_STATES symbols) (begun_entries b)
+      ↔ (d.named_symbols ≤ symbols)
 
 -- the group can be closed: it is as long as the groups before it, and the first one has two or
 -- more entries, which write only as many symbols
@@ -62,14 +62,12 @@ abbrev pub table_of : Begun → List (List Entry)
 table_of b = b.groups ++ b.group ∷ []
 
 -- of `bytes`, which come after `before`, the first `n` are the most with which some machine's text
--- goes on, and no machine's text goes on with all of them and ends
+-- goes on
 pub record IsStopWithin (most_states most_symbols : ℕ) (before bytes : List ℕ) (n : ℕ) : Type 0 where
   pub within : n ≤ length bytes
   pub holds : IsViableWithin most_states most_symbols (before ++ take n bytes)
   pub longest : (m : ℕ) → m ≤ length bytes
       → IsViableWithin most_states most_symbols (before ++ take m bytes) → m ≤ n
-  pub none : (gs : List (List Entry)) → IsMachineWithin most_states most_symbols gs
-      → text gs ≡ before ++ bytes → ⊥
 
 abbrev pub IsStop : List ℕ → List ℕ → ℕ → Type 0
 IsStop before bytes n = IsStopWithin MAX_STATES MAX_SYMBOLS before bytes n

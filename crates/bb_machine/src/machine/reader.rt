@@ -1,26 +1,25 @@
 //! The reader of machine texts.
 ghost use Rattle.std.specs.Prelude.{◌≡◌, ◌≢◌, ◌+◌, ◌*◌, ◌≤◌, ◌<◌, ◌↔◌, List, [], ◌∷◌};
-ghost use Rattle.std.specs.Prelude.{◌++◌, length, take, drop, IsTrue, IfOk, IfErr, OnOk, OnErr};
+ghost use Rattle.std.specs.Prelude.{◌++◌, ℕ, length, take, drop, IsTrue, IfOk, IfErr, IfSome, OnOk, OnErr, Some};
+ghost use Rattle.std.specs.Prelude.{MatchOption};
 
 use crate::entry::Entry;
 use crate::machine::{LINE, MAX_STATES, MAX_SYMBOLS, Machine, Refused, SLOTS, STRIDE, Slot};
 
 /// How much was read of a text so far: `states` counts the groups, with the one at work, and `filled`
 /// the entries of that one; `symbols` is the most that can be, until a `_` has closed the first group.
-/// A machine that has all the entries has the named states and symbols at least.
+/// A machine that has all the entries has the named symbols at least.
 #[derive(Drop)]
 struct Draft {
     states: usize,
     symbols: usize,
     filled: usize,
-    named_states: usize,
     named_symbols: usize,
 }
 
 impl Draft {
     ghost use Rattle.bb_machine.specs.Entry.{IsEntryOf};
-    ghost use Rattle.bb_machine.specs.Machine.{IsMachine};
-    ghost use Rattle.bb_machine.specs.inside.Draft.{Begun, IsDraft, begun_text, IsWhole, table_of, IsStop};
+    ghost use Rattle.bb_machine.specs.inside.Draft.{Begun, IsDraft, begun_text, IsWhole, IsStop};
 
     fn new() -> Draft
         ensures { IsDraft result (record { groups = []; group = [] }) }
@@ -29,7 +28,6 @@ impl Draft {
             states: 1,
             symbols: MAX_SYMBOLS,
             filled: 0,
-            named_states: 0,
             named_symbols: 0,
         }
     }
@@ -50,10 +48,8 @@ impl Draft {
         ensures { (b : Begun) → IsDraft self.old b → IsEntryOf MAX_STATES self.old.symbols entry
             → IsDraft self.new (record { groups = b.groups; group = b.group ++ entry ∷ [] }) }
     {
-        let (states, symbols) = entry.named();
         self.filled += 1;
-        self.named_states = self.named_states.max(states);
-        self.named_symbols = self.named_symbols.max(symbols);
+        self.named_symbols = self.named_symbols.max(entry.named_symbols());
     }
 
     /// Ends the group at work, and begins the next one.
@@ -95,13 +91,6 @@ impl Draft {
             Err(prefix) => Err(prefix),
         }
     }
-
-    /// Whether what was read is a machine's whole text.
-    fn is_machine(&self) -> bool
-        ensures { (b : Begun) → IsDraft self.now b → IsTrue result ↔ IsMachine (table_of b) }
-    {
-        self.is_whole() && self.named_states <= self.states
-    }
 }
 
 impl Machine {
@@ -118,61 +107,126 @@ impl Machine {
         ensures column { IfErr result (λ refused. IsColumn line.now refused.column) }
         ensures bounded { IfErr result (λ refused. refused.column ≤ LINE + 1) }
     {
-        match read_counts(line) {
-            Ok((states, symbols)) => {
-                fill(&mut self.slots, line, states, symbols);
-                self.state_count = states as u8;
-                self.symbol_count = symbols as u8;
-                Ok(())
-            }
-            Err(prefix) => Err(Refused {
-                column: prefix as u32 + 1,
-            }),
-        }
+        let Some((states, symbols)) = counts(line) else {
+            return Err(Refused {
+                column: longest_prefix(line) as u32 + 1,
+            });
+        };
+        fill(&mut self.slots, line, states, symbols);
+        self.state_count = states as u8;
+        self.symbol_count = symbols as u8;
+        Ok(())
     }
 }
 
 ghost use Rattle.bb_machine.specs.declared.entry.Entry.{Entry};
-ghost use Rattle.bb_machine.specs.Machine.{IsMachine, IsGroup, group_text, text};
+ghost use Rattle.bb_machine.specs.Machine.{IsMachine, IsGroup, group_text, symbols_of, text};
 ghost use Rattle.bb_machine.specs.Rows.{IsTable, entries_in, table_in};
 ghost use Rattle.bb_machine.specs.Column.{BeginsWith, IsViable, IsLongestPrefix};
-ghost use Rattle.bb_machine.specs.inside.Draft.{Begun, IsDraft, begun_text, IsStop};
 
-/// How many states and symbols the machine has whose text the line is, or how many of the line's first bytes
-/// begin some machine's text.
-#[inline]
-fn read_counts(line: &[u8]) -> Result<(usize, usize), usize>
-    ensures found { IfOk result (λ counts. (gs : List (List Entry)) × IsTable counts.0 counts.1 gs
-        × (text gs ≡ line.now)) }
-    ensures none { IfErr result (λ n. (gs : List (List Entry)) → IsMachine gs → text gs ≢ line.now) }
-    ensures prefix { IfErr result (IsLongestPrefix IsViable line.now) }
-    ensures bounded { IfErr result (λ n. n ≤ LINE) }
-{
-    let draft = scan(line)?;
-    if draft.is_machine() {
-        Ok((draft.states, draft.filled))
-    } else {
-        Err(line.len())
-    }
-}
-
-/// How much was read of the whole line, or how many of its first bytes begin some machine's text.
+/// How many states and symbols the machine has whose text the line is, where it is one.
 ///
 /// Neither it nor `fill` is inlined, so that the function that reads a line stays small enough to be inlined.
 #[inline(never)]
-fn scan(line: &[u8]) -> Result<Draft, usize>
-    ensures text { IfOk result (λ draft. (b : Begun) × IsDraft draft b × (begun_text b ≡ line.now)) }
-    ensures stop { IfErr result (IsStop [] line.now) }
+fn counts(line: &[u8]) -> Option<(usize, usize)>
+    ensures { MatchOption result ((gs : List (List Entry)) → IsMachine gs → text gs ≢ line.now)
+        (λ counts. (gs : List (List Entry)) × IsTable counts.0 counts.1 gs × (text gs ≡ line.now)) }
+{
+    let symbols = symbols_at_first(line)?;
+    let states = states_by_length(line, symbols)?;
+    if is_table(line, states, symbols) {
+        Some((states, symbols))
+    } else {
+        None
+    }
+}
+
+/// How many symbols the machine has whose text the line is: as many as there are entries before the first
+/// `_`, or before the end.
+fn symbols_at_first(line: &[u8]) -> Option<usize>
+    ensures some { IfSome result (λ symbols. (2 ≤ symbols) × (symbols ≤ MAX_SYMBOLS)) }
+    ensures machine { (gs : List (List Entry)) → IsMachine gs → text gs ≡ line.now
+        → result ≡ Some (symbols_of gs) }
+{
+    for symbols in 2..MAX_SYMBOLS + 1 {
+        if line.len() <= 3 * symbols || line[3 * symbols] == b'_' {
+            return Some(symbols);
+        }
+    }
+    None
+}
+
+/// How many states the machine with so many symbols has whose text the line is, by its length.
+fn states_by_length(line: &[u8], symbols: usize) -> Option<usize>
+    requires { symbols ≤ MAX_SYMBOLS }
+    ensures { MatchOption result
+        ((n : ℕ) → 0 < n → n ≤ MAX_STATES → length line.now + 1 ≢ n * (3 * symbols + 1))
+        (λ states. (0 < states) × (states ≤ MAX_STATES)
+        × (length line.now + 1 ≡ states * (3 * symbols + 1))) }
+{
+    for states in 1..MAX_STATES + 1 {
+        if states * (3 * symbols + 1) == line.len() + 1 {
+            return Some(states);
+        }
+    }
+    None
+}
+
+/// Whether the line, which is as long as such a text, is the text of a machine with so many states and
+/// symbols.
+fn is_table(line: &[u8], states: usize, symbols: usize) -> bool
+    requires some { 0 < states }
+    requires states { states ≤ MAX_STATES }
+    requires two { 2 ≤ symbols }
+    requires symbols { symbols ≤ MAX_SYMBOLS }
+    requires length { length line.now + 1 ≡ states * (3 * symbols + 1) }
+    ensures { IsTrue result
+        ↔ ((gs : List (List Entry)) × IsTable states symbols gs × (text gs ≡ line.now)) }
+{
+    for row in 0..states {
+        let at = row * (3 * symbols + 1);
+        if row > 0 && line[at - 1] != b'_' {
+            return false;
+        }
+        if !is_group(&line[at..], states, symbols) {
+            return false;
+        }
+    }
+    true
+}
+
+/// Whether the first bytes are the text of a group of a machine with so many states and symbols.
+fn is_group(bytes: &[u8], states: usize, symbols: usize) -> bool
+    requires room { 3 * symbols ≤ length bytes.now }
+    requires states { states ≤ MAX_STATES }
+    requires symbols { symbols ≤ MAX_SYMBOLS }
+    ensures { IsTrue result
+        ↔ ((g : List Entry) × IsGroup states symbols g × BeginsWith bytes.now (group_text g)) }
+{
+    for symbol in 0..symbols {
+        if !Entry::is_at_first(&bytes[3 * symbol..], states as u8, symbols as u8) {
+            return false;
+        }
+    }
+    true
+}
+
+/// How many of the line's first bytes begin some machine's text.
+#[cold]
+#[inline(never)]
+fn longest_prefix(line: &[u8]) -> usize
+    ensures longest { IsLongestPrefix IsViable line.now result }
+    ensures bounded { result ≤ LINE }
 {
     let mut draft = Draft::new();
     let mut at = 0;
     while at < line.len() {
         match draft.step(&line[at..]) {
             Ok(taken) => at += taken,
-            Err(more) => return Err(at + more),
+            Err(more) => return at + more,
         }
     }
-    Ok(draft)
+    at
 }
 
 /// Puts the entries of the machine with so many states and symbols whose text the line is into the slots.
@@ -198,6 +252,6 @@ fn fill_row(slots: &mut [Slot; SLOTS], row: usize, symbols: usize, bytes: &[u8])
     ensures before { table_in row symbols slots.new ≡ table_in row symbols slots.old }
 {
     for symbol in 0..symbols {
-        slots[row * STRIDE + symbol] = Slot::new(Entry::at_first(&bytes[3 * symbol..]));
+        slots[row * STRIDE + symbol].set_first(&bytes[3 * symbol..]);
     }
 }

@@ -1,6 +1,6 @@
 use Rattle.std.proofs.Common.{◌≡◌, ◌≤◌, ◌-◌, length, take}
 use Rattle.bb_machine.specs.inside.Draft.{Begun, IsDraft, begun_text}
-use Rattle.bb_machine.proofs.machine.reader.scan.Given as goal
+use Rattle.bb_machine.proofs.machine.reader.longest_prefix.Given as goal
 
 -- the bytes so far are what was read
 abbrev pub invariant-loop-at : goal.invariant-loop-at
