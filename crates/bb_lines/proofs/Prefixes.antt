@@ -5,7 +5,7 @@ use Rattle.std.specs.Prelude.{◌==◌}
 use Rattle.std.proofs.Math.Seq.{drop-cons}
 use Rattle.std.proofs.Math.Numerals.{add-one}
 use Rattle.std.proofs.lemmas.Bool.{eqb-true}
-use Rattle.std.proofs.lemmas.List.{append-nil, map-append, take-append-drop, take_all, take-take}
+use Rattle.std.proofs.lemmas.List.{append-nil, map-append, take-append-drop, take_all}
 use Rattle.bb_lines.specs.Lines.{complete, unfinished, lines, pieces, unless_empty}
 use Rattle.bb_lines.specs.inside.Progress.{HasNoNewline, none, other, prefixes}
 use Rattle.bb_lines.proofs.Pieces.{LinesAre-from_pieces, LinesAre-line, LinesAre-more, LinesAre-one}

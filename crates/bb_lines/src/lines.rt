@@ -216,12 +216,55 @@ impl<'a, R: Read, W: Write, A: Responder> Engine<'a, R, W, A> {
         let most = self.responder.bytes_kept();
         let mut rest = piece;
         while let Some(at) = memchr(b'\n', rest) {
-            keep_prefix(&mut self.kept, &rest[..at], most);
-            self.answer_kept()?;
+            self.answer_line(&rest[..at], most)?;
             rest = &rest[at + 1..];
         }
         keep_prefix(&mut self.kept, rest, most);
         Ok(())
+    }
+
+    // Answers the line whose first bytes are kept and whose rest is this piece, without its newline. Where
+    // nothing is kept, the line is answered where it stands. No reply of a high cost waits meanwhile.
+    #[inline(always)]
+    fn answer_line(&mut self, piece: &[u8], most: usize) -> Result<(), Fault>
+        requires most { most ≡ A.KEEP }
+        requires writer { is_marked self.old.writer.now ≡ false }
+        requires ready { A.is_ready self.old.responder.now }
+        requires kept { length self.old.kept.items ≤ A.KEEP }
+        requires prompt { HIGH_COST < A.cost self.old.responder.now → self.old.waiting.items ≡ [] }
+        ensures ends { let held = W.contents (watched_inner self.old.writer.now) in
+            let held_then = W.contents (watched_inner self.new.writer.now) in
+            let Reply = A.replies_with self.old.responder.now in
+            let line = take A.KEEP (self.old.kept.items ++ piece.now) in
+            MatchEnd result
+            (λ _. AreAnswered Reply A.saw held held_then self.old.waiting.items self.new.waiting.items
+            self.old.responder.now self.new.responder.now (line ∷ []))
+            (WritesSome Reply held held_then self.old.waiting.items (line ∷ []))
+            ⊥
+            (WritesPrefix Reply held held_then self.old.waiting.items (line ∷ [])) }
+        ensures kept { OnOk result (self.new.kept.items ≡ []) }
+        ensures prompt { HIGH_COST < A.cost self.new.responder.now
+            → OnOk result (self.new.waiting.items ≡ []) }
+        ensures memory { result ≡ Err Fault.Memory → IsTrue A.GROWS }
+        ensures write { (result ≡ Err Fault.Write) ↔ (is_marked self.new.writer.now ≡ true) }
+        ensures no_read { result ≢ Err Fault.Read }
+        ensures keeps { A.keeps self.old.responder.now self.new.responder.now }
+        ensures ready { A.is_ready self.new.responder.now }
+        ensures reader { self.new.reader.now ≡ self.old.reader.now }
+        ensures references { KeepsReferences self.old self.new }
+    {
+        if self.kept.is_empty() {
+            let line = &piece[..piece.len().min(most)];
+            return answer(
+                self.writer,
+                self.responder,
+                &mut self.text,
+                &mut self.waiting,
+                line,
+            );
+        }
+        keep_prefix(&mut self.kept, piece, most);
+        self.answer_kept()
     }
 
     // Answers the line whose first bytes are kept. No reply of a high cost waits meanwhile.
@@ -251,21 +294,59 @@ impl<'a, R: Read, W: Write, A: Responder> Engine<'a, R, W, A> {
         ensures reader { self.new.reader.now ≡ self.old.reader.now }
         ensures references { KeepsReferences self.old self.new }
     {
-        self.text.clear();
-        let cost = match self.responder.respond(self.kept.as_slice(), &mut self.text) {
-            Ok(cost) => cost,
-            Err(_) => {
-                write_waiting(self.writer, &mut self.waiting)?;
-                return Err(Fault::Memory);
-            }
-        };
+        answer(
+            self.writer,
+            self.responder,
+            &mut self.text,
+            &mut self.waiting,
+            self.kept.as_slice(),
+        )?;
         self.kept.clear();
-        add_line(self.writer, &mut self.waiting, self.text.as_slice())?;
-        if cost > HIGH_COST {
-            return write_waiting(self.writer, &mut self.waiting);
-        }
         Ok(())
     }
+}
+
+// Answers a line by its first bytes. No reply of a high cost waits meanwhile.
+fn answer<W: Write, A: Responder>(
+    writer: &mut Watched<W>,
+    responder: &mut A,
+    text: &mut ArrayVec<u8, REPLY>,
+    waiting: &mut Waiting,
+    line: &[u8],
+) -> Result<(), Fault>
+    requires writer { is_marked writer.old ≡ false }
+    requires ready { A.is_ready responder.old }
+    requires few { length line.now ≤ A.KEEP }
+    requires prompt { HIGH_COST < A.cost responder.old → waiting.old.items ≡ [] }
+    ensures ends { let held = W.contents (watched_inner writer.old) in
+        let held_then = W.contents (watched_inner writer.new) in
+        let Reply = A.replies_with responder.old in
+        MatchEnd result
+        (λ _. AreAnswered Reply A.saw held held_then waiting.old.items waiting.new.items
+        responder.old responder.new (line.now ∷ []))
+        (WritesSome Reply held held_then waiting.old.items (line.now ∷ []))
+        ⊥
+        (WritesPrefix Reply held held_then waiting.old.items (line.now ∷ [])) }
+    ensures prompt { HIGH_COST < A.cost responder.new → OnOk result (waiting.new.items ≡ []) }
+    ensures memory { result ≡ Err Fault.Memory → IsTrue A.GROWS }
+    ensures write { (result ≡ Err Fault.Write) ↔ (is_marked writer.new ≡ true) }
+    ensures no_read { result ≢ Err Fault.Read }
+    ensures keeps { A.keeps responder.old responder.new }
+    ensures ready { A.is_ready responder.new }
+{
+    text.clear();
+    let cost = match responder.respond(line, text) {
+        Ok(cost) => cost,
+        Err(_) => {
+            write_waiting(writer, waiting)?;
+            return Err(Fault::Memory);
+        }
+    };
+    add_line(writer, waiting, text.as_slice())?;
+    if cost > HIGH_COST {
+        return write_waiting(writer, waiting);
+    }
+    Ok(())
 }
 
 // Keeps the first `most` bytes of what is kept and a piece that comes after it.

@@ -11,7 +11,7 @@ use Rattle.bb_lines.proofs.Progress.{answered_none, answered_more, fault_after}
 use Rattle.bb_lines.proofs.Sends.{slice_from}
 use Rattle.bb_lines.proofs.lines.Engine.answer_lines.Given.{Over}
 use Rattle.bb_lines.proofs.lines.Engine.answer_lines.Goals as goal
-use Rattle.bb_lines.proofs.lines.Engine.answer_lines.Goals.{After-answer_kept, After-keep_prefix-2}
+use Rattle.bb_lines.proofs.lines.Engine.answer_lines.Goals.{After-answer_line, After-keep_prefix}
 
 pub loop-at-init : goal.loop-at-init
 loop-at-init g c =
@@ -31,25 +31,21 @@ loop-at-init g c =
     }
 
 -- the bytes of the line that are in this piece
-others : (g : Over) (c : After-answer_kept g) → HasNoNewline (take c.in-Some.at c.loop-at.rest.now)
+others : (g : Over) (c : After-answer_line g) → HasNoNewline (take c.in-Some.at c.loop-at.rest.now)
 others g c = let found = c.in-Some.ensures in
     no_newline_before c.loop-at.rest.now c.in-Some.at
     (omega (arith, found.0.high)) (λ k l. found.0.before k (omega arith) l)
 
 -- what is kept of the line
-is_kept : (g : Over) (c : After-answer_kept g)
-    → c.keep_prefix.new.kept.items
+is_kept : (g : Over) (c : After-answer_line g)
+    → take g.A.Responder.KEEP (c.loop-at.self.kept.items ++ take c.in-Some.at c.loop-at.rest.now)
     ≡ take g.A.Responder.KEEP
     (unfinished (c.args.self.now.kept.items ++ c.loop-at.invariant.prefix)
     ++ take c.in-Some.at c.loop-at.rest.now)
-is_kept g c =
-    kept_more g.A.Responder.KEEP _ _ c.loop-at.invariant.kept
-    (c.keep_prefix.ensures
-    ∙ ap (λ k. take k (c.loop-at.self.kept.items ++ take c.in-Some.at c.loop-at.rest.now))
-    c.bytes_kept-most.ensures)
+is_kept g c = kept_more g.A.Responder.KEEP _ _ c.loop-at.invariant.kept refl
 
 -- the piece, from the line on
-whole : (g : Over) (c : After-answer_kept g)
+whole : (g : Over) (c : After-answer_line g)
     → (c.loop-at.invariant.prefix ++ (take c.in-Some.at c.loop-at.rest.now ++ 10 ∷ []))
     ++ drop (c.in-Some.at + 1) c.loop-at.rest.now ≡ c.args.piece.now
 whole g c = let found = c.in-Some.ensures in
@@ -59,10 +55,10 @@ whole g c = let found = c.in-Some.ensures in
     (line_split c.loop-at.rest.now c.in-Some.at found.0.high found.1)
     ∙ c.loop-at.invariant.whole
 
-pub returns-in_err-answer_kept-clause-ends : goal.returns-in_err-answer_kept-clause-ends
-returns-in_err-answer_kept-clause-ends g c =
+pub returns-in_err-answer_line-clause-ends : goal.returns-in_err-answer_line-clause-ends
+returns-in_err-answer_line-clause-ends g c =
     let p = err_from_is_err_and c.from_residual.result c.from_residual.ensures.1 in
-    let at = (goal.at.returns-in_err-answer_kept-clause-ends g c).After-answer_kept in
+    let at = (goal.at.returns-in_err-answer_line-clause-ends g c).After-answer_line in
     let here = c.loop-at.invariant in
     let past = c.args.self.now.kept.items ++ here.prefix in
     let piece = take c.in-Some.at c.loop-at.rest.now in
@@ -76,13 +72,13 @@ returns-in_err-answer_kept-clause-ends g c =
     rw (p.1, p.2)
     (fault_after here.answered law _ _
     (ap (λ b. prefixes g.A.Responder.KEEP (complete b)) (sym same) ∙ lines) _ _ _ _
-    c.in_err-answer_kept.ensures.ends)
+    c.in_err-answer_line.ensures.ends)
 
 pub loop-at-preserved : goal.loop-at-preserved
 loop-at-preserved g c =
-    let at = (goal.at.loop-at-preserved g c).After-answer_kept in
+    let at = (goal.at.loop-at-preserved g c).After-answer_line in
     let here = c.loop-at.invariant in
-    let done = c.in_ok-answer_kept.ensures in
+    let done = c.in_ok-answer_line.ensures in
     let start = c.args.self.now.kept.items in
     let piece = take c.in-Some.at c.loop-at.rest.now in
     let parts = append_assoc start here.prefix (piece ++ 10 ∷ []) in
@@ -108,20 +104,20 @@ loop-at-preserved g c =
       answered = rw (← parts, lines) (answered_more here.answered law done.ends);
     }
 
-none_left : (g : Over) (c : After-keep_prefix-2 g) → HasNoNewline c.loop-at.rest.now
+none_left : (g : Over) (c : After-keep_prefix g) → HasNoNewline c.loop-at.rest.now
 none_left g c =
     subst HasNoNewline (take-length c.loop-at.rest.now)
     (no_newline_before c.loop-at.rest.now (length c.loop-at.rest.now) (omega arith)
     (λ k l. c.in_default.ensures k (omega arith) l))
 
-kept_now : (g : Over) (c : After-keep_prefix-2 g)
-    → c.keep_prefix-2.new.kept.items ≡ take g.A.Responder.KEEP
+kept_now : (g : Over) (c : After-keep_prefix g)
+    → c.keep_prefix.new.kept.items ≡ take g.A.Responder.KEEP
     (c.loop-at.self.kept.items ++ c.loop-at.rest.now)
-kept_now g c = c.keep_prefix-2.ensures
+kept_now g c = c.keep_prefix.ensures
     ∙ ap (λ k. take k (c.loop-at.self.kept.items ++ c.loop-at.rest.now)) c.bytes_kept-most.ensures
 
 -- all of the piece, after what was kept
-all : (g : Over) (c : After-keep_prefix-2 g)
+all : (g : Over) (c : After-keep_prefix g)
     → (c.args.self.now.kept.items ++ c.loop-at.invariant.prefix) ++ c.loop-at.rest.now
     ≡ c.args.self.now.kept.items ++ c.args.piece.now
 all g c = append_assoc c.args.self.now.kept.items c.loop-at.invariant.prefix c.loop-at.rest.now

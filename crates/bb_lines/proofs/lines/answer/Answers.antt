@@ -3,9 +3,9 @@ use Rattle.std.proofs.Common.{[], ◌∷◌, arith}
 use Rattle.std.proofs.lemmas.Result.{err_from_is_err_and}
 use Rattle.bb_lines.specs.inside.Progress.{AreAnswered}
 use Rattle.bb_lines.proofs.Progress.{answered_one, ends_written, prefix_before}
-use Rattle.bb_lines.proofs.lines.Engine.answer_kept.Given.{Over}
-use Rattle.bb_lines.proofs.lines.Engine.answer_kept.Goals as goal
-use Rattle.bb_lines.proofs.lines.Engine.answer_kept.Goals.{In_ok-add_line}
+use Rattle.bb_lines.proofs.lines.answer.Given.{Over}
+use Rattle.bb_lines.proofs.lines.answer.Goals as goal
+use Rattle.bb_lines.proofs.lines.answer.Goals.{In_ok-add_line}
 
 pub returns-in_err-write_waiting-in-Err-clause-ends : goal.returns-in_err-write_waiting-in-Err-clause-ends
 returns-in_err-write_waiting-in-Err-clause-ends g c =
@@ -22,15 +22,13 @@ returns-in_err-add_line-clause-ends g c =
 
 -- the line is answered, and its reply waits
 line_answered : (g : Over) (c : In_ok-add_line g)
-    → AreAnswered (g.A.Responder.replies_with c.args.self.now.responder.now) g.A.Responder.saw
-    (g.W.Write.contents (watched_inner c.args.self.now.writer.now))
-    (g.W.Write.contents (watched_inner c.add_line.new.writer)) c.args.self.now.waiting.items
-    c.add_line.new.waiting.items c.args.self.now.responder.now c.respond.new.self
-    (c.args.self.now.kept.items ∷ [])
+    → AreAnswered (g.A.Responder.replies_with c.args.responder.now) g.A.Responder.saw
+    (g.W.Write.contents (watched_inner c.args.writer.now))
+    (g.W.Write.contents (watched_inner c.add_line.new.writer)) c.args.waiting.now.items
+    c.add_line.new.waiting.items c.args.responder.now c.respond.new.self (c.args.line.now ∷ [])
 line_answered g c =
-    answered_one _ (rw c.as_slice.ensures.value at c.in-Ok.ensures.reply)
-    (rw c.as_slice.ensures.value at c.in-Ok.ensures.saw)
-    (rw c.as_slice-2.ensures.value at c.in_ok-add_line.ensures.sent)
+    answered_one _ c.in-Ok.ensures.reply c.in-Ok.ensures.saw
+    (rw c.as_slice.ensures.value at c.in_ok-add_line.ensures.sent)
 
 pub returns-then-cost-gt-HIGH_COST-clause-ends : goal.returns-then-cost-gt-HIGH_COST-clause-ends
 returns-then-cost-gt-HIGH_COST-clause-ends g c =
