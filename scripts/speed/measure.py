@@ -274,8 +274,8 @@ def searches(program: str, draw: random.Random) -> List[Search]:
 
 
 def measure_search(program: str, search: Search, file: str, runs: int) -> None:
-    """Prints what the search costs beside the simulation of the same lines, in processor time: what it adds,
-    as a ratio of the least times, and the spread of that ratio over the runs."""
+    """Prints what a run of the search takes beside the simulation of the same lines, in processor time: the
+    least times, their ratio, and the spread of that ratio over the runs."""
     name, options, switch, _ = search
     commands = [[program, "decide", *options, switch], [program, "decide", *options]]
     expected = [ending(command, file) for command in commands]
@@ -283,9 +283,9 @@ def measure_search(program: str, search: Search, file: str, runs: int) -> None:
         raise Wrong("some line is refused")
     pairs = list(zip(commands, expected))
     times = [[spent(command, file, wanted) for command, wanted in pairs] for _ in range(runs)]
-    run, both = min(alone for alone, _ in times), min(together for _, together in times)
-    ratios = [(together - alone) / alone for alone, together in times]
-    told = f"simulation {run:.3f} s, the search adds {both - run:.3f} s, ratio {(both - run) / run:.2f}"
+    simulated, searched = min(run for run, _ in times), min(run for _, run in times)
+    ratios = [with_search / without for without, with_search in times]
+    told = f"simulation {simulated:.3f} s, the search {searched:.3f} s, ratio {searched / simulated:.2f}"
     print(f"{name}: {told}, {min(ratios):.2f} to {max(ratios):.2f} in single runs", flush=True)
 
 
