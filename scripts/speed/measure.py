@@ -27,7 +27,15 @@ sys.path.insert(0, os.path.join(os.path.dirname(HERE), "tests"))
 
 from machine_list import listed  # noqa: E402
 from machines import halting_once, uniform  # noqa: E402
-from program import SIMULATION, ended, joined, kind_of, processor_time, replies  # noqa: E402
+from program import (
+    SIMULATION,
+    begins_modulo_64,
+    ended,
+    joined,
+    kind_of,
+    processor_time,
+    replies,
+)  # noqa: E402
 from tally import Tally, end_with, words  # noqa: E402
 
 CHAMPION = "1RB1LC_1RC1RB_1RD0LE_1LA1LD_1RZ0LA\n"
@@ -151,15 +159,13 @@ def count_instructions(name: str, program: str, form: Sequence[str]) -> None:
 
 
 def tell_where_it_begins(program: str) -> None:
-    """Prints where the watched run's function begins, modulo 64. On a processor that is slow at branches that
-    cross a multiple of 32 bytes, that makes a tenth of the time of short runs."""
+    """Prints where the watched run's function begins, modulo 64."""
     try:
-        symbols = ended(["nm", program]).output.decode("utf-8", "replace").splitlines()
+        begins = ", ".join(map(str, begins_modulo_64(program)))
     except FileNotFoundError:
         print("where the watched run begins: not told, since there is no nm")
         return
-    begins = [int(symbol.split()[0], 16) % 64 for symbol in symbols if "watching::watch::" in symbol]
-    print(f"the watched run begins at {', '.join(map(str, begins))} modulo 64", flush=True)
+    print(f"the watched run begins at {begins} modulo 64", flush=True)
 
 
 class Wrong(Exception):

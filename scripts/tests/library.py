@@ -18,7 +18,7 @@ import tempfile
 from typing import Sequence, Tuple
 
 from machine_list import has_lister, listed
-from program import ended, joined, replies
+from program import begins_modulo_64, ended, joined, replies
 from tally import TOP, Tally, end_with, words
 
 SOURCE = os.path.join(TOP, "python", "src")
@@ -166,6 +166,8 @@ def main() -> int:
     archive, shared, _ = told.decode().splitlines()
     symbols = output(["nm", "-D", "--defined-only", shared])[1].decode().split()[2::3]
     tally.hold("libbb.so has %s" % symbols, sorted(symbols) == CALLS)
+    begins = begins_modulo_64(shared)
+    tally.hold("the watched run begins at %s modulo 64" % begins, begins == [0])
     with tempfile.TemporaryDirectory() as folder:
         hold_c(tally, program, archive, folder)
         hold_rust(tally, program, archive, folder)
