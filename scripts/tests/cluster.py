@@ -15,6 +15,7 @@ failed`, with `, K skipped` where something isn't installed; the status is 1 whe
 
 import contextlib
 import importlib.util
+import os
 import pathlib
 import random
 import shutil
@@ -37,6 +38,14 @@ ENDLESS_PASS = (1_000_000_000_000, 67_108_864, 3, 10)
 QUICK_PASS = (300, 64, 3, 10)
 # How a worker ends itself at LONG_MACHINE.
 DEADLY = "    if %r in lines: import os; os._exit(9)\n" % LONG_MACHINE
+# What makes a process collect garbage all the time.
+COLLECTS = """import gc, threading, time
+def collect():
+    while True:
+        time.sleep(0.2)
+        gc.collect()
+threading.Thread(target=collect, daemon=True).start()
+"""
 # What is changed in the package of workers that can't decide anything rightly, and what the run says of them.
 WRONG_WORKERS: Dict[str, Tuple[str, List[Tuple[str, str]], str]] = {
     "another version": ("_version.py", [('VERSION = "', 'VERSION = "9.')], "it was decided by version 9."),
@@ -260,6 +269,14 @@ def changed_package(top: pathlib.Path, file: str, changes: List[Tuple[str, str]]
     return {**environment(), "PYTHONPATH": str(source)}
 
 
+def collecting(top: pathlib.Path) -> Dict[str, str]:
+    """The environment of a run that collects garbage all the time, so that nothing is kept by chance."""
+    site = top / "site"
+    site.mkdir()
+    (site / "sitecustomize.py").write_text(COLLECTS, encoding="utf-8")
+    return {"PYTHONPATH": os.pathsep.join([str(site), environment()["PYTHONPATH"]])}
+
+
 def hold_wrong_worker(tally: Tally, what: str, given: bytes, right: bytes) -> None:
     """A worker that can't decide anything rightly ends the run; by a right one it goes on."""
     with cluster(0) as found:
@@ -270,7 +287,7 @@ def hold_wrong_worker(tally: Tally, what: str, given: bytes, right: bytes) -> No
             wrong, said = {**environment(), "PYTHONPATH": str(found.top)}, "No module named 'budlarem'"
         found.start_worker(wrong)
         case = case_of(found, "wrong", given)
-        status = case.run()
+        status = case.run(more_environment=collecting(found.top))
         held = status == 3 and said in case.said() and "goes on" in case.said()
         tally.hold("a worker with %s: status %d: %s" % (what, status, case.said()), held)
         tally.hold("dask's own lines aren't told: %s" % case.said(), "Traceback" not in case.said())

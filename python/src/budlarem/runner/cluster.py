@@ -27,7 +27,8 @@ from .tasks import Numbers, Task
 
 # Seconds between two looks at the scheduler, and how many it has to answer one.
 _OFTEN, _PATIENCE = 1.0, 10.0
-# Seconds after which a reply that dask has, and its executor doesn't give, is fetched.
+# Seconds after which a reply that dask has, and its executor doesn't give, is fetched, and a job of which dask
+# knows nothing is handed over again.
 _SILENT = 5.0
 # Pieces under way where no worker is known.
 _LEAST = 4
@@ -50,10 +51,12 @@ def distributed() -> Any:
 
 @dataclasses.dataclass
 class Handed:
-    """By which connection a job was handed over, and under which key; and since when dask has its reply."""
+    """By which connection a job was handed over, and under which key; dask's own future, without which dask
+    may forget a reply that its executor couldn't read; and since when the job is no more under way there."""
 
     connection: Any
     key: str
+    own: Any = None
     since: Optional[float] = None
 
 
@@ -131,6 +134,7 @@ class ClusterPlace:
             if handed.connection is None:
                 raise RunError("there is no scheduler")
             inner = self._executor.submit(job.task, job.lines, job.limits, key=handed.key)
+            handed.own = self._dask.Future(handed.key, self._client)
         except Exception:
             # What a closed client raises is a bare Exception.
             self._lose(job)
@@ -221,18 +225,28 @@ class ClusterPlace:
 
     def _fetch_silent(self) -> None:
         """Fetches replies that dask has, and its executor doesn't give: it never ends a future whose reply
-        can't be read, nor those that came with it."""
+        can't be read, nor those that came with it. What dask has forgotten is handed over again."""
         now = time.monotonic()
         with self._lock:
             under_way = [(job, job.turn, handed) for job, handed in self._handed.items()]
         for job, turn, handed in under_way:
             state = self._client.futures.get(handed.key)
-            if state is None or state.status != "finished":
+            status = "lost" if state is None else state.status
+            if status == "pending":
                 handed.since = None
             elif handed.since is None:
                 handed.since = now
             elif now - handed.since > _SILENT:
-                self._fetch(job, turn, handed)
+                if status in ("finished", "error"):
+                    self._fetch(job, turn, handed)
+                else:
+                    self._lose_if_same(job, turn)
+
+    def _lose_if_same(self, job: Job, turn: int) -> None:
+        """Has a job handed over again, if nothing was said of it meanwhile."""
+        with self._lock:
+            if turn == job.turn:
+                self._lose(job)
 
     def _fetch(self, job: Job, turn: int, handed: Handed) -> None:
         """Fetches the reply to a job; where it doesn't come in time, later again."""
