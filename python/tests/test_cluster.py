@@ -86,12 +86,13 @@ class DoubleFuture:
     """dask's future, whose reply a test lays down in the client."""
 
     def __init__(self, key: str, client: DoubleClient) -> None:
-        self.reply = client.fetched[key]
+        self.key, self.client = key, client
 
     def result(self, seconds: float) -> Any:
-        if isinstance(self.reply, BaseException):
-            raise self.reply
-        return self.reply
+        reply = self.client.fetched[self.key]
+        if isinstance(reply, BaseException):
+            raise reply
+        return reply
 
 
 class Dask:
@@ -278,6 +279,20 @@ class ClusterTest(unittest.TestCase):
             lost.result(0)
         self.is_right(innocent)
         self.assertFalse(busy.done())
+
+    def test_a_reply_that_dask_forgot(self) -> None:
+        """It is decided again; dask's own future is held meanwhile, so that it seldom forgets one."""
+        future = self.submit()
+        before = self.client.given.pop()
+        (handed,) = self.place._handed.values()
+        self.assertEqual(handed.own.key, before.key)
+        del self.client.futures[before.key]
+        self.tend()
+        self.assertEqual(self.client.given, [])
+        self.enter(unittest.mock.patch.object(cluster, "_SILENT", -1.0))
+        self.tend()
+        self.client.answer()
+        self.is_right(future)
 
     def test_a_reply_that_comes_late(self) -> None:
         self.enter(unittest.mock.patch.object(cluster, "_SILENT", -1.0))
