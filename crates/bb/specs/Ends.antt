@@ -7,8 +7,8 @@ use Rattle.bb_lines.specs.declared.fault.Fault.TheVariants.{Memory}
 use Rattle.bb_run.specs.declared.summary.Summary.{Summary}
 use Rattle.bb_run.specs.CheckEnds.{CheckEnds}
 use Rattle.bb_run.specs.Ends.{DecideInOneRunEnds, TraceEnds}
-use Rattle.bb_command.specs.declared.command.Request.{Request}
-use Rattle.bb_command.specs.declared.command.Request.TheVariants.{Decide, Check, Trace}
+use Rattle.bb_command.specs.declared.command.Work.{Work}
+use Rattle.bb_command.specs.declared.command.Work.TheVariants.{Decide, Check, Trace}
 
 -- memory ran out before the request was begun: nothing is read and nothing written
 pub record IsNotBegun (left left_then held held_then : Option (List ℕ)) (end : Result Summary Fault)
@@ -19,20 +19,20 @@ pub record IsNotBegun (left left_then held held_then : Option (List ℕ)) (end :
 
 -- how a request that was begun ends: each machine of a list is decided in one run; for a trace nothing is
 -- read
-abbrev pub RequestEnds : Request → Bounds → Option (List ℕ) → Option (List ℕ) → Option (List ℕ)
+abbrev pub WorkEnds : Work → Bounds → Option (List ℕ) → Option (List ℕ) → Option (List ℕ)
     → Option (List ℕ) → Result Summary Fault → Type 0
-RequestEnds (Decide plan) bounds left left_then held held_then end =
+WorkEnds (Decide plan) bounds left left_then held held_then end =
     DecideInOneRunEnds bounds plan left left_then held held_then end
-RequestEnds Check bounds left left_then held held_then end =
+WorkEnds Check bounds left left_then held held_then end =
     CheckEnds bounds left left_then held held_then end
-RequestEnds (Trace text) bounds left left_then held held_then end =
+WorkEnds (Trace text) bounds left left_then held held_then end =
     (left_then ≡ left) × TraceEnds bounds (string_bytes text) held held_then end
 
 -- how serving ends: as the request does, or without having begun
-abbrev pub ServeEnds : Request → Bounds → Option (List ℕ) → Option (List ℕ) → Option (List ℕ)
+abbrev pub ServeEnds : Work → Bounds → Option (List ℕ) → Option (List ℕ) → Option (List ℕ)
     → Option (List ℕ) → Result Summary Fault → Type 0
 ServeEnds request bounds left left_then held held_then end =
-    RequestEnds request bounds left left_then held held_then end
+    WorkEnds request bounds left left_then held held_then end
     ⊎ IsNotBegun left left_then held held_then end
 
 -- the exit status at each end

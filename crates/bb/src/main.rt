@@ -104,7 +104,7 @@ fn serve_input<'a, R: Read + Drop>(
     input: R,
     counts: &'a Counts,
 ) -> (Result<Summary, Fault>, Option<io::Error>) {
-    let progress = Progress::of(rt, &asked.request, size, counts);
+    let progress = Progress::of(rt, &asked.work, size, counts);
     let shown = progress.as_ref();
     let mut reader = Watched::new(Observed::new(input, shown));
     let mut writer = Watched::new(Observed::new(rt.stdout(), shown));

@@ -6,7 +6,7 @@ ghost use Rattle.bb_run.specs.BorneOut.{VerdictsAreBorneOut};
 ghost use Rattle.bb.specs.Ends.{IsNotBegun, ServeEnds, end_status};
 
 use crate::progress::Counts;
-use bb_command::{Asked, Request};
+use bb_command::{Asked, Work};
 use bb_lines::fault::Fault;
 use bb_lines::watched::Watched;
 use bb_run::laws::verdicts_are_borne_out;
@@ -31,12 +31,12 @@ pub fn serve<R: Read, W: Write>(
     requires writer { is_marked writer.old ≡ false }
 
     // How the request ends, and what is read and written then; or memory ran out before it began.
-    ensures ends { ServeEnds asked.now.request asked.now.limits
+    ensures ends { ServeEnds asked.now.work asked.now.limits
         (R.remaining (watched_inner reader.old)) (R.remaining (watched_inner reader.new))
         (W.contents (watched_inner writer.old)) (W.contents (watched_inner writer.new)) result }
 
     // What stands behind each verdict that deciding writes.
-    ensures borne_out { (plan : Plan) → asked.now.request ≡ Request.Decide plan
+    ensures borne_out { (plan : Plan) → asked.now.work ≡ Work.Decide plan
         → VerdictsAreBorneOut asked.now.limits plan }
 
     // Memory runs out only before it begins: nothing was read or written.
@@ -49,8 +49,8 @@ pub fn serve<R: Read, W: Write>(
 {
     verdicts_are_borne_out();
     let limits = asked.limits;
-    match &asked.request {
-        Request::Decide(plan) => match ring_bench(alloc, &limits) {
+    match &asked.work {
+        Work::Decide(plan) => match ring_bench(alloc, &limits) {
             Ok(mut bench) => run_decide_in_one_run_with_counts(
                 reader,
                 writer,
@@ -61,7 +61,7 @@ pub fn serve<R: Read, W: Write>(
             ),
             Err(_) => Err(Fault::Memory),
         },
-        Request::Check => match ring_pair(alloc, &limits) {
+        Work::Check => match ring_pair(alloc, &limits) {
             Ok((mut pair, mut path)) => run_check_with_counts(
                 reader,
                 writer,
@@ -72,7 +72,7 @@ pub fn serve<R: Read, W: Write>(
             ),
             Err(_) => Err(Fault::Memory),
         },
-        Request::Trace(text) => match RingTape::new(alloc, limits.cells()) {
+        Work::Trace(text) => match RingTape::new(alloc, limits.cells()) {
             Ok(mut tape) => run_trace(text.as_str().as_bytes(), &limits, &mut tape, writer),
             Err(_) => Err(Fault::Memory),
         },
