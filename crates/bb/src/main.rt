@@ -16,7 +16,7 @@ use bb_lines::fault::Fault;
 use bb_lines::watched::Watched;
 use bb_run::Summary;
 use progress::{Counts, Progress};
-use serve::{serve, status};
+use serve::{serve_in_one_run, status};
 use std::alloc::{AllocError, Global};
 use std::io::{ErrorKind, IsTerminal, Read};
 use std::process::ExitCode;
@@ -108,7 +108,7 @@ fn serve_input<'a, R: Read + Drop>(
     let shown = progress.as_ref();
     let mut reader = Watched::new(Observed::new(input, shown));
     let mut writer = Watched::new(Observed::new(rt.stdout(), shown));
-    let end = serve(rt.alloc(), asked, &mut reader, &mut writer, counts);
+    let end = serve_in_one_run(rt.alloc(), asked, &mut reader, &mut writer, counts);
     if let Some(progress) = shown {
         progress.end();
     }

@@ -39,15 +39,15 @@ pub struct Progress<'a> {
 }
 
 impl<'a> Progress<'a> {
-    /// The progress of this request over a list of so many bytes. None for a trace, where standard error is
+    /// The progress of this work over a list of so many bytes. None for a trace, where standard error is
     /// no terminal, and where standard output is neither a file nor the null device.
     pub fn of(
         rt: &'a HostRuntime,
-        request: &Work,
+        work: &Work,
         size: Option<u64>,
         counts: &'a Counts,
     ) -> Option<Progress<'a>> {
-        let is_check = match request {
+        let is_check = match work {
             Work::Decide(_) => false,
             Work::Check => true,
             Work::Trace(_) => return None,

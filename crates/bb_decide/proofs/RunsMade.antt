@@ -246,8 +246,7 @@ module _ (key : ℤ → ℕ) (table : Table) (bounds : Bounds) where
       let sum_one = one.sum in
       let sum_other = other.sum in
       let latest_one = one.is_latest in
-      let latest_other = other.is_latest in
-      (
+      let latest_other = other.is_latest in (
         omega (arith, stop, cycles, translations, sum_one, sum_other),
         omega (arith, stop, cycles, translations, latest_one, latest_other),
       )

@@ -228,8 +228,7 @@ module _ {table : Table} {bounds : Bounds} {key : ℤ → ℕ} {before after : R
           let at_partner = looks.at_partner in
           let at_step = looks.at_step in
           let one : looks.one ≡ configuration_of old.kept here.kept_view = cc in
-          let other : looks.other ≡ configuration_of after view_after = cc in
-          (
+          let other : looks.other ≡ configuration_of after view_after = cc in (
             print_is ∙ sym (ap (λ (c : Configuration). fingerprint key c.tape) other) ∙ sym looks.print
                 ∙ ap (λ (c : Configuration). fingerprint key c.tape) one ∙ sym here.kept_print_is
                 ∙ sym kept_print_same,

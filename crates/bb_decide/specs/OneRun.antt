@@ -53,6 +53,6 @@ MakesRuns key table bounds true true steps latest =
 -- span at the last step of any of them
 pub record CountsRuns (key : ℤ → ℕ) (table : Table) (bounds : Bounds) (plan : Plan) (meter : Meter) : Type 0
   where
-  pub latest : ℕ
-  pub runs : MakesRuns key table bounds plan.cyclers plan.translated meter.steps latest
-  pub most_cells : meter.most_cells ≡ span table latest
+    pub latest : ℕ
+    pub runs : MakesRuns key table bounds plan.cyclers plan.translated meter.steps latest
+    pub most_cells : meter.most_cells ≡ span table latest

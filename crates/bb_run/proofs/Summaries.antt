@@ -149,11 +149,11 @@ module _ (one : TextsDiffer) {bounds : Bounds} {plan : Plan} {Counts : Table →
       → IsSummed bounds plan Steps Cells lines summary
   lines_summed lines summary saw = chained_keeps _ (IsSummed bounds plan Steps Cells) more lines none_seen
       summary none_summed saw where
-    more : (past : List (List ℕ)) (old : Summary) (line : List ℕ) (new : Summary)
-        → IsSummed bounds plan Steps Cells past old → SawLine Counts old line new
-        → IsSummed bounds plan Steps Cells (past ++ line ∷ []) new
-    more past old line new before (cost, inl machine) = machine_summed past line old new cost before machine
-    more past old line new before (cost, inr refusal) = refusal_summed past line old new cost before refusal
+        more : (past : List (List ℕ)) (old : Summary) (line : List ℕ) (new : Summary)
+            → IsSummed bounds plan Steps Cells past old → SawLine Counts old line new
+            → IsSummed bounds plan Steps Cells (past ++ line ∷ []) new
+        more past old line new before (cost, inl machine) = machine_summed past line old new cost before machine
+        more past old line new before (cost, inr refusal) = refusal_summed past line old new cost before refusal
 
 module _ (one : TextsDiffer) (bounds : Bounds) (plan : Plan) where
   counts_cost : CountsOnce bounds plan (CountsExactly bounds plan) (AreStepsOf bounds plan) (IsSpanOf bounds)
