@@ -18,30 +18,31 @@ Status 0: every answer is ok or open; 1: one isn't; 2: the command line or the l
 "
 
 let stop status text =
-  flush stdout;
+  (try flush stdout with Sys_error _ -> ());
   prerr_endline text;
   exit status
 
 let refuse text = stop 2 ("checker: " ^ text ^ "\n" ^ usage)
 
-(* Each option with its least and greatest number and its default. *)
+(* Each option with its least and greatest number, its default, and what is given. *)
 let options = [
-  "--steps", (0, 1_000_000_000_000, ref 1_000_000);
-  "--cells", (1, 67_108_864, ref 65_536);
-  "--depth", (0, 10_000, ref 300);
-  "--nodes", (0, 1_000_000_000_000, ref 1_000_000)]
+  "--steps", (0, 1_000_000_000_000, 1_000_000, ref None);
+  "--cells", (1, 67_108_864, 65_536, ref None);
+  "--depth", (0, 10_000, 300, ref None);
+  "--nodes", (0, 1_000_000_000_000, 1_000_000, ref None)]
 
-let value name = let _, _, number = List.assoc name options in !number
+let value name = let _, _, default, given = List.assoc name options in Option.value !given ~default
 
 (* Decimal digits, a plus sign before them or not. *)
 let set name text =
-  let least, most, number = List.assoc name options in
+  let least, most, _, given = List.assoc name options in
+  if !given <> None then refuse (name ^ " is given twice");
   let signed = text <> "" && text.[0] = '+' in
   let digits = if signed then String.sub text 1 (String.length text - 1) else text in
   let is_digit c = '0' <= c && c <= '9' in
   if digits = "" || not (String.for_all is_digit digits) then refuse (text ^ " is no number for " ^ name);
   match int_of_string_opt ("0u" ^ digits) with
-  | Some n when least <= n && n <= most -> number := n
+  | Some n when least <= n && n <= most -> given := Some n
   | _ -> stop 2 ("checker: " ^ name ^ " is out of range")
 
 let rec read_words words file =
