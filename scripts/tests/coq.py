@@ -15,6 +15,7 @@ notice them. `--quick` takes less than a minute, the whole some twenty. The last
 with `, K skipped` where a package is missing; the status is 1 where any failed.
 """
 
+import contextlib
 import os
 import random
 import re
@@ -33,6 +34,12 @@ FOLDER = os.path.join(TOP, "coq")
 CHECKER = os.path.join(FOLDER, "out", "checker")
 LIMITS = (1_000, 1_024, 40, 10_000)
 SMALL = (40, 9, 5, 12)
+LARGE = (20_000, 4_096, 100, 10_000)
+# Limits at which the whole list of four states is decided and checked.
+WHOLE = ((200, 256, 20, 1_000), LIMITS, LARGE)
+CHAMPION = "1RB1LC_1RC1RB_1RD0LE_1LA1LD_1RZ0LA halt 47176870 4098"
+# An environment in which nothing but the system's programs is found.
+PLAIN = {"PATH": "/usr/bin:/bin"}
 DEFAULT = (1_000_000, 65_536, 300, 1_000_000)
 NO_PROOFS = re.compile(
     r"\b(Axioms?|Admitted|admit|Parameters?|Conjecture|Unset Guard Checking|bypass_check)\b"
@@ -65,6 +72,7 @@ WORDS: List[List[str]] = [
     ["/dev/null"],
     ["--help"],
 ]
+# Limits of steps, cells, levels and nodes, and lines.
 Claims = Tuple[Sequence[int], List[str]]
 
 
@@ -161,10 +169,6 @@ class Both:
             told = "%r under %s: %s, and %s by coq/out/checker"
             self.tally.hold(told % (line, claims[0], answer, another), answer == another)
 
-    def hold_all(self, what: str, batches: Iterable[Claims]) -> None:
-        for claims in batches:
-            self.hold(what, claims)
-
 
 def statements() -> List[str]:
     """The theorems of `coq/Statements.v`."""
@@ -244,22 +248,158 @@ def tight_claims(source: random.Random, verdicts: Sequence[str], count: int) -> 
     """Claims of runs, with limits that are just enough and just not."""
     short = [line for line in verdicts if len(line) < 80]
     lines = source.sample(short, min(count, len(short)))
-    return [claims for claims in by_limits(one for line in lines for one in tight(line))]
+    return by_limits(one for line in lines for one in tight(line))
 
 
-def quick_claims(both: Both, source: random.Random) -> Iterator[Tuple[str, Claims]]:
+def quick_claims(both: Both, seed: int) -> Iterator[Tuple[str, Claims]]:
     """All lines of the quick part, each batch with what it is."""
+    source = random.Random(seed)
     yield "worked lines", (DEFAULT, rows())
     machines = listed(4, "--every", "10").decode().splitlines()
     verdicts = both.verdicts(LIMITS, machines)
     yield "every tenth machine of four states", (LIMITS, verdicts)
-    mixture = both.verdicts(LIMITS, list(mixed(5_000, source.randrange(1_000))))
+    mixture = both.verdicts(LIMITS, list(mixed(5_000, seed)))
     yield "random machines", (LIMITS, mixture)
     sample = [*source.sample(verdicts, 20_000), *mixture]
     for claims in made_claims(both, source, sample, 70_000):
         yield "made claims", claims
     for claims in tight_claims(source, sample, 300):
         yield "tight limits", claims
+
+
+def long_claims(both: Both, seed: int) -> Iterator[Tuple[str, Claims]]:
+    """All lines of the long part beside those of the quick one."""
+    source = random.Random(seed)
+    machines = listed(4).decode().splitlines()
+    for limits in WHOLE:
+        verdicts = both.verdicts(limits, machines)
+        yield "all machines of four states", (limits, verdicts)
+    yield "all machines of four states, where less is allowed", (SMALL, verdicts)
+    sample = source.sample(verdicts, 50_000)
+    for more in (
+        ["5", "--steps", "1000", "--every", "900"],
+        ["2", "--symbols", "3"],
+        ["2", "--symbols", "4"],
+    ):
+        machines = listed(int(more[0]), *more[1:]).decode().splitlines()
+        machines = source.sample(machines, min(200_000, len(machines)))
+        verdicts = both.verdicts(LARGE, machines)
+        yield "machines of %s" % " ".join(more), (LARGE, verdicts)
+        sample += source.sample(verdicts, min(20_000, len(verdicts)))
+    mixture = both.verdicts(LIMITS, list(mixed(50_000, seed)))
+    yield "random machines", (LIMITS, mixture)
+    sample += mixture + both.verdicts(LIMITS, [seldom_halting(source, 3, 3) for _ in range(20_000)])
+    for claims in made_claims(both, source, sample, 800_000):
+        yield "made claims", claims
+    for claims in tight_claims(source, sample, 3_000):
+        yield "tight limits", claims
+
+
+def hold_elsewhere(tally: Tally) -> None:
+    """A copy of the folder is built and checked by `coqchk` where nothing else of the repository is."""
+    with copied() as folder:
+        status, output, error = ended([os.path.join(folder, "build"), "--check"], cwd="/", env=PLAIN)
+        tally.hold("a copy of coq/: status %d: %s" % (status, error.decode()), status == 0)
+        tally.hold("coqchk: %s" % output.decode()[-1_000:], b"* Axioms: <none>" in output)
+
+
+@contextlib.contextmanager
+def copied() -> Iterator[str]:
+    """A copy of `coq/`, without what is built, that goes with what is in it."""
+    with tempfile.TemporaryDirectory() as top:
+        folder = os.path.join(top, "coq")
+        shutil.copytree(FOLDER, folder, ignore=shutil.ignore_patterns("out"))
+        yield folder
+
+
+def changed_by(folder: str, edit: Edit) -> bool:
+    """Changes the line of an edit; whether it is there, once."""
+    path = os.path.join(folder, edit.file)
+    with open(path, encoding="utf-8") as file:
+        text = file.read()
+    with open(path, "w", encoding="utf-8") as file:
+        file.write(text.replace(edit.old, edit.new))
+    return text.count(edit.old) == 1
+
+
+def forced(folder: str) -> str:
+    """Builds the checker in a folder without its proofs; its path."""
+    out = os.path.join(folder, "forced")
+    os.mkdir(out)
+    for name in ("Machines", "Answers", "Check", "Lines", "Extract"):
+        command = ["coqc", "-q", "-noglob", "-Q", ".", "Budlarem", "-o", name + ".vo", "../%s.v" % name]
+        subprocess.run(command, cwd=out, check=True, stdout=subprocess.DEVNULL)
+    shutil.copy(os.path.join(folder, "main.ml"), out)
+    command = ["ocamlfind", "ocamlopt", "checker.mli", "checker.ml", "main.ml", "-o", "checker"]
+    subprocess.run(command, cwd=out, check=True)
+    return os.path.join(out, "checker")
+
+
+def noticed(checker: str, batches: Sequence[Tuple[Claims, bytes]]) -> int:
+    """How many of these lines a checker answers otherwise than the program, whose answers are given."""
+    count = 0
+    for claims, expected in batches:
+        given = answers([checker], claims).output.splitlines()
+        count += sum(one != another for one, another in zip(given, expected.splitlines()))
+    return count
+
+
+def hold_wrong(tally: Tally, edit: Edit, batches: Sequence[Tuple[Claims, bytes]]) -> None:
+    """Of a wrong checker a proof fails; built without its proofs, it answers some line otherwise."""
+    with copied() as folder:
+        tally.hold("%s: its line is there" % edit.what, changed_by(folder, edit))
+        status, _, error = ended([os.path.join(folder, "build")])
+        failed = re.search(r"Proofs/\w+\.v", error.decode())
+        tally.hold("%s: no proof fails: %s" % (edit.what, error.decode()), status == 1 and failed)
+        count = noticed(forced(folder), batches)
+        print("  %s: %s fails, %d lines notice it" % (edit.what, failed and failed[0], count), flush=True)
+        tally.hold("%s: no line notices it" % edit.what, count > 0)
+
+
+def hold_theorem(tally: Tally, words_given: Sequence[str], status: int, what: str) -> None:
+    """How `coq/theorem` ends, and what it tells."""
+    with tempfile.TemporaryDirectory() as folder:
+        done = ended([os.path.join(FOLDER, "theorem"), *words_given, os.path.join(folder, "Made.v")])
+        told = (done.output + done.error).decode()
+        tally.hold("%s: status %d: %s" % (words_given, done.status, told), done.status == status)
+        tally.hold("%s: %s" % (words_given, told), what in told)
+        kept = os.path.exists(os.path.join(folder, "Made.v"))
+        tally.hold("%s: a file is kept: %s" % (words_given, kept), kept == (status == 0))
+
+
+def hold_theorems(tally: Tally, both: Both, seed: int, count: int) -> None:
+    """Theorems of lines: of one line each, true and false ones, and of many."""
+    claims = [
+        line for line in both.verdicts(LIMITS, list(mixed(4 * count, seed))) if " undecided " not in line
+    ]
+    claims = random.Random(seed).sample(claims, count)
+    for kind in ("halt", "cycler", "translated", "backward"):
+        line = next(line for line in claims if " %s " % kind in line)
+        hold_theorem(tally, [line], 0, "accepts that it holds")
+        number = line.rpartition(" ")
+        hold_theorem(tally, ["%s %d" % (number[0], int(number[2]) + 1)], 1, "accepts that it doesn't hold")
+    hold_theorem(tally, [claims[0].split(" ")[0] + " undecided steps"], 2, "claims nothing")
+    hold_theorem(tally, ["1RC1RA halt 0 0"], 2, "no line of a claim")
+    with tempfile.NamedTemporaryFile("w", suffix=".txt") as file:
+        file.write("".join(line + "\n" for line in claims) + "refused 3\n")
+        file.flush()
+        hold_theorem(tally, ["--list", file.name], 0, "%d lines: coqc accepts that all hold" % count)
+        file.write("1RB1LB_1LA1RZ halt 6 5\n")
+        file.flush()
+        hold_theorem(tally, ["--list", file.name], 1, "1RB1LB_1LA1RZ halt 6 5: false")
+
+
+def hold_long(tally: Tally, both: Both, seed: int) -> None:
+    """All that takes more than a minute."""
+    hold_elsewhere(tally)
+    hold_theorems(tally, both, seed, 1_000)
+    hold_theorem(tally, [CHAMPION], 0, "accepts that it holds")
+    for told, claims in long_claims(both, seed + 1):
+        both.hold(told, claims)
+    program = [both.program, "check"]
+    batches = [(claims, answers(program, claims).output) for _, claims in quick_claims(both, seed)]
+    for edit in WRONG:
+        hold_wrong(tally, edit, batches)
 
 
 def main() -> int:
@@ -270,8 +410,10 @@ def main() -> int:
         return tally.end()
     both = Both(tally, asked.program)
     hold_words(tally, asked.program)
-    for told, claims in quick_claims(both, random.Random(asked.seed)):
+    for told, claims in quick_claims(both, asked.seed):
         both.hold(told, claims)
+    if not asked.quick:
+        hold_long(tally, both, asked.seed)
     return tally.end()
 
 
