@@ -37,6 +37,10 @@ MODULES = (
     "pictures",
     "reports",
     "commands",
+    "commands.claims",
+    "commands.machines",
+    "commands.runs",
+    "commands.shared",
     "runner.progress",
 )
 DOCTESTS = """
