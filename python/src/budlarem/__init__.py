@@ -38,6 +38,7 @@ from .lists import (
     normal,
     triage,
 )
+from .publishing import Published, PublishError, UnconfirmedError, publish
 from .reports import ReportError, report
 from .verdicts import (
     Answer,
@@ -74,11 +75,14 @@ __all__ = [
     "PictureError",
     "Place",
     "Plan",
+    "PublishError",
+    "Published",
     "Refused",
     "ReportError",
     "Trace",
     "Translated",
     "Triage",
+    "UnconfirmedError",
     "Undecided",
     "Verdict",
     "__version__",
@@ -94,6 +98,7 @@ __all__ = [
     "normal",
     "parse",
     "picture",
+    "publish",
     "report",
     "trace",
     "triage",

@@ -146,5 +146,5 @@ if __name__ == "__main__":
     try:
         sys.exit(main(sys.argv[1:]))
     except (ValueError, OSError, MemoryError, KeyboardInterrupt) as error:
-        print(__doc__ if isinstance(error, ValueError) else "again.py: %r" % error, file=sys.stderr)
+        print(__doc__ if isinstance(error, ValueError) else "again.py ends: %s" % error, file=sys.stderr)
         sys.exit(2 if isinstance(error, ValueError) else 3)

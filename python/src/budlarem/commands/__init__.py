@@ -18,6 +18,7 @@ from ..reports import ReportError
 from ..runner.command import add_command as add_run
 from .claims import add_claims
 from .machines import add_machines
+from .publishing import add_publish
 from .runs import add_runs
 
 __all__ = ["main", "run", "words"]
@@ -31,6 +32,7 @@ def words() -> argparse.ArgumentParser:
     add_machines(commands)
     add_claims(commands)
     add_runs(commands)
+    add_publish(commands)
     add_run(commands)
     return parser
 
