@@ -6,7 +6,7 @@ import dataclasses
 from typing import Callable, Iterable, Iterator, List, Optional, Sequence, Tuple, Union
 
 from . import _batches
-from ._batches import MOST_BYTES, MOST_LINES, Batch, Blocks
+from ._batches import LONG, MOST_BYTES, MOST_LINES, Batch, Blocks
 from ._crew import Pace, in_order
 from ._library import NOT_CLEAN, SHORT, Reply, Room, forbid_fork, loaded
 from .limits import Limits, Plan, in_range, whole
@@ -135,6 +135,17 @@ def decide(
     pace = Pace(MOST_LINES)
     told = _told(_batches.of_texts(machines, "machines", pace), deciding(limits, plan), threads, pace)
     return (_verdict(machine, line) for machine, line in told)
+
+
+def column_of(text: str) -> Optional[int]:
+    """The column with which the library refuses a text; None where it is a machine. Nothing is run. Raises
+    LibraryError, RuntimeError, MemoryError."""
+    forbid_fork()
+    room = Room()
+    line = text.encode("utf-8", "surrogateescape")[:LONG]
+    deciding(Limits(0, 1, 0, 0), Plan(False, False, False))(room, line)
+    reply = room.reply().text
+    return int(reply.split()[1]) if reply.startswith(b"refused ") else None
 
 
 def _lines_of(items: Iterable[Union[str, Verdict]]) -> Iterator[str]:
