@@ -6,7 +6,7 @@ import dataclasses
 from typing import Callable, Iterable, Iterator, List, Optional, Sequence, Tuple, Union
 
 from . import _batches
-from ._batches import LONG, MOST_BYTES, MOST_LINES, Batch, Blocks
+from ._batches import LONG, MOST_BYTES, MOST_LINES, Batch, BinaryReader, Blocks
 from ._crew import Pace, in_order
 from ._library import NOT_CLEAN, SHORT, Reply, Room, forbid_fork, loaded
 from .limits import Limits, Plan, in_range, whole
@@ -23,6 +23,8 @@ __all__ = [
     "trace",
 ]
 
+# How many bytes a block has at most that is checked with large tapes.
+_LARGE = 1 << 22
 # It makes a call over lines, and leaves the reply in the room.
 Call = Callable[[Room, bytes], None]
 _ANSWERS = {str(answer): answer for answer in Answer}
@@ -199,6 +201,17 @@ def check_bytes(blocks: Blocks, limits: Limits = Limits(), *, threads: int = 1) 
     """
     threads = _made_ready(limits, Plan(), threads)
     return _replies(blocks, checking(limits), threads)
+
+
+def checked(file: BinaryReader, limits: Limits, *, threads: int = 1) -> Iterator[Tuple[bytes, bytes]]:
+    """Lines of a file, and the bytes that `bb check` writes for them, in large blocks: with large tapes what a
+    call costs is the tapes. A line of more than LONG bytes is cut. Raises what `decide` does."""
+    threads = _made_ready(limits, Plan(), threads)
+    most = _LARGE if threads == 1 else _LARGE // 4
+    pace = Pace(most, _LARGE // 64)
+    blocks = iter(lambda: file.read(most), b"")
+    told = in_order(checking(limits), _batches.of_bytes(blocks, pace), threads, pace)
+    return ((lines, reply.text) for lines, reply in told)
 
 
 @dataclasses.dataclass(frozen=True)

@@ -6,11 +6,12 @@ import collections
 import dataclasses
 import enum
 import math
-import re
 from typing import Deque, Dict, Iterable, Iterator, List, Optional, Tuple, Union
 
 from .engine import Trace, decide, trace
 from .limits import Limits, Plan, in_range
+from .reading import Reading, read
+from .reading.files import Source
 from .verdicts import (
     STATES,
     VERDICTS,
@@ -38,41 +39,51 @@ __all__ = [
     "triage",
 ]
 
-_FIRST_FIELD = re.compile(r"([^\s,;]*)[\s,;]*(.*)", re.DOTALL)
-
 
 @dataclasses.dataclass(frozen=True)
 class Carried:
-    """A verdict, and what stood behind the machine on its line. As a text: the verdict line, and the other
-    fields behind a tab, where there are some."""
+    """A verdict, and the reading of its line. As a text: the verdict line, and what else stood on the line
+    behind a tab, where something did."""
 
     verdict: Verdict
-    fields: str
+    reading: Reading
+
+    @property
+    def fields(self) -> str:
+        """What else stood on the line; nothing where it was refused."""
+        return self.reading.fields
 
     def __str__(self) -> str:
         return "%s\t%s" % (self.verdict, self.fields) if self.fields else str(self.verdict)
 
 
 def decide_carried(
-    lines: Iterable[str], limits: Limits = Limits(), plan: Plan = Plan(), *, threads: int = 1
+    lines: Source, limits: Limits = Limits(), plan: Plan = Plan(), *, threads: int = 1
 ) -> Iterator[Carried]:
-    """Decides the machine that each line begins with, and carries along what stands behind it.
+    """Decides the machine of each line, wherever `read` finds it, and carries along what else stands there.
+    Where it finds none, the verdict is `Refused`, with the column at which `bb` refuses the line.
 
-    A machine ends before the first space, tab, comma or semicolon. Raises what `decide` does.
+    Takes what `read` takes. Raises what `read` and `decide` do.
 
-    >>> [str(carried) for carried in decide_carried(["1RB1LB_1LA1RZ, the champion", "1RA1RA"])]
-    ['1RB1LB_1LA1RZ halt 6 4\\tthe champion', '1RA1RA translated R 1 2 1 1']
+    >>> [str(carried) for carried in decide_carried(["1RB1LB_1LA1RZ, the champion", "1RA1RA", "x"])]
+    ['1RB1LB_1LA1RZ halt 6 4\\tthe champion', '1RA1RA translated R 1 2 1 1', 'refused 1']
     """
-    fields: Deque[str] = collections.deque()
+    return carried(read(lines), limits, plan, threads=threads)
+
+
+def carried(
+    readings: Iterable[Reading], limits: Limits = Limits(), plan: Plan = Plan(), *, threads: int = 1
+) -> Iterator[Carried]:
+    """The verdict of each reading."""
+    waiting: Deque[Reading] = collections.deque()
 
     def machines() -> Iterator[str]:
-        for line in lines:
-            found = _FIRST_FIELD.fullmatch(line) if isinstance(line, str) else None
-            fields.append(found.group(2).rstrip() if found else "")
-            yield found.group(1) if found else line
+        for reading in readings:
+            waiting.append(reading)
+            yield reading.line if reading.machine is None else reading.machine
 
     verdicts = decide(machines(), limits, plan, threads=threads)
-    return (Carried(verdict, fields.popleft()) for verdict in verdicts)
+    return (Carried(verdict, waiting.popleft()) for verdict in verdicts)
 
 
 class Agreement(enum.Enum):

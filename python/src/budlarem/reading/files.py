@@ -2,11 +2,12 @@
 
 from __future__ import annotations
 
+import contextlib
 import gzip
 import io
 import os
 import zlib
-from typing import Any, BinaryIO, Iterable, Iterator, Union
+from typing import Any, BinaryIO, Callable, Iterable, Iterator, Union
 
 from .lines import LONGEST_LINE
 
@@ -39,11 +40,49 @@ def lines_of(source: Source) -> Iterator[str]:
         raise TypeError("a list's bytes are given as io.BytesIO(..), and a path as a str")
     if isinstance(source, str) and "\n" in source:
         raise ValueError("a str is a path; the lines of a text are given as text.splitlines()")
-    if isinstance(source, (str, os.PathLike)):
-        return _of_file(io.BufferedReader(io.FileIO(os.fspath(source)), BLOCK), source, True)
-    if isinstance(source, io.TextIOBase) or not hasattr(source, "read"):
-        return _of_items(iter(source))
-    return _of_file(io.BufferedReader(_Raw(source), BLOCK), getattr(source, "name", "the file"), False)
+    is_file = isinstance(source, (str, os.PathLike)) or hasattr(source, "read")
+    if not is_file or isinstance(source, io.TextIOBase):
+        return _of_items(iter(source))  # type: ignore[arg-type]
+    return _of_file(BytesFile(source))
+
+
+class BytesFile:
+    """A path or a file of bytes, uncompressed where it is gzip. Raises OSError where it can't be opened or
+    read."""
+
+    def __init__(self, source: Any) -> None:
+        self._is_ours = isinstance(source, (str, os.PathLike))
+        self.name = os.fspath(source) if self._is_ours else getattr(source, "name", "the file")
+        raw = io.FileIO(self.name) if self._is_ours else _Raw(source)
+        self._file: Any = io.BufferedReader(raw, BLOCK)
+        self._opened: Any = None
+
+    def _reader(self) -> BinaryIO:
+        """What the bytes are read from: looked for when they are asked for, since a pipe may wait."""
+        if self._opened is None:
+            is_compressed = self._file.peek(2)[:2] == GZIP
+            unpacked: Any = gzip.GzipFile(fileobj=self._file) if is_compressed else None
+            self._opened = io.BufferedReader(unpacked, BLOCK) if is_compressed else self._file
+        opened: BinaryIO = self._opened
+        return opened
+
+    def read(self, size: int = -1) -> bytes:
+        """The next bytes: so many, but for the end."""
+        return self._tried(lambda: self._reader().read(size))
+
+    def readline(self, size: int = -1) -> bytes:
+        """The next line with its newline, or so many bytes of it."""
+        return self._tried(lambda: self._reader().readline(size))
+
+    def _tried(self, call: Callable[[], bytes]) -> bytes:
+        try:
+            return call()
+        except (EOFError, zlib.error, gzip.BadGzipFile) as error:
+            raise OSError("%s can't be read as gzip: %s" % (self.name, error)) from None
+
+    def close(self) -> None:
+        if self._is_ours:
+            self._file.close()
 
 
 def _of_items(items: Iterator[Any]) -> Iterator[str]:
@@ -59,23 +98,14 @@ def _of_items(items: Iterator[Any]) -> Iterator[str]:
         yield line
 
 
-def _of_file(file: io.BufferedReader, name: object, is_ours: bool) -> Iterator[str]:
-    """The lines of a file, uncompressed where it is gzip. Raises OSError."""
-    try:
-        opened: Any = file
-        if file.peek(2)[:2] == GZIP:
-            unpacked: Any = gzip.GzipFile(fileobj=file)
-            opened = io.BufferedReader(unpacked, BLOCK)
-        for line in _cut(opened):
+def _of_file(file: BytesFile) -> Iterator[str]:
+    """The lines of a file. Raises OSError."""
+    with contextlib.closing(file):
+        for line in _cut(file):
             yield line.decode("utf-8", "surrogateescape")
-    except (EOFError, zlib.error, gzip.BadGzipFile) as error:
-        raise OSError("%s can't be read as gzip: %s" % (name, error)) from None
-    finally:
-        if is_ours:
-            file.close()
 
 
-def _cut(file: Any) -> Iterator[bytes]:
+def _cut(file: BytesFile) -> Iterator[bytes]:
     """The lines of a file without their newlines, none longer than _LONG bytes."""
     line = file.readline(_LONG)
     while line:
