@@ -22,6 +22,8 @@ from .engine import (
     decide_bytes,
     trace,
 )
+from .claims import WORDS, Said, Word
+from .judging import Judged, Judgement, Judging, judge
 from .later import Place, at
 from .limits import Limits, LimitsError, Plan
 from .pictures import Picture, PictureError, picture
@@ -38,6 +40,7 @@ from .lists import (
     normal,
     triage,
 )
+from .reading import Reading, Reason, Rewriting, read
 from .reports import ReportError, report
 from .verdicts import (
     Answer,
@@ -65,6 +68,9 @@ __all__ = [
     "Extent",
     "Growth",
     "Halt",
+    "Judged",
+    "Judgement",
+    "Judging",
     "LibraryError",
     "Limits",
     "LimitsError",
@@ -74,13 +80,19 @@ __all__ = [
     "PictureError",
     "Place",
     "Plan",
+    "Reading",
+    "Reason",
     "Refused",
     "ReportError",
+    "Rewriting",
+    "Said",
     "Trace",
     "Translated",
     "Triage",
     "Undecided",
     "Verdict",
+    "WORDS",
+    "Word",
     "__version__",
     "at",
     "check",
@@ -91,9 +103,11 @@ __all__ = [
     "decide_carried",
     "distinct",
     "is_machine",
+    "judge",
     "normal",
     "parse",
     "picture",
+    "read",
     "report",
     "trace",
     "triage",

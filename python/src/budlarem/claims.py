@@ -51,8 +51,9 @@ _KINDS = {"halt": (2,), "cycler": (2,), "backward": (2,), "translated": (5, 3)}
 
 @dataclasses.dataclass(frozen=True)
 class Said:
-    """A line and what it says: a verdict whole in `claim`, else a word, else neither. `trouble` is why what
-    it says can't be taken, where it can't. A refusal has its verdict, and no machine."""
+    """A line and what it says: a verdict whole in `claim`, else a word, else neither. `trouble` is why no
+    verdict is taken where there seems to be one; where a line says two things, it has no word either. A
+    refusal has its verdict, and no machine."""
 
     reading: Reading
     claim: Optional[Verdict] = None
@@ -90,7 +91,8 @@ def _of_reading(reading: Reading) -> Said:
         try:
             claims += _claims(reading.machine, part)
         except ValueError as error:
-            return Said(reading, trouble=str(error))
+            kind = str(error).partition(" ")[0]
+            return Said(reading, word=WORDS[kind], trouble="no verdict: %s" % error)
     return _with_words(reading, claims, "\t".join((reading.before, reading.behind)))
 
 
@@ -108,13 +110,13 @@ def _claims(machine: str, part: str) -> Iterator[Verdict]:
 
 
 def _claim(machine: str, kind: str, behind: List[str]) -> Verdict:
-    """The verdict of this kind whose words stand behind it. Raises ValueError."""
+    """The verdict of this kind whose words stand behind it. Raises ValueError, with what stands there."""
     for count in _KINDS[kind]:
         try:
             return verdict_of(machine, " ".join([kind, *behind[:count]]), whole_number)
         except ValueError:
             continue
-    raise ValueError("no verdict: %s" % " ".join([kind, *behind[: max(_KINDS[kind])]]))
+    raise ValueError(" ".join([kind, *behind[: max(_KINDS[kind])]]))
 
 
 def _with_words(reading: Reading, claims: List[Verdict], fields: str) -> Said:

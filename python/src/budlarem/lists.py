@@ -12,6 +12,7 @@ from .engine import Trace, decide, trace
 from .limits import Limits, Plan, in_range
 from .reading import Reading, read
 from .reading.files import Source
+from .same import form_of, turned
 from .verdicts import (
     STATES,
     VERDICTS,
@@ -173,6 +174,10 @@ class _Side:
             del self.waiting[machine]
         return verdict
 
+    def left(self) -> List[Verdict]:
+        """The verdicts that wait."""
+        return [verdict for verdicts in self.waiting.values() for verdict in verdicts]
+
 
 def compare(
     first: Iterable[Union[str, Verdict]],
@@ -183,7 +188,9 @@ def compare(
     """Compares two lists of verdicts, or verdict lines, by machine, in whatever order each is.
 
     Both are read side by side; what is held are the verdicts for which the other list had none yet, so lists
-    in about the same order take little memory. What only one has comes last. Refusals are left out, since
+    in about the same order take little memory. What is left then is compared by what the laws of verdicts
+    make the same: mirrored, or with other names for states and symbols. What only one has comes last.
+    Refusals are left out, since
     they don't tell their machine; fields behind a tab too. `undefined_steps`: one of the lists counts a step
     for an undefined entry.
 
@@ -208,10 +215,35 @@ def compare(
                 continue
             pair = (verdict, other) if here == 0 else (other, verdict)
             yield Comparison(agreement(*pair, undefined_steps), verdict.machine, *pair)
-    for machine, verdicts in sides[0].waiting.items():
-        yield from (Comparison(Agreement.ONLY_FIRST, machine, verdict, None) for verdict in verdicts)
-    for machine, verdicts in sides[1].waiting.items():
-        yield from (Comparison(Agreement.ONLY_SECOND, machine, None, verdict) for verdict in verdicts)
+    yield from _compared_by_form(sides[0].left(), sides[1].left(), undefined_steps)
+
+
+def _compared_by_form(
+    first: List[Verdict], second: List[Verdict], undefined_steps: bool
+) -> Iterator[Comparison]:
+    """Compares what has no machine of the same text in the other list: by what the laws of verdicts make the
+    same."""
+    waiting: Dict[str, List[Tuple[Verdict, bool]]] = collections.defaultdict(list)
+    for other in second if first else []:
+        form = form_of(_machine_of(other))
+        waiting[form.text].append((other, form.mirrored))
+    for verdict in first:
+        machine = _machine_of(verdict)
+        form = form_of(machine)
+        found = waiting.get(form.text)
+        if not found:
+            yield Comparison(Agreement.ONLY_FIRST, machine, verdict, None)
+            continue
+        other, mirrored = found.pop(0)
+        kind = agreement(verdict, turned(other, mirrored != form.mirrored), undefined_steps)
+        yield Comparison(kind, machine, verdict, other)
+    left = (other for pairs in waiting.values() for other, _ in pairs) if first else iter(second)
+    yield from (Comparison(Agreement.ONLY_SECOND, _machine_of(other), None, other) for other in left)
+
+
+def _machine_of(verdict: Verdict) -> str:
+    assert verdict.machine is not None
+    return verdict.machine
 
 
 @dataclasses.dataclass(frozen=True)

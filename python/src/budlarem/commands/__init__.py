@@ -18,6 +18,7 @@ from ..reports import ReportError
 from ..runner.command import add_command as add_run
 from .checking import add_check
 from .claims import add_claims
+from .judging import add_judge
 from .machines import add_machines
 from .runs import add_runs
 
@@ -32,6 +33,7 @@ def words() -> argparse.ArgumentParser:
     add_machines(commands)
     add_check(commands)
     add_claims(commands)
+    add_judge(commands)
     add_runs(commands)
     add_run(commands)
     asked = commands.add_parser("help", help="what a command does, as its --help")
