@@ -73,6 +73,20 @@ class CompareTest(unittest.TestCase):
         only = [("only-first", "------"), ("only-first", "1RZ---"), ("only-second", CHAMPION)]
         self.assertEqual(sorted(found[2:]), only)
 
+    def test_machines_that_are_the_same(self) -> None:
+        first = ["1RA1RA translated R 1 2 1 1", "1RB1LB_1LA1RZ halt 6 4", "1RA1LA cycler 1 3"]
+        second = ["1LA1LA translated L 2 4", "1LB1RB_1RA1LZ halt 6 5", "1RA---2RA cycler 1 2"]
+        found = [str(one) for one in budlarem.compare(first, second)]
+        self.assertEqual(
+            found,
+            [
+                "agree\t1RA1RA translated R 1 2 1 1 | 1LA1LA translated L 2 4",
+                "contradict\t1RB1LB_1LA1RZ halt 6 4 | 1LB1RB_1RA1LZ halt 6 5",
+                "only-first\t1RA1LA cycler 1 3 | -",
+                "only-second\t- | 1RA---2RA cycler 1 2",
+            ],
+        )
+
     def test_a_line_that_is_none(self) -> None:
         with self.assertRaisesRegex(ValueError, r"second\[1\]: no verdict line"):
             list(budlarem.compare([], ["refused 1", "x"]))
@@ -216,10 +230,8 @@ class CommandTest(unittest.TestCase):
         return ended.returncode, ended.stdout.decode().splitlines(), ended.stderr.decode()
 
     def test_fields_are_carried(self) -> None:
-        status, lines, _ = self.run_with("decide", given="1RZ---, a b\r\n%s\nx;y\n" % CHAMPION)
-        self.assertEqual(
-            (status, lines), (1, ["1RZ--- halt 1 1\ta b", CHAMPION + " halt 6 4", "refused 1\ty"])
-        )
+        status, lines, _ = self.run_with("decide", given="1RZ---, a b\r\n%s\n# c\nx;y\n" % CHAMPION)
+        self.assertEqual((status, lines), (1, ["1RZ--- halt 1 1\ta b", CHAMPION + " halt 6 4", "refused 1"]))
 
     def test_files_and_statuses(self) -> None:
         with tempfile.TemporaryDirectory() as folder:

@@ -22,6 +22,8 @@ from .engine import (
     decide_bytes,
     trace,
 )
+from .claims import WORDS, Said, Word
+from .judging import Judged, Judgement, Judging, judge
 from .later import Place, at
 from .limits import Limits, LimitsError, Plan
 from .pictures import Picture, PictureError, picture
@@ -39,6 +41,7 @@ from .lists import (
     triage,
 )
 from .publishing import Published, PublishError, UnconfirmedError, publish
+from .reading import Reading, Reason, Rewriting, read
 from .reports import ReportError, report
 from .verdicts import (
     Answer,
@@ -66,6 +69,9 @@ __all__ = [
     "Extent",
     "Growth",
     "Halt",
+    "Judged",
+    "Judgement",
+    "Judging",
     "LibraryError",
     "Limits",
     "LimitsError",
@@ -77,14 +83,20 @@ __all__ = [
     "Plan",
     "PublishError",
     "Published",
+    "Reading",
+    "Reason",
     "Refused",
     "ReportError",
+    "Rewriting",
+    "Said",
     "Trace",
     "Translated",
     "Triage",
     "UnconfirmedError",
     "Undecided",
     "Verdict",
+    "WORDS",
+    "Word",
     "__version__",
     "at",
     "check",
@@ -95,10 +107,12 @@ __all__ = [
     "decide_carried",
     "distinct",
     "is_machine",
+    "judge",
     "normal",
     "parse",
     "picture",
     "publish",
+    "read",
     "report",
     "trace",
     "triage",

@@ -6,7 +6,7 @@ import dataclasses
 from typing import Callable, Iterable, Iterator, List, Optional, Sequence, Tuple, Union
 
 from . import _batches
-from ._batches import MOST_BYTES, MOST_LINES, Batch, Blocks
+from ._batches import LONG, MOST_BYTES, MOST_LINES, Batch, BinaryReader, Blocks
 from ._crew import Pace, in_order
 from ._library import NOT_CLEAN, SHORT, Reply, Room, forbid_fork, loaded
 from .limits import Limits, Plan, in_range, whole
@@ -23,6 +23,8 @@ __all__ = [
     "trace",
 ]
 
+# How many bytes a block has at most that is checked with large tapes.
+_LARGE = 1 << 22
 # It makes a call over lines, and leaves the reply in the room.
 Call = Callable[[Room, bytes], None]
 _ANSWERS = {str(answer): answer for answer in Answer}
@@ -137,6 +139,17 @@ def decide(
     return (_verdict(machine, line) for machine, line in told)
 
 
+def column_of(text: str) -> Optional[int]:
+    """The column with which the library refuses a text; None where it is a machine. Nothing is run. Raises
+    LibraryError, RuntimeError, MemoryError."""
+    forbid_fork()
+    room = Room()
+    line = text.encode("utf-8", "surrogateescape")[:LONG]
+    deciding(Limits(0, 1, 0, 0), Plan(False, False, False))(room, line)
+    reply = room.reply().text
+    return int(reply.split()[1]) if reply.startswith(b"refused ") else None
+
+
 def _lines_of(items: Iterable[Union[str, Verdict]]) -> Iterator[str]:
     """The lines of verdicts and lines; what is neither is left as it is."""
     return (str(item) if isinstance(item, VERDICTS) else item for item in items)
@@ -188,6 +201,17 @@ def check_bytes(blocks: Blocks, limits: Limits = Limits(), *, threads: int = 1) 
     """
     threads = _made_ready(limits, Plan(), threads)
     return _replies(blocks, checking(limits), threads)
+
+
+def checked(file: BinaryReader, limits: Limits, *, threads: int = 1) -> Iterator[Tuple[bytes, bytes]]:
+    """Lines of a file, and the bytes that `bb check` writes for them, in large blocks: with large tapes what a
+    call costs is the tapes. A line of more than LONG bytes is cut. Raises what `decide` does."""
+    threads = _made_ready(limits, Plan(), threads)
+    most = _LARGE if threads == 1 else _LARGE // 4
+    pace = Pace(most, _LARGE // 64)
+    blocks = iter(lambda: file.read(most), b"")
+    told = in_order(checking(limits), _batches.of_bytes(blocks, pace), threads, pace)
+    return ((lines, reply.text) for lines, reply in told)
 
 
 @dataclasses.dataclass(frozen=True)

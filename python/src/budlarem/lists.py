@@ -6,11 +6,13 @@ import collections
 import dataclasses
 import enum
 import math
-import re
 from typing import Deque, Dict, Iterable, Iterator, List, Optional, Tuple, Union
 
 from .engine import Trace, decide, trace
 from .limits import Limits, Plan, in_range
+from .reading import Reading, read
+from .reading.files import Source
+from .same import form_of, turned
 from .verdicts import (
     STATES,
     VERDICTS,
@@ -38,41 +40,51 @@ __all__ = [
     "triage",
 ]
 
-_FIRST_FIELD = re.compile(r"([^\s,;]*)[\s,;]*(.*)", re.DOTALL)
-
 
 @dataclasses.dataclass(frozen=True)
 class Carried:
-    """A verdict, and what stood behind the machine on its line. As a text: the verdict line, and the other
-    fields behind a tab, where there are some."""
+    """A verdict, and the reading of its line. As a text: the verdict line, and what else stood on the line
+    behind a tab, where something did."""
 
     verdict: Verdict
-    fields: str
+    reading: Reading
+
+    @property
+    def fields(self) -> str:
+        """What else stood on the line; nothing where it was refused."""
+        return self.reading.fields
 
     def __str__(self) -> str:
         return "%s\t%s" % (self.verdict, self.fields) if self.fields else str(self.verdict)
 
 
 def decide_carried(
-    lines: Iterable[str], limits: Limits = Limits(), plan: Plan = Plan(), *, threads: int = 1
+    lines: Source, limits: Limits = Limits(), plan: Plan = Plan(), *, threads: int = 1
 ) -> Iterator[Carried]:
-    """Decides the machine that each line begins with, and carries along what stands behind it.
+    """Decides the machine of each line, wherever `read` finds it, and carries along what else stands there.
+    Where it finds none, the verdict is `Refused`, with the column at which `bb` refuses the line.
 
-    A machine ends before the first space, tab, comma or semicolon. Raises what `decide` does.
+    Takes what `read` takes. Raises what `read` and `decide` do.
 
-    >>> [str(carried) for carried in decide_carried(["1RB1LB_1LA1RZ, the champion", "1RA1RA"])]
-    ['1RB1LB_1LA1RZ halt 6 4\\tthe champion', '1RA1RA translated R 1 2 1 1']
+    >>> [str(carried) for carried in decide_carried(["1RB1LB_1LA1RZ, the champion", "1RA1RA", "x"])]
+    ['1RB1LB_1LA1RZ halt 6 4\\tthe champion', '1RA1RA translated R 1 2 1 1', 'refused 1']
     """
-    fields: Deque[str] = collections.deque()
+    return carried(read(lines), limits, plan, threads=threads)
+
+
+def carried(
+    readings: Iterable[Reading], limits: Limits = Limits(), plan: Plan = Plan(), *, threads: int = 1
+) -> Iterator[Carried]:
+    """The verdict of each reading."""
+    waiting: Deque[Reading] = collections.deque()
 
     def machines() -> Iterator[str]:
-        for line in lines:
-            found = _FIRST_FIELD.fullmatch(line) if isinstance(line, str) else None
-            fields.append(found.group(2).rstrip() if found else "")
-            yield found.group(1) if found else line
+        for reading in readings:
+            waiting.append(reading)
+            yield reading.line if reading.machine is None else reading.machine
 
     verdicts = decide(machines(), limits, plan, threads=threads)
-    return (Carried(verdict, fields.popleft()) for verdict in verdicts)
+    return (Carried(verdict, waiting.popleft()) for verdict in verdicts)
 
 
 class Agreement(enum.Enum):
@@ -162,6 +174,10 @@ class _Side:
             del self.waiting[machine]
         return verdict
 
+    def left(self) -> List[Verdict]:
+        """The verdicts that wait."""
+        return [verdict for verdicts in self.waiting.values() for verdict in verdicts]
+
 
 def compare(
     first: Iterable[Union[str, Verdict]],
@@ -172,7 +188,9 @@ def compare(
     """Compares two lists of verdicts, or verdict lines, by machine, in whatever order each is.
 
     Both are read side by side; what is held are the verdicts for which the other list had none yet, so lists
-    in about the same order take little memory. What only one has comes last. Refusals are left out, since
+    in about the same order take little memory. What is left then is compared by what the laws of verdicts
+    make the same: mirrored, or with other names for states and symbols. What only one has comes last.
+    Refusals are left out, since
     they don't tell their machine; fields behind a tab too. `undefined_steps`: one of the lists counts a step
     for an undefined entry.
 
@@ -197,10 +215,35 @@ def compare(
                 continue
             pair = (verdict, other) if here == 0 else (other, verdict)
             yield Comparison(agreement(*pair, undefined_steps), verdict.machine, *pair)
-    for machine, verdicts in sides[0].waiting.items():
-        yield from (Comparison(Agreement.ONLY_FIRST, machine, verdict, None) for verdict in verdicts)
-    for machine, verdicts in sides[1].waiting.items():
-        yield from (Comparison(Agreement.ONLY_SECOND, machine, None, verdict) for verdict in verdicts)
+    yield from _compared_by_form(sides[0].left(), sides[1].left(), undefined_steps)
+
+
+def _compared_by_form(
+    first: List[Verdict], second: List[Verdict], undefined_steps: bool
+) -> Iterator[Comparison]:
+    """Compares what has no machine of the same text in the other list: by what the laws of verdicts make the
+    same."""
+    waiting: Dict[str, List[Tuple[Verdict, bool]]] = collections.defaultdict(list)
+    for other in second if first else []:
+        form = form_of(_machine_of(other))
+        waiting[form.text].append((other, form.mirrored))
+    for verdict in first:
+        machine = _machine_of(verdict)
+        form = form_of(machine)
+        found = waiting.get(form.text)
+        if not found:
+            yield Comparison(Agreement.ONLY_FIRST, machine, verdict, None)
+            continue
+        other, mirrored = found.pop(0)
+        kind = agreement(verdict, turned(other, mirrored != form.mirrored), undefined_steps)
+        yield Comparison(kind, machine, verdict, other)
+    left = (other for pairs in waiting.values() for other, _ in pairs) if first else iter(second)
+    yield from (Comparison(Agreement.ONLY_SECOND, _machine_of(other), None, other) for other in left)
+
+
+def _machine_of(verdict: Verdict) -> str:
+    assert verdict.machine is not None
+    return verdict.machine
 
 
 @dataclasses.dataclass(frozen=True)

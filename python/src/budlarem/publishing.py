@@ -10,23 +10,19 @@ from typing import Callable, List, NoReturn, Optional, Sequence, Tuple, Union
 
 from ._archive import LINES, LIST, VERDICTS, Contents, Decided, Input, PublishError, Seen, write_new
 from ._crew import Pace, in_order
+from .checking import why
 from .engine import checking, decide_bytes
 from .limits import Limits, in_range
 from .runner.folder import RUN, SUMMARY
 from .runner.folder import VERDICTS as RUN_VERDICTS
 from .runner.tasks import Identity
+from .verdicts import Answer
 
 __all__ = ["PublishError", "Published", "UnconfirmedError", "publish"]
 
 # With these no claim is refused for a limit; each costs what it names.
 GREATEST = Limits(**{name: highest for name, (_, highest) in Limits.RANGES.items()})
 Path = Union[str, "os.PathLike[str]"]
-_WHY = {
-    "bad": "the checker doesn't confirm it",
-    "over": "it names more than the checker's limits have",
-    "unread": "it is no verdict line, as `bb decide` and `budlarem decide` write them; where other fields stand"
-    " behind a tab, `cut -f 1` takes them away",
-}
 
 
 class UnconfirmedError(PublishError):
@@ -56,19 +52,19 @@ def _confirmed(verdicts: Input, limits: Limits, threads: int, tell: Callable[[in
         answers = reply.text
         lines, ok, open_ = (answers.count(word) for word in (b"\n", b"ok\n", b"open\n"))
         if ok + open_ < lines:
-            _raise_unconfirmed(verdicts, confirmed + free, answers.decode().split("\n"))
+            _raise_unconfirmed(verdicts, confirmed + free, answers.decode().split("\n"), limits)
         confirmed, free = confirmed + ok, free + open_
         tell(confirmed + free)
     return confirmed, free
 
 
-def _raise_unconfirmed(verdicts: Input, before: int, answers: Sequence[str]) -> NoReturn:
+def _raise_unconfirmed(verdicts: Input, before: int, answers: Sequence[str], limits: Limits) -> NoReturn:
     """Raises the error for the first of these answers that isn't as it has to be."""
     place = next(place for place, answer in enumerate(answers) if answer not in ("ok", "open"))
-    number = before + place
-    line = next(itertools.islice(verdicts.lines(), number, None), b"")
-    told = (verdicts.path, number + 1, answers[place], _WHY[answers[place]], _shown(line))
-    raise UnconfirmedError("%s:%d: %s: %s: %s" % told)
+    number, answer = before + place, Answer(answers[place])
+    line = next(itertools.islice(verdicts.lines(), number, None), b"").decode("utf-8", "surrogateescape")
+    told = (verdicts.path, number + 1, answer, line, why(line, answer, limits))
+    raise UnconfirmedError("%s:%d: %s: %.200s: %s" % told)
 
 
 def _shown(line: bytes) -> str:

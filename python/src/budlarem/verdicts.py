@@ -168,7 +168,7 @@ def is_machine(text: str) -> bool:
     return _shape(states, symbols).fullmatch(text) is not None
 
 
-def _number(word: str) -> int:
+def whole_number(word: str) -> int:
     """The number below 2^64 that a word is, without sign or leading zeros. Raises ValueError."""
     if len(word) > 20 or not _NUMBER.fullmatch(word) or int(word) >= _TOO_GREAT:
         raise ValueError
@@ -229,7 +229,7 @@ def verdict_of(machine: str, words: str, number: Reader = int) -> Verdict:
 
 def _refused(words: List[str]) -> Refused:
     (column,) = words
-    number = _number(column)
+    number = whole_number(column)
     if not 1 <= number <= LONGEST + 1:
         raise ValueError
     return Refused(number)
@@ -256,6 +256,6 @@ def parse(line: str) -> Verdict:
             return _refused(words.split(" "))
         if not is_machine(machine):
             raise ValueError
-        return verdict_of(machine, words, _number)
+        return verdict_of(machine, words, whole_number)
     except ValueError:
         raise ValueError("no verdict line: %.200r" % line) from None

@@ -16,7 +16,9 @@ from typing import List, NoReturn, Optional
 from .. import __version__
 from ..reports import ReportError
 from ..runner.command import add_command as add_run
+from .checking import add_check
 from .claims import add_claims
+from .judging import add_judge
 from .machines import add_machines
 from .publishing import add_publish
 from .runs import add_runs
@@ -30,11 +32,22 @@ def words() -> argparse.ArgumentParser:
     parser.add_argument("--version", action="version", version="budlarem " + __version__)
     commands = parser.add_subparsers(required=True, metavar="COMMAND")
     add_machines(commands)
+    add_check(commands)
     add_claims(commands)
+    add_judge(commands)
     add_runs(commands)
     add_publish(commands)
     add_run(commands)
+    asked = commands.add_parser("help", help="what a command does, as its --help")
+    asked.add_argument("command", nargs="?", metavar="COMMAND", choices=list(commands.choices))
+    asked.set_defaults(do=lambda given: do_help(parser, given.command))
     return parser
+
+
+def do_help(parser: argparse.ArgumentParser, command: Optional[str]) -> int:
+    """Writes the help of a command, or of all."""
+    parser.parse_args(["--help"] if command is None else [command, "--help"])
+    return 0
 
 
 def main(arguments: Optional[List[str]] = None) -> int:

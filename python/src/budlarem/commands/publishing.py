@@ -15,11 +15,14 @@ from ..publishing import UnconfirmedError, publish
 from ..runner.errors import RunError
 from ..runner.folder import limits_of
 from ..runner.progress import count_of
+from .shared import add_command
 
 _HELP = """Writes one archive of a decided list, which whoever gets it can check again: the list, the verdicts,
-limits and versions, sha256 of all, a page that says what the lines mean, and again.py, a checker in plain
-Python. Budlarem's checker has to confirm each claim first. Standard output gets the archive's sha256 and its
-name. Status 1 where a verdict isn't confirmed."""
+limits and versions, the sha256 of each, a page that says what the lines mean, and again.py, a checker in plain
+Python. The checker has to confirm each claim first, and each line of LIST to have its verdict at its place.
+Files may be compressed by gzip; in the archive they aren't.
+
+Status 1 where a verdict isn't confirmed, 2 where something can't be published; nothing is written then."""
 # Seconds between two counts on a terminal.
 _OFTEN = 0.5
 
@@ -86,7 +89,13 @@ def do_publish(asked: argparse.Namespace) -> int:
 
 def add_publish(commands: "argparse._SubParsersAction[argparse.ArgumentParser]") -> None:
     """Adds the command to a reader of command lines."""
-    parser = commands.add_parser("publish", help="an archive that others can check", description=_HELP)
+    columns = [
+        ("sha256", "of the archive"),
+        ("name", "of the archive; `sha256sum --check` reads such a line"),
+    ]
+    parser = add_command(
+        commands, "publish", "an archive that others can check", _HELP, columns, "two spaces"
+    )
     parser.set_defaults(do=do_publish)
     parser.add_argument("out", metavar="OUT.tar", help="the archive; one that is there stays as it is")
     parser.add_argument(

@@ -1,12 +1,30 @@
-"""The commands over the run of one machine: `picture`."""
+"""The commands over the run of one machine: `trace`, `picture`."""
 
 from __future__ import annotations
 
 import argparse
 import sys
 
+from ..engine import MachineError, trace
 from ..pictures import picture
-from .shared import add_limits
+from .shared import add_command, add_limits
+
+_TRACE = """Writes a line for each step of a run up to N, the bytes of bb trace. Status 1 where the cells ended the
+run before, and where MACHINE is refused."""
+_PICTURE = """Writes a space-time picture of a run, as a PNG file: a row for each step, a column for each
+position; 0 is white, 1 black, the head red, what isn't visited yet grey."""
+
+
+def do_trace(asked: argparse.Namespace) -> int:
+    """Writes the configurations of a run."""
+    rows = trace(asked.machine, asked.upto, asked.cells)
+    try:
+        for now in rows:
+            sys.stdout.write("%s\n" % now)
+    except MachineError as error:
+        sys.stdout.write("refused %d\n" % error.column)
+        return 1
+    return 1 if rows.cut else 0
 
 
 def do_picture(asked: argparse.Namespace) -> int:
@@ -22,7 +40,14 @@ def do_picture(asked: argparse.Namespace) -> int:
 
 def add_runs(commands: "argparse._SubParsersAction[argparse.ArgumentParser]") -> None:
     """Adds these commands to a reader of command lines."""
-    image = commands.add_parser("picture", help="a space-time picture of a run")
+    columns = [("step", "from 0 on"), ("state", "A to Y, or Z once it halted there")]
+    columns += [("position", "of the head, 0 at the start"), ("cells", "visited so far, a digit each")]
+    steps = add_command(commands, "trace", "the steps of a run", _TRACE, columns, "a space")
+    steps.set_defaults(do=do_trace)
+    steps.add_argument("machine", metavar="MACHINE")
+    steps.add_argument("--upto", type=int, required=True, metavar="N", help="steps of the run")
+    add_limits(steps, ["cells"])
+    image = add_command(commands, "picture", "a space-time picture of a run", _PICTURE)
     image.set_defaults(do=do_picture)
     image.add_argument("machine", metavar="MACHINE")
     image.add_argument("--upto", type=int, required=True, metavar="N", help="steps of the run")

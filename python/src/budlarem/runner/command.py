@@ -17,6 +17,7 @@ from ..limits import Limits
 from .cutting import MOST_LINES
 from .errors import CheckError, FolderError, RunError
 from .folder import VERDICTS, Folder, limits_of
+from .forms import hold_form
 from .passes import Manner
 from .progress import Progress
 from .source import ListFile
@@ -27,7 +28,9 @@ from .workplace import Workplace, threads
 _HELP = """Decides a list of any length in pieces, on all cores of this computer or by dask's workers. FOLDER
 gets verdicts.txt, with a line for each line of LIST in its order, and summary.json. Whatever ended it, the
 same command goes on after what stands. More passes may be added at the end of the command later: they decide
-what is left."""
+what is left. Lines are read as they are, for speed: where more than half of the first thousand would be
+refused, nothing is decided, and the first of them is told; `budlarem read` takes the machines out of a list in
+other forms."""
 
 # dask's options of TLS, and what its client calls them.
 TLS = {
@@ -124,9 +127,10 @@ def do_run(asked: argparse.Namespace) -> int:
     end_at_interruption(progress, asked.out)
     try:
         place = _workplace(asked, progress)
-        with contextlib.closing(ListFile(asked.list)) as source, contextlib.closing(
-            Folder(asked.out)
-        ) as folder:
+        with contextlib.ExitStack() as opened:
+            source = opened.enter_context(contextlib.closing(ListFile(asked.list)))
+            hold_form(source)
+            folder = opened.enter_context(contextlib.closing(Folder(asked.out)))
             manner = Manner(place, identity(), progress, source.name, asked.piece, asked.check)
             outcome = run(folder, source, passes, manner)
         progress.tell("%s; %s" % (outcome, os.path.join(asked.out, VERDICTS)))
