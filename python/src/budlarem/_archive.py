@@ -16,6 +16,7 @@ import tarfile
 import textwrap
 from typing import Any, BinaryIO, Counter, Dict, Iterator, List, Optional, Sequence, Tuple
 
+from ._errors import naming
 from .limits import Limits
 from .runner.folder import PART, settle_folder, words_of
 from .runner.source import Lines, ListFile
@@ -261,7 +262,7 @@ def write_new(path: str, contents: Contents) -> str:
     what `Contents.write` does."""
     part = path + PART
     try:
-        with open(part, "w+b") as file:
+        with naming(path), open(part, "w+b") as file:
             contents.write(file)
             file.flush()
             os.fsync(file.fileno())
@@ -272,11 +273,6 @@ def write_new(path: str, contents: Contents) -> str:
         _put(part, path)
         settle_folder(os.path.dirname(path) or ".")
         return digest.hexdigest()
-    except OSError as error:
-        if error.filename is not None:
-            raise
-        why = "can't be written, and nothing is left of it: %s" % error.strerror
-        raise OSError(error.errno, why, path) from None
     finally:
         with contextlib.suppress(FileNotFoundError):
             os.unlink(part)

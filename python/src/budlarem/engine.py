@@ -10,7 +10,7 @@ from ._batches import LONG, MOST_BYTES, MOST_LINES, Batch, BinaryReader, Blocks
 from ._crew import Pace, in_order
 from ._library import NOT_CLEAN, SHORT, Reply, Room, forbid_fork, loaded
 from .limits import Limits, Plan, in_range, whole
-from .verdicts import STATES, VERDICTS, Answer, Refused, Verdict, verdict_of
+from .verdicts import STATES, VERDICTS, Answer, Refused, Verdict, hold_fields, verdict_of
 
 __all__ = [
     "Configuration",
@@ -43,14 +43,15 @@ _SHORT_RUN = 100_000
 
 class MachineError(ValueError):
     """A text is no machine. `machine` is the text, `column` is 1 plus the length of its longest prefix that
-    begins one."""
+    begins one, `place` says which of a list it is, as `machines[2]`, where it is of one."""
 
-    def __init__(self, machine: str, column: int) -> None:
-        super().__init__(machine, column)
-        self.machine, self.column = machine, column
+    def __init__(self, machine: str, column: int, place: str = "") -> None:
+        super().__init__(machine, column, place)
+        self.machine, self.column, self.place = machine, column, place
 
     def __str__(self) -> str:
-        return "no machine, from column %d on: %.200r" % (self.column, self.machine)
+        told = "no machine, from column %d on: %.200r" % (self.column, self.machine)
+        return "%s: %s" % (self.place, told) if self.place else told
 
 
 def deciding(limits: Limits, plan: Plan) -> Call:
@@ -151,8 +152,14 @@ def column_of(text: str) -> Optional[int]:
 
 
 def _lines_of(items: Iterable[Union[str, Verdict]]) -> Iterator[str]:
-    """The lines of verdicts and lines; what is neither is left as it is."""
-    return (str(item) if isinstance(item, VERDICTS) else item for item in items)
+    """The lines of verdicts and lines; what is neither is left as it is. Raises TypeError, with its place,
+    for a verdict that has a field of another type."""
+    for place, item in enumerate(items):
+        if isinstance(item, VERDICTS):
+            hold_fields("lines[%d]" % place, item)
+            yield str(item)
+        else:
+            yield item
 
 
 def check(

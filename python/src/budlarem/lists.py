@@ -8,7 +8,7 @@ import enum
 import math
 from typing import Deque, Dict, Iterable, Iterator, List, Optional, Tuple, Union
 
-from .engine import Trace, decide, trace
+from .engine import MachineError, decide, trace
 from .limits import Limits, Plan, in_range
 from .reading import Reading, read
 from .reading.files import Source
@@ -305,14 +305,19 @@ def distinct(
 ) -> Iterator[Tuple[Normal, Optional[str]]]:
     """The normal form of each machine, and the first machine before it that has the same one, or None.
 
-    What is held are the normal forms that were met. Raises what `trace` does.
+    What is held are the normal forms that were met. Raises what `trace` does, with the place of the item.
 
     >>> [(form.machine, before) for form, before in distinct(["1RA---", "1LA---"])]
     [('1RA---', None), ('1LA---', '1RA---')]
     """
     met: Dict[str, str] = {}
-    for machine in machines:
-        form = normal(machine, steps=steps, cells=cells)
+    for place, machine in enumerate(machines):
+        if not isinstance(machine, str):
+            raise TypeError("machines[%d] is of type %s, not str" % (place, type(machine).__name__))
+        try:
+            form = normal(machine, steps=steps, cells=cells)
+        except MachineError as error:
+            raise MachineError(machine, error.column, "machines[%d]" % place) from None
         before = met.setdefault(form.normal, machine) if form.normal in met else None
         met.setdefault(form.normal, machine)
         yield form, before
@@ -334,7 +339,7 @@ class Growth(enum.Enum):
 @dataclasses.dataclass(frozen=True)
 class Triage:
     """How many cells a run has visited after a hundredth of `steps`, a tenth, and all, and how that grows.
-    `steps` are fewer than asked for where the cells ended the run."""
+    `steps` are fewer than asked for where the cells ended the run, or the machine halted."""
 
     machine: str
     steps: int
@@ -360,11 +365,17 @@ def growth(visited: Tuple[int, int, int]) -> Growth:
     return Growth.ROOT if power < _ROOT[1] else Growth.LINE
 
 
-def _hundredths(machine: str, steps: int, cells: int) -> Tuple[Trace, List[int]]:
-    """The cells visited after each hundredth of the steps, and the trace that told them."""
+def _hundredths(machine: str, steps: int, cells: int) -> Tuple[Optional[bool], List[int]]:
+    """The cells visited after each hundredth of the steps, up to all of them; and whether the cells ended the
+    run before, None where it made all steps and went on."""
     apart = max(steps // 100, 1)
-    rows = trace(machine, steps, cells, apart, apart)
-    return rows, [len(now.cells) for now in rows]
+    rows = trace(machine, steps, cells, apart + steps % apart, apart)
+    counts, is_at_end = [], False
+    for now in rows:
+        counts.append(len(now.cells))
+        is_at_end = now.state == "Z"
+    went_on = len(counts) == steps // apart and not is_at_end
+    return (None if went_on else rows.cut), counts
 
 
 def last_step(machine: str, steps: int, cells: int = 65_536) -> int:
@@ -378,13 +389,23 @@ def last_step(machine: str, steps: int, cells: int = 65_536) -> int:
         apart = max(apart // 100, 1)
 
 
+def _triage_of_halting(machine: str, steps: int, cells: int) -> Triage:
+    """The triage of a machine that halts after so many steps."""
+    first, second, last = (
+        len(now.cells)
+        for step in (steps // 100, steps // 10, steps)
+        for now in trace(machine, step, cells, start=step)
+    )
+    return Triage(machine, steps, (first, second, last), Growth.HALTS)
+
+
 def triage(machine: str, *, steps: int = 1_000_000, cells: int = 65_536) -> Triage:
     """How the cells that a machine visits grow, looked at after `steps` / 100, / 10, and all of them.
 
     Staying: a tenth of the steps and all have the same cells. Else by the power of the steps with which they
     grow from the first look to the last: below 0.2 it is called a logarithm, below 0.8 a root, else a line.
-    Where the cells end the run, the steps are those that were made. It is a guess from three numbers, and
-    claims nothing.
+    Where the cells end the run, or the machine halts, the steps are those that were made. It is a guess from
+    three numbers, and claims nothing.
 
     Raises what `trace` does; LimitsError where the steps are fewer than 100.
 
@@ -392,13 +413,15 @@ def triage(machine: str, *, steps: int = 1_000_000, cells: int = 65_536) -> Tria
     <Growth.LINE: 'line'>
     """
     in_range("steps", steps, 100, Limits.RANGES["steps"][1])
-    rows, counts = _hundredths(machine, steps, cells)
-    if rows.cut:
+    is_cut, counts = _hundredths(machine, steps, cells)
+    if is_cut is not None:
         steps = last_step(machine, steps, cells)
-        rows, counts = _hundredths(machine, steps, cells)
+    if is_cut is False:
+        return _triage_of_halting(machine, steps, cells)
+    if is_cut:
+        counts = _hundredths(machine, steps, cells)[1]
     if len(counts) < 100:
         last = counts[-1] if counts else 0
-        ended = Growth.HALTS if rows.cut is False and steps >= 100 else Growth.LINE
-        return Triage(machine, steps, (last, last, last), ended)
-    visited = (counts[0], counts[9], counts[99])
+        return Triage(machine, steps, (last, last, last), Growth.LINE)
+    visited = (counts[len(counts) // 100 - 1], counts[len(counts) // 10 - 1], counts[-1])
     return Triage(machine, steps, visited, growth(visited))

@@ -18,6 +18,7 @@ import re
 import string
 from typing import Any, Callable, Counter, Dict, Iterable, Iterator, List, Optional, Sequence, Tuple, Union
 
+from ._errors import naming
 from .limits import Limits, in_range
 from .lists import Growth, Triage, triage
 from .pictures import COLOURS, HEAD, UNVISITED, Row, png, png_of_colours, spread
@@ -328,7 +329,8 @@ def report(
     told = all_shown(machines, steps, cells, threads or os.cpu_count() or 1)
     part = pathlib.Path(path).with_name(pathlib.Path(path).name + ".part")
     try:
-        part.write_text(_page(found, told, title), encoding="utf-8")
+        with naming(part):
+            part.write_text(_page(found, told, title), encoding="utf-8")
         os.replace(part, path)
     finally:
         part.unlink(missing_ok=True)

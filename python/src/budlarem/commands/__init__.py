@@ -8,6 +8,7 @@ from __future__ import annotations
 
 import argparse
 import contextlib
+import errno
 import io
 import os
 import sys
@@ -66,7 +67,16 @@ def main(arguments: Optional[List[str]] = None) -> int:
         return 2
     except MemoryError as error:
         print("budlarem: out of memory: %s" % error, file=sys.stderr)
-    except (OSError, ReportError) as error:
+    except OSError as error:
+        # What is written to a file has its name in its errors; what is left is standard output.
+        is_output = error.filename is None and error.errno in (
+            errno.ENOSPC,
+            errno.EFBIG,
+            errno.EDQUOT,
+            errno.EIO,
+        )
+        print("budlarem: %s%s" % ("standard output: " if is_output else "", error), file=sys.stderr)
+    except ReportError as error:
         print("budlarem: %s" % error, file=sys.stderr)
     return 3
 

@@ -1,7 +1,8 @@
 """The command `budlarem run`.
 
 Its statuses: 0 where all lines are machines, 1 where a line was refused or the checker doesn't confirm a
-verdict, 2 where command, limits or folder were refused, 3 for a fault, 130 after an interruption.
+verdict, 2 where command, limits or folder were refused, 3 for a fault, 130 after an interruption, 143 and 129
+after SIGTERM and SIGHUP.
 """
 
 from __future__ import annotations
@@ -15,7 +16,7 @@ from typing import List, Optional
 
 from ..limits import Limits
 from .cutting import MOST_LINES
-from .errors import CheckError, FolderError, RunError
+from .errors import CheckError, FolderError, ListError, RunError
 from .folder import VERDICTS, Folder, limits_of
 from .forms import hold_form
 from .passes import Manner
@@ -70,16 +71,23 @@ def add_command(commands: "argparse._SubParsersAction[argparse.ArgumentParser]")
 
 
 def end_at_interruption(progress: Progress, folder: str) -> None:
-    """Has SIGINT end the process at once, with a sentence: what stands is on the disk."""
-    if signal.getsignal(signal.SIGINT) is signal.SIG_IGN:
-        return
-    text = "%sbudlarem: interrupted; the same command goes on after what stands in %s\n"
+    """Has SIGINT, SIGTERM and SIGHUP end the process at once, with a sentence: what stands is on the disk."""
+    text = "%sbudlarem: %s; the same command goes on after what stands in %s\n"
+    words = {
+        signal.SIGINT: "interrupted",
+        signal.SIGTERM: "ended by SIGTERM",
+        signal.SIGHUP: "ended by SIGHUP",
+    }
 
     def end(number: int, frame: Optional[FrameType]) -> None:
-        os.write(2, (text % (progress.cleared(), folder)).encode("utf-8", "replace"))
-        os._exit(130)
+        told = text % (progress.cleared(), words[signal.Signals(number)], folder)
+        with contextlib.suppress(OSError):
+            os.write(2, told.encode("utf-8", "replace"))
+        os._exit(128 + number)
 
-    signal.signal(signal.SIGINT, end)
+    for number in words:
+        if signal.getsignal(number) is not signal.SIG_IGN:
+            signal.signal(number, end)
 
 
 def _hold_readable(option: str, path: str) -> None:
@@ -118,6 +126,14 @@ def passes_of(words: Optional[List[str]]) -> List[Limits]:
     return [limits_of(word) for word in words] if words else [Limits()]
 
 
+def _opened(path: str) -> ListFile:
+    """The list. Raises ListError."""
+    try:
+        return ListFile(path)
+    except OSError as error:
+        raise ListError("the list %s can't be read: %s" % (path, error.strerror or error)) from None
+
+
 def do_run(asked: argparse.Namespace) -> int:
     """Decides a list; gives the status."""
     progress = Progress()
@@ -128,7 +144,7 @@ def do_run(asked: argparse.Namespace) -> int:
     try:
         place = _workplace(asked, progress)
         with contextlib.ExitStack() as opened:
-            source = opened.enter_context(contextlib.closing(ListFile(asked.list)))
+            source = opened.enter_context(contextlib.closing(_opened(asked.list)))
             hold_form(source)
             folder = opened.enter_context(contextlib.closing(Folder(asked.out)))
             manner = Manner(place, identity(), progress, source.name, asked.piece, asked.check)
@@ -141,6 +157,8 @@ def do_run(asked: argparse.Namespace) -> int:
     except CheckError as error:
         progress.tell(str(error))
         return 1
+    except ListError as error:
+        progress.tell(str(error))
     except RunError as error:
         progress.tell("%s; the same command goes on after what stands" % error)
     except OSError as error:

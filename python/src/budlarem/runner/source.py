@@ -2,6 +2,7 @@
 
 from __future__ import annotations
 
+import errno
 import gzip
 import io
 import itertools
@@ -13,6 +14,7 @@ from typing import Iterator, List, Optional, Tuple
 from .._batches import LONG
 from .errors import RunError
 
+STANDARD_INPUT = "standard input"
 BLOCK = 1 << 19
 _GZIP = b"\x1f\x8b"
 # So few lines are found one by one.
@@ -113,7 +115,9 @@ class ListFile:
     opened."""
 
     def __init__(self, path: str) -> None:
-        self.name = "standard input" if path == "-" else path
+        self.name = STANDARD_INPUT if path == "-" else path
+        if os.path.isdir(path) and path != "-":
+            raise IsADirectoryError(errno.EISDIR, "it is a folder, and a file is asked for", path)
         number = 0 if path == "-" else os.open(path, os.O_RDONLY | os.O_CLOEXEC)
         self._raw = io.FileIO(number, closefd=path != "-")
         self._file = io.BufferedReader(self._raw, BLOCK)
