@@ -2,6 +2,7 @@
 
 from __future__ import annotations
 
+import io
 import os
 import stat
 import tempfile
@@ -15,16 +16,21 @@ class Twice:
 
     def __init__(self, source: Source) -> None:
         self._source: Any = source
-        if not _is_regular(source):
-            self._source = tempfile.TemporaryFile()
-            for line in lines_of(source):
-                self._source.write(line.encode("utf-8", "surrogateescape") + b"\n")
+        if _is_regular(source):
+            return
+        self._source = tempfile.TemporaryFile()
+        for line in lines_of(source):
+            self._source.write(line.encode("utf-8", "surrogateescape") + b"\n")
+
+    def __del__(self) -> None:
+        if isinstance(self._source, io.BufferedRandom):
+            self._source.close()
 
     def lines(self) -> Iterator[str]:
         """The lines, from the first on. Raises OSError."""
         if not isinstance(self._source, (str, os.PathLike)):
             self._source.seek(0)
-        return lines_of(self._source)
+        yield from lines_of(self._source)
 
 
 def _is_regular(source: Union[Source, Any]) -> bool:

@@ -53,7 +53,7 @@ def counted(count: int, word: str, words: str) -> str:
 def read_words(words: Sequence[Word]) -> Outcome:
     """The machine whose groups are set apart by `_` in one word, or are these words; or that of one word
     without `_`, where there is one division into groups that makes one."""
-    if len(words) == 1 and is_machine(words[0].text):
+    if len(words) == 1 and "_" in words[0].text and is_machine(words[0].text):
         return Found(words[0].text)
     groups = list(words) if len(words) > 1 else _split(words[0])
     entries: List[Group] = []
