@@ -33,11 +33,14 @@ printf '%s\\n' "${COMPREPLY[@]}"
 ZSH = """
 _arguments() { print -rl -- "$@" }
 _describe() { print -rl -- ${(P)2} }
-file=$1
-shift
-words=("$@")
-CURRENT=$#
-source $file
+complete_here() {
+    local file=$1
+    shift
+    local -a words=("$@")
+    local CURRENT=$#
+    source $file
+}
+complete_here "$@"
 """
 
 
