@@ -2,20 +2,23 @@
 
 from __future__ import annotations
 
+import html
 import importlib.util
 import os
 import pathlib
+import re
 import struct
 import subprocess
 import sys
 import tempfile
 import unittest
-from typing import List, Tuple
+from typing import Any, List, Tuple
 
 import budlarem
 from budlarem import Agreement, Growth, lists, pictures, reports
 
 CHAMPION = "1RB1LB_1LA1RZ"
+FOUR_STATES = "1RB1LB_1LA0LC_1RZ1LD_1RD0RA"
 UNDECIDED = "0RB1LD_0RC1RD_0RD---_1LA0RB"
 HAS_PLOTS = all(importlib.util.find_spec(name) for name in ("numpy", "matplotlib"))
 
@@ -109,6 +112,13 @@ class NormalTest(unittest.TestCase):
 
     def test_no_machine(self) -> None:
         self.assertRaises(budlarem.MachineError, budlarem.normal, "1RB")
+        with self.assertRaisesRegex(
+            budlarem.MachineError, r"^machines\[1\]: no machine, from column 4 on: '1RB'"
+        ):
+            list(budlarem.distinct([CHAMPION, "1RB"]))
+        wrong: Any = [CHAMPION, None]
+        with self.assertRaisesRegex(TypeError, r"^machines\[1\] is of type NoneType"):
+            list(budlarem.distinct(wrong))
 
 
 class TriageTest(unittest.TestCase):
@@ -132,6 +142,17 @@ class TriageTest(unittest.TestCase):
         self.assertEqual((found.steps, found.visited), (1_000, (11, 101, 1_001)))
         self.assertEqual(lists.last_step("1RA1RA", 100_000, 778), 777)
         self.assertEqual(lists.last_step(CHAMPION, 100_000), 6)
+
+    def test_a_halt_is_told_with_its_steps_and_cells(self) -> None:
+        for machine, steps in (("------", 0), ("1RZ---", 1), (CHAMPION, 6), (FOUR_STATES, 107)):
+            rows = list(budlarem.trace(machine, steps))
+            told = tuple(len(rows[step].cells) for step in (steps // 100, steps // 10, steps))
+            for limit in (107, 108, 199, 250, 1_000_000):
+                found = budlarem.triage(machine, steps=limit)
+                self.assertEqual(
+                    (found.steps, found.visited, found.growth), (steps, told, Growth.HALTS), limit
+                )
+        self.assertIs(budlarem.triage(FOUR_STATES, steps=106).growth, Growth.ROOT)
 
 
 class PictureTest(unittest.TestCase):
@@ -171,6 +192,8 @@ class PictureTest(unittest.TestCase):
     def test_it_is_shown_and_saved(self) -> None:
         picture = budlarem.picture(CHAMPION, 6)
         self.assertTrue(picture._repr_png_().startswith(b"\x89PNG"))
+        with self.assertRaisesRegex(budlarem.PictureError, "^x.jpg: a picture is a PNG file"):
+            picture.save("x.jpg")
         with tempfile.TemporaryDirectory() as folder:
             path = pathlib.Path(folder) / "picture.png"
             picture.save(path)
@@ -199,10 +222,16 @@ class ReportTest(unittest.TestCase):
     def test_a_page(self) -> None:
         with tempfile.TemporaryDirectory() as folder:
             path = pathlib.Path(folder) / "page.html"
-            budlarem.report(self.LINES, path, steps=1_000, title="<lists>")
+            made = budlarem.report(self.LINES, path, steps=1_000, title="<lists>")
             page = path.read_text(encoding="utf-8")
+            self.assertEqual((made.path, made.html), (str(path), page))
+            self.assertNotIn("html=", repr(made))
             self.assertEqual(os.listdir(folder), ["page.html"])
         self.assertIn("&lt;lists&gt;", page)
+        frame = re.fullmatch(
+            '<iframe title="&lt;lists&gt;" srcdoc="([^"]*)" style="[^"]*"></iframe>', made._repr_html_()
+        )
+        self.assertEqual(frame and html.unescape(frame[1]), page)
         self.assertIn("1 of 1 undecided machines", page)
         self.assertEqual(page.count("data:image/png;base64,"), 1)
         self.assertFalse("http" in page.replace("http://www.w3.org", ""), "an address")

@@ -36,6 +36,7 @@ _PAGE = string.Template(
   pass-1, ..    what each pass decided so far, piece by piece; these folders may
                 be removed when no pass will be added
   lock          held while a run works here
+  README.txt    this page
 
 Whatever ended the run, it goes on by the same command, where it was begun$same.
 More passes may be added at its end; they decide what is left.
@@ -196,10 +197,13 @@ class Folder:
             return None
 
     def begin(self, begun: Begun) -> None:
-        """Writes down what it is begun with, and a page that says what its files are."""
+        """Writes down what it is begun with."""
+        write_whole(self.at(RUN), iter([begun.text().encode()]))
+
+    def explain(self, begun: Begun) -> None:
+        """Writes the page that says what its files are."""
         page = begun.page(self.path).encode("utf-8", "surrogateescape")
         write_whole(self.at(README), iter([page]))
-        write_whole(self.at(RUN), iter([begun.text().encode()]))
 
     def open_pass(self, passes: Sequence[Limits], identity: Identity) -> PassFolder:
         """The folder of the last of these passes."""
