@@ -40,6 +40,8 @@ class CompareTest(unittest.TestCase):
             ("translated R 1 2", "translated R 2 4 1 1", "agree"),
             ("translated R 1 2", "translated L 1 2", "contradict"),
             ("backward 1 2", "translated L 1 2", "agree"),
+            ("backward 1 2", "backward 1 2", "agree"),
+            ("backward 1 2", "backward 1 3", "contradict"),
             ("undecided steps", "undecided cells", "agree"),
             ("undecided steps", "halt 6 4", "second-decides"),
             ("cycler 1 2", "undecided cells", "first-decides"),

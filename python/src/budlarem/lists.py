@@ -16,6 +16,7 @@ from .same import form_of, turned
 from .verdicts import (
     STATES,
     VERDICTS,
+    Backward,
     Cycler,
     Halt,
     Refused,
@@ -129,7 +130,7 @@ def agreement(first: Verdict, second: Verdict, undefined_steps: bool = False) ->
     """How two verdicts on a machine go together.
 
     Those contradict each other that can't both be right: a halt and what never halts, two different halts, a
-    cycler and a translated cycler, translated cyclers to both sides.
+    cycler and a translated cycler, translated cyclers to both sides, two different trees.
     """
     if isinstance(first, Undecided) or isinstance(second, Undecided):
         if isinstance(first, Undecided) and isinstance(second, Undecided):
@@ -139,6 +140,8 @@ def agreement(first: Verdict, second: Verdict, undefined_steps: bool = False) ->
         alike = _halts_alike(first, second, undefined_steps)
     elif isinstance(first, Translated) and isinstance(second, Translated):
         alike = first.side == second.side
+    elif isinstance(first, Backward) and isinstance(second, Backward):
+        alike = first == second
     else:
         kinds = {type(first), type(second)}
         alike = Halt not in kinds and kinds != {Cycler, Translated}

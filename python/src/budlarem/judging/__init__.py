@@ -9,6 +9,7 @@ from typing import Deque, Iterator, List, Optional, Tuple
 from ..claims import Said, Word, sayings
 from ..engine import decide
 from ..limits import Limits, Plan
+from ..lists import Agreement, agreement
 from ..reading import read
 from ..reading.files import Source
 from ..verdicts import Answer, Halt, Refused, Undecided, Verdict
@@ -149,13 +150,12 @@ class Judging(Iterator[Judged]):
             return _by_word(said, ours)
         if isinstance(ours, Undecided):
             return None
-        claims_halt, halts = isinstance(said.claim, Halt), isinstance(ours, Halt)
-        if claims_halt != halts:
-            return Judged(Judgement.CONTRADICTED, said, ours, _other(said, halts))
-        if self._claim(said) == ours:
+        claim = self._claim(said)
+        if claim == ours:
             return Judged(Judgement.CONFIRMED, said, ours, "our verdict is the same")
-        if isinstance(said.claim, Halt) and self._claim(said) == said.claim:
-            return Judged(Judgement.CONTRADICTED, said, ours, _other(said, halts))
+        is_halt = isinstance(claim, Halt) and isinstance(ours, Halt)
+        if agreement(claim, ours) is Agreement.CONTRADICT and not (is_halt and claim != said.claim):
+            return Judged(Judgement.CONTRADICTED, said, ours, _other(said, ours))
         return None
 
     def _answered(self, said: Said, ours: Optional[Verdict], answer: Answer) -> Judged:
@@ -169,12 +169,10 @@ class Judging(Iterator[Judged]):
         return Judged(Judgement.NOT_JUDGED, said, ours, "%s: over the checker's limits" % claim)
 
 
-def _other(said: Said, halts: bool) -> str:
+def _other(said: Said, ours: Verdict) -> str:
     """What a line says, and that our verdict says another thing."""
-    if said.claim is None:
-        return "%s; ours %s" % (said.word, "halts" if halts else "never does")
-    claim = str(said.claim).partition(" ")[2]
-    return "%s; ours %s" % (claim, "halts otherwise" if halts else "never halts")
+    told = str(said.word) if said.claim is None else str(said.claim).partition(" ")[2]
+    return "%s; ours is %s" % (told, str(ours).partition(" ")[2])
 
 
 def _by_word(said: Said, ours: Verdict) -> Judged:
@@ -190,4 +188,4 @@ def _by_word(said: Said, ours: Verdict) -> Judged:
         if said.trouble is not None:
             return Judged(Judgement.NOT_JUDGED, said, ours, said.trouble)
         return Judged(Judgement.CONFIRMED, said, ours, "%s, as ours says" % word)
-    return Judged(Judgement.CONTRADICTED, said, ours, _other(said, halts))
+    return Judged(Judgement.CONTRADICTED, said, ours, _other(said, ours))

@@ -73,6 +73,7 @@ def parts_of(line: str) -> Parts:
         token = Word(match.start(), match.group())
         if match.group("address") is not None:
             addresses += _in_address(token)
+            rows += _row_in_address(token)
         elif _ROW.fullmatch(token.text):
             rows.append(token)
         elif _has_entries(_without_stop(token).text):
@@ -94,6 +95,13 @@ def _in_address(address: Word) -> Iterator[Text]:
         part = _without_stop(Word(address.begin + match.start(), match.group()))
         if _has_entries(part.text):
             yield Text((part,), address.begin, address.end, True, match.start() >= last)
+
+
+def _row_in_address(address: Word) -> List[Word]:
+    """The row that is an address's last part."""
+    begin = address.text.rfind("/") + 1
+    last = Word(address.begin + begin, address.text[begin:])
+    return [last] if _ROW.fullmatch(last.text) else []
 
 
 def _has_entries(text: str) -> bool:

@@ -5,6 +5,7 @@ from __future__ import annotations
 from typing import List, Tuple
 
 from ..engine import column_of
+from ..reading import Reading
 from ..reading.lines import read_line
 from ..verdicts import is_machine
 from .errors import FolderError
@@ -28,7 +29,7 @@ def hold_form(source: ListFile) -> None:
     number, text = refused[0]
     raise FolderError(
         "%d of the first %d lines of %s would be refused, so nothing was decided; line %d: %.200r: %s."
-        " `budlarem read LIST > machines.txt` takes the machines out of a list in other forms"
+        " `budlarem read LIST` writes the machines of a list in other forms"
         % (len(refused), len(lines), source.name, number, text, why_refused(number, text))
     )
 
@@ -41,7 +42,16 @@ def why_refused(number: int, line: str) -> str:
     if reading.reason is not None:
         return str(reading.reason)
     if reading.rewritten:
-        told = "; ".join(rewriting.sentence for rewriting in reading.rewritten)
+        told = "it is to be rewritten: " + "; ".join(kind.sentence for kind in reading.rewritten)
     else:
-        told = "there is more than the machine"
-    return "bb reads no such line (column %s): %s" % (column_of(line), told)
+        told = "it has more than the machine, " + _more(line, reading)
+    return "bb refuses it at column %s, since %s" % (column_of(line), told)
+
+
+def _more(line: str, reading: Reading) -> str:
+    """What stands beside a machine."""
+    if reading.fields:
+        return "%.100r" % reading.fields
+    if line.endswith("\r"):
+        return "a carriage return at its end"
+    return "a byte order mark at its begin" if line.startswith("\ufeff") else "spaces or signs about it"
