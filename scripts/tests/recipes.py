@@ -286,6 +286,22 @@ def judging(folder: Folder, blocks: List[str], tally: Tally) -> Held:
     yield "what to look at: %r" % shown, shown == [words[1], words[2], words[4], words[5]]
 
 
+def publishing(folder: Folder, blocks: List[str], tally: Tally) -> Held:
+    """A run's folder is published, and the archive's page is read."""
+    if not has_library(tally, "the recipe of budlarem publish"):
+        return
+    place_package(folder)
+    publish, look = blocks
+    folder.write("machines.txt", b"1RB1LB_1LA1RZ\n1RA1RA\n0RB---_0LA---\n")
+    folder.run("budlarem run machines.txt --out decided")
+    status, output, error = folder.run(publish)
+    yield "it is published: %r" % error, status == 0 and output.endswith(b"  decided.tar\n")
+    shown = folder.run(look)[1]
+    yield "its page: %r" % shown, shown.startswith(
+        b"Verdicts on 3 machines\n"
+    ) and b"python3 again.py" in shown
+
+
 def long_list() -> bytes:
     """Some two megabytes of machines that halt, and a line that is refused."""
     with open(os.path.join(TOP, "examples", "three_states", "expected.txt"), encoding="utf-8") as file:
@@ -475,6 +491,7 @@ def main() -> int:
         "Counting verdicts": (1, counting),
         "Finding wrong claims": (3, lambda folder, blocks: wrong_claims(folder, blocks, tally)),
         "Judging what others publish": (2, lambda folder, blocks: judging(folder, blocks, tally)),
+        "Publishing what was decided": (2, lambda folder, blocks: publishing(folder, blocks, tally)),
         "More than one core": (2, lambda folder, blocks: all_cores(folder, blocks, look, tally)),
         "Is the list whole": (1, whole),
         "Lists of any length": (1, lambda folder, blocks: any_length(folder, blocks, tally)),
