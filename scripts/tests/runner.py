@@ -186,8 +186,8 @@ def hold_words(tally: Tally, top: pathlib.Path) -> None:
     os.unlink(case.out)
     tally.hold("a run: %s" % case.said(), case.run() == 0)
     page = (case.out / "README.txt").read_text(encoding="utf-8")
-    for path in case.out.iterdir():
-        tally.hold("README.txt names %s" % path.name, path.name in page or path.name == "pass-2")
+    for name in sorted(os.listdir(case.out)):
+        tally.hold("README.txt names %s" % name, name in page or name == "pass-2")
     hold_commands(tally, case, page)
 
 
