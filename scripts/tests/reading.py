@@ -174,7 +174,7 @@ def forged(source: random.Random, verdict: Verdict) -> str:
     words_of = str(verdict).split(" ")
     place = source.randrange(2, len(words_of))
     if words_of[place].isdigit():
-        change = source.choice((-2, -1, 1, 2, 7, 10**6))
+        change = source.choice((-2, -1, 1, 2, 7, 5_000))
         words_of[place] = str(max(int(words_of[place]) + change, 0))
     else:
         words_of[place] = {"L": "R", "R": "L"}[words_of[place]]
