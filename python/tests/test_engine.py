@@ -10,7 +10,7 @@ import subprocess
 import sys
 import threading
 import unittest
-from typing import Any, Iterator, List
+from typing import Any, Iterator, List, Tuple
 
 import budlarem
 from budlarem import Answer, Limits, Plan
@@ -130,7 +130,7 @@ class CheckTest(unittest.TestCase):
         half: Any = 6.0
         pair: Any = (1, 1)
         nothing: Any = None
-        for wrong, told in (
+        cases: List[Tuple[budlarem.Verdict, str]] = [
             (budlarem.Halt(CHAMPION, text, 4), "steps is '6' of type str, but must be a whole number"),
             (budlarem.Halt(CHAMPION, half, 4), "steps is 6.0 of type float"),
             (budlarem.Halt(CHAMPION, True, 4), "steps is True"),
@@ -141,7 +141,8 @@ class CheckTest(unittest.TestCase):
             (budlarem.Translated(CHAMPION, "R", 1, 2, budlarem.Extent(1, text)), "extent.length is '6'"),
             (budlarem.Undecided(CHAMPION, nothing), "reason is None"),
             (budlarem.Refused(text), "column is '6'"),
-        ):
+        ]
+        for wrong, told in cases:
             with self.subTest(told), self.assertRaisesRegex(TypeError, r"^lines\[1\]\." + re.escape(told)):
                 list(budlarem.check([LINES[0], wrong]))
 

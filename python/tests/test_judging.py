@@ -59,6 +59,7 @@ class ClaimsTest(unittest.TestCase):
             ("infinite, cycler", Word.NEVER_HALTS),
             ("decided", Word.DECIDED),
             ("halts, decided", Word.HALTS),
+            ("BB2 halts 6", Word.HALTS),
             ("undecided", Word.UNDECIDED),
             ("I doubt that it can halt", None),
             ("doesn't halt", None),
@@ -71,7 +72,15 @@ class ClaimsTest(unittest.TestCase):
         self.assertTrue(all(word == word.lower() and word.isalnum() for word in WORDS))
 
     def test_what_seems_to_be_a_verdict(self) -> None:
-        for line in ("halt 6", "halt 06 4", "cycler 1", "translated R 1", "halt 6 18446744073709551616"):
+        for line in (
+            "halt 6",
+            "halt 06 4",
+            "halt 6 4 7",
+            "translated R 1 2 3",
+            "cycler 1",
+            "translated R 1",
+            "halt 6 18446744073709551616",
+        ):
             found = said("%s %s" % (CHAMPION, line))
             self.assertEqual((found.claim, found.trouble), (None, "no verdict: " + line))
         for fields in ("halt, nonhalt", "halt 6 4, cycler 1 2", "halt 6 4, infinite", "halt 6 4, halt 7 4"):

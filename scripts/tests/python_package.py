@@ -36,11 +36,10 @@ MODULES = (
     "lists",
     "pictures",
     "reports",
+    "reading",
+    "judging",
+    "same",
     "commands",
-    "commands.claims",
-    "commands.machines",
-    "commands.runs",
-    "commands.shared",
     "runner.progress",
 )
 DOCTESTS = """

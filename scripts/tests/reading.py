@@ -18,10 +18,11 @@ import pathlib
 import random
 import re
 import sys
+import time
 from typing import Dict, Iterator, List, Sequence, Tuple
 
 from library_built import LIBRARY, has_library
-from machines import mixed
+from machines import mixed, uniform
 from program import Ended, ended, joined, options
 from runs import SOURCE, environment, folder
 from tally import TOP, Tally, end_with, words
@@ -30,6 +31,7 @@ sys.path.insert(0, SOURCE)
 
 import budlarem  # noqa: E402
 from budlarem import Halt, Judgement, Limits, Undecided, Verdict  # noqa: E402
+from budlarem.same import form_of  # noqa: E402
 
 FORMS = os.path.join(TOP, "scripts", "tests", "forms.json")
 DOCUMENT = os.path.join(TOP, "docs", "python.md")
@@ -131,8 +133,10 @@ def hold_read(tally: Tally, program: str, lines: List[str]) -> None:
                 for one in refused[:50]
             )
             tally.hold("what budlarem read tells of %s" % name, whole and len(told) > len(refused))
-    decided = ended([program, "decide", "--steps=0"], right)
+    decided = ended([program, "decide", *options(LIMITS)], right)
     tally.hold("the program reads each of the machines", b"refused" not in decided.output)
+    found = command("decide", *options(LIMITS), given=right)
+    tally.hold("a list of machines alone is decided to the same bytes", found[:2] == (0, decided.output))
 
 
 def hold_check(tally: Tally, program: str, lines: List[str]) -> None:
@@ -174,7 +178,7 @@ def forged(source: random.Random, verdict: Verdict) -> str:
     words_of = str(verdict).split(" ")
     place = source.randrange(2, len(words_of))
     if words_of[place].isdigit():
-        change = source.choice((-2, -1, 1, 2, 7, 10**6))
+        change = source.choice((-2, -1, 1, 2, 7, 5_000))
         words_of[place] = str(max(int(words_of[place]) + change, 0))
     else:
         words_of[place] = {"L": "R", "R": "L"}[words_of[place]]
@@ -250,6 +254,15 @@ def hold_undefined_steps(tally: Tally, program: str, count: int, seed: int) -> N
     tally.hold("but where it is told", (status, output.count(b"contradicted\t")) == (1, 1))
 
 
+def hold_forms_of_machines(tally: Tally, machines: Sequence[str]) -> None:
+    """What has another form takes no longer to be told than is asked."""
+    began = time.process_time()
+    forms = {form_of(machine).text for machine in machines}
+    each = (time.process_time() - began) / len(machines)
+    tally.within("a form of a machine", each, 50e-6)
+    tally.hold("%d forms" % len(forms), len(forms) > len(machines) / 2)
+
+
 def examples() -> Iterator[Tuple[str, str]]:
     """The commands of the document that are shown with what they write."""
     text = pathlib.Path(DOCUMENT).read_text(encoding="utf-8")
@@ -289,6 +302,7 @@ def main() -> int:
     hold_trace(tally, asked.program, [*list(mixed(5, asked.seed)), "1rB", ""])
     hold_words(tally, 1_000, asked.seed)
     hold_undefined_steps(tally, asked.program, 1_000, asked.seed)
+    hold_forms_of_machines(tally, [uniform(random.Random(k), 4) for k in range(5_000)])
     hold_examples(tally)
     return tally.end()
 

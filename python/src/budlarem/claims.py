@@ -44,8 +44,10 @@ WORDS: Dict[str, Word] = {
 }
 # What sets fields apart, and with spaces what sets their words apart.
 _FIELDS = re.compile("[,;\t|:=(){}\\[\\]<>\"'`*#]+")
-_WORDS = re.compile("[,;\\s|:=(){}\\[\\]<>\"'`*#]+")
+_WORD = re.compile("[^,;\\s|:=(){}\\[\\]<>\"'`*#]+")
 _NUMBER = re.compile(r"[0-9]+")
+# What isn't a word of a language: a number, a name with one, a date.
+_NAME = re.compile(r"\S*[0-9]\S*")
 _KINDS = {"halt": (2,), "cycler": (2,), "backward": (2,), "translated": (5, 3)}
 
 
@@ -97,23 +99,30 @@ def _of_reading(reading: Reading) -> Said:
 
 
 def _claims(machine: str, part: str) -> Iterator[Verdict]:
-    """The verdicts that stand whole in a part of a line. Raises ValueError where a number stands behind a
-    verdict's word, but not those that the verdict has."""
-    words = [word for word in _WORDS.split(part) if word]
-    for place, word in enumerate(words):
-        behind = words[place + 1 : place + 6]
-        if word == "undecided" and behind[:1] in (["steps"], ["cells"]):
+    """The verdicts that stand whole in a part of a line. Raises ValueError, with what stands there, where a
+    number stands behind a verdict's word, but not the numbers that the verdict has."""
+    words = list(_WORD.finditer(part))
+    texts = [word.group() for word in words]
+    for place, kind in enumerate(texts):
+        behind = texts[place + 1 : place + 6]
+        if kind == "undecided" and behind[:1] in (["steps"], ["cells"]):
             yield Undecided(machine, behind[0])
-        first = behind[1:2] if word == "translated" and behind[:1] in (["L"], ["R"]) else behind[:1]
-        if word in _KINDS and first and first[0][0].isdigit():
-            yield _claim(machine, word, behind)
+        has_side = kind == "translated" and behind[:1] in (["L"], ["R"])
+        first = behind[1:2] if has_side else behind[:1]
+        if kind in _KINDS and first and first[0][0].isdigit():
+            claim, count = _claim(machine, kind, behind)
+            last = words[place + count : place + count + 2]
+            if len(last) == 2 and _NUMBER.fullmatch(last[1].group()):
+                if not part[last[0].end() : last[1].start()].strip(" "):
+                    raise ValueError(" ".join(texts[place : place + count + 2]))
+            yield claim
 
 
-def _claim(machine: str, kind: str, behind: List[str]) -> Verdict:
-    """The verdict of this kind whose words stand behind it. Raises ValueError, with what stands there."""
+def _claim(machine: str, kind: str, behind: List[str]) -> Tuple[Verdict, int]:
+    """The verdict of this kind whose words stand behind it, and how many these are. Raises ValueError."""
     for count in _KINDS[kind]:
         try:
-            return verdict_of(machine, " ".join([kind, *behind[:count]]), whole_number)
+            return verdict_of(machine, " ".join([kind, *behind[:count]]), whole_number), count
         except ValueError:
             continue
     raise ValueError(" ".join([kind, *behind[: max(_KINDS[kind])]]))
@@ -142,11 +151,11 @@ def _is_decided(fields: str) -> bool:
 
 
 def _words(fields: str) -> Set[Word]:
-    """What the words say that are fields, or of which a field is made, numbers apart."""
+    """What the words say that are fields, or of which a field is made, beside what has a digit."""
     found: Set[Word] = set()
     for field in _FIELDS.split(fields):
         whole = WORDS.get(_plain(field))
-        pieces = [piece for piece in field.split() if not _NUMBER.fullmatch(piece)]
+        pieces = [piece for piece in field.split() if not _NAME.fullmatch(piece)]
         told = [WORDS.get(_plain(piece)) for piece in pieces] if whole is None else [whole]
         if None not in told:
             found.update(word for word in told if word is not None)

@@ -23,8 +23,9 @@ __all__ = [
     "trace",
 ]
 
-# How many bytes a block has at most that is checked with large tapes.
-_LARGE = 1 << 22
+# How many bytes a block has at most that is checked with large tapes; and from how many cells on a call costs
+# the tapes, so that batches are no smaller where claims are checked.
+_LARGE, _LARGE_TAPES = 1 << 22, 1 << 20
 # It makes a call over lines, and leaves the reply in the room.
 Call = Callable[[Room, bytes], None]
 _ANSWERS = {str(answer): answer for answer in Answer}
@@ -174,13 +175,17 @@ def check(
     """
     threads = _made_ready(limits, Plan(), threads)
     _listed("lines", lines)
-    pace = Pace(MOST_LINES)
+    pace = _checking_pace(MOST_LINES, limits)
     told = _told(_batches.of_texts(_lines_of(lines), "lines", pace), checking(limits), threads, pace)
     return (_ANSWERS[answer] for _, answer in told)
 
 
-def _replies(blocks: Blocks, call: Call, threads: int) -> Iterator[bytes]:
-    pace = Pace(MOST_BYTES)
+def _checking_pace(most: int, limits: Limits) -> Pace:
+    """How many claims are checked together."""
+    return Pace(most, is_steady=limits.cells >= _LARGE_TAPES)
+
+
+def _replies(blocks: Blocks, call: Call, threads: int, pace: Pace) -> Iterator[bytes]:
     return (reply.text for _, reply in in_order(call, _batches.of_bytes(blocks, pace), threads, pace))
 
 
@@ -196,7 +201,7 @@ def decide_bytes(
     b'1RB1LB_1LA1RZ halt 6 4\\n'
     """
     threads = _made_ready(limits, plan, threads)
-    return _replies(blocks, deciding(limits, plan), threads)
+    return _replies(blocks, deciding(limits, plan), threads, Pace(MOST_BYTES))
 
 
 def check_bytes(blocks: Blocks, limits: Limits = Limits(), *, threads: int = 1) -> Iterator[bytes]:
@@ -207,7 +212,7 @@ def check_bytes(blocks: Blocks, limits: Limits = Limits(), *, threads: int = 1) 
     b'ok\\n'
     """
     threads = _made_ready(limits, Plan(), threads)
-    return _replies(blocks, checking(limits), threads)
+    return _replies(blocks, checking(limits), threads, _checking_pace(MOST_BYTES, limits))
 
 
 def checked(file: BinaryReader, limits: Limits, *, threads: int = 1) -> Iterator[Tuple[bytes, bytes]]:
@@ -215,7 +220,7 @@ def checked(file: BinaryReader, limits: Limits, *, threads: int = 1) -> Iterator
     call costs is the tapes. A line of more than LONG bytes is cut. Raises what `decide` does."""
     threads = _made_ready(limits, Plan(), threads)
     most = _LARGE if threads == 1 else _LARGE // 4
-    pace = Pace(most, _LARGE // 64)
+    pace = Pace(most, is_steady=True)
     blocks = iter(lambda: file.read(most), b"")
     told = in_order(checking(limits), _batches.of_bytes(blocks, pace), threads, pace)
     return ((lines, reply.text) for lines, reply in told)

@@ -51,6 +51,8 @@ class VerdictReader(ListReader):
 
 def do_compare(asked: argparse.Namespace) -> int:
     """Compares two files of verdict lines by machine, in any order."""
+    if asked.first == "-" == asked.second:
+        raise ValueError("A and B can't both be standard input")
     counts: Counter[Agreement] = collections.Counter()
     first, second = VerdictReader(asked.first), VerdictReader(asked.second)
     for found in compare(first.verdicts(), second.verdicts(), undefined_steps=asked.undefined_steps):

@@ -30,6 +30,8 @@ right."""
 
 def do_judge(asked: argparse.Namespace) -> int:
     """Judges a list of claims."""
+    if asked.theirs == "-" == asked.list:
+        raise ValueError("THEIRS and LIST can't both be standard input")
     reader = ListReader(asked.theirs)
     highest = asked.check_steps
     checker = GREATEST if highest is None else Limits(highest, GREATEST.cells, GREATEST.depth, GREATEST.nodes)
