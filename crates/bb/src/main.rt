@@ -128,6 +128,11 @@ fn tell_error(rt: &HostRuntime, asked: &Asked, fault: &Fault, error: &io::Error)
         return Ok(());
     }
     match (fault, &asked.file) {
+        (Fault::Read, Some(file)) if file.as_str() == "-" => {
+            eprintln!(rt;
+                "-: {error}; - is no file name here, and without FILE standard input is read"
+            )
+        }
         (Fault::Read, Some(file)) => eprintln!(rt; "{file}: {error}"),
         (Fault::Read, None) => eprintln!(rt; "standard input: {error}"),
         _ => eprintln!(rt; "standard output: {error}"),
