@@ -5,7 +5,7 @@
 
 A page that is opened from a disk may load no other files, so the modules stand in it as two scripts, the
 page's and the worker's: each module once, after those that it imports, as a function that gives what it
-exports. Comments that have lines of their own are left out; the modules in the repository have them.
+exports. Comments that have lines of their own and indentation are left out; the modules in the repository have them.
 """
 
 import base64
@@ -23,6 +23,8 @@ IMPORT = re.compile(r"^import (\{[^;]*?\}) from \"\./([a-z0-9]+)\.mjs\";$", re.M
 REEXPORT = re.compile(r"^export \{([^}]*)\};$", re.MULTILINE)
 EXPORT = re.compile(r"^export ((?:async )?(?:function|class|const|let) (\w+))", re.MULTILINE)
 COMMENT = re.compile(r"^[ \t]*(?:/\*\*(?:(?!\*/).)*\*/|//[^\n]*)\n", re.MULTILINE | re.DOTALL)
+
+INDENT = re.compile(r"^[ \t]+|\n(?=\n)", re.MULTILINE)
 
 
 def read(*path: str) -> str:
@@ -45,7 +47,7 @@ def wrapped(name: str) -> str:
     exported = [found for _, found in EXPORT.findall(text)]
     exported += [found.strip() for names in REEXPORT.findall(text) for found in names.split(",")]
     text = IMPORT.sub(r"const \1 = of_\2;", REEXPORT.sub("", text))
-    text = COMMENT.sub("", EXPORT.sub(r"\1", text))
+    text = INDENT.sub("", COMMENT.sub("", EXPORT.sub(r"\1", text)))
     return "const of_%s = (() => {\n%s\nreturn { %s };\n})();\n" % (name, text, ", ".join(exported))
 
 

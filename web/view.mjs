@@ -1,25 +1,34 @@
-/** The view of one machine: its verdict in words, its diagram, its table, and what stands behind. */
+/** The view of one machine: its verdict in words, its diagram, its tape, its table, and what stands behind. */
 import { showBehind, stepsOf } from "./behind.mjs";
 import { Diagram } from "./diagram.mjs";
 import { linkOf } from "./fields.mjs";
 import { listen } from "./gestures.mjs";
 import { machineOf, sentence, stateLetter } from "./machine.mjs";
-import { copy, made, part, save } from "./parts.mjs";
+import { copy, copyPicture, made, part, save, tellLive } from "./parts.mjs";
+import { Tape } from "./tape.mjs";
 
 const NARROW = "(max-width: 900px)";
+const ELSEWHERE = "https://bbchallenge.org/";
 
 export class View {
   constructor() {
-    this.diagram = new Diagram();
+    this.diagram = new Diagram((place) => this.tape.go(place.step));
+    this.tape = new Tape((place, closes) => this.diagram.goTo(place, closes));
     /** @type {{machine: string, plan: Record<string, any>} | null} */
     this.about = null;
-    listen(this.diagram);
+    listen(this.diagram, (told, byKeys) => {
+      part("place-told").textContent = told;
+      byKeys && tellLive(told);
+    });
     /** @param {string} id @param {() => void} act */
     const on = (id, act) => part(id).addEventListener("click", act);
-    on("zoom-in", () => this.diagram.zoom(true));
-    on("zoom-out", () => this.diagram.zoom(false));
+    on("zoom-in", () => this.diagram.zoom(4));
+    on("zoom-out", () => this.diagram.zoom(1 / 4));
     on("fit", () => this.diagram.fit());
+    on("marked", () => this.diagram.reopen());
     on("png", async () => save(/** @type {Blob} */ (await this.diagram.png()), `${this.about?.machine}.png`));
+    on("copy-png", () => copyPicture(this.diagram.png(), part("copy-png")));
+    on("copy-text", () => copy(this.about?.machine ?? "", part("copy-text")));
     on("link", () => this.link());
     on("back", () => part("rows").focus());
   }
@@ -27,19 +36,24 @@ export class View {
   /**
    * Shows a machine with its verdict, decided at these limits.
    * @param {string} machine @param {import("./machine.mjs").Verdict} verdict
-   * @param {Record<string, any>} plan @param {boolean} moves whether a narrow page scrolls to it
+   * @param {Record<string, any>} plan
+   * @param {{moves: boolean, given: string | null, clean: boolean}} how whether a narrow page scrolls to it, the
+   *   line as it was given where that isn't the machine, and whether such lines are read
    */
-  open(machine, verdict, plan, moves) {
+  open(machine, verdict, plan, { moves, given, clean }) {
     const isMachine = verdict.kind !== "refused";
     this.about = { machine, plan };
     part("machine").hidden = false;
     part("machine-text").textContent = isMachine ? machine : "No machine";
     part("machine-says").textContent = sentence(verdict);
-    document.querySelectorAll(".picture, .columns").forEach((box) => {
+    document.querySelectorAll(".picture, .columns, #tape, #about, #machine-links").forEach((box) => {
       /** @type {HTMLElement} */ (box).hidden = !isMachine;
     });
     if (isMachine) {
       this.show(machineOf(machine), verdict, plan);
+    }
+    if (moves) {
+      tellLive(sentence(verdict));
     }
     if (moves && matchMedia(NARROW).matches) {
       part("machine").scrollIntoView({ block: "start" });
@@ -56,11 +70,13 @@ export class View {
     part("machine-table").replaceChildren(tableOf(machine));
     part("legend").replaceChildren(...legendOf(machine));
     part("diagram").setAttribute("aria-label", `Space-time diagram of ${machine.text}. ${sentence(verdict)}`);
-    const steps = stepsOf(verdict, Number(plan.steps));
-    this.diagram.open({ machine: machine.text, cells, symbols: machine.symbols, ...steps }, []);
-    showBehind({ machine: machine.text, cells, verdict }, (marks) => {
-      this.diagram.marks = marks;
-      this.diagram.draw();
+    /** @type {HTMLAnchorElement} */ (part("elsewhere")).href = ELSEWHERE + machine.text;
+    part("marked").hidden = verdict.kind !== "cycler" && verdict.kind !== "translated";
+    const { last, upto } = stepsOf(verdict, Number(plan.steps));
+    const about = { machine: machine.text, cells };
+    showBehind({ ...about, verdict }, (marks, pair) => {
+      this.diagram.open({ ...about, last, upto, pair }, marks);
+      this.tape.open({ ...about, last: upto }, pair?.first ?? 0);
     });
   }
 
@@ -80,7 +96,10 @@ function tableOf(/** @type {import("./machine.mjs").Machine} */ machine) {
   const head = made("tr", {}, made("td", { "aria-label": "state and symbol" }), ...symbols);
   const rows = Array.from({ length: machine.states }, (_, state) => {
     const entries = machine.rules.slice(state * machine.symbols, (state + 1) * machine.symbols);
-    const cells = entries.map(({ entry }) => made("td", {}, entry === null ? "---" : entryText(entry)));
+    const cells = entries.map(({ symbol, entry }) => {
+      const given = { "data-entry": `${stateLetter(state)}${symbol}` };
+      return made("td", given, entry === null ? "---" : entryText(entry));
+    });
     return made("tr", {}, made("th", { scope: "row" }, stateLetter(state)), ...cells);
   });
   return made("table", {}, head, ...rows);
