@@ -41,7 +41,8 @@ async function compiled() {
   return WebAssembly.compile(bytes);
 }
 
-const url = URL.createObjectURL(new Blob([text("worker")], { type: "text/javascript" }));
+const scripts = new Blob([text("shared"), text("worker")], { type: "text/javascript" });
+const url = URL.createObjectURL(scripts);
 /** @type {Promise<WebAssembly.Module | null>} */
 const ready = isSupported() ? compiled() : Promise.resolve(null);
 ready.catch(() => undefined);
