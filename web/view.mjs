@@ -3,6 +3,7 @@ import { showBehind, stepsOf } from "./behind.mjs";
 import { Diagram } from "./diagram.mjs";
 import { linkOf } from "./fields.mjs";
 import { listen } from "./gestures.mjs";
+import { tellGiven } from "./given.mjs";
 import { machineOf, sentence, stateLetter } from "./machine.mjs";
 import { copy, copyPicture, made, part, save, tellLive } from "./parts.mjs";
 import { Tape } from "./tape.mjs";
@@ -37,15 +38,16 @@ export class View {
    * Shows a machine with its verdict, decided at these limits.
    * @param {string} machine @param {import("./machine.mjs").Verdict} verdict
    * @param {Record<string, any>} plan
-   * @param {{moves: boolean, given: string | null, clean: boolean}} how whether a narrow page scrolls to it, the
-   *   line as it was given where that isn't the machine, and whether such lines are read
+   * @param {{moves: boolean, given: import("./given.mjs").Given}} how whether a narrow page scrolls to it, and the
+   *   line as it was given
    */
-  open(machine, verdict, plan, { moves, given, clean }) {
+  open(machine, verdict, plan, { moves, given }) {
     const isMachine = verdict.kind !== "refused";
     this.about = { machine, plan };
     part("machine").hidden = false;
-    part("machine-text").textContent = isMachine ? machine : "No machine";
+    part("machine-text").textContent = machine;
     part("machine-says").textContent = sentence(verdict);
+    tellGiven(given, verdict);
     document.querySelectorAll(".picture, .columns, #tape, #about, #machine-links").forEach((box) => {
       /** @type {HTMLElement} */ (box).hidden = !isMachine;
     });
@@ -53,7 +55,7 @@ export class View {
       this.show(machineOf(machine), verdict, plan);
     }
     if (moves) {
-      tellLive(sentence(verdict));
+      tellLive(part("machine-says").textContent ?? "");
     }
     if (moves && matchMedia(NARROW).matches) {
       part("machine").scrollIntoView({ block: "start" });
