@@ -11,7 +11,7 @@
 import { Asker } from "./pool.mjs";
 import { paintAxes, paintHeads, paintMarks, paintPicture, paintPlace, palette } from "./paint.mjs";
 import { counted, shown } from "./machine.mjs";
-import { part } from "./parts.mjs";
+import { part, signed } from "./parts.mjs";
 import { symbolAt } from "./sample.mjs";
 import { cellsOf, closeTo, stepsOf, zoomed } from "./scale.mjs";
 
@@ -22,11 +22,6 @@ const LEFT_NARROW = 58;
 const NARROW = 500;
 // A view is moved so far beyond what was visited.
 const BEYOND = 4;
-
-/** A number as people read it, below 0 with a minus. */
-export function signed(/** @type {number} */ value) {
-  return shown(value).replace("-", "−");
-}
 
 export class Diagram {
   /** @param {(place: Place) => void} choose what happens where a step is chosen in the picture */

@@ -6,7 +6,7 @@
 A page that is opened from a disk may load no other files, so the modules stand in it as three scripts: that
 of the page, that of the worker, and what both begin with. Each module stands there once, after those that it
 imports, as a function that gives what it exports. A content security policy names these scripts by their
-hashes, so that the browser runs no other one and connects to nothing. Comments that have lines of their own and indentation are left out; the modules in the repository have them.
+hashes, so that the browser runs no other one and connects to nothing. Comments, types and indentation are left out; the modules in the repository have them.
 """
 
 import base64
@@ -26,6 +26,7 @@ REEXPORT = re.compile(r"^export \{([^}]*)\};$", re.MULTILINE)
 EXPORT = re.compile(r"^export ((?:async )?(?:function|class|const|let) (\w+))", re.MULTILINE)
 COMMENT = re.compile(r"^[ \t]*(?:/\*\*(?:(?!\*/).)*\*/|//[^\n]*)\n", re.MULTILINE | re.DOTALL)
 
+TYPE = re.compile(r"/\*\* @(?:type|param|returns) [^\n]*? \*/ ?")
 INDENT = re.compile(r"^[ \t]+|\n(?=\n)", re.MULTILINE)
 
 
@@ -49,7 +50,7 @@ def wrapped(name: str) -> str:
     exported = [found for _, found in EXPORT.findall(text)]
     exported += [found.strip() for names in REEXPORT.findall(text) for found in names.split(",")]
     text = IMPORT.sub(r"const \1 = of_\2;", REEXPORT.sub("", text))
-    text = INDENT.sub("", COMMENT.sub("", EXPORT.sub(r"\1", text)))
+    text = INDENT.sub("", TYPE.sub("", COMMENT.sub("", EXPORT.sub(r"\1", text))))
     return "const of_%s = (() => {\n%s\nreturn { %s };\n})();\n" % (name, text, ", ".join(exported))
 
 
@@ -110,7 +111,7 @@ def main() -> None:
     both = "\n" + joined(shared)
     own = "\n" + joined([module for module in page_modules if module not in shared])
     worker = "\n" + joined([module for module in worker_modules if module not in shared])
-    style = "\n" + read(WEB, "page.css")
+    style = "\n" + INDENT.sub("", read(WEB, "page.css"))
     scripts = [
         '<script type="application/json" id="examples-data">%s</script>' % data,
         '<script type="text/plain" id="module">%s</script>' % engine,
@@ -123,7 +124,7 @@ def main() -> None:
         "<!--style-->": "<style>%s</style>" % style,
         "<!--scripts-->": "\n".join(scripts),
     }
-    text = read(WEB, "page.html")
+    text = INDENT.sub("", read(WEB, "page.html"))
     for place, part in parts.items():
         text = text.replace(place, part)
     with open(page + ".new", "w", encoding="utf-8") as file:

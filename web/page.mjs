@@ -233,9 +233,9 @@ function showRows() {
 }
 
 function openRow(/** @type {number} */ row, /** @type {boolean} */ moves) {
-  const { machine, verdict, given, number } = results.row(row);
+  const { machine, verdict, answer, given, number } = results.row(row);
   const isRead = box("clean").checked && run.mode === "decide";
-  view.open(machine, verdict, run.plan, { moves, given: { text: given, number, isRead } });
+  view.open({ machine, verdict, answer, plan: run.plan }, moves, { text: given, number, isRead });
 }
 
 /** Opens the next or the previous row that is shown, of any kind or an undecided one. */

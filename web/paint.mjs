@@ -9,6 +9,7 @@
  * @typedef {{x: number, y: number, wide: number, high: number}} Box
  */
 import { shown } from "./machine.mjs";
+import { signed } from "./parts.mjs";
 import { FRAMED, symbolAt } from "./sample.mjs";
 import { cellsOf, stepsOf, ticks } from "./scale.mjs";
 
@@ -119,7 +120,7 @@ export function paintAxes(pen, area, view, chosen) {
   for (const position of ticks(view.left, cellsOf(view), area.width, POSITIONS_APART)) {
     const x = columnAt(area, view, position) + view.wide / 2;
     if (x > area.x + 8 && x < area.x + area.width - 14) {
-      pen.fillText(shown(position).replace("-", "−"), x, area.y - 11);
+      pen.fillText(signed(position), x, area.y - 11);
       pen.fillRect(x, area.y - 4, 1, 4);
     }
   }

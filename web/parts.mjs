@@ -29,6 +29,13 @@ export function made(name, given = {}, ...children) {
   return element;
 }
 
+const number = new Intl.NumberFormat("en");
+
+/** A number as people read it, below 0 with a minus. */
+export function signed(/** @type {number | bigint} */ value) {
+  return number.format(value).replace("-", "−");
+}
+
 /** Hands a file to whoever uses the page. */
 export function save(/** @type {Blob} */ blob, /** @type {string} */ name) {
   const url = URL.createObjectURL(blob);

@@ -120,6 +120,12 @@ export class Asker {
     this.timer = setTimeout(() => this.endWorker(), Math.max(0, left));
   }
 
+  /** Ends the worker in the middle of its answer, which isn't handed over. */
+  end() {
+    this.waiting = null;
+    this.endWorker();
+  }
+
   /** Ends the worker in the middle of its answer, and asks what waits. */
   endWorker() {
     this.worker?.terminate();

@@ -140,7 +140,7 @@ export function ticks(first, units, pixels, apart) {
   const between = [1, 2, 5, 10].map((one) => one * power).find((one) => one >= least) ?? 10 * power;
   const found = [];
   for (let at = Math.ceil(first / between) * between; at <= first + units * pixels; at += between) {
-    found.push(at);
+    found.push(at === 0 ? 0 : at);
   }
   return found;
 }

@@ -1,8 +1,7 @@
 /** The tape at one step: its cells about the head, the entry that is used next, and moving on by one step. */
 import { Asker } from "./pool.mjs";
 import { machineOf, shown, stateLetter } from "./machine.mjs";
-import { made, part } from "./parts.mjs";
-import { signed } from "./diagram.mjs";
+import { made, part, signed } from "./parts.mjs";
 
 /**
  * @typedef {import("./traced.mjs").Row} Row

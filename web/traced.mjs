@@ -107,6 +107,31 @@ export function lastOf(/** @type {{machine: string, cells: number, upto: number}
   return windowsOf(machine).reach(upto, cells);
 }
 
+// The powers of the steps between which cells are said to grow as a root.
+const ROOT = [0.2, 0.8];
+
+/**
+ * How the cells that a run visits grow, by how many they are after a hundredth of the steps, a tenth, and all.
+ * @param {{machine: string, cells: number, upto: number}} asked
+ * @returns {import("./facts.mjs").Growth}
+ */
+export function growthOf({ machine, cells, upto }) {
+  const windows = windowsOf(machine);
+  const reached = windows.reach(upto, cells);
+  const wide = (/** @type {number} */ step) => windows.high(step) - windows.low(step) + 1;
+  const halts = windows.ended && windows.step <= upto;
+  const steps = halts ? upto : reached;
+  const apart = Math.max(1, Math.floor(steps / 100));
+  if (Math.floor(reached / apart) < 100) {
+    const last = wide(reached);
+    return { growth: halts ? "halts" : "line", steps: reached, visited: [last, last, last] };
+  }
+  const visited = [1, 10, 100].map((many) => wide(many * apart));
+  const power = Math.log10(visited[2] / visited[0]) / 2;
+  const grows = power < ROOT[0] ? "logarithm" : power < ROOT[1] ? "root" : "line";
+  return { growth: visited[1] === visited[2] ? "stays" : grows, steps, visited };
+}
+
 /**
  * The picture of a view: a pixel for each column and row, in the mean colour of the cells that it stands for.
  * @param {import("./bb.mjs").Engine} engine

@@ -17,7 +17,7 @@ import { load } from "./bb.mjs";
 import { ANSWERS, KINDS } from "./machine.mjs";
 import { lineAt, prepared } from "./prepare.mjs";
 import { readAnswers, readLines, startsOf, tallied } from "./replies.mjs";
-import { lastOf, pictured, traced } from "./traced.mjs";
+import { growthOf, lastOf, pictured, traced } from "./traced.mjs";
 
 const NEWLINE = 10;
 // A piece is answered in batches that take about so long, so that what was done stays where it is stopped.
@@ -94,6 +94,12 @@ function originOf({ bytes, numbers, places }, given, { from, line, count }, kind
   return { numbers: numbers?.slice(line, line + count) ?? null, source, places: shifted };
 }
 
+/** The verdict on one machine and the checker's answer to it. */
+function decidedOne(/** @type {{machine: string, plan: Record<string, any>}} */ { machine, plan }) {
+  const part = answered(new TextEncoder().encode(machine), { mode: "decide", clean: false, plan });
+  return { line: new TextDecoder().decode(part.bytes).trimEnd(), answer: ANSWERS[part.answers[0]] };
+}
+
 /** Answers a list again and again for a while, so that the browser compiles well what is called often. */
 function warm(/** @type {Uint8Array} */ list) {
   const begun = performance.now();
@@ -139,6 +145,10 @@ async function answer(/** @type {any} */ asked) {
   } else if (asked.what === "picture") {
     const picture = pictured(engine, asked);
     postMessage({ picture }, /** @type {any} */ ([picture.image.buffer, picture.sample.bytes.buffer]));
+  } else if (asked.what === "growth") {
+    postMessage({ growth: growthOf(asked) });
+  } else if (asked.what === "one") {
+    postMessage(decidedOne(asked));
   } else if (asked.what === "last") {
     postMessage({ last: lastOf(asked) });
   } else {
