@@ -51,6 +51,8 @@ export class Diagram {
      */
     this.place = null;
     this.frame = 0;
+    // How often a picture was asked for.
+    this.asked = 0;
     new ResizeObserver(() => this.resized()).observe(this.canvas);
     matchMedia("(prefers-color-scheme: dark)").addEventListener("change", () => this.fetch());
   }
@@ -100,11 +102,17 @@ export class Diagram {
     this.canvas.dataset.state = "asked";
     const fit = { last, pair, opens: this.opens };
     const question = { what: "picture", machine, cells, upto, view: this.view, width, height, fit };
-    this.asker.ask({ ...question, palette: palette() }, (answer) => this.take(answer));
+    this.asked += 1;
+    const { asked } = this;
+    this.asker.ask({ ...question, palette: palette() }, (answer) => this.take(answer, asked === this.asked));
     this.drawSoon();
   }
 
-  take(/** @type {any} */ answer) {
+  /** Takes a picture; that of an older view is shown, scaled, until the last one comes. */
+  take(/** @type {any} */ answer, /** @type {boolean} */ isLast) {
+    if (!isLast && (answer.error || this.view === null)) {
+      return;
+    }
     if (answer.error) {
       part("diagram-told").textContent = `No diagram: ${answer.message}.`;
       return;
@@ -114,7 +122,7 @@ export class Diagram {
     this.data = data;
     this.sheet = sheetOf(data);
     this.view ??= data.view;
-    this.canvas.dataset.state = "taken";
+    this.canvas.dataset.state = isLast ? "taken" : "asked";
     this.drawSoon();
   }
 

@@ -7,6 +7,7 @@ const DASH = 45;
 const [ZERO, NINE] = [48, 57];
 const [A, L, R, Z, UNDERSCORE] = [65, 76, 82, 90, 95];
 const [FEWEST_SYMBOLS, MOST_SYMBOLS] = [2, 10];
+const MOST_STATES = 25;
 // A longer line has no machine; it is given as it is, and refused.
 const LONGEST_LINE = 16_384;
 const NUMBERS = "(?:halt \\d+ \\d+|cycler \\d+ \\d+|translated [LR] \\d+ \\d+(?: \\d+ \\d+)?|backward \\d+ \\d+)";
@@ -131,20 +132,27 @@ function wholeUpTo(/** @type {Uint8Array} */ bytes) {
   return bytes.length;
 }
 
-/** Where the machine ends that begins there; -1 where none does, or where it is longer than any line. */
+/**
+ * Where the machine ends that begins there, as the engine reads it; -1 where none does, or where it is longer than
+ * any line.
+ */
 function machineEnd(/** @type {Uint8Array} */ bytes, /** @type {number} */ from) {
-  let symbols = 0;
+  let [symbols, size, groups, state, symbol] = [0, 0, 1, A, ZERO];
   let at = from;
   while (isEntry(bytes, at)) {
-    at += 3;
     symbols += 1;
-    if (bytes[at] === UNDERSCORE && symbols >= FEWEST_SYMBOLS && symbols <= MOST_SYMBOLS) {
+    symbol = bytes[at] === DASH ? symbol : Math.max(symbol, bytes[at]);
+    state = bytes[at] === DASH || bytes[at + 2] === Z ? state : Math.max(state, bytes[at + 2]);
+    at += 3;
+    size = groups === 1 ? symbols : size;
+    if (bytes[at] === UNDERSCORE && symbols === size && size >= FEWEST_SYMBOLS) {
       at += 1;
       symbols = 0;
+      groups += 1;
     }
   }
-  const isWhole = symbols >= FEWEST_SYMBOLS && symbols <= MOST_SYMBOLS && at - from <= LONGEST_LINE;
-  return isWhole ? at : -1;
+  const isWhole = symbols === size && size >= FEWEST_SYMBOLS && size <= MOST_SYMBOLS && groups <= MOST_STATES;
+  return isWhole && state < A + groups && symbol < ZERO + size && at - from <= LONGEST_LINE ? at : -1;
 }
 
 /** Whether an entry stands there, such as `1RB` or `---`. */

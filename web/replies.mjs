@@ -13,6 +13,11 @@ const NINE = 57;
 const LETTER_R = 114;
 const REFUSED = KINDS.indexOf("refused");
 // The kind by its first letter and the answer by its second one; no two have the same.
+for (const letters of [KINDS.map((word) => word[0]), ANSWERS.map((word) => word[1])]) {
+  if (new Set(letters).size < letters.length) {
+    throw new Error("two kinds or answers can't be told apart by their letters");
+  }
+}
 const KIND_BY_LETTER = new Uint8Array(256).fill(REFUSED);
 KINDS.forEach((word, kind) => (KIND_BY_LETTER[word.charCodeAt(0)] = kind));
 const ANSWER_BY_LETTER = new Uint8Array(256);
