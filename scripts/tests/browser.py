@@ -103,9 +103,11 @@ class Page:
             value,
         )
 
-    def list(self, text: str) -> None:
+    def open_list(self, text: str) -> None:
         """Types a list, in place of a file where one is chosen, and waits until it is answered."""
-        self.js("document.getElementById('file-shown').hidden || document.getElementById('file-remove').click()")
+        self.js(
+            "document.getElementById('file-shown').hidden || document.getElementById('file-remove').click()"
+        )
         self.type("list", text)
         self.js("document.getElementById('results').dataset.state = 'asked'")
         self.run()
@@ -184,7 +186,11 @@ class Page:
 
     def saved(self) -> bytes:
         """The bytes that the page saves."""
-        self.js("document.getElementById('save').click()")
+        self.click("save")
+        return self.taken()
+
+    def taken(self) -> bytes:
+        """The bytes of a list that the page is about to save."""
         names = [os.path.join(self.folder, name) for name in ("verdicts.txt", "answers.txt")]
         path = self.until(lambda: next(filter(is_whole, names), None))
         with open(path, "rb") as file:

@@ -49,7 +49,9 @@ def hold_forms(tally: Tally) -> None:
     with open(FORMS, encoding="utf-8") as file:
         forms = json.load(file)
     told, found = readings([form["line"] for form in forms["forms"]])
-    tally.hold("the sentences of the reader", told == {name: forms[name] for name in ("advice", "rewritings")})
+    tally.hold(
+        "the sentences of the reader", told == {name: forms[name] for name in ("advice", "rewritings")}
+    )
     for form, reading in zip(forms["forms"], found):
         tally.hold("%r is read as %s" % (form["line"], reading), reading == wanted_of(form))
 
@@ -104,7 +106,7 @@ def hold_refused_rows(held: Held) -> None:
     """A refused line shows its text, with a caret under the place, the reason in words and its number."""
     page = held.page
     page.plan({}, "auto", True)
-    page.list("# a list\n\n1RB1LB 1LA1RZ\n1RB1LH_1LA1RZ\n")
+    page.open_list("# a list\n\n1RB1LB 1LA1RZ\n1RB1LH_1LA1RZ\n")
     rows = page.js(ROWS)
     held.hold("one machine of two states: %s" % rows, rows[0][1].startswith("1RB1LB_1LA1RZ"))
     held.hold("what was rewritten stands beside it", "1RB1LB 1LA1RZ" in rows[0][1])
@@ -130,7 +132,7 @@ def hold_counts(held: Held) -> None:
     """Each line is counted once: decided, undecided, refused or left out; and the kinds have the same."""
     page = held.page
     page.plan({"steps": 100}, "auto", True)
-    page.list("1RB1LB_1LA1RZ\n1RA1RA\nno\n# c\n\n1RB1LC_1RC1RB_1RD0LE_1LA1LD_1RZ0LA\n")
+    page.open_list("1RB1LB_1LA1RZ\n1RA1RA\nno\n# c\n\n1RB1LC_1RC1RB_1RD0LE_1LA1LD_1RZ0LA\n")
     status, kinds = page.text("status"), counted(page)
     wanted = "2 decided, 1 undecided, 1 refused, 2 left out"
     held.hold("each line once: " + status, wanted in status)
@@ -141,12 +143,12 @@ def hold_modes(held: Held) -> None:
     """Verdict lines are told by whole ones; a button says what it does; comments aren't checked."""
     page = held.page
     page.plan({}, "auto", True)
-    page.list("1RA1RA\n")
+    page.open_list("1RA1RA\n")
     page.type("list", "# the cycler 1RB\n1RB1LB_1LA1RZ halts\n1RA1RA cycler\n")
     held.hold("words don't make verdict lines", page.text("run") == "Decide")
     page.type("list", "# theirs\n1RB1LB_1LA1RZ halt 6 4\n\n1RA1RA cycler 1 2\n1RB1LB_1LA1RZ\n")
     held.hold("it checks", page.text("run") == "Check")
-    page.list("# theirs\n1RB1LB_1LA1RZ halt 6 4\n\n1RA1RA cycler 1 2\r\n1RB1LB_1LA1RZ\n")
+    page.open_list("# theirs\n1RB1LB_1LA1RZ halt 6 4\n\n1RA1RA cycler 1 2\r\n1RB1LB_1LA1RZ\n")
     held.hold("comments are nothing", page.saved() == b"ok\nbad\nunread\n")
     held.hold("their numbers", [row[0] for row in page.js(ROWS)] == ["2", "4", "5"])
     page.js("document.querySelectorAll('#shown .row')[1].click()")
@@ -186,7 +188,7 @@ def hold_first_row(held: Held) -> None:
     page = held.page
     page.plan({}, "auto", True)
     for machine in ("1RA1RA", "0RB---_0LA---"):
-        page.list("%s\n1RB1LB_1LA1RZ\n" % machine)
+        page.open_list("%s\n1RB1LB_1LA1RZ\n" % machine)
         held.hold("the first row of a new list", page.text("machine-text") == machine)
 
 
@@ -195,7 +197,7 @@ def hold_numbers(held: Held) -> None:
     page = held.page
     for text, steps in (("1e3", 1000), ("1_000", 1000), ("10^3", 1000), ("1.5e3", 1500), ("1,000", 1000)):
         page.plan({"steps": text}, "decide", True)
-        page.list("1RB1LC_1RC1RB_1RD0LE_1LA1LD_1RZ0LA\n")
+        page.open_list("1RB1LC_1RC1RB_1RD0LE_1LA1LD_1RZ0LA\n")
         page.click("link")
         held.hold("%s is a number" % text, "steps=%d" % steps in page.js("return location.hash"))
     page.js("history.replaceState(null, '', location.pathname)")
@@ -232,10 +234,13 @@ def hold_session(held: Held) -> None:
     page = held.page
     page.open()
     page.plan({"steps": 123}, "auto", True)
-    page.list("1RA1RA\n0RB---_0LA---\n")
+    page.open_list("1RA1RA\n0RB---_0LA---\n")
     page.driver.refresh()
     page.ended()
-    held.hold("the list is there", page.js("return document.getElementById('list').value") == "1RA1RA\n0RB---_0LA---\n")
+    held.hold(
+        "the list is there",
+        page.js("return document.getElementById('list').value") == "1RA1RA\n0RB---_0LA---\n",
+    )
     held.hold("the limits too", page.js("return document.getElementById('steps').value") == "123")
     page.file(b"1RA1RA\n")
     page.ended()

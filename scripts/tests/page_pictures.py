@@ -66,7 +66,9 @@ def sampled(step: int) -> Row:
     """A step of the run of the champion of five states, above 0, by the engine alone."""
     with tempfile.TemporaryDirectory() as folder:
         engine = Engine(folder)
-        reply = engine.call("trace", {"steps": step, "from": step, "every": 1}, with_origin(CHAMPION_5).encode())
+        reply = engine.call(
+            "trace", {"steps": step, "from": step, "every": 1}, with_origin(CHAMPION_5).encode()
+        )
         engine.end()
     _, state, head, cells = reply.reply.decode().split()
     begin = next(at for at, symbol in enumerate(cells) if symbol in "23")
@@ -80,6 +82,7 @@ def hold_scaled(held: Held, seed: int) -> None:
     page.open("#machine=%s&steps=50000000" % CHAMPION_5)
     view, colours = page.drawn(), palette(page)
     every, across = int(view["every"]), int(view["across"])
+    wide = page.js("return document.getElementById('diagram').clientWidth") - int(view["x"])
     told = page.text("diagram-told")
     held.hold("a pixel is the mean of cells: " + told, "mean colour of %d cells" % across in told)
     held.hold("all cells are seen: " + told, "all of 12,289 cells visited" in told)
@@ -87,7 +90,7 @@ def hold_scaled(held: Held, seed: int) -> None:
     held.hold("it goes from the start to the halt", last <= 47_176_870 < last + every and view["top"] == 0)
     for number in source.sample(range(50, last // every), 6):
         row = sampled(number * every)
-        columns = [source.randrange(1, (12_288 // across) - 1) for _ in range(40)]
+        columns = [source.randrange(1, wide - 40) for _ in range(40)]
         begins = [int(view["left"]) + across * (x + 20) for x in columns]
         wanted = [mean(row, begin, across, colours) for begin in begins]
         found = pixels(page, [[x + 20, number] for x in columns])
@@ -184,9 +187,7 @@ def signed(number: int) -> str:
 def tape_told(row: Row, entry: str) -> str:
     """What the page says of a step, as far as the entry that comes next."""
     symbol = row.cells[row.head - row.low] if 0 <= row.head - row.low < len(row.cells) else "0"
-    head = "Step {:,}: state {} reads {} at position {}".format(
-        row.step, row.state, symbol, signed(row.head)
-    )
+    head = "Step {:,}: state {} reads {} at position {}".format(row.step, row.state, symbol, signed(row.head))
     return "%s; %s:" % (head, entry)
 
 
