@@ -66,7 +66,8 @@ export class Diagram {
 
   /** Shows a machine from its start on, or what is marked. */
   open(/** @type {Shown} */ asked, /** @type {import("./paint.mjs").Mark[]} */ marks) {
-    Object.assign(this, { shown: asked, marks, data: null, sheet: null, view: null, opens: true, place: null });
+    Object.assign(this, { shown: asked, marks, data: null, sheet: null, view: null, opens: true });
+    this.place = null;
     this.chosen = { step: 0, position: 0 };
     this.fetch();
   }
@@ -147,8 +148,9 @@ export class Diagram {
     const { upto } = /** @type {Shown} */ (this.shown);
     const { low, high } = this.data ?? { low: 0, high: 0 };
     const wide = this.area.width * cellsOf(view);
-    const left = Math.min(Math.max(view.left, low + BEYOND * view.across - wide), high - BEYOND * view.across);
-    return { ...view, top: Math.max(0, Math.min(view.top, upto)), left: Math.round(left) };
+    const beyond = BEYOND * view.across;
+    const left = Math.round(Math.min(Math.max(view.left, low + beyond - wide), high - beyond));
+    return { ...view, top: Math.max(0, Math.min(view.top, upto)), left };
   }
 
   /**
@@ -168,7 +170,8 @@ export class Diagram {
   middle() {
     const wanted = [this.place, this.chosen].find((one) => one !== null && this.isSeen(one));
     const { x, y, width, height } = this.area;
-    return wanted ? this.pointOf(wanted) : this.headNear(y + height / 2) ?? { x: x + width / 2, y: y + height / 2 };
+    const center = { x: x + width / 2, y: y + height / 2 };
+    return wanted ? this.pointOf(wanted) : this.headNear(center.y) ?? center;
   }
 
   /** Where the head of the row nearest to a place of the canvas is; null where none is seen. */
@@ -257,7 +260,8 @@ export class Diagram {
     }
     const { sample } = this.data;
     const symbol = symbolAt(sample, k, position);
-    const head = sample.heads[k] === position ? "the head is here" : `the head is at ${signed(sample.heads[k])}`;
+    const isHead = sample.heads[k] === position;
+    const head = isHead ? "the head is here" : `the head is at ${signed(sample.heads[k])}`;
     const state = sample.states[k] === "Z" ? "halted" : `state ${sample.states[k]}`;
     const cell = symbol < 0 ? "not visited yet" : `symbol ${symbol}`;
     return `Step ${shown(sample.steps[k])}, ${state}; position ${signed(position)}: ${cell}; ${head}.`;

@@ -1,5 +1,6 @@
 /**
- * What is known of a machine beside its verdict: its other forms, what the verdict says of other machines, other
+ * What is known of a machine beside its verdict: its other forms, what the verdict says of other machines,
+ * other
  * starts and later steps, and how its cells grow.
  *
  * @typedef {import("./machine.mjs").Verdict} Verdict
@@ -78,8 +79,8 @@ function completionsTold(/** @type {About} */ { machine, verdict }, /** @type {s
     case "halt":
       return lastState === "Z"
         ? KEPT
-        : "It halts on a ---. Where only others are filled, the machine has the same verdict; of one that fills " +
-            "that --- nothing is said.";
+        : "It halts on a ---. Where only others are filled, the machine has the same verdict; of one that " +
+            "fills that --- nothing is said.";
     case "backward":
       return "No machine that fills a --- of it halts; its tree may be another.";
     default:
@@ -90,12 +91,14 @@ function completionsTold(/** @type {About} */ { machine, verdict }, /** @type {s
 /** What a verdict says of other starts than A on the blank tape. */
 function startsTold(/** @type {Verdict} */ { kind, numbers: [levels] }) {
   return kind === "backward"
-    ? `From each of its states, at any position of any tape, it halts within ${counted(levels, "step")} or never.`
+    ? "From each of its states, at any position of any tape, it halts within " +
+        `${counted(levels, "step")} or never.`
     : "The verdict speaks of the start in A on the blank tape alone.";
 }
 
 /**
- * Where a pair of steps says that a machine is much later: it comes back to a step of the pair, farther out by
+ * Where a pair of steps says that a machine is much later: it comes back to a step of the pair, farther out
+ * by
  * the shift each time.
  * @param {Verdict} verdict
  */
@@ -122,7 +125,9 @@ export function tellFacts(/** @type {About} */ about) {
     ["starts", "Every start", isConfirmed ? startsTold(verdict) : "–"],
     ["later", "Step 10¹⁵", isConfirmed ? "…" : "–"],
   ];
-  const parts = facts.flatMap(([id, name, told]) => [made("dt", {}, name), made("dd", { id: `fact-${id}` }, told)]);
+  const parts = facts.flatMap(([id, name, told]) => {
+    return [made("dt", {}, name), made("dd", { id: `fact-${id}` }, told)];
+  });
   part("facts").replaceChildren(...parts);
   askGrowth(about);
   if (isConfirmed) {
@@ -141,8 +146,8 @@ function askLater(/** @type {About} */ about) {
     return;
   }
   const { early, farther } = isPair ? laterOf(verdict) : { early: numbers[0], farther: 0n };
-  const question = { what: "trace", machine, cells, between: [-FAR, FAR], from: early, every: 1, upto: early };
-  asker.ask(question, (answer) => {
+  const sample = { from: early, every: 1, upto: early, between: [-FAR, FAR] };
+  asker.ask({ what: "trace", machine, cells, ...sample }, (answer) => {
     const row = answer.traced?.rows[0];
     if (row === undefined) {
       return;
@@ -169,8 +174,8 @@ function askGrowth(/** @type {About} */ { machine, cells, steps }) {
     }
     const { growth, steps: last, visited } = /** @type {Growth} */ (answer.growth);
     const many = visited.map(shown).join(", ");
-    const looks = `${many} after a hundredth, a tenth and all of ${counted(last, "step")}; a guess from these three`;
-    const told = growth === "halts" ? `, with ${counted(visited[2], "cell")}` : `: ${looks}`;
+    const looks = `${many} after a hundredth, a tenth and all of ${counted(last, "step")}`;
+    const told = growth === "halts" ? `, with ${counted(visited[2], "cell")}` : `: ${looks}; a guess from these`;
     part("fact-growth").textContent = `${GROWTHS[growth]}${told}.`;
   });
 }

@@ -7,10 +7,15 @@ import { shown } from "./machine.mjs";
 // Characters that are shown about the place where a line goes wrong.
 const AROUND = 30;
 
-/** @typedef {{text: string | null, number: number, isRead: boolean}} Given the line, null where it is the machine */
+/**
+ * @typedef {import("./machine.mjs").Verdict} Verdict
+ * @typedef {import("./reading.mjs").Reading} Reading
+ * @typedef {{text: string | null, number: number, isRead: boolean}} Given the line, null where it is the
+ *   machine, its number, and whether lines are read in other forms
+ */
 
 /** Tells a line's text and, of a refused one, where and why it goes wrong. */
-export function tellGiven(/** @type {Given} */ given, /** @type {import("./machine.mjs").Verdict} */ verdict) {
+export function tellGiven(/** @type {Given} */ given, /** @type {Verdict} */ verdict) {
   const isRefused = verdict.kind === "refused";
   const reading = given.text !== null && given.isRead ? readingOf(given.text) : null;
   const told = reading?.kind === "machine" && !isRefused ? rewrittenTold(reading, given.text ?? "") : "";
@@ -23,15 +28,15 @@ export function tellGiven(/** @type {Given} */ given, /** @type {import("./machi
   }
 }
 
-/** @param {import("./reading.mjs").Reading | null} reading @param {import("./machine.mjs").Verdict} verdict */
+/** @param {Reading | null} reading @param {Verdict} verdict */
 function placeOf(reading, { numbers: [column] }) {
   return reading?.kind === "refusal" ? reading.place : column;
 }
 
-/** @param {import("./reading.mjs").Reading | null} reading @param {import("./machine.mjs").Verdict} verdict */
+/** @param {Reading | null} reading @param {Verdict} verdict */
 function refusedTold(reading, { numbers: [column], text }) {
   if (reading?.kind !== "refusal") {
-    return `Refused: as it stands it goes wrong at column ${shown(column)}. ${ADVICE.none.replace("a", "A")}.`;
+    return `Refused: as it stands it goes wrong at column ${shown(column)}; ${ADVICE.none}.`;
   }
   return `Refused: ${reading.reason}; ${ADVICE[reading.refusal]}. The program says ${text}.`;
 }

@@ -6,8 +6,11 @@
  * @typedef {Piece & {job: number, begin: number, done: number, nextLine: number}} Given a piece that a worker
  *   has: from which byte on it was sent, which one comes next, and the number of its line
  * @typedef {{worker: Worker, pieces: Given[], note: import("./worker.mjs").Note | null, since: number,
- *   held: number, size: number | undefined}} Hand a worker, its pieces, what it began and when, the memory of its
- *   engine in bytes, and how many bytes its next batch has, where that is said
+ *   held: number, taken: number, size: number | undefined}} Hand a worker, its pieces, what it began and
+ *   when, the
+ *   memory of its engine in bytes, the milliseconds of its last batch, and how many bytes its next one has,
+ *   where
+ *   that is said
  * @typedef {{piece: () => Promise<Piece | null>, part: (part: Part, read: number) => void, end: () => void,
  *   fail: (error: {error: string, message: string, limit?: string}) => void}} Work
  */
@@ -25,6 +28,10 @@ const PATIENCE_MILLISECONDS = 400;
 // What a worker has decided is handed over after so long at the latest.
 const PATIENCE_OF_LISTS = 250;
 const WATCH_MILLISECONDS = 50;
+// Lines that take longer are begun anew, so many times fewer at once.
+const FEWER = 8;
+// What a hand has before its first batch, which has one line.
+const UNUSED = { held: 0, taken: 0, size: 1 };
 
 /** A text that stands in the page. */
 function text(/** @type {string} */ id) {
@@ -188,7 +195,7 @@ export class Pool {
   /** A worker for this list. @returns {Hand} */
   begun() {
     /** @type {Hand} */
-    const hand = { worker: idle.pop() ?? new Worker(url), pieces: [], note: null, since: 0, held: 0, size: 1 };
+    const hand = { worker: idle.pop() ?? new Worker(url), pieces: [], note: null, since: 0, ...UNUSED };
     this.listen(hand);
     return hand;
   }
@@ -222,7 +229,8 @@ export class Pool {
     const { worker, size } = hand;
     const module = await ready;
     const rest = bytes.slice(done);
-    worker.postMessage({ module, what: "list", job, bytes: rest, line, asked: this.asked, size }, [rest.buffer]);
+    const message = { module, what: "list", job, bytes: rest, line, asked: this.asked, size };
+    worker.postMessage(message, [rest.buffer]);
     hand.size = undefined;
   }
 
@@ -243,7 +251,7 @@ export class Pool {
   take(/** @type {Hand} */ hand, /** @type {Part} */ part) {
     const piece = hand.pieces[0];
     const read = part.next - (piece.done - piece.begin);
-    Object.assign(hand, { note: null, held: part.held });
+    Object.assign(hand, { note: null, held: part.held, taken: part.taken });
     piece.done = piece.begin + part.next;
     piece.nextLine = piece.line + part.nextLine;
     this.work.part(part, read);
@@ -258,12 +266,14 @@ export class Pool {
    * known soon, also where one of them takes very long.
    */
   hurry(/** @type {Hand} */ hand) {
-    const { note, since, pieces } = hand;
-    if (note === null || note.lines < 2 || performance.now() - since < PATIENCE_OF_LISTS) {
+    const { note, since, pieces, taken } = hand;
+    const patience = Math.max(PATIENCE_OF_LISTS, 3 * taken);
+    if (note === null || note.lines < 2 || performance.now() - since < patience) {
       return;
     }
     hand.worker.terminate();
-    Object.assign(hand, { worker: new Worker(url), note: null, size: Math.max(1, Math.floor(note.bytes / 8)) });
+    const size = Math.max(1, Math.floor(note.bytes / FEWER));
+    Object.assign(hand, { worker: new Worker(url), note: null, size });
     this.listen(hand);
     for (const piece of pieces) {
       Object.assign(piece, { begin: piece.done, line: piece.nextLine });
@@ -271,7 +281,7 @@ export class Pool {
     }
   }
 
-  /** The line that has been worked on for longest, and for how many milliseconds; null where there is none. */
+  /** The line that is worked on for longest, and for how many milliseconds; null where there is none. */
   underWay() {
     const now = performance.now();
     const slow = this.hands.filter(({ note }) => note !== null);

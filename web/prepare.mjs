@@ -10,7 +10,7 @@ const [FEWEST_SYMBOLS, MOST_SYMBOLS] = [2, 10];
 const MOST_STATES = 25;
 // A longer line has no machine; it is given as it is, and refused.
 const LONGEST_LINE = 16_384;
-const NUMBERS = "(?:halt \\d+ \\d+|cycler \\d+ \\d+|translated [LR] \\d+ \\d+(?: \\d+ \\d+)?|backward \\d+ \\d+)";
+const NUMBERS = "(?:(?:halt|cycler|backward) \\d+ \\d+|translated [LR] \\d+ \\d+(?: \\d+ \\d+)?)";
 const VERDICT = new RegExp(
   `^(?:[0-9LRA-Z_-]+ (?:${NUMBERS}|undecided (?:steps|cells))|refused \\d+)(?:\\t.*)?$`,
 );
@@ -19,8 +19,10 @@ const decoder = new TextDecoder();
 const encoder = new TextEncoder();
 
 /**
- * @typedef {{bytes: Uint8Array, numbers: Uint32Array | null, places: Uint32Array | null, left: number}} Prepared
- *   what the engine is given; of each of its lines the number among the lines that were given, from 0, and where
+ * @typedef {{bytes: Uint8Array, numbers: Uint32Array | null, places: Uint32Array | null, left: number}}
+ *   Prepared
+ *   what the engine is given; of each of its lines the number among the lines that were given, from 0, and
+ *   where
  *   it begins there, null where all are as they were; and how many lines were left out
  */
 
@@ -28,9 +30,10 @@ const encoder = new TextEncoder();
 export function hasVerdicts(/** @type {Uint8Array} */ bytes) {
   const lines = decoder.decode(bytes.subarray(0, BEGIN_BYTES)).replace(/^\ufeff/, "").split("\n");
   const isCut = bytes.length >= BEGIN_BYTES && lines.length > 1;
-  const texts = (isCut ? lines.slice(0, -1) : lines).map((line) => line.trim()).filter((text) => !isNothing(text));
-  const whole = texts.filter((text) => VERDICT.test(text)).length;
-  return whole > 0 && 2 * whole > texts.length;
+  const whole = (isCut ? lines.slice(0, -1) : lines).map((line) => line.trim());
+  const texts = whole.filter((text) => !isNothing(text));
+  const verdicts = texts.filter((text) => VERDICT.test(text)).length;
+  return verdicts > 0 && 2 * verdicts > texts.length;
 }
 
 /** Whether a line is empty or a comment. */
@@ -113,8 +116,11 @@ function endOf(/** @type {Uint8Array} */ bytes, /** @type {number} */ from) {
   return newline < 0 ? bytes.length : newline;
 }
 
-/** A line that was given, as a text. */
-export function lineAt(/** @type {Uint8Array} */ bytes, /** @type {number} */ from, /** @type {number} */ most) {
+/**
+ * A line that was given, as a text.
+ * @param {Uint8Array} bytes @param {number} from @param {number} most bytes of it
+ */
+export function lineAt(bytes, from, most) {
   const end = Math.min(endOf(bytes, from), from + most);
   return decoder.decode(bytes.subarray(from, bytes[end - 1] === RETURN ? end - 1 : end));
 }
@@ -133,7 +139,8 @@ function wholeUpTo(/** @type {Uint8Array} */ bytes) {
 }
 
 /**
- * Where the machine ends that begins there, as the engine reads it; -1 where none does, or where it is longer than
+ * Where the machine ends that begins there, as the engine reads it; -1 where none does, or where it is
+ * longer than
  * any line.
  */
 function machineEnd(/** @type {Uint8Array} */ bytes, /** @type {number} */ from) {

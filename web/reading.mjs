@@ -1,5 +1,6 @@
 /**
- * A line of a list: its one machine, what else stands there, or why there is none. A machine is taken only where
+ * A line of a list: its one machine, what else stands there, or why there is none. A machine is taken only
+ * where
  * one reading is possible, and every rewriting is told. The reader of the Python package is held to the same
  * forms.
  *
@@ -18,7 +19,8 @@ import { isLoneEntry, partsOf, rowBeside, textOf, written } from "./words.mjs";
 const LONGEST_LINE = 16_384;
 const VERDICT =
   /^(?:(?:halt|cycler|backward) [0-9]+ [0-9]+|translated [LR](?: [0-9]+){2,4}|undecided (?:steps|cells))$/;
-const PAIRS = ["``", '""', "''", "()", "[]", "{}", "<>", "**", "\u201c\u201d", "\u2018\u2019", "\u00ab\u00bb"];
+const QUOTES = ["``", '""', "''", "\u201c\u201d", "\u2018\u2019", "\u00ab\u00bb"];
+const PAIRS = [...QUOTES, "()", "[]", "{}", "<>", "**"];
 const BESIDE = /^[\s,;]+|[\s,;]+$/g;
 
 /**
@@ -97,9 +99,11 @@ function readTexts(line) {
     return noText(line, rows);
   }
   for (const [text, outcome] of found) {
-    const row = "machine" in outcome && !written(text).includes("_") ? rowBeside(line, text, rows) : undefined;
+    const isPlain = "machine" in outcome && !written(text).includes("_");
+    const row = isPlain ? rowBeside(line, text, rows) : undefined;
     if (row !== undefined) {
-      return reasonOf("rule-or-group", `${cut(row.text)} may be a rule or a group of the machine`, row.begin + 1);
+      const told = `${cut(row.text)} may be a rule or a group of the machine`;
+      return reasonOf("rule-or-group", told, row.begin + 1);
     }
   }
   return oneOf(found);
@@ -158,7 +162,8 @@ function dotted(/** @type {import("./words.mjs").Word} */ { begin, text }) {
 }
 
 function eachOf(/** @type {number} */ count, /** @type {number} */ place) {
-  return reasonOf("words", `each of ${count} words is a machine by itself, and they may be one together`, place);
+  const told = `each of ${count} words is a machine by itself, and they may be one together`;
+  return reasonOf("words", told, place);
 }
 
 /**
@@ -173,7 +178,8 @@ function oneOf(found) {
     ([text, outcome]) => !("machine" in outcome) && !(read.length > 0 && isSetApart && isLoneEntry(text)),
   );
   if (read.length === 0) {
-    const longest = others.reduce((best, one) => (written(one[0]).length > written(best[0]).length ? one : best));
+    const length = (/** @type {Read} */ one) => written(one[0]).length;
+    const longest = others.reduce((best, one) => (length(one) > length(best) ? one : best));
     return /** @type {Reason} */ (longest[1]);
   }
   const { machine } = /** @type {Found} */ (read[0][1]);
@@ -193,7 +199,7 @@ function oneOf(found) {
   return plain.length > 1 ? eachOf(plain.length, plain[1][0].begin + 1) : read;
 }
 
-/** Where the machine stands in a line, with what encloses it, and with the address of a link whose text it is. */
+/** Where the machine stands in a line, with what encloses it, and the address of a link whose text it is. */
 function spanOf(/** @type {string} */ line, /** @type {Read[]} */ read) {
   const [begin, end] = enclosed(line, read[0][0].begin, read[0][0].end);
   const address = read[1]?.[0];

@@ -13,6 +13,8 @@
 
 // Pixels of a cell where one is seen by itself.
 const SIZES = [1, 2, 3, 4, 6, 8, 12, 16, 24, 32];
+// A cell has so many where a step is gone to from far away.
+const CLOSE_PIXELS = 12;
 const LARGEST = SIZES[SIZES.length - 1];
 // A cell is at most so many times as wide as high.
 const MOST_WIDE = 4;
@@ -123,7 +125,8 @@ function scaled(view, steps, cells, { x, y }) {
  * @returns {View}
  */
 export function closeTo(width, height, step, position, view) {
-  const size = view.every === 1 && view.across === 1 && view.high >= 6 && view.wide === view.high ? view.high : 12;
+  const isClose = view.every === 1 && view.across === 1 && view.high >= 6 && view.wide === view.high;
+  const size = isClose ? view.high : CLOSE_PIXELS;
   const top = Math.max(0, step - Math.floor(height / size / 2));
   const left = position - Math.floor(width / size / 2);
   return { top, left, every: 1, high: size, across: 1, wide: size };

@@ -4,7 +4,8 @@ const KEY = "budlarem";
 const MOST_CHARACTERS = 1_000_000;
 
 /**
- * @typedef {{text: string, gone: string, plan: Record<string, any>, mode: string, clean: boolean}} Kept `gone`
+ * @typedef {{text: string, gone: string, plan: Record<string, any>, mode: string, clean: boolean}} Kept
+ *   `gone`
  *   names a list that is too long to be kept
  */
 
@@ -14,7 +15,7 @@ export function keep(/** @type {Kept} */ { text, gone, plan, mode, clean }) {
   const named = gone || `The list of ${text.length.toLocaleString("en")} characters`;
   const kept = { text: isShort ? text : "", gone: isShort ? "" : named, plan, mode, clean };
   try {
-    sessionStorage.setItem(KEY, JSON.stringify(kept, (_, value) => (typeof value === "bigint" ? String(value) : value)));
+    sessionStorage.setItem(KEY, JSON.stringify(kept));
   } catch {
     forget();
   }

@@ -18,7 +18,7 @@ const PACE_MILLISECONDS = 250;
 const button = (/** @type {string} */ id) => /** @type {HTMLButtonElement} */ (part(id));
 
 export class Tape {
-  /** @param {(place: import("./diagram.mjs").Place, closes: boolean) => void} went what follows a step's change */
+  /** @param {(place: import("./diagram.mjs").Place, closes: boolean) => void} went follows a step's change */
   constructor(went) {
     this.went = went;
     this.asker = new Asker();
@@ -143,7 +143,7 @@ export class Tape {
   /** Whether the run goes on after this step. */
   get goesOn() {
     const { row, about } = this;
-    return row !== undefined && about !== null && row.state !== "Z" && this.entry() !== null && this.step < about.last;
+    return row !== undefined && about !== null && this.entry() !== null && this.step < about.last;
   }
 
   /** The entry of the table that is used next; null where there is none. */

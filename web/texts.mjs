@@ -2,8 +2,10 @@
  * A text of entries read as a machine: in one way, or with the reason why there is none.
  *
  * @typedef {import("./words.mjs").Word} Word
- * @typedef {{machine: string, rewritten: string[]}} Found a machine as the engine reads it, and what was rewritten
- * @typedef {{refusal: string, reason: string, place: number}} Reason why there is none: its kind, in words, and
+ * @typedef {{machine: string, rewritten: string[]}} Found a machine as the engine reads it, and what was
+ *   rewritten
+ * @typedef {{refusal: string, reason: string, place: number}} Reason why there is none: its kind, in words,
+ *   and
  *   the character of the line where it is, from 1
  * @typedef {[number, string][]} Group entries, each with how many characters come before it
  */
@@ -26,8 +28,11 @@ export const REWRITINGS = {
   underscores: "_ put between the groups",
 };
 
-/** @returns {Reason} */
-export function reasonOf(/** @type {string} */ refusal, /** @type {string} */ reason, /** @type {number} */ place) {
+/**
+ * @param {string} refusal @param {string} reason @param {number} place
+ * @returns {Reason}
+ */
+export function reasonOf(refusal, reason, place) {
   return { refusal, reason, place };
 }
 
@@ -50,13 +55,14 @@ export function isMachine(/** @type {string} */ text) {
 }
 
 /**
- * The machine whose groups are set apart by `_` in one word, or are these words; or that of one word without `_`,
+ * The machine whose groups are set apart by `_` in one word, or are these words; or that of one word without
+ * `_`,
  * where there is one division into groups that makes one.
  * @param {Word[]} words
  * @returns {Found | Reason}
  */
 export function readWords(words) {
-  if (words.length === 1 && isMachine(words[0].text)) {
+  if (words.length === 1 && words[0].text.includes("_") && isMachine(words[0].text)) {
     return { machine: words[0].text, rewritten: [] };
   }
   const groups = words.length > 1 ? words : split(words[0]);
@@ -180,9 +186,11 @@ function machineOf(groups, rewritten) {
     }
   }
   const size = groups[0].length;
-  const texts = groups.map((_, k) => entries.slice(k * size, (k + 1) * size).map(({ entry }) => entry).join(""));
+  const capitals = entries.map(({ entry }) => entry);
+  const texts = groups.map((_, k) => capitals.slice(k * size, (k + 1) * size).join(""));
   const kinds = haltsByH ? [...rewritten, "halting-state"] : rewritten;
-  return { machine: texts.join("_"), rewritten: Object.keys(REWRITINGS).filter((kind) => kinds.includes(kind)) };
+  const inOrder = Object.keys(REWRITINGS).filter((kind) => kinds.includes(kind));
+  return { machine: texts.join("_"), rewritten: inOrder };
 }
 
 /** An entry as the engine reads it. */
@@ -222,7 +230,8 @@ function wrongEntry(entry, number, begin, states, symbols) {
     return null;
   }
   if (Number(entry[0]) >= symbols) {
-    return reasonOf("symbol", `entry ${number} writes ${entry[0]}, but there are ${symbols} symbols`, begin + 1);
+    const told = `entry ${number} writes ${entry[0]}, but there are ${symbols} symbols`;
+    return reasonOf("symbol", told, begin + 1);
   }
   if (entry[2] === "Z" || STATES.slice(0, states).includes(entry[2])) {
     return null;

@@ -79,8 +79,8 @@ function read(/** @type {Uint8Array} */ bytes, /** @type {Windows} */ windows) {
   }
   const column = (/** @type {number} */ k) => Float64Array.from(found, (row) => row[k]);
   const wide = Float64Array.from(found, ([step]) => windows.high(step) - windows.low(step) + 1);
-  const sample = { steps: column(0), heads: column(1), lows: column(2), places: column(3), wide, states, bytes };
-  return { sample, agrees };
+  const [steps, heads, lows, places] = [0, 1, 2, 3].map(column);
+  return { sample: { steps, heads, lows, places, wide, states, bytes }, agrees };
 }
 
 /**
@@ -102,8 +102,11 @@ export function traced(engine, asked) {
   return { rows, agrees, cut, low: windows.low(last), high: windows.high(last) };
 }
 
-/** The last step that a run makes up to one, within so many cells. */
-export function lastOf(/** @type {{machine: string, cells: number, upto: number}} */ { machine, cells, upto }) {
+/**
+ * The last step that a run makes up to one, within so many cells.
+ * @param {{machine: string, cells: number, upto: number}} asked
+ */
+export function lastOf({ machine, cells, upto }) {
   return windowsOf(machine).reach(upto, cells);
 }
 
@@ -111,7 +114,8 @@ export function lastOf(/** @type {{machine: string, cells: number, upto: number}
 const ROOT = [0.2, 0.8];
 
 /**
- * How the cells that a run visits grow, by how many they are after a hundredth of the steps, a tenth, and all.
+ * How the cells that a run visits grow, by how many they are after a hundredth of the steps, a tenth, and
+ * all.
  * @param {{machine: string, cells: number, upto: number}} asked
  * @returns {import("./facts.mjs").Growth}
  */
@@ -210,7 +214,7 @@ function paintMeans(pixels, sample, k, { left, across }, palette) {
     const begin = left + x * across;
     const [from, to] = [Math.max(begin, low), Math.min(begin + across - 1, high)];
     const outside = across - (to - from + 1);
-    let [red, green, blue] = [reds[UNVISITED] * outside, greens[UNVISITED] * outside, blues[UNVISITED] * outside];
+    let [red, green, blue] = [reds, greens, blues].map((part) => part[UNVISITED] * outside);
     for (let at = place + from; at <= place + to; at += 1) {
       const symbol = bytes[at] - ZERO;
       red += reds[symbol];

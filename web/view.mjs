@@ -1,4 +1,4 @@
-/** The view of one machine: its verdict in words, its diagram, its tape, its table, and what stands behind. */
+/** The view of one machine: its verdict in words, diagram, tape and table, and what stands behind. */
 import { Again } from "./again.mjs";
 import { showBehind, stepsOf } from "./behind.mjs";
 import { Diagram } from "./diagram.mjs";
@@ -21,7 +21,8 @@ const DOUBTS = {
 
 /**
  * @typedef {import("./machine.mjs").Verdict} Verdict
- * @typedef {{machine: string, verdict: Verdict, answer: string, plan: Record<string, any>}} About a machine, its
+ * @typedef {{machine: string, verdict: Verdict, answer: string, plan: Record<string, any>}} About a machine,
+ *   its
  *   verdict at these limits, and the checker's answer
  */
 

@@ -2,10 +2,13 @@
  * A line cut into what may be a machine: words of entries, rows of dashes or dots, addresses.
  *
  * @typedef {{begin: number, text: string}} Word characters that stand together, and how many come before them
- * @typedef {{words: Word[], begin: number, end: number, isAddress: boolean, isLast: boolean}} Text words that are
- *   one text, since only spaces stand between them; where it stands in the line, with the address that it is a
+ * @typedef {{words: Word[], begin: number, end: number, isAddress: boolean, isLast: boolean}} Text words
+ *   that are
+ *   one text, since only spaces stand between them; where it stands in the line, with the address that it is
+ *   a
  *   part of, and whether it is that address's last part
- * @typedef {{texts: Text[], rows: Word[]}} Parts what of a line may be a machine, and its rows of dashes or dots
+ * @typedef {{texts: Text[], rows: Word[]}} Parts what of a line may be a machine, and its rows of dashes or
+ *   dots
  */
 
 const QUOTES = "`\"'\u2018\u2019\u201a\u201c\u201d\u201e\u00ab\u00bb";
@@ -67,6 +70,7 @@ export function partsOf(line) {
     const token = { begin: match.index ?? 0, text: match[0] };
     if (match.groups?.address !== undefined) {
       texts.push(...textsIn(token));
+      rows.push(...rowsIn(token));
     } else if (ROW.test(token.text)) {
       rows.push(token);
     } else if (hasEntries(withoutStop(token).text)) {
@@ -94,9 +98,15 @@ function textsIn(address) {
   return [...address.text.matchAll(PART)].flatMap((match) => {
     const at = match.index ?? 0;
     const part = withoutStop({ begin: address.begin + at, text: match[0] });
-    const text = { words: [part], begin: address.begin, end: endOf(address), isAddress: true, isLast: at >= last };
-    return hasEntries(part.text) ? [text] : [];
+    const whole = { begin: address.begin, end: endOf(address), isAddress: true };
+    return hasEntries(part.text) ? [{ words: [part], ...whole, isLast: at >= last }] : [];
   });
+}
+
+/** The row that is an address's last part. */
+function rowsIn(/** @type {Word} */ { begin, text }) {
+  const at = text.lastIndexOf("/") + 1;
+  return ROW.test(text.slice(at)) ? [{ begin: begin + at, text: text.slice(at) }] : [];
 }
 
 /** Whether a word has entries, or pieces of them. */
@@ -120,7 +130,8 @@ function together(/** @type {string} */ line, /** @type {Word[]} */ words) {
 }
 
 /**
- * The row beside a text, with only spaces between them, that is as long as a word of it, and so may be a group.
+ * The row beside a text, with only spaces between them, that is as long as a word of it, and so may be a
+ * group.
  * @param {string} line @param {Text} text @param {Word[]} rows
  */
 export function rowBeside(line, text, rows) {

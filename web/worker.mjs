@@ -5,12 +5,16 @@
  * @typedef {{job: number, bytes: Uint8Array, lines: Uint8Array | null, starts: Uint32Array,
  *   kinds: Uint8Array, steps: Float64Array, answers: Uint8Array, kindCounts: number[],
  *   answerCounts: number[], first: number, numbers: Uint32Array | null, source: Uint8Array | null,
- *   places: Uint32Array | null, left: number, next: number, nextLine: number, done: boolean, held: number}} Part
+ *   places: Uint32Array | null, left: number, next: number, nextLine: number, done: boolean, taken: number,
+ *   held: number}} Part
  *   `first` is the number of the first line, `numbers` those of all where some between them were left out;
- *   `source` has the lines as they were given and `places` where they begin, where some aren't as the engine was
- *   given them; `left` is how many were left out; `next` and `nextLine` say which byte and line of the piece come
- *   next; `held` is the memory of the engine, in bytes
- * @typedef {{job: number, at: string, lines: number, bytes: number}} Note what is begun: the first line of a batch,
+ *   `source` has the lines as they were given and `places` where they begin, where some aren't as the engine
+ *   was
+ *   given them; `left` is how many were left out; `next` and `nextLine` say which byte and line of the piece
+ *   come
+ *   next; `taken` are the milliseconds that it took, `held` is the memory of the engine, in bytes
+ * @typedef {{job: number, at: string, lines: number, bytes: number}} Note what is begun: the first line of a
+ *   batch,
  *   and how many lines and bytes it has
  */
 import { load } from "./bb.mjs";
@@ -27,12 +31,16 @@ const FIRST_BYTES = 1;
 const MOST_NAMED = 1_023;
 const REFUSED = KINDS.indexOf("refused");
 const MOST_BYTES = 1_048_576;
+// A call costs much by itself where a line of a larger batch takes less than this part of the time.
+const SHARED = 0.75;
 const WARM_MILLISECONDS = 60;
 const WARM_PLAN = { steps: 200, cells: 256, depth: 20, nodes: 1_000 };
 
 /** @type {import("./bb.mjs").Engine | undefined} */
 let engine;
 let size = FIRST_BYTES;
+// Milliseconds that a line of the batch before took; infinite before the first one.
+let pace = Infinity;
 
 /** A batch answered: its lines, what is said of each, and the answer of the checker. */
 function answered(
@@ -66,12 +74,14 @@ function work(/** @type {any} */ { job, bytes: given, line: first, asked }) {
     postMessage({ job, at: lineAt(batch, 0, MOST_NAMED), lines: count, bytes: batch.length });
     const begun = performance.now();
     const part = answered(batch, asked, starts);
-    size = nextSize(performance.now() - begun);
+    const taken = performance.now() - begun;
+    size = nextSize(taken, count);
     const done = end === list.bytes.length;
     const origin = originOf(list, given, { from, line, count }, part.kindCounts);
     const next = done ? given.length : list.places?.[line + count] ?? end;
     const nextLine = list.numbers?.[line + count] ?? line + count;
-    send({ job, ...part, ...origin, first: list.numbers === null ? first + line : first, left: done ? list.left : 0, next, nextLine, done });
+    const place = { first: list.numbers === null ? first + line : first, next, nextLine };
+    send({ job, ...part, ...origin, ...place, left: done ? list.left : 0, done, taken });
     [from, line] = [end, line + count];
   } while (from < list.bytes.length);
 }
@@ -108,9 +118,18 @@ function warm(/** @type {Uint8Array} */ list) {
   }
 }
 
-/** How many bytes the next batch has, at least; it ends with a line. */
-function nextSize(/** @type {number} */ taken) {
-  const factor = taken > 2 * BATCH_MILLISECONDS ? 0.25 : taken < BATCH_MILLISECONDS / 2 ? 2 : 1;
+/**
+ * How many bytes the next batch has, at least; it ends with a line. Where a call costs much by itself, as
+ * with
+ * large tapes, more lines share it.
+ * @param {number} taken by the batch before, in milliseconds @param {number} lines that it had
+ */
+function nextSize(taken, lines) {
+  const before = pace;
+  pace = taken / Math.max(1, lines);
+  const isCheaper = lines > 0 && pace < SHARED * before;
+  const grows = taken < BATCH_MILLISECONDS / 2 || (taken < 2 * BATCH_MILLISECONDS && isCheaper);
+  const factor = taken > 2 * BATCH_MILLISECONDS ? 0.25 : grows ? 2 : 1;
   return Math.max(1, Math.min(MOST_BYTES, Math.floor(size * factor)));
 }
 
@@ -136,7 +155,9 @@ function sorted(rows, steps, down) {
 async function answer(/** @type {any} */ asked) {
   engine ??= await load(asked.module);
   if (asked.what === "list") {
-    size = asked.size ?? size;
+    if (asked.size !== undefined) {
+      [size, pace] = [asked.size, Infinity];
+    }
     work(asked);
   } else if (asked.what === "warm") {
     warm(asked.list);

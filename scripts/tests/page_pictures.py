@@ -109,6 +109,7 @@ def hold_zoom(held: Held) -> None:
     """From a glance at 10^7 steps to 100 steps in a few gestures, at the head; and back to the whole."""
     page, gestures, longest = held.page, 0, 0.0
     page.open("#machine=%s&steps=10000000" % CHAMPION_5)
+    page.js("window.longest = 0")
     whole = page.drawn()
     held.hold("10^7 steps are seen", steps_seen(page) >= 10**7)
     page.click("fit")
@@ -120,6 +121,7 @@ def hold_zoom(held: Held) -> None:
         gestures += 1
     held.hold("in %d gestures to 100 steps" % gestures, gestures <= 9)
     held.tally.within("a view up to step 10^7", longest, VIEW)
+    held.tally.within("it stood still meanwhile for", page.js("return window.longest") / 1000, STILL)
     near = page.drawn()
     held.hold("single cells are seen: %s" % near, near["high"] >= 6 and near["wide"] == near["high"])
     rows = {row.step: row for row in traced(held.program, CHAMPION_5, int(near["top"]) + 200)}
@@ -224,7 +226,7 @@ def hold_tape(held: Held) -> None:
     page.until(lambda: page.text("tape-told").startswith("Step 0:"))
     page.click("tape-play")
     held.hold("it plays", page.text("tape-play") == "Pause")
-    page.until(lambda: page.text("tape-told").startswith("Step 2:"))
+    page.until(lambda: int(page.text("tape-told").split(":")[0].split()[1]) >= 2)
     page.click("tape-play")
     held.hold("it pauses", page.text("tape-play") == "Play")
     page.media(prefers_reduced_motion="reduce")

@@ -1,5 +1,6 @@
 /**
- * Reads lines by the page's reader, for `page_lists.py`: a line's text in a line of standard input, as JSON, and
+ * Reads lines by the page's reader, for `page_lists.py`: a line's text in a line of standard input, as JSON,
+ * and
  * its reading back, as JSON.
  */
 import { createInterface } from "node:readline";
