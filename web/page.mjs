@@ -15,6 +15,8 @@ import { View } from "./view.mjs";
 
 const MOST_WORKERS = 8;
 const REFRESH_MILLISECONDS = 200;
+// So often it is told how far a list is, to those who hear the page.
+const TELL_MILLISECONDS = 10_000;
 const BEGIN_BYTES = 65_536;
 // A worker isn't begun for fewer bytes.
 const LEAST_BYTES = 256;
@@ -41,6 +43,8 @@ let results = new Results();
 let run = { mode: "decide", plan: {}, size: 0, begun: 0, taken: 0 };
 let refresh = 0;
 let clock = 0;
+// When it was last told how far a list is.
+let told = 0;
 // Whether the settings are those of an example: then the next list has the defaults again.
 let isExample = false;
 // Whether a line of the list was opened.
@@ -82,6 +86,7 @@ async function begin() {
   const mode = isCheck(start) ? "check" : "decide";
   part("run").textContent = mode === "check" ? "Check" : "Decide";
   run = { mode, plan: run.plan, size: blob.size, begun: performance.now(), taken: 0 };
+  told = run.begun;
   results = new Results();
   rows.chosen = -1;
   rows.top = 0;
@@ -166,8 +171,13 @@ function showSoon() {
 
 /** The time, how far the list is, and what takes long. */
 function showClock() {
-  if (pool !== null) {
-    showProgress("Running");
+  if (pool === null) {
+    return;
+  }
+  showProgress("Running");
+  if (performance.now() - told > TELL_MILLISECONDS) {
+    told = performance.now();
+    tellLive(part("status").textContent ?? "");
   }
 }
 

@@ -197,6 +197,10 @@ function paintBand(pen, { x, y, wide, high }, label, mark, { area, middle }) {
   if (y + high < area.y || y > area.y + area.height) {
     return;
   }
+  // A halo, so that the mark is seen on each symbol's colour.
+  pen.strokeStyle = ink("--panel");
+  pen.lineWidth = 1;
+  pen.strokeRect(x - 2.5, y - 2.5, wide + 5, high + 5);
   pen.strokeStyle = mark;
   pen.lineWidth = 2;
   pen.strokeRect(x - 1, y - 1, wide + 2, high + 2);
@@ -221,13 +225,19 @@ function paintArrow(pen, one, two, mark) {
   if (Math.hypot(toX - x, toY - y) < 8) {
     return;
   }
-  pen.strokeStyle = mark;
   pen.fillStyle = mark;
-  pen.lineWidth = 2;
-  pen.beginPath();
-  pen.moveTo(x, y);
-  pen.lineTo(toX, toY);
-  pen.stroke();
+  const lines = /** @type {[string, number][]} */ ([
+    [ink("--panel"), 4],
+    [mark, 2],
+  ]);
+  for (const [style, wide] of lines) {
+    pen.strokeStyle = style;
+    pen.lineWidth = wide;
+    pen.beginPath();
+    pen.moveTo(x, y);
+    pen.lineTo(toX, toY);
+    pen.stroke();
+  }
   pen.beginPath();
   pen.moveTo(toX, toY);
   pen.lineTo(toX - 9 * Math.cos(turn - 0.45), toY - 9 * Math.sin(turn - 0.45));

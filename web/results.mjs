@@ -9,6 +9,8 @@ import { lineAt } from "./prepare.mjs";
 import { startsOf } from "./replies.mjs";
 
 const LONGEST_SHOWN = 1_100;
+// More bytes of a line than the reader looks through.
+const LONGEST_GIVEN = 70_000;
 // Rows that are read before the page rests.
 const RESTS = 2_000;
 const decoder = new TextDecoder();
@@ -69,7 +71,7 @@ export class Results {
     const read = readLine(decoder.decode(text.subarray(part.starts[line], end)).replace(/[\r\n]+$/, ""));
     const number = part.first + (part.numbers === null ? line : part.numbers[line]);
     const { source, places } = part;
-    const given = source === null || places === null ? null : lineAt(source, places[line], LONGEST_SHOWN);
+    const given = source === null || places === null ? null : lineAt(source, places[line], LONGEST_GIVEN);
     return { ...read, answer: ANSWERS[part.answers[line]], kind: KINDS[part.kinds[line]], number, given };
   }
 

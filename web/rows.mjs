@@ -6,6 +6,7 @@ import { readingOf } from "./reading.mjs";
 // A row's height; on a phone it has two lines.
 const ROW_PIXELS = 28;
 const PHONE_ROW_PIXELS = 48;
+const LONGEST_SHOWN = 1_000;
 const PHONE = "(max-width: 600px)";
 // Browsers have no higher elements; in longer lists a pixel of the bar stands for more than one.
 const MOST_PIXELS = 8_000_000;
@@ -106,7 +107,7 @@ export class Rows {
     const cell = (/** @type {string} */ text, name = "") =>
       made("span", { role: "gridcell", class: name, title: text }, text);
     const isRefused = kind === "refused";
-    const text = isRefused ? cell(given ?? "") : cell(machine);
+    const text = isRefused ? cell((given ?? "").slice(0, LONGEST_SHOWN)) : cell(machine);
     const reading = given === null || isRefused ? null : readingOf(given);
     if (reading?.kind === "machine" && reading.rewritten.length > 0) {
       text.append(made("span", { class: "from" }, ` ← ${given?.trim()}`));

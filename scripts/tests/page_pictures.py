@@ -35,7 +35,7 @@ def hold_cells(held: Held, machine: str, upto: int) -> None:
         for at, symbol in enumerate(row.cells, row.low):
             x, y = (at - left) * wide, (row.step - view["top"]) // view["every"] * high
             is_head = at == row.head
-            places.append([x + 1, y + high / 2] if is_head and is_framed else [x + wide / 4, y + high * 0.3])
+            places.append([x + 1, y + high / 2] if is_head and is_framed else [x + wide / 4, y + high * 0.1])
             wanted.append(colours[HEAD if is_head else int(symbol)])
     found = pixels(page, places)
     held.hold("the pixels of %s: %d by %d" % (machine, wide, high), found == wanted)
