@@ -16,6 +16,7 @@ import { cellsOf, stepsOf, ticks } from "./scale.mjs";
 const SYMBOLS = 10;
 const LABEL_PIXELS = 18;
 const LEAST_BAND = 4;
+const LEAST_HALO = 3;
 const STEPS_APART = 44;
 const POSITIONS_APART = 84;
 const LETTERED = 16;
@@ -170,7 +171,8 @@ export function paintMarks(pen, area, view, marks) {
       const wanted = Math.max(box.y + box.high / 2, free);
       const middle = Math.min(wanted, area.y + area.height - LABEL_PIXELS / 2);
       free = middle + LABEL_PIXELS + 2;
-      paintBand(pen, box, bands[k].label, mark, { area, middle });
+      // A halo has the mark seen on each symbol's colour, where it leaves something of the row above.
+      paintBand(pen, box, bands[k].label, mark, { area, middle, hasHalo: view.high > LEAST_HALO });
     });
     if (arrow && boxes.length === 2) {
       paintArrow(pen, boxes[0], boxes[1], mark);
@@ -191,16 +193,17 @@ function boxOf(/** @type {Band} */ band, /** @type {View} */ view, /** @type {Ar
 
 /**
  * @param {CanvasRenderingContext2D} pen @param {Box} box @param {string} label @param {string} mark
- * @param {{area: Area, middle: number}} place of the label
+ * @param {{area: Area, middle: number, hasHalo: boolean}} how where the label stands
  */
-function paintBand(pen, { x, y, wide, high }, label, mark, { area, middle }) {
+function paintBand(pen, { x, y, wide, high }, label, mark, { area, middle, hasHalo }) {
   if (y + high < area.y || y > area.y + area.height) {
     return;
   }
-  // A halo, so that the mark is seen on each symbol's colour.
-  pen.strokeStyle = ink("--panel");
-  pen.lineWidth = 1;
-  pen.strokeRect(x - 2.5, y - 2.5, wide + 5, high + 5);
+  if (hasHalo) {
+    pen.strokeStyle = ink("--panel");
+    pen.lineWidth = 1;
+    pen.strokeRect(x - 2.5, y - 2.5, wide + 5, high + 5);
+  }
   pen.strokeStyle = mark;
   pen.lineWidth = 2;
   pen.strokeRect(x - 1, y - 1, wide + 2, high + 2);
