@@ -111,13 +111,17 @@ export class Engine {
     return this.called("bb_check", LIMITS, words, list, ANSWER_ROOM * lines);
   }
 
-  /** As `trace`, from bytes to bytes. */
-  traceBytes(/** @type {Uint8Array} */ line, /** @type {Sample} */ sample) {
+  /**
+   * As `trace`, from bytes to bytes. Whoever knows how many bytes the trace has may say so, or more: else it
+   * is made twice where it is long.
+   * @param {Uint8Array} line @param {Sample} sample @param {number} [space]
+   */
+  traceBytes(line, sample, space = 0) {
     if (sample.steps === undefined) {
       throw new TypeError("a trace needs a limit of steps");
     }
     const words = limitsOf(sample, SAMPLE);
-    return this.called("bb_trace", SAMPLE, words, line, traceRoom(words));
+    return this.called("bb_trace", SAMPLE, words, line, space || traceRoom(words));
   }
 
   /**

@@ -18,22 +18,27 @@ const CELLS_SHOWN = 400;
 const FAR = 1e9;
 // Of a machine whose verdict names no step so many are shown first.
 const FIRST_STEPS = 100;
+// Where no verdict names a step, the picture goes no farther: it would take longer than anyone waits.
+const MOST_STEPS = 100_000_000;
 const NODE_WORDS =
   "A node is a state and the cells that are known; the head is in brackets, a dot is a cell of which " +
   "nothing is known.";
+const SHOW = ["The rows above show it.", "The rows above don’t show"];
 const NO_TREE = "No entry halts, so nothing could come before a halt.";
 const asker = new Asker();
 
 /** The last step that the diagram of a verdict goes to, and the last one that there is. */
-export function stepsOf(/** @type {Verdict} */ { kind, numbers, side }, /** @type {number} */ limit) {
+export function stepsOf(/** @type {Verdict} */ { kind, numbers }, /** @type {number} */ limit) {
   const [first, second] = numbers;
   if (kind === "halt") {
     return { last: first, upto: first };
   }
   if (kind === "cycler" || kind === "translated") {
-    return { last: second + Math.max(4, Math.ceil((second - first) / 2)), upto: Math.max(limit, second) };
+    const last = second + Math.max(4, Math.ceil((second - first) / 2));
+    return { last, upto: Math.max(Math.min(limit, MOST_STEPS), last) };
   }
-  return { last: Math.min(limit, side === "steps" ? limit : FIRST_STEPS), upto: limit };
+  const upto = Math.min(limit, MOST_STEPS);
+  return { last: kind === "undecided" ? upto : Math.min(upto, FIRST_STEPS), upto };
 }
 
 /** Asks for the two rows of a pair, or for the last row of a halt. */
@@ -54,22 +59,35 @@ function stretchOf(/** @type {Row} */ { head }, /** @type {string} */ side, /** 
 }
 
 /**
- * Finds what stands behind a verdict, shows it, and hands over what is to be marked on the diagram.
- * @param {{machine: string, cells: number, verdict: Verdict}} about @param {(marks: Mark[]) => void} mark
+ * Finds what stands behind a verdict, shows it, and hands over what is to be marked on the diagram, with the
+ * pair of steps and the positions between which that is.
+ * @param {{machine: string, cells: number, verdict: Verdict}} about
+ * @param {(marks: Mark[], pair: import("./scale.mjs").Pair | null) => void} mark
  */
 export function showBehind(about, mark) {
   const box = part("behind");
+  const { kind } = about.verdict;
   box.replaceChildren();
-  mark([]);
-  if (about.verdict.kind === "backward") {
-    box.append(...treeParts(about));
-  } else if (about.verdict.kind !== "undecided") {
-    askRows(about, (rows) => {
-      const { bands, parts } = rowsBehind(about.verdict, rows);
-      box.replaceChildren(...parts);
-      mark([{ bands, arrow: about.verdict.kind === "translated" }]);
-    });
+  if (kind === "backward" || kind === "undecided") {
+    box.append(...(kind === "backward" ? treeParts(about) : []));
+    mark([], null);
+    return;
   }
+  askRows(about, (rows) => {
+    const { bands, parts } = rowsBehind(about.verdict, rows);
+    box.replaceChildren(...parts);
+    mark([{ bands, arrow: kind === "translated" }], kind === "halt" ? null : pairOf(about.verdict, bands));
+  });
+}
+
+/**
+ * The two steps that are marked.
+ * @param {Verdict} verdict @param {import("./paint.mjs").Band[]} bands
+ */
+function pairOf({ numbers: [first, second] }, bands) {
+  const places = bands.flatMap(({ from, to }) => (from === null || to === null ? [] : [from, to]));
+  const [low, high] = places.length > 0 ? [Math.min(...places), Math.max(...places)] : [null, null];
+  return { first, second, low, high };
 }
 
 /** The bands and the words of the rows behind a verdict. */
@@ -114,7 +132,8 @@ function told(kind, rows, bands, score) {
     });
     holds = parts[0] === parts[1];
   }
-  const words = holds ? "The rows above show it." : "The rows above don’t show what the verdict says.";
+  const shows = kind === "halt" ? ["The row above shows it.", "The row above doesn’t show"] : SHOW;
+  const words = holds ? shows[0] : `${shows[1]} what the verdict says.`;
   return made("p", { class: holds ? "hint" : "error" }, words);
 }
 

@@ -48,17 +48,48 @@ export function setPlan(/** @type {Record<string, any>} */ plan) {
   tellLimits();
 }
 
+/** What stands in the fields, as it is written. @returns {Record<string, any>} */
+export function planWords() {
+  const switches = SWITCHES.map((name) => [name, field(name).checked]);
+  return Object.fromEntries([...NAMES.map((name) => [name, field(name).value]), ...switches]);
+}
+
+/** Larger limits than these: ten times the steps, four times the cells, as far as they go. */
+export function larger(/** @type {Record<string, any>} */ plan) {
+  const least = (/** @type {bigint} */ one, /** @type {bigint} */ two) => (one < two ? one : two);
+  const steps = least(BigInt(plan.steps) * 10n, RANGES.steps.most);
+  const cells = least(BigInt(plan.cells) * 4n, RANGES.cells.most);
+  return { ...plan, steps, cells };
+}
+
+/**
+ * A whole number as people write it: with separators, or as `1e6` or `10^6`; null for another text.
+ * @returns {bigint | null}
+ */
+export function numberOf(/** @type {string} */ given) {
+  const text = given.replace(/[\s,_]/g, "").replace(/^\+/, "");
+  const power = /^(\d{1,15})(?:\.(\d{1,15}))?e\+?(\d{1,2})$/i.exec(text) ?? /^(1)()0\^(\d{1,2})$/.exec(text);
+  if (power === null) {
+    return /^\d{1,19}$/.test(text) ? BigInt(text) : null;
+  }
+  const [, whole, part = "", zeros] = power;
+  const rest = Number(zeros) - part.length;
+  return rest < 0 ? null : BigInt(whole + part) * 10n ** BigInt(rest);
+}
+
 /** What the fields say; throws a LimitsError of a limit that is no number. @returns {Record<string, any>} */
 export function planOf() {
   forget();
   /** @type {Record<string, any>} */
   const plan = Object.fromEntries(SWITCHES.map((name) => [name, field(name).checked]));
   for (const name of NAMES) {
-    const text = field(name).value.replace(/[\s,_]/g, "").replace(/^\+/, "");
-    if (!/^\d{1,19}$/.test(text)) {
-      throw new LimitsError(name, /^\d+$/.test(text) ? `${name} out of range` : `${name} is no number`);
+    const text = field(name).value;
+    const number = numberOf(text);
+    if (number === null || number >= 10n ** 19n) {
+      const isLarge = number !== null || /^\d{20,}$/.test(text.replace(/[\s,_]/g, ""));
+      throw new LimitsError(name, isLarge ? `${name} out of range` : `${name} is no number`);
     }
-    plan[name] = BigInt(text);
+    plan[name] = number;
   }
   return plan;
 }
@@ -96,9 +127,20 @@ export function linkOf(/** @type {string} */ machine, /** @type {Record<string, 
   return words.toString();
 }
 
-/** What a link says; null where it names no machine. */
+/** The text of an address. */
+function decoded(/** @type {string} */ text) {
+  try {
+    return decodeURIComponent(text);
+  } catch {
+    return text;
+  }
+}
+
+/** What a link says; null where it names no machine. `#1RA1RA` alone is a machine too. */
 export function readLink(/** @type {string} */ hash) {
-  const words = new URLSearchParams(hash.replace(/^#/, ""));
+  const text = hash.replace(/^#/, "");
+  const isAlone = text !== "" && !text.includes("=");
+  const words = new URLSearchParams(isAlone ? { machine: decoded(text) } : text);
   const machine = words.get("machine");
   if (machine === null) {
     return null;

@@ -3,12 +3,14 @@
 
     web/pack.py web/out/bb.wasm web/out/bb.html
 
-A page that is opened from a disk may load no other files, so the modules stand in it as two scripts, the
-page's and the worker's: each module once, after those that it imports, as a function that gives what it
-exports. Comments that have lines of their own are left out; the modules in the repository have them.
+A page that is opened from a disk may load no other files, so the modules stand in it as three scripts: that
+of the page, that of the worker, and what both begin with. Each module stands there once, after those that it
+imports, as a function that gives what it exports. A content security policy names these scripts by their
+hashes, so that the browser runs no other one and connects to nothing. Comments, types and indentation are left out; the modules in the repository have them.
 """
 
 import base64
+import hashlib
 import json
 import os
 import re
@@ -23,6 +25,9 @@ IMPORT = re.compile(r"^import (\{[^;]*?\}) from \"\./([a-z0-9]+)\.mjs\";$", re.M
 REEXPORT = re.compile(r"^export \{([^}]*)\};$", re.MULTILINE)
 EXPORT = re.compile(r"^export ((?:async )?(?:function|class|const|let) (\w+))", re.MULTILINE)
 COMMENT = re.compile(r"^[ \t]*(?:/\*\*(?:(?!\*/).)*\*/|//[^\n]*)\n", re.MULTILINE | re.DOTALL)
+
+TYPE = re.compile(r"/\*\* @(?:type|param|returns) [^\n]*? \*/ ?")
+INDENT = re.compile(r"^[ \t]+|\n(?=\n)", re.MULTILINE)
 
 
 def read(*path: str) -> str:
@@ -45,15 +50,15 @@ def wrapped(name: str) -> str:
     exported = [found for _, found in EXPORT.findall(text)]
     exported += [found.strip() for names in REEXPORT.findall(text) for found in names.split(",")]
     text = IMPORT.sub(r"const \1 = of_\2;", REEXPORT.sub("", text))
-    text = COMMENT.sub("", EXPORT.sub(r"\1", text))
+    text = INDENT.sub("", TYPE.sub("", COMMENT.sub("", EXPORT.sub(r"\1", text))))
     return "const of_%s = (() => {\n%s\nreturn { %s };\n})();\n" % (name, text, ", ".join(exported))
 
 
-def joined(name: str) -> str:
-    """A module and what it stands on, as one script."""
-    script = "".join(wrapped(module) for module in in_order(name, []))
+def joined(modules: List[str]) -> str:
+    """Modules as one script."""
+    script = "".join(map(wrapped, modules))
     if "</script" in script or "<!--" in script:
-        sys.exit("pack: the script of %s can't stand in a page" % name)
+        sys.exit("pack: a script of %s can't stand in a page" % ", ".join(modules))
     return script
 
 
@@ -76,19 +81,52 @@ def examples() -> Iterator[Dict[str, Any]]:
                 yield {"name": name.replace("_", " "), "call": call, "plan": plan_of(words), "lines": lines}
 
 
+def source_of(text: str) -> str:
+    """A script or style as a policy names it: by its hash."""
+    return "'sha256-%s'" % base64.b64encode(hashlib.sha256(text.encode()).digest()).decode()
+
+
+def policy(style: str, *scripts: str) -> str:
+    """What the page may do: run its own scripts, also in workers, and compile the engine; and connect to
+    nothing."""
+    allowed = {
+        "default-src": "'none'",
+        "script-src": " ".join([*map(source_of, scripts), "'wasm-unsafe-eval'"]),
+        "worker-src": "blob:",
+        "style-src": source_of(style),
+        "img-src": "data: blob:",
+        "base-uri": "'none'",
+        "form-action": "'none'",
+    }
+    return "; ".join("%s %s" % pair for pair in allowed.items())
+
+
 def main() -> None:
     module, page = sys.argv[1:]
     with open(module, "rb") as file:
         engine = base64.b64encode(file.read()).decode()
     data = json.dumps(list(examples())).replace("<", "\\u003c")
+    page_modules, worker_modules = in_order("page", []), in_order("worker", [])
+    shared = [module for module in worker_modules if module in page_modules]
+    both = "\n" + joined(shared)
+    own = "\n" + joined([module for module in page_modules if module not in shared])
+    worker = "\n" + joined([module for module in worker_modules if module not in shared])
+    style = "\n" + INDENT.sub("", read(WEB, "page.css"))
     scripts = [
         '<script type="application/json" id="examples-data">%s</script>' % data,
         '<script type="text/plain" id="module">%s</script>' % engine,
-        '<script type="text/plain" id="worker">\n%s</script>' % joined("worker"),
-        '<script type="module">\n%s</script>' % joined("page"),
+        '<script type="text/plain" id="worker">%s</script>' % worker,
+        '<script id="shared">%s</script>' % both,
+        '<script type="module">%s</script>' % own,
     ]
-    text = read(WEB, "page.html").replace("<!--style-->", "<style>\n%s</style>" % read(WEB, "page.css"))
-    text = text.replace("<!--scripts-->", "\n".join(scripts))
+    parts = {
+        "<!--policy-->": '<meta http-equiv="content-security-policy" content="%s">' % policy(style, both, own),
+        "<!--style-->": "<style>%s</style>" % style,
+        "<!--scripts-->": "\n".join(scripts),
+    }
+    text = INDENT.sub("", read(WEB, "page.html"))
+    for place, part in parts.items():
+        text = text.replace(place, part)
     with open(page + ".new", "w", encoding="utf-8") as file:
         file.write(text)
     os.replace(page + ".new", page)

@@ -1,15 +1,25 @@
 /**
- * Painting a diagram: rows of cells, and what is marked on them.
+ * Painting a diagram: its picture, the heads, its axes, and what is marked on it.
  *
- * @typedef {import("./traced.mjs").Row} Row
- * @typedef {{top: number, left: number, size: number, every: number}} View
+ * @typedef {import("./scale.mjs").View} View
+ * @typedef {import("./sample.mjs").Sample} Sample
  * @typedef {{step: number, from: number | null, to: number | null, label: string}} Band a stretch of a row
  * @typedef {{bands: Band[], arrow: boolean}} Mark
+ * @typedef {{x: number, y: number, width: number, height: number}} Area where the picture stands
+ * @typedef {{x: number, y: number, wide: number, high: number}} Box
  */
+import { shown } from "./machine.mjs";
+import { signed } from "./parts.mjs";
+import { FRAMED, symbolAt } from "./sample.mjs";
+import { cellsOf, stepsOf, ticks } from "./scale.mjs";
 
 const SYMBOLS = 10;
 const LABEL_PIXELS = 18;
 const LEAST_BAND = 4;
+const LEAST_HALO = 3;
+const STEPS_APART = 44;
+const POSITIONS_APART = 84;
+const LETTERED = 16;
 
 /** A colour of the page's style, as red, green and blue. */
 function colour(/** @type {string} */ name) {
@@ -17,94 +27,152 @@ function colour(/** @type {string} */ name) {
   return [1, 3, 5].map((at) => parseInt(text.slice(at, at + 2), 16));
 }
 
-/** The colours of the symbols. */
-function palette() {
-  return Array.from({ length: SYMBOLS }, (_, symbol) => colour(`--s${symbol}`));
+/** The same as a pen wants it. */
+function ink(/** @type {string} */ name) {
+  return `rgb(${colour(name).join(" ")})`;
+}
+
+/** The colours of the symbols, of what isn't visited yet, and of the head. */
+export function palette() {
+  const symbols = Array.from({ length: SYMBOLS }, (_, symbol) => colour(`--s${symbol}`));
+  return [...symbols, colour("--unvisited"), colour("--head")];
 }
 
 /** Where a step's row begins. */
-function rowAt(/** @type {View} */ { top, size, every }, /** @type {number} */ step) {
-  return ((step - top) / every) * size;
+function rowAt(/** @type {Area} */ area, /** @type {View} */ view, /** @type {number} */ step) {
+  return area.y + (step - view.top) / stepsOf(view);
+}
+
+/** Where a position's column begins. */
+function columnAt(/** @type {Area} */ area, /** @type {View} */ view, /** @type {number} */ position) {
+  return area.x + (position - view.left) / cellsOf(view);
 }
 
 /**
- * Paints the rows; the head has a colour of its own where cells are small, else a frame and its state.
- * @param {CanvasRenderingContext2D} pen @param {Row[]} rows @param {View} view
- * @param {number} width @param {number} height
+ * Paints a picture, which may have been made for another view: it is then scaled.
+ * @param {CanvasRenderingContext2D} pen @param {Area} area @param {View} view
+ * @param {{view: View, every: number, columns: number, rows: number, sheet: HTMLCanvasElement | null}} made
  */
-export function paintRows(pen, rows, view, width, height) {
-  pen.fillStyle = `rgb(${colour("--unvisited").join(" ")})`;
-  pen.fillRect(0, 0, width, height);
-  const columns = Math.ceil(width / view.size);
-  if (rows.length === 0 || columns < 1) {
+export function paintPicture(pen, area, view, { view: own, every, columns, rows, sheet }) {
+  pen.fillStyle = ink("--unvisited");
+  pen.fillRect(area.x, area.y, area.width, area.height);
+  if (sheet === null) {
     return;
   }
-  const cells = cellPixels(rows, view, columns);
-  const sheet = document.createElement("canvas");
-  sheet.width = columns;
-  sheet.height = rows.length;
-  sheet.getContext("2d")?.putImageData(cells, 0, 0);
+  const x = columnAt(area, view, own.left);
+  const y = rowAt(area, view, own.top);
+  const wide = (columns * own.across) / cellsOf(view);
+  const high = Math.max(1, (rows * every) / stepsOf(view));
   pen.imageSmoothingEnabled = false;
-  const apart = rows.length > 1 ? rows[1].step - rows[0].step : view.every;
-  const high = Math.max(1, (apart / view.every) * view.size);
-  pen.drawImage(sheet, 0, rowAt(view, rows[0].step), columns * view.size, rows.length * high);
-  if (view.size >= 6) {
-    paintHeads(pen, rows, view);
+  pen.drawImage(sheet, x, y, wide, high);
+}
+
+/**
+ * Frames the heads, with their states where cells are large enough; the frame has a halo, so that it is seen
+ * on each symbol's colour.
+ * @param {CanvasRenderingContext2D} pen @param {Area} area @param {View} view @param {Sample} sample
+ */
+export function paintHeads(pen, area, view, sample) {
+  if (view.wide < FRAMED || view.high < FRAMED) {
+    return;
   }
-}
-
-/** A pixel for each cell that is shown; those not visited yet stay clear. */
-function cellPixels(/** @type {Row[]} */ rows, /** @type {View} */ view, /** @type {number} */ columns) {
-  const colours = palette();
-  const head = colour("--head");
-  const image = new ImageData(columns, rows.length);
-  rows.forEach((row, y) => {
-    const put = (/** @type {number} */ x, /** @type {number[]} */ [red, green, blue]) => {
-      if (x >= 0 && x < columns) {
-        image.data.set([red, green, blue, 255], 4 * (y * columns + x));
-      }
-    };
-    row.cells.forEach((symbol, k) => put(row.low + k - view.left, colours[symbol]));
-    if (view.size < 6) {
-      put(row.head - view.left, head);
-    }
-  });
-  return image;
-}
-
-/** @param {CanvasRenderingContext2D} pen @param {Row[]} rows @param {View} view */
-function paintHeads(pen, rows, view) {
-  const line = view.size >= 12 ? 2 : 1.5;
-  pen.strokeStyle = `rgb(${colour("--head").join(" ")})`;
-  pen.lineWidth = line;
-  pen.fillStyle = pen.strokeStyle;
+  const [head, halo] = [ink("--head"), ink("--halo")];
+  const line = view.high >= 12 ? 2 : 1.5;
   pen.textAlign = "center";
   pen.textBaseline = "middle";
-  pen.font = `bold ${Math.round(view.size * 0.6)}px system-ui, sans-serif`;
-  for (const { step, head, state } of rows) {
-    const [x, y] = [(head - view.left) * view.size, rowAt(view, step)];
-    pen.strokeRect(x + line / 2, y + line / 2, view.size - line, view.size - line);
-    if (view.size >= 16) {
-      pen.fillText(state, x + view.size / 2, y + view.size / 2 + 1);
+  pen.font = `bold ${Math.round(view.high * 0.6)}px system-ui, sans-serif`;
+  sample.steps.forEach((step, k) => {
+    const [x, y] = [columnAt(area, view, sample.heads[k]), rowAt(area, view, step)];
+    const inner = line + 0.5;
+    pen.lineWidth = 1;
+    pen.strokeStyle = halo;
+    pen.strokeRect(x + inner, y + inner, view.wide - 2 * inner, view.high - 2 * inner);
+    pen.lineWidth = line;
+    pen.strokeStyle = head;
+    pen.strokeRect(x + line / 2, y + line / 2, view.wide - line, view.high - line);
+    if (view.high >= LETTERED && view.wide >= LETTERED) {
+      const symbol = symbolAt(sample, k, sample.heads[k]);
+      pen.fillStyle = ink(symbol < 0 ? "--text" : `--on${symbol}`);
+      pen.fillText(sample.states[k], x + view.wide / 2, y + view.high / 2 + 1);
+    }
+  });
+}
+
+/**
+ * The axes: steps at the left, positions on top, with the chosen step's place.
+ * @param {CanvasRenderingContext2D} pen @param {Area} area @param {View} view @param {number} chosen step
+ */
+export function paintAxes(pen, area, view, chosen) {
+  pen.fillStyle = ink("--panel");
+  pen.fillRect(0, 0, area.x, area.y + area.height);
+  pen.fillRect(0, 0, area.x + area.width, area.y);
+  pen.fillStyle = ink("--soft");
+  pen.font = "11px system-ui, sans-serif";
+  pen.textBaseline = "middle";
+  pen.textAlign = "right";
+  for (const step of ticks(view.top, stepsOf(view), area.height, STEPS_APART)) {
+    const y = rowAt(area, view, step) + view.high / 2;
+    if (y > area.y + 4 && y < area.y + area.height - 4) {
+      pen.fillText(shown(step), area.x - 8, y);
+      pen.fillRect(area.x - 4, y, 4, 1);
     }
   }
+  pen.textAlign = "center";
+  for (const position of ticks(view.left, cellsOf(view), area.width, POSITIONS_APART)) {
+    const x = columnAt(area, view, position) + view.wide / 2;
+    if (x > area.x + 8 && x < area.x + area.width - 14) {
+      pen.fillText(signed(position), x, area.y - 11);
+      pen.fillRect(x, area.y - 4, 1, 4);
+    }
+  }
+  paintChosen(pen, area, view, chosen);
+}
+
+/** @param {CanvasRenderingContext2D} pen @param {Area} area @param {View} view @param {number} chosen */
+function paintChosen(pen, area, view, chosen) {
+  const y = rowAt(area, view, chosen) + view.high / 2;
+  if (y < area.y || y > area.y + area.height) {
+    return;
+  }
+  pen.fillStyle = ink("--accent");
+  pen.beginPath();
+  pen.moveTo(area.x, y);
+  pen.lineTo(area.x - 8, y - 5);
+  pen.lineTo(area.x - 8, y + 5);
+  pen.fill();
+}
+
+/**
+ * Outlines the place that is told, when it is moved by keys.
+ * @param {CanvasRenderingContext2D} pen @param {Area} area @param {View} view
+ * @param {{step: number, position: number}} place
+ */
+export function paintPlace(pen, area, view, { step, position }) {
+  const [x, y] = [columnAt(area, view, position), rowAt(area, view, step)];
+  const [wide, high] = [Math.max(5, view.wide), Math.max(5, view.high)];
+  pen.lineWidth = 4;
+  pen.strokeStyle = ink("--panel");
+  pen.strokeRect(x - 2, y - 2, wide + 4, high + 4);
+  pen.lineWidth = 2;
+  pen.strokeStyle = ink("--accent");
+  pen.strokeRect(x - 2, y - 2, wide + 4, high + 4);
 }
 
 /**
  * Outlines what stands behind the verdict, with an arrow from the first band to the second where asked.
- * @param {CanvasRenderingContext2D} pen @param {Mark[]} marks @param {View} view
- * @param {number} width @param {number} height
+ * @param {CanvasRenderingContext2D} pen @param {Area} area @param {View} view @param {Mark[]} marks
  */
-export function paintMarks(pen, marks, view, width, height) {
-  const mark = `rgb(${colour("--mark").join(" ")})`;
+export function paintMarks(pen, area, view, marks) {
+  const mark = ink("--mark");
   for (const { bands, arrow } of marks) {
-    const boxes = bands.map((band) => boxOf(band, view, width));
-    let free = LABEL_PIXELS / 2;
+    const boxes = bands.map((band) => boxOf(band, view, area));
+    let free = area.y + LABEL_PIXELS / 2;
     boxes.forEach((box, k) => {
       const wanted = Math.max(box.y + box.high / 2, free);
-      const middle = Math.min(wanted, height - LABEL_PIXELS / 2);
+      const middle = Math.min(wanted, area.y + area.height - LABEL_PIXELS / 2);
       free = middle + LABEL_PIXELS + 2;
-      paintBand(pen, box, bands[k].label, mark, { width, height, middle });
+      // A halo has the mark seen on each symbol's colour, where it leaves something of the row above.
+      paintBand(pen, box, bands[k].label, mark, { area, middle, hasHalo: view.high > LEAST_HALO });
     });
     if (arrow && boxes.length === 2) {
       paintArrow(pen, boxes[0], boxes[1], mark);
@@ -112,20 +180,30 @@ export function paintMarks(pen, marks, view, width, height) {
   }
 }
 
-/** The rectangle of a band; a band without ends goes over the whole width. */
-function boxOf(/** @type {Band} */ band, /** @type {View} */ view, /** @type {number} */ width) {
-  const x = band.from === null ? 1 : (band.from - view.left) * view.size;
-  const end = band.to === null ? width - 1 : (band.to + 1 - view.left) * view.size;
-  const y = rowAt(view, band.step);
-  return { x, y, wide: end - x, high: Math.max(LEAST_BAND, view.size) };
+/**
+ * The rectangle of a band; a band without ends goes over the whole width.
+ * @returns {Box}
+ */
+function boxOf(/** @type {Band} */ band, /** @type {View} */ view, /** @type {Area} */ area) {
+  const x = band.from === null ? area.x + 1 : columnAt(area, view, band.from);
+  const end = band.to === null ? area.x + area.width - 1 : columnAt(area, view, band.to + 1);
+  const y = rowAt(area, view, band.step);
+  return { x, y, wide: Math.max(LEAST_BAND, end - x), high: Math.max(LEAST_BAND, view.high) };
 }
 
 /**
- * @param {CanvasRenderingContext2D} pen @param {{x: number, y: number, wide: number, high: number}} box
- * @param {string} label @param {string} mark
- * @param {{width: number, height: number, middle: number}} place of the label
+ * @param {CanvasRenderingContext2D} pen @param {Box} box @param {string} label @param {string} mark
+ * @param {{area: Area, middle: number, hasHalo: boolean}} how where the label stands
  */
-function paintBand(pen, { x, y, wide, high }, label, mark, { width, height, middle }) {
+function paintBand(pen, { x, y, wide, high }, label, mark, { area, middle, hasHalo }) {
+  if (y + high < area.y || y > area.y + area.height) {
+    return;
+  }
+  if (hasHalo) {
+    pen.strokeStyle = ink("--panel");
+    pen.lineWidth = 1;
+    pen.strokeRect(x - 2.5, y - 2.5, wide + 5, high + 5);
+  }
   pen.strokeStyle = mark;
   pen.lineWidth = 2;
   pen.strokeRect(x - 1, y - 1, wide + 2, high + 2);
@@ -133,21 +211,16 @@ function paintBand(pen, { x, y, wide, high }, label, mark, { width, height, midd
   pen.textAlign = "left";
   pen.textBaseline = "middle";
   const text = pen.measureText(label).width;
-  const right = Math.min(x + wide, width);
-  const left = right + text + 16 < width ? right + 6 : Math.max(4, x - text - 14);
-  if (y + high < 0 || y > height) {
-    return;
-  }
+  const end = area.x + area.width;
+  const right = Math.min(x + wide, end);
+  const left = right + text + 16 < end ? right + 6 : Math.max(area.x + 4, Math.min(x, end) - text - 14);
   pen.fillStyle = mark;
   pen.fillRect(left, middle - LABEL_PIXELS / 2, text + 8, LABEL_PIXELS);
-  pen.fillStyle = `rgb(${colour("--panel").join(" ")})`;
+  pen.fillStyle = ink("--panel");
   pen.fillText(label, left + 4, middle + 1);
 }
 
-/**
- * @param {CanvasRenderingContext2D} pen @param {{x: number, y: number, wide: number, high: number}} one
- * @param {{x: number, y: number, wide: number, high: number}} two @param {string} mark
- */
+/** @param {CanvasRenderingContext2D} pen @param {Box} one @param {Box} two @param {string} mark */
 function paintArrow(pen, one, two, mark) {
   const [x, y] = [one.x + one.wide / 2, one.y + one.high + 1];
   const [toX, toY] = [two.x + two.wide / 2, two.y - 1];
@@ -155,13 +228,19 @@ function paintArrow(pen, one, two, mark) {
   if (Math.hypot(toX - x, toY - y) < 8) {
     return;
   }
-  pen.strokeStyle = mark;
   pen.fillStyle = mark;
-  pen.lineWidth = 2;
-  pen.beginPath();
-  pen.moveTo(x, y);
-  pen.lineTo(toX, toY);
-  pen.stroke();
+  const lines = /** @type {[string, number][]} */ ([
+    [ink("--panel"), 4],
+    [mark, 2],
+  ]);
+  for (const [style, wide] of lines) {
+    pen.strokeStyle = style;
+    pen.lineWidth = wide;
+    pen.beginPath();
+    pen.moveTo(x, y);
+    pen.lineTo(toX, toY);
+    pen.stroke();
+  }
   pen.beginPath();
   pen.moveTo(toX, toY);
   pen.lineTo(toX - 9 * Math.cos(turn - 0.45), toY - 9 * Math.sin(turn - 0.45));

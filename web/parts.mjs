@@ -29,6 +29,13 @@ export function made(name, given = {}, ...children) {
   return element;
 }
 
+const number = new Intl.NumberFormat("en");
+
+/** A number as people read it, below 0 with a minus. */
+export function signed(/** @type {number | bigint} */ value) {
+  return number.format(value).replace("-", "−");
+}
+
 /** Hands a file to whoever uses the page. */
 export function save(/** @type {Blob} */ blob, /** @type {string} */ name) {
   const url = URL.createObjectURL(blob);
@@ -38,14 +45,45 @@ export function save(/** @type {Blob} */ blob, /** @type {string} */ name) {
 
 /** Puts a text where it can be pasted from, and tells it by a button's words for a while. */
 export async function copy(/** @type {string} */ text, /** @type {HTMLElement} */ button) {
-  const words = button.textContent;
+  await told(button, () => navigator.clipboard.writeText(text));
+}
+
+/** Does something, and tells by a button's words for a while how it went. */
+async function told(/** @type {HTMLElement} */ button, /** @type {() => Promise<void>} */ does) {
+  const words = (button.dataset.words ??= button.textContent ?? "");
   try {
-    await navigator.clipboard.writeText(text);
+    await does();
     button.textContent = "Copied";
   } catch {
     button.textContent = "The browser refused";
   }
+  tellLive(button.textContent);
   setTimeout(() => {
     button.textContent = words;
   }, 1500);
+}
+
+/**
+ * Puts a picture where it can be pasted from.
+ * @param {Promise<Blob | null>} png @param {HTMLElement} button
+ */
+export async function copyPicture(png, button) {
+  await told(button, async () => {
+    const item = new ClipboardItem({ "image/png": png.then((blob) => /** @type {Blob} */ (blob)) });
+    await navigator.clipboard.write([item]);
+  });
+}
+
+const LIVE_MILLISECONDS = 1_000;
+let lastTold = -Infinity;
+let liveTimer = 0;
+
+/** Tells whoever hears the page, at most once a second; of what comes faster the last. */
+export function tellLive(/** @type {string} */ words) {
+  clearTimeout(liveTimer);
+  const left = lastTold + LIVE_MILLISECONDS - performance.now();
+  liveTimer = setTimeout(() => {
+    lastTold = performance.now();
+    part("live").textContent = words;
+  }, Math.max(0, left));
 }

@@ -1,4 +1,5 @@
 /** A list, read piece by piece, each of whole lines. */
+import { countLines } from "./bb.mjs";
 
 const NEWLINE = 10;
 // A read has so many bytes at first, then twice as many each time.
@@ -23,9 +24,10 @@ export class Pieces {
     this.ahead = null;
     this.held = new Uint8Array(0);
     this.skips = false;
+    this.line = 0;
   }
 
-  /** The next piece; null where there is none. @returns {Promise<Uint8Array | null>} */
+  /** The next piece and the number of its first line; null where there is none. */
   async next() {
     for (;;) {
       const newline = this.held.indexOf(NEWLINE, Math.min(this.size, this.held.length) - 1);
@@ -42,9 +44,11 @@ export class Pieces {
 
   /** Gives the first bytes that are held. */
   given(/** @type {number} */ length) {
-    const piece = this.held.slice(0, length);
+    const bytes = this.held.slice(0, length);
+    const { line } = this;
     this.held = this.held.subarray(length);
-    return piece;
+    this.line += countLines(bytes);
+    return { bytes, line };
   }
 
   /** Drops what a long line has beyond the bytes that are kept, up to its newline. */

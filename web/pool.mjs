@@ -2,9 +2,16 @@
  * Workers that share a list: each has an engine of its own and takes the next piece when it is done with one.
  *
  * @typedef {import("./worker.mjs").Part} Part
- * @typedef {{worker: Worker, pieces: number, isNew: boolean, held: number}} Hand a worker, how many pieces it
- *   has, whether it had none of this list, and the memory of its engine in bytes
- * @typedef {{piece: () => Promise<Uint8Array | null>, part: (part: Part) => void, end: () => void,
+ * @typedef {{bytes: Uint8Array, line: number}} Piece whole lines of a list, and the number of the first one
+ * @typedef {Piece & {job: number, begin: number, done: number, nextLine: number}} Given a piece that a worker
+ *   has: from which byte on it was sent, which one comes next, and the number of its line
+ * @typedef {{worker: Worker, pieces: Given[], note: import("./worker.mjs").Note | null, since: number,
+ *   held: number, taken: number, size: number | undefined}} Hand a worker, its pieces, what it began and
+ *   when, the
+ *   memory of its engine in bytes, the milliseconds of its last batch, and how many bytes its next one has,
+ *   where
+ *   that is said
+ * @typedef {{piece: () => Promise<Piece | null>, part: (part: Part, read: number) => void, end: () => void,
  *   fail: (error: {error: string, message: string, limit?: string}) => void}} Work
  */
 
@@ -16,6 +23,15 @@ const PIECES = 2;
 // A worker whose engine holds more isn't kept for the next list.
 const MOST_HELD = 16_777_216;
 const READY_MILLISECONDS = 50;
+// A question is ended for the next one where it takes longer.
+const PATIENCE_MILLISECONDS = 400;
+// What a worker has decided is handed over after so long at the latest.
+const PATIENCE_OF_LISTS = 250;
+const WATCH_MILLISECONDS = 50;
+// Lines that take longer are begun anew, so many times fewer at once.
+const FEWER = 8;
+// What a hand has before its first batch, which has one line.
+const UNUSED = { held: 0, taken: 0, size: 1 };
 
 /** A text that stands in the page. */
 function text(/** @type {string} */ id) {
@@ -32,7 +48,8 @@ async function compiled() {
   return WebAssembly.compile(bytes);
 }
 
-const url = URL.createObjectURL(new Blob([text("worker")], { type: "text/javascript" }));
+const scripts = new Blob([text("shared"), text("worker")], { type: "text/javascript" });
+const url = URL.createObjectURL(scripts);
 /** @type {Promise<WebAssembly.Module | null>} */
 const ready = isSupported() ? compiled() : Promise.resolve(null);
 ready.catch(() => undefined);
@@ -80,12 +97,19 @@ function toldOf(/** @type {Error} */ { name, message }) {
   return { error: name, message };
 }
 
-/** A worker of its own for one question, as for a picture; a new question ends the one before. */
+/**
+ * A worker of its own for one question after another, as for pictures. A new question waits a moment for the
+ * one before, and takes the place of one that waits; one that takes longer is ended.
+ */
 export class Asker {
   constructor() {
     /** @type {Worker | undefined} */
     this.worker = undefined;
+    /** @type {(() => void) | null} */
+    this.waiting = null;
     this.isBusy = false;
+    this.begun = 0;
+    this.timer = 0;
   }
 
   /**
@@ -93,21 +117,56 @@ export class Asker {
    * @param {Record<string, any>} question @param {(answer: any) => void} done
    */
   ask(question, done) {
-    if (this.isBusy) {
-      this.worker?.terminate();
-      this.worker = undefined;
+    if (!this.isBusy) {
+      this.begin(question, done);
+      return;
     }
+    this.waiting = () => this.begin(question, done);
+    clearTimeout(this.timer);
+    const left = this.begun + PATIENCE_MILLISECONDS - performance.now();
+    this.timer = setTimeout(() => this.endWorker(), Math.max(0, left));
+  }
+
+  /** Ends the worker in the middle of its answer, which isn't handed over. */
+  end() {
+    this.waiting = null;
+    this.endWorker();
+  }
+
+  /** Ends the worker in the middle of its answer, and asks what waits. */
+  endWorker() {
+    this.worker?.terminate();
+    this.worker = undefined;
+    this.next();
+  }
+
+  /** Asks what waits. */
+  next() {
+    const { waiting } = this;
+    clearTimeout(this.timer);
+    Object.assign(this, { isBusy: false, waiting: null });
+    waiting?.();
+  }
+
+  /** @param {Record<string, any>} question @param {(answer: any) => void} done */
+  begin(question, done) {
     this.worker ??= new Worker(url);
-    this.isBusy = true;
     const worker = this.worker;
-    worker.onmessage = (event) => {
-      this.isBusy = false;
-      done(event.data);
+    this.isBusy = true;
+    this.begun = performance.now();
+    const heard = (/** @type {any} */ answer) => {
+      const isLast = this.waiting === null;
+      this.next();
+      // Of a question that another one followed only a picture is of use.
+      if (isLast || answer.picture) {
+        done(answer);
+      }
     };
-    worker.onerror = (event) => done({ error: "Error", message: event.message });
+    worker.onmessage = (event) => heard(event.data);
+    worker.onerror = (event) => heard({ error: "Error", message: event.message });
     ready.then(
       (module) => worker.postMessage({ module, ...question }),
-      (error) => done(toldOf(error)),
+      (error) => heard(toldOf(error)),
     );
   }
 }
@@ -125,19 +184,25 @@ export class Pool {
     this.ended = false;
     /** @type {Promise<any>} */
     this.next = Promise.resolve();
+    /** @type {Hand[]} */
     this.hands = Array.from({ length: size }, () => this.begun());
     for (let round = 0; round < PIECES; round += 1) {
       this.hands.forEach((hand) => this.feed(hand));
     }
+    this.watch = setInterval(() => this.hands.forEach((hand) => this.hurry(hand)), WATCH_MILLISECONDS);
   }
 
   /** A worker for this list. @returns {Hand} */
   begun() {
-    const worker = idle.pop() ?? new Worker(url);
-    const hand = { worker, pieces: 0, isNew: true, held: 0 };
-    worker.onmessage = (event) => this.heard(hand, event.data);
-    worker.onerror = (event) => this.failed({ error: "Error", message: event.message });
+    /** @type {Hand} */
+    const hand = { worker: idle.pop() ?? new Worker(url), pieces: [], note: null, since: 0, ...UNUSED };
+    this.listen(hand);
     return hand;
+  }
+
+  listen(/** @type {Hand} */ hand) {
+    hand.worker.onmessage = (event) => this.heard(hand, event.data);
+    hand.worker.onerror = (event) => this.failed({ error: "Error", message: event.message });
   }
 
   /** Gives a worker the next piece; pieces are read one after another, so that they stay in order. */
@@ -146,44 +211,91 @@ export class Pool {
   }
 
   async fed(/** @type {Hand} */ hand) {
-    const module = await ready;
-    const bytes = this.ended || this.isRead ? null : await this.work.piece();
-    if (bytes === null) {
+    await ready;
+    const piece = this.ended || this.isRead ? null : await this.work.piece();
+    if (piece === null) {
       this.isRead = true;
       this.finish();
     } else if (!this.ended) {
-      const { jobs: job, asked } = this;
-      const message = { module, what: "list", job, bytes, asked, isNew: hand.isNew };
-      hand.worker.postMessage(message, [bytes.buffer]);
-      hand.isNew = false;
-      hand.pieces += 1;
+      const given = { ...piece, job: this.jobs, begin: 0, done: 0, nextLine: piece.line };
+      hand.pieces.push(given);
       this.jobs += 1;
+      this.send(hand, given);
     }
   }
 
-  /** What a worker sent: a part of its piece, or what went wrong. */
+  /** Sends a worker a piece, without what is done of it; the page keeps it until it is answered. */
+  async send(/** @type {Hand} */ hand, /** @type {Given} */ { job, bytes, line, done }) {
+    const { worker, size } = hand;
+    const module = await ready;
+    const rest = bytes.slice(done);
+    const message = { module, what: "list", job, bytes: rest, line, asked: this.asked, size };
+    worker.postMessage(message, [rest.buffer]);
+    hand.size = undefined;
+  }
+
+  /** What a worker sent: what it begins, a part of its piece, or what went wrong. */
   heard(/** @type {Hand} */ hand, /** @type {any} */ told) {
     if (this.ended) {
       return;
     }
     if (told.error) {
       this.failed(told);
-      return;
+    } else if (told.at !== undefined) {
+      Object.assign(hand, { note: told, since: performance.now() });
+    } else {
+      this.take(hand, told);
     }
-    this.work.part(told);
-    if (told.done) {
-      hand.pieces -= 1;
-      hand.held = told.held;
+  }
+
+  take(/** @type {Hand} */ hand, /** @type {Part} */ part) {
+    const piece = hand.pieces[0];
+    const read = part.next - (piece.done - piece.begin);
+    Object.assign(hand, { note: null, held: part.held, taken: part.taken });
+    piece.done = piece.begin + part.next;
+    piece.nextLine = piece.line + part.nextLine;
+    this.work.part(part, read);
+    if (part.done) {
+      hand.pieces.shift();
       this.feed(hand);
     }
   }
 
+  /**
+   * Has a worker that takes long over several lines begin them anew, fewer at a time: so what is decided is
+   * known soon, also where one of them takes very long.
+   */
+  hurry(/** @type {Hand} */ hand) {
+    const { note, since, pieces, taken } = hand;
+    const patience = Math.max(PATIENCE_OF_LISTS, 3 * taken);
+    if (note === null || note.lines < 2 || performance.now() - since < patience) {
+      return;
+    }
+    hand.worker.terminate();
+    const size = Math.max(1, Math.floor(note.bytes / FEWER));
+    Object.assign(hand, { worker: new Worker(url), note: null, size });
+    this.listen(hand);
+    for (const piece of pieces) {
+      Object.assign(piece, { begin: piece.done, line: piece.nextLine });
+      this.send(hand, piece);
+    }
+  }
+
+  /** The line that is worked on for longest, and for how many milliseconds; null where there is none. */
+  underWay() {
+    const now = performance.now();
+    const slow = this.hands.filter(({ note }) => note !== null);
+    slow.sort((one, two) => one.since - two.since);
+    return slow.length === 0 ? null : { text: slow[0].note?.at ?? "", taken: now - slow[0].since };
+  }
+
   /** Ends the work where no worker has a piece; the workers wait for the next list. */
   finish() {
-    if (this.ended || this.hands.some((hand) => hand.pieces > 0)) {
+    if (this.ended || this.hands.some((hand) => hand.pieces.length > 0)) {
       return;
     }
     this.ended = true;
+    clearInterval(this.watch);
     for (const { worker, held } of this.hands) {
       held > MOST_HELD ? worker.terminate() : idle.push(worker);
     }
@@ -193,6 +305,7 @@ export class Pool {
   /** Ends all workers at once, also in the middle of a machine. */
   stop() {
     this.ended = true;
+    clearInterval(this.watch);
     this.hands.forEach(({ worker }) => worker.terminate());
   }
 

@@ -1,52 +1,128 @@
-/** A list as it is given to the engine: the machines taken out of their lines, where that is asked for. */
-import { MACHINES } from "./machine.mjs";
+/** A list as it is given to the engine: the machines that its lines are read as. */
+import { readingOf } from "./reading.mjs";
 
 const NEWLINE = 10;
+const RETURN = 13;
 const DASH = 45;
 const [ZERO, NINE] = [48, 57];
 const [A, L, R, Z, UNDERSCORE] = [65, 76, 82, 90, 95];
 const [FEWEST_SYMBOLS, MOST_SYMBOLS] = [2, 10];
+const MOST_STATES = 25;
 // A longer line has no machine; it is given as it is, and refused.
 const LONGEST_LINE = 16_384;
-const latin = new TextDecoder("latin1");
-const VERDICT = /^(?:[0-9LRA-Z_-]+ (?:halt|cycler|translated|backward|undecided)\b|refused \d+\s*$)/m;
+const NUMBERS = "(?:(?:halt|cycler|backward) \\d+ \\d+|translated [LR] \\d+ \\d+(?: \\d+ \\d+)?)";
+const VERDICT = new RegExp(
+  `^(?:[0-9LRA-Z_-]+ (?:${NUMBERS}|undecided (?:steps|cells))|refused \\d+)(?:\\t.*)?$`,
+);
+const BEGIN_BYTES = 65_536;
+const decoder = new TextDecoder();
+const encoder = new TextEncoder();
 
-/** Whether a list has verdict lines, by the lines at its begin. */
+/**
+ * @typedef {{bytes: Uint8Array, numbers: Uint32Array | null, places: Uint32Array | null, left: number}}
+ *   Prepared
+ *   what the engine is given; of each of its lines the number among the lines that were given, from 0, and
+ *   where
+ *   it begins there, null where all are as they were; and how many lines were left out
+ */
+
+/** Whether a list has verdict lines: most of the lines at its begin are whole ones. */
 export function hasVerdicts(/** @type {Uint8Array} */ bytes) {
-  return VERDICT.test(latin.decode(bytes.subarray(0, 65_536)));
+  const lines = decoder.decode(bytes.subarray(0, BEGIN_BYTES)).replace(/^\ufeff/, "").split("\n");
+  const isCut = bytes.length >= BEGIN_BYTES && lines.length > 1;
+  const whole = (isCut ? lines.slice(0, -1) : lines).map((line) => line.trim());
+  const texts = whole.filter((text) => !isNothing(text));
+  const verdicts = texts.filter((text) => VERDICT.test(text)).length;
+  return verdicts > 0 && 2 * verdicts > texts.length;
+}
+
+/** Whether a line is empty or a comment. */
+function isNothing(/** @type {string} */ text) {
+  return text === "" || text.startsWith("#") || text.startsWith("//");
 }
 
 /**
- * The list, and how many of its lines had no machine. A comment or blank line is left out; any other line
- * without a machine stays as it is, so that the engine says where it goes wrong.
+ * What the engine is given of a list.
  * @param {Uint8Array} bytes @param {{mode: string, clean: boolean}} asked
+ * @returns {Prepared}
  */
 export function prepared(bytes, { mode, clean }) {
-  const whole = clean && mode !== "check" ? wholeUpTo(bytes) : bytes.length;
-  if (whole === bytes.length) {
-    return { bytes, without: 0 };
+  const isMachines = mode !== "check";
+  if (!clean || (isMachines && wholeUpTo(bytes) === bytes.length)) {
+    return { bytes, numbers: null, places: null, left: 0 };
   }
-  const made = new Uint8Array(bytes.length + 1);
-  made.set(bytes.subarray(0, whole));
-  let [without, length] = [0, whole];
-  for (let from = whole; from < bytes.length; ) {
+  return taken(bytes, isMachines ? machineIn : claimIn);
+}
+
+/**
+ * The lines that are taken, each as the engine is given it.
+ * @param {Uint8Array} bytes @param {(line: Uint8Array) => Uint8Array | null} read null for a line left out
+ * @returns {Prepared}
+ */
+function taken(bytes, read) {
+  const numbers = [];
+  const places = [];
+  /** @type {Uint8Array[]} */
+  const lines = [];
+  let [number, length] = [0, 0];
+  for (let from = 0; from < bytes.length; number += 1) {
     const end = endOf(bytes, from);
-    const kept = rangesOf(bytes.subarray(from, end));
-    without += kept.found ? 0 : 1;
-    for (const [first, last] of kept.ranges) {
-      made.set(bytes.subarray(from + first, from + last), length);
-      made[length + last - first] = NEWLINE;
-      length += last - first + 1;
+    const line = read(bytes.subarray(from, end));
+    if (line !== null) {
+      lines.push(line);
+      numbers.push(number);
+      places.push(from);
+      length += line.length + 1;
     }
     from = end + 1;
   }
-  return { bytes: made.slice(0, length), without };
+  const made = new Uint8Array(length);
+  lines.reduce((at, line) => {
+    made.set(line, at);
+    made[at + line.length] = NEWLINE;
+    return at + line.length + 1;
+  }, 0);
+  const left = number - numbers.length;
+  return { bytes: made, numbers: Uint32Array.from(numbers), places: Uint32Array.from(places), left };
+}
+
+/** The machine of a line, or the line itself where it has none; null for a comment or an empty line. */
+function machineIn(/** @type {Uint8Array} */ line) {
+  if (line.length > LONGEST_LINE || machineEnd(line, 0) === line.length) {
+    return line;
+  }
+  const reading = readingOf(decoder.decode(line));
+  if (reading.kind === "nothing") {
+    return null;
+  }
+  return reading.kind === "machine" ? encoder.encode(reading.machine) : line;
+}
+
+/** A verdict line without the spaces about it; null for a comment or an empty line. */
+function claimIn(/** @type {Uint8Array} */ line) {
+  if (line.length > LONGEST_LINE) {
+    return line;
+  }
+  const text = decoder.decode(line).replace(/^\ufeff/, "").trim();
+  if (isNothing(text)) {
+    return null;
+  }
+  return VERDICT.test(text) ? encoder.encode(text.split("\t")[0]) : line;
 }
 
 /** Where the line ends that begins there, without its newline. */
 function endOf(/** @type {Uint8Array} */ bytes, /** @type {number} */ from) {
   const newline = bytes.indexOf(NEWLINE, from);
   return newline < 0 ? bytes.length : newline;
+}
+
+/**
+ * A line that was given, as a text.
+ * @param {Uint8Array} bytes @param {number} from @param {number} most bytes of it
+ */
+export function lineAt(bytes, from, most) {
+  const end = Math.min(endOf(bytes, from), from + most);
+  return decoder.decode(bytes.subarray(from, bytes[end - 1] === RETURN ? end - 1 : end));
 }
 
 /** Where the first line begins that isn't a machine and nothing else; the end where there is none. */
@@ -62,20 +138,28 @@ function wholeUpTo(/** @type {Uint8Array} */ bytes) {
   return bytes.length;
 }
 
-/** Where the machine ends that begins there; -1 where none does, or where it is longer than any line. */
+/**
+ * Where the machine ends that begins there, as the engine reads it; -1 where none does, or where it is
+ * longer than
+ * any line.
+ */
 function machineEnd(/** @type {Uint8Array} */ bytes, /** @type {number} */ from) {
-  let symbols = 0;
+  let [symbols, size, groups, state, symbol] = [0, 0, 1, A, ZERO];
   let at = from;
   while (isEntry(bytes, at)) {
-    at += 3;
     symbols += 1;
-    if (bytes[at] === UNDERSCORE && symbols >= FEWEST_SYMBOLS && symbols <= MOST_SYMBOLS) {
+    symbol = bytes[at] === DASH ? symbol : Math.max(symbol, bytes[at]);
+    state = bytes[at] === DASH || bytes[at + 2] === Z ? state : Math.max(state, bytes[at + 2]);
+    at += 3;
+    size = groups === 1 ? symbols : size;
+    if (bytes[at] === UNDERSCORE && symbols === size && size >= FEWEST_SYMBOLS) {
       at += 1;
       symbols = 0;
+      groups += 1;
     }
   }
-  const isWhole = symbols >= FEWEST_SYMBOLS && symbols <= MOST_SYMBOLS && at - from <= LONGEST_LINE;
-  return isWhole ? at : -1;
+  const isWhole = symbols === size && size >= FEWEST_SYMBOLS && size <= MOST_SYMBOLS && groups <= MOST_STATES;
+  return isWhole && state < A + groups && symbol < ZERO + size && at - from <= LONGEST_LINE ? at : -1;
 }
 
 /** Whether an entry stands there, such as `1RB` or `---`. */
@@ -87,25 +171,4 @@ function isEntry(/** @type {Uint8Array} */ bytes, /** @type {number} */ at) {
     return move === DASH && state === DASH;
   }
   return symbol >= ZERO && symbol <= NINE && (move === L || move === R) && state >= A && state <= Z;
-}
-
-/**
- * The parts of a line that are given to the engine, and whether they are machines.
- * @returns {{ranges: [number, number][], found: boolean}}
- */
-function rangesOf(/** @type {Uint8Array} */ line) {
-  if (machineEnd(line, 0) === line.length) {
-    return { ranges: [[0, line.length]], found: true };
-  }
-  const text = line.length > LONGEST_LINE ? "" : latin.decode(line).split("#")[0];
-  /** @type {[number, number][]} */
-  const ranges = Array.from(text.matchAll(MACHINES), (match) => {
-    const at = /** @type {number} */ (match.index);
-    return [at, at + match[0].length];
-  });
-  if (ranges.length > 0) {
-    return { ranges, found: true };
-  }
-  const isBlank = text.trim() === "" && line.length <= LONGEST_LINE;
-  return { ranges: isBlank ? [] : [[0, line.length]], found: false };
 }

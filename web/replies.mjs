@@ -13,12 +13,18 @@ const NINE = 57;
 const LETTER_R = 114;
 const REFUSED = KINDS.indexOf("refused");
 // The kind by its first letter and the answer by its second one; no two have the same.
+for (const letters of [KINDS.map((word) => word[0]), ANSWERS.map((word) => word[1])]) {
+  if (new Set(letters).size < letters.length) {
+    throw new Error("two kinds or answers can't be told apart by their letters");
+  }
+}
 const KIND_BY_LETTER = new Uint8Array(256).fill(REFUSED);
 KINDS.forEach((word, kind) => (KIND_BY_LETTER[word.charCodeAt(0)] = kind));
 const ANSWER_BY_LETTER = new Uint8Array(256);
 ANSWERS.forEach((word, answer) => (ANSWER_BY_LETTER[word.charCodeAt(1)] = answer));
 const ANSWER_LENGTHS = Uint8Array.from(ANSWERS, (word) => word.length + 1);
-// Behind how many spaces a line names its steps: a halt by its first number, a pair by its second; 0 for none.
+// Behind how many spaces a line names its steps: a halt by its first number, a pair by its second; 0 for
+// none.
 const SPACES = Uint8Array.from(KINDS, (kind) => ({ halt: 2, cycler: 3, translated: 4 })[String(kind)] ?? 0);
 
 let scratch = new Uint32Array(0);

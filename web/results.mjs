@@ -5,8 +5,14 @@
  * @typedef {{part: Part, line: number}} Place
  */
 import { ANSWERS, KINDS, readLine } from "./machine.mjs";
+import { lineAt } from "./prepare.mjs";
+import { startsOf } from "./replies.mjs";
 
 const LONGEST_SHOWN = 1_100;
+// More bytes of a line than the reader looks through.
+const LONGEST_GIVEN = 70_000;
+// Rows that are read before the page rests.
+const RESTS = 2_000;
 const decoder = new TextDecoder();
 
 export class Results {
@@ -15,7 +21,7 @@ export class Results {
     this.jobs = [];
     this.counts = KINDS.map(() => 0);
     this.answers = ANSWERS.map(() => 0);
-    this.without = 0;
+    this.left = 0;
     this.read = 0;
     this.lines = 0;
     /** @type {Part[] | null} */
@@ -24,12 +30,12 @@ export class Results {
   }
 
   /** Takes in a part. */
-  add(/** @type {Part} */ part) {
+  add(/** @type {Part} */ part, /** @type {number} */ read) {
     (this.jobs[part.job] ??= []).push(part);
     this.flat = null;
     this.lines += part.kinds.length;
-    this.without += part.without;
-    this.read += part.read;
+    this.left += part.left;
+    this.read += read;
     part.kindCounts.forEach((count, kind) => (this.counts[kind] += count));
     part.answerCounts.forEach((count, answer) => (this.answers[answer] += count));
   }
@@ -57,13 +63,39 @@ export class Results {
     return { part: parts[low], line: row - this.begins[low] };
   }
 
-  /** A row as it is shown. */
+  /** A row as it is shown: its number in the list, its verdict line, and as what it was given. */
   row(/** @type {number} */ row) {
     const { part, line } = this.place(row);
     const text = part.lines ?? part.bytes;
     const end = Math.min(part.starts[line + 1], part.starts[line] + LONGEST_SHOWN);
     const read = readLine(decoder.decode(text.subarray(part.starts[line], end)).replace(/[\r\n]+$/, ""));
-    return { ...read, answer: ANSWERS[part.answers[line]], kind: KINDS[part.kinds[line]] };
+    const number = part.first + (part.numbers === null ? line : part.numbers[line]);
+    const { source, places } = part;
+    const given = source === null || places === null ? null : lineAt(source, places[line], LONGEST_GIVEN);
+    return { ...read, answer: ANSWERS[part.answers[line]], kind: KINDS[part.kinds[line]], number, given };
+  }
+
+  /** The lines of these kinds, as the program would write them; the page rests between parts. */
+  async blobOf(/** @type {Set<number>} */ kinds) {
+    const parts = [];
+    for (const part of this.parts()) {
+      parts.push(...linesOf(part, kinds));
+      await rest();
+    }
+    return new Blob(parts, { type: "text/plain" });
+  }
+
+  /** The machines that are undecided, one a line; the page rests between parts. */
+  async undecided() {
+    const rows = this.rows(new Set([KINDS.indexOf("undecided")]));
+    const texts = [];
+    for (const [k, row] of rows.entries()) {
+      texts.push(`${this.row(row).machine}\n`);
+      if (k % RESTS === RESTS - 1) {
+        await rest();
+      }
+    }
+    return new Blob(texts, { type: "text/plain" });
   }
 
   /** The rows of these kinds, in order. */
@@ -104,4 +136,24 @@ function addRows(rows, count, kinds, begin, isShown) {
     end += isShown[kinds[k]];
   }
   return end;
+}
+
+/** Has the browser do what else waits. */
+function rest() {
+  return new Promise((done) => setTimeout(done));
+}
+
+/** The lines of a part whose kinds are among these, as bytes; those that stand together are one. */
+function linesOf(/** @type {Part} */ part, /** @type {Set<number>} */ kinds) {
+  const starts = part.lines === null ? part.starts : startsOf(part.bytes).slice();
+  const found = [];
+  let begin = -1;
+  for (let k = 0; k <= part.kinds.length; k += 1) {
+    const isIn = k < part.kinds.length && kinds.has(part.kinds[k]);
+    if (!isIn && begin >= 0) {
+      found.push(part.bytes.subarray(starts[begin], starts[k]));
+    }
+    begin = isIn ? (begin < 0 ? k : begin) : -1;
+  }
+  return found;
 }

@@ -1,9 +1,13 @@
 /** The table of lines: only the rows that are seen stand in the page, so a list of millions scrolls. */
 import { made, part } from "./parts.mjs";
 import { shown } from "./machine.mjs";
+import { readingOf } from "./reading.mjs";
 
+// A row's height; on a phone it has two lines.
 const ROW_PIXELS = 28;
-const HEAD_PIXELS = 29;
+const PHONE_ROW_PIXELS = 48;
+const LONGEST_SHOWN = 1_000;
+const PHONE = "(max-width: 600px)";
 // Browsers have no higher elements; in longer lists a pixel of the bar stands for more than one.
 const MOST_PIXELS = 8_000_000;
 
@@ -16,6 +20,8 @@ export class Rows {
     this.rows = new Uint32Array(0);
     this.top = 0;
     this.chosen = -1;
+    this.phone = matchMedia(PHONE);
+    this.phone.addEventListener("change", () => this.resized());
     this.box = part("rows");
     this.box.addEventListener("scroll", () => this.scrolled());
     this.box.addEventListener("keydown", (event) => this.pressed(event));
@@ -24,17 +30,21 @@ export class Rows {
     new ResizeObserver(() => this.draw()).observe(this.box);
   }
 
-  /** How many rows are seen. */
+  get pixels() {
+    return this.phone.matches ? PHONE_ROW_PIXELS : ROW_PIXELS;
+  }
+
+  /** How many rows are seen, below the head. */
   get seen() {
-    return Math.max(1, Math.floor((this.box.clientHeight - HEAD_PIXELS) / ROW_PIXELS));
+    return Math.max(1, Math.floor((this.box.clientHeight - this.pixels - 1) / this.pixels));
   }
 
   get height() {
-    return Math.min(MOST_PIXELS, this.rows.length * ROW_PIXELS);
+    return Math.min(MOST_PIXELS, this.rows.length * this.pixels);
   }
 
   get isScaled() {
-    return this.rows.length * ROW_PIXELS > MOST_PIXELS;
+    return this.rows.length * this.pixels > MOST_PIXELS;
   }
 
   /** Shows these rows of results. */
@@ -47,17 +57,22 @@ export class Rows {
     this.draw();
   }
 
+  resized() {
+    part("spacer").style.height = `${this.height}px`;
+    this.go(this.top);
+  }
+
   scrolled() {
     const most = Math.max(1, this.box.scrollHeight - this.box.clientHeight);
     const scaled = (this.box.scrollTop / most) * Math.max(0, this.rows.length - this.seen);
-    this.top = this.isScaled ? Math.round(scaled) : Math.floor(this.box.scrollTop / ROW_PIXELS);
+    this.top = this.isScaled ? Math.round(scaled) : Math.floor(this.box.scrollTop / this.pixels);
     this.draw();
   }
 
   wheeled(/** @type {WheelEvent} */ event) {
     if (this.isScaled) {
       event.preventDefault();
-      this.go(this.top + Math.round(event.deltaY / ROW_PIXELS) || this.top + Math.sign(event.deltaY));
+      this.go(this.top + Math.round(event.deltaY / this.pixels) || this.top + Math.sign(event.deltaY));
     }
   }
 
@@ -66,34 +81,43 @@ export class Rows {
     this.top = Math.max(0, Math.min(top, this.rows.length - this.seen));
     const share = this.top / Math.max(1, this.rows.length - this.seen);
     const most = this.box.scrollHeight - this.box.clientHeight;
-    this.box.scrollTop = this.isScaled ? share * most : this.top * ROW_PIXELS;
+    this.box.scrollTop = this.isScaled ? share * most : this.top * this.pixels;
     this.draw();
   }
 
   draw() {
     const end = Math.min(this.rows.length, this.top + this.seen + 2);
     const box = part("shown");
-    const at = this.isScaled ? this.box.scrollTop : this.top * ROW_PIXELS;
+    const at = this.isScaled ? this.box.scrollTop : this.top * this.pixels;
     box.style.transform = `translateY(${Math.max(0, at)}px)`;
     const rows = [];
     for (let place = this.top; place < end; place += 1) {
       rows.push(this.row(place));
     }
     box.replaceChildren(...rows);
-    this.box.setAttribute("aria-activedescendant", `row-${this.chosen}`);
+    const isDrawn = this.chosen >= this.top && this.chosen < end;
+    isDrawn
+      ? this.box.setAttribute("aria-activedescendant", `row-${this.chosen}`)
+      : this.box.removeAttribute("aria-activedescendant");
   }
 
   row(/** @type {number} */ place) {
-    const number = this.rows[place];
     const results = /** @type {import("./results.mjs").Results} */ (this.results);
-    const { machine, verdict, answer } = results.row(number);
+    const { machine, verdict, answer, kind, number, given } = results.row(this.rows[place]);
     const cell = (/** @type {string} */ text, name = "") =>
       made("span", { role: "gridcell", class: name, title: text }, text);
-    const told = [cell(machine), cell(verdict.text), cell(answer, answer)];
+    const isRefused = kind === "refused";
+    const text = isRefused ? cell((given ?? "").slice(0, LONGEST_SHOWN)) : cell(machine);
+    const reading = given === null || isRefused ? null : readingOf(given);
+    if (reading?.kind === "machine" && reading.rewritten.length > 0) {
+      text.append(made("span", { class: "from" }, ` ← ${given?.trim()}`));
+      text.title = `${machine} ← ${given?.trim()}`;
+    }
+    const told = [text, cell(verdict.text), isRefused ? cell("–", "none") : cell(answer, answer)];
     const line = cell(shown(number + 1), "number");
-    const given = { role: "row", class: "row", id: `row-${place}`, "aria-rowindex": place + 2 };
+    const about = { role: "row", class: "row", id: `row-${place}`, "aria-rowindex": place + 2 };
     const chosen = { "aria-selected": place === this.chosen, "data-place": place };
-    return made("div", { ...given, ...chosen }, line, ...told);
+    return made("div", { ...about, ...chosen }, line, ...told);
   }
 
   clicked(/** @type {MouseEvent} */ event) {

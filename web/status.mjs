@@ -1,34 +1,52 @@
 /**
  * How far a list is, in words.
  *
- * @typedef {{mode: "decide" | "check", plan: Record<string, any>, size: number, begun: number}} Run a list
- *   that is worked on: its bytes, and the milliseconds at which the work began
+ * @typedef {{mode: "decide" | "check", plan: Record<string, any>, size: number, begun: number, taken:
+ *   number}} Run a
+ *   list that is worked on: its bytes, the milliseconds at which the work began, and those that it took; 0
+ *   while it
+ *   is under way
  */
-import { ANSWERS, counted, shown } from "./machine.mjs";
+import { ANSWERS, KINDS, counted, shown } from "./machine.mjs";
 
-const WHAT = {
-  check: "These are verdict lines, so they are checked",
-  decide: "Each checked at the same limits",
-};
+const [UNDECIDED, REFUSED] = [KINDS.indexOf("undecided"), KINDS.indexOf("refused")];
+// What takes longer is named.
+const NAMED_MILLISECONDS = 500;
+const LONGEST_NAMED = 60;
 
 /**
- * How far a list is, and what the checker says of it.
+ * How far a list is, and what the checker says of it. Each line of the list is counted once.
  * @param {string} how it stands: running, done, stopped or ended
  * @param {number} share of the list that is done, 0 to 1
  * @param {Run} run @param {import("./results.mjs").Results} results
  */
 export function statusOf(how, share, run, results) {
-  const did = run.mode === "check" ? "checked" : "decided";
-  const seconds = (performance.now() - run.begun) / 1000;
-  const parts = [`${how}: ${counted(results.lines, "line")} ${did} in ${seconds.toFixed(1)} s`];
+  const seconds = (run.taken || performance.now() - run.begun) / 1000;
+  const { counts, lines, left } = results;
+  const parts = [`${how}, ${seconds.toFixed(1)} s`];
   if (how !== "Done") {
-    parts.push(`${Math.floor(100 - 100 * share)} % of the list left`);
+    parts[0] += `, ${Math.floor(100 * share)} % done`;
   }
+  const decided = lines - counts[UNDECIDED] - counts[REFUSED];
+  const told = [
+    `${shown(decided)} decided`,
+    `${shown(counts[UNDECIDED])} undecided`,
+    `${shown(counts[REFUSED])} refused`,
+    ...(left > 0 ? [`${shown(left)} left out (comments and empty lines)`] : []),
+  ];
+  parts.push(told.join(", "));
   const answers = ANSWERS.map((answer, k) => `${shown(results.answers[k])} ${answer}`);
-  const told = answers.filter((_, k) => results.answers[k] > 0).join(", ");
-  parts.push(`${WHAT[run.mode]}: ${told || "none yet"}`);
-  if (results.without > 0) {
-    parts.push(`${counted(results.without, "line")} had no machine`);
-  }
+  const answered = answers.filter((_, k) => results.answers[k] > 0 && ANSWERS[k] !== "open").join(", ");
+  const what = run.mode === "check" ? `These are ${counted(lines, "verdict line")}, checked` : "The checker";
+  parts.push(`${what}: ${answered || "nothing to confirm"}`);
   return `${parts.join(". ")}.`;
+}
+
+/** The machine that is worked on, where it takes long; nothing else. */
+export function underWayTold(/** @type {{text: string, taken: number} | null} */ under) {
+  if (under === null || under.taken < NAMED_MILLISECONDS) {
+    return "";
+  }
+  const text = under.text.length > LONGEST_NAMED ? `${under.text.slice(0, LONGEST_NAMED)}…` : under.text;
+  return `At work on ${text} for ${(under.taken / 1000).toFixed(1)} s.`;
 }

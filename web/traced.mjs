@@ -1,99 +1,229 @@
 /**
- * Rows of a space-time diagram, from the engine's trace. A line of it doesn't say where its first cell lies:
- * that is worked out here by running the machine, and held against the head and the number of cells of each
- * line.
+ * Rows of a space-time diagram, from the engine's trace, and the picture of them.
  *
  * @typedef {{step: number, state: string, head: number, low: number, cells: Uint8Array}} Row
  * @typedef {{rows: Row[], agrees: boolean, cut: boolean, low: number, high: number}} Traced
+ * @typedef {import("./sample.mjs").Sample} Sample
+ * @typedef {{machine: string, upto: number, cells: number, from: number, every: number}} Asked
  */
-import { machineOf } from "./machine.mjs";
+import { FRAMED } from "./sample.mjs";
+import { fitted } from "./scale.mjs";
+import { Windows } from "./windows.mjs";
 
 const SPACE = 32;
 const NEWLINE = 10;
 const ZERO = 48;
+// Bytes of a trace's line beside its cells, at most.
+const LINE_ROOM = 64;
+// A trace with more bytes is taken with fewer rows.
+const MOST_BYTES = 100_000_000;
+const UNVISITED = 10;
+const HEAD = 11;
 
-/** A tape that grows on both sides, run from the definition; only its window is used. */
-class Run {
-  constructor(/** @type {string} */ text) {
-    const machine = machineOf(text);
-    this.symbols = machine.symbols;
-    this.entries = machine.rules.map(({ entry }) => entry);
-    this.cells = new Uint8Array(1024);
-    this.zero = 512;
-    this.state = 0;
-    this.head = 0;
-    this.low = 0;
-    this.high = 0;
-    this.step = 0;
-  }
+const decoder = new TextDecoder();
+/**
+ * What is known of the last machine's run.
+ * @type {Windows | null}
+ */
+let known = null;
 
-  /** Goes on to a step, or to the last one. */
-  reach(/** @type {number} */ step) {
-    while (this.step < step && this.state >= 0) {
-      const at = this.head + this.zero;
-      const entry = this.entries[this.state * this.symbols + this.cells[at]];
-      if (entry === null) {
-        return;
-      }
-      this.cells[at] = entry.write;
-      this.head += entry.move;
-      this.state = entry.next;
-      this.step += 1;
-      if (entry.next >= 0 && (this.head < this.low || this.head > this.high)) {
-        this.widen();
-      }
-    }
-  }
+/** What positions a machine visits. */
+function windowsOf(/** @type {string} */ machine) {
+  known = known?.text === machine ? known : new Windows(machine);
+  return known;
+}
 
-  /** Takes the head's position into the window, and makes room beside it. */
-  widen() {
-    this.low = Math.min(this.low, this.head);
-    this.high = Math.max(this.high, this.head);
-    const [first, last] = [this.low + this.zero, this.high + this.zero];
-    if (first < 2 || last > this.cells.length - 3) {
-      const larger = new Uint8Array(2 * this.cells.length);
-      const shift = Math.floor(this.cells.length / 2);
-      larger.set(this.cells, shift);
-      this.cells = larger;
-      this.zero += shift;
-    }
+/** How many bytes the rows have that a trace is asked for; the first one alone may have too many. */
+function bytesOf(/** @type {Windows} */ windows, /** @type {Asked} */ { upto, from, every }) {
+  let total = LINE_ROOM;
+  for (let step = from; step <= upto && total <= MOST_BYTES; step += every) {
+    total += LINE_ROOM + windows.high(step) - windows.low(step) + 1;
   }
+  return total;
 }
 
 /**
- * The rows of the lines of a trace, between two positions.
- * @param {Uint8Array} bytes @param {string} machine @param {number[]} between
+ * The rows of the steps `from`, `from + every` and so on up to `upto`; fewer of them where they have too many
+ * cells.
+ * @param {import("./bb.mjs").Engine} engine @param {Asked} asked
  */
-function rowsOf(bytes, machine, [left, right]) {
-  const run = new Run(machine);
-  /** @type {Row[]} */
-  const rows = [];
-  let agrees = true;
+function sampled(engine, asked) {
+  const windows = windowsOf(asked.machine);
+  const { machine, cells, from } = asked;
+  const last = windows.reach(asked.upto, cells);
+  let every = Math.max(1, asked.every);
+  while (bytesOf(windows, { ...asked, upto: last, every }) > MOST_BYTES && from + every <= last) {
+    every *= 2;
+  }
+  const space = bytesOf(windows, { ...asked, upto: last, every });
+  const line = new TextEncoder().encode(machine);
+  const { bytes, clean } = engine.traceBytes(line, { steps: asked.upto, cells, from, every }, space);
+  return { ...read(bytes, windows), cut: !clean, every, windows, last };
+}
+
+/** The rows of a trace, held against the windows: each has as many cells. */
+function read(/** @type {Uint8Array} */ bytes, /** @type {Windows} */ windows) {
+  /** @type {number[][]} */
+  const found = [];
+  let [states, agrees] = ["", true];
   for (let from = 0; from < bytes.length; ) {
     const end = bytes.indexOf(NEWLINE, from);
-    const cellsAt = bytes.lastIndexOf(SPACE, end) + 1;
-    const [step, state, head] = new TextDecoder().decode(bytes.subarray(from, cellsAt - 1)).split(" ");
-    run.reach(Number(step));
-    agrees = agrees && run.head === Number(head) && run.high - run.low + 1 === end - cellsAt;
-    const low = Math.min(Math.max(left, run.low), run.high);
-    const high = Math.max(low, Math.min(right, run.high));
-    const shown = bytes.slice(cellsAt + low - run.low, cellsAt + high + 1 - run.low);
-    const cells = shown.map((byte) => byte - ZERO);
-    rows.push({ step: Number(step), state, head: Number(head), low, cells });
+    const place = bytes.lastIndexOf(SPACE, end) + 1;
+    const [step, state, head] = decoder.decode(bytes.subarray(from, place - 1)).split(" ");
+    const [low, high] = [windows.low(Number(step)), windows.high(Number(step))];
+    const isInside = state === "Z" || (Number(head) >= low && Number(head) <= high);
+    agrees = agrees && isInside && high - low + 1 === end - place;
+    found.push([Number(step), Number(head), low, place]);
+    states += state;
     from = end + 1;
   }
-  return { rows, agrees, low: run.low, high: run.high };
+  const column = (/** @type {number} */ k) => Float64Array.from(found, (row) => row[k]);
+  const wide = Float64Array.from(found, ([step]) => windows.high(step) - windows.low(step) + 1);
+  const [steps, heads, lows, places] = [0, 1, 2, 3].map(column);
+  return { sample: { steps, heads, lows, places, wide, states, bytes }, agrees };
 }
 
 /**
  * The rows of a machine at the steps `from`, `from + every` and so on up to `upto`, between two positions.
- * @param {import("./bb.mjs").Engine} engine
- * @param {{machine: string, upto: number, cells: number, from: number, every: number,
- *   between: number[]}} asked
+ * @param {import("./bb.mjs").Engine} engine @param {Asked & {between: number[]}} asked
  * @returns {Traced}
  */
-export function traced(engine, { machine, upto, cells, from, every, between }) {
-  const line = new TextEncoder().encode(machine);
-  const { bytes, clean } = engine.traceBytes(line, { steps: upto, cells, from, every });
-  return { ...rowsOf(bytes, machine, between), cut: !clean };
+export function traced(engine, asked) {
+  const { sample, agrees, cut, windows, last } = sampled(engine, asked);
+  const [left, right] = asked.between;
+  const rows = Array.from(sample.steps, (step, k) => {
+    const [first, end] = [sample.lows[k], sample.lows[k] + sample.wide[k] - 1];
+    const low = Math.min(Math.max(left, first), end);
+    const high = Math.max(low, Math.min(right, end));
+    const place = sample.places[k] - first;
+    const cells = sample.bytes.slice(place + low, place + high + 1).map((byte) => byte - ZERO);
+    return { step, state: sample.states[k], head: sample.heads[k], low, cells };
+  });
+  return { rows, agrees, cut, low: windows.low(last), high: windows.high(last) };
+}
+
+/**
+ * The last step that a run makes up to one, within so many cells.
+ * @param {{machine: string, cells: number, upto: number}} asked
+ */
+export function lastOf({ machine, cells, upto }) {
+  return windowsOf(machine).reach(upto, cells);
+}
+
+// The powers of the steps between which cells are said to grow as a root.
+const ROOT = [0.2, 0.8];
+
+/**
+ * How the cells that a run visits grow, by how many they are after a hundredth of the steps, a tenth, and
+ * all.
+ * @param {{machine: string, cells: number, upto: number}} asked
+ * @returns {import("./facts.mjs").Growth}
+ */
+export function growthOf({ machine, cells, upto }) {
+  const windows = windowsOf(machine);
+  const reached = windows.reach(upto, cells);
+  const wide = (/** @type {number} */ step) => windows.high(step) - windows.low(step) + 1;
+  const halts = windows.ended && windows.step <= upto;
+  const steps = halts ? upto : reached;
+  const apart = Math.max(1, Math.floor(steps / 100));
+  if (Math.floor(reached / apart) < 100) {
+    const last = wide(reached);
+    return { growth: halts ? "halts" : "line", steps: reached, visited: [last, last, last] };
+  }
+  const visited = [1, 10, 100].map((many) => wide(many * apart));
+  const power = Math.log10(visited[2] / visited[0]) / 2;
+  const grows = power < ROOT[0] ? "logarithm" : power < ROOT[1] ? "root" : "line";
+  return { growth: visited[1] === visited[2] ? "stays" : grows, steps, visited };
+}
+
+/**
+ * The picture of a view: a pixel for each column and row, in the mean colour of the cells that it stands for.
+ * @param {import("./bb.mjs").Engine} engine
+ * @param {{machine: string, cells: number, upto: number, view: import("./scale.mjs").View | null,
+ *   width: number, height: number, fit: import("./scale.mjs").Fit, palette: number[][]}} asked `view` is null
+ *   where the picture is to fit
+ */
+export function pictured(engine, asked) {
+  const { machine, cells, upto, width, height, fit, palette } = asked;
+  const windows = windowsOf(machine);
+  const reached = windows.reach(Math.min(upto, fit.last), cells);
+  const whole = { last: reached, low: windows.low(reached), high: windows.high(reached) };
+  const { home, opening } = fitted(width, height, whole, fit.pair);
+  const view = asked.view ?? (fit.opens ? opening : home);
+  const rows = Math.ceil(height / view.high);
+  const top = Math.min(view.top, upto);
+  const end = Math.min(upto, top + (rows - 1) * view.every);
+  const given = { machine, cells, upto: end, from: top, every: view.every };
+  const { sample, agrees, cut, every, last } = sampled(engine, given);
+  const columns = Math.ceil(width / view.wide);
+  const image = painted(sample, { ...view, every }, columns, palette);
+  const span = { low: windows.low(last), high: windows.high(last) };
+  return { view, home, sample, agrees, cut: cut && last < end, every, columns, image, ...span };
+}
+
+/**
+ * The pixels of all rows; what isn't visited yet stays clear.
+ * @param {Sample} sample @param {import("./scale.mjs").View} view @param {number} columns
+ * @param {number[][]} palette
+ */
+function painted(sample, view, columns, palette) {
+  const rows = sample.steps.length;
+  const image = new Uint8ClampedArray(4 * columns * rows);
+  const paint = view.across > 1 ? paintMeans : paintCells;
+  for (let k = 0; k < rows; k += 1) {
+    paint(image.subarray(4 * columns * k, 4 * columns * (k + 1)), sample, k, view, palette);
+  }
+  return image;
+}
+
+/**
+ * A row with a pixel for each cell.
+ * @param {Uint8ClampedArray} pixels @param {Sample} sample @param {number} k
+ * @param {import("./scale.mjs").View} view @param {number[][]} palette
+ */
+function paintCells(pixels, { bytes, places, lows, heads, wide }, k, view, palette) {
+  const columns = pixels.length / 4;
+  const put = (/** @type {number} */ x, /** @type {number[]} */ [red, green, blue]) => {
+    pixels.set([red, green, blue, 255], 4 * x);
+  };
+  const begin = Math.max(0, lows[k] - view.left);
+  const end = Math.min(columns, lows[k] + wide[k] - view.left);
+  const place = places[k] - lows[k] + view.left;
+  for (let x = begin; x < end; x += 1) {
+    put(x, palette[bytes[place + x] - ZERO]);
+  }
+  const head = heads[k] - view.left;
+  if ((view.wide < FRAMED || view.high < FRAMED) && head >= 0 && head < columns) {
+    put(head, palette[HEAD]);
+  }
+}
+
+/**
+ * A row of which a pixel stands for several cells: it has their mean colour.
+ * @param {Uint8ClampedArray} pixels @param {Sample} sample @param {number} k
+ * @param {import("./scale.mjs").View} view @param {number[][]} palette
+ */
+function paintMeans(pixels, sample, k, { left, across }, palette) {
+  const [reds, greens, blues] = [0, 1, 2].map((part) => Int32Array.from(palette, (one) => one[part]));
+  const { bytes } = sample;
+  const [low, high] = [sample.lows[k], sample.lows[k] + sample.wide[k] - 1];
+  const place = sample.places[k] - low;
+  const first = Math.max(0, Math.floor((low - left) / across));
+  const last = Math.min(pixels.length / 4 - 1, Math.floor((high - left) / across));
+  for (let x = first; x <= last; x += 1) {
+    const begin = left + x * across;
+    const [from, to] = [Math.max(begin, low), Math.min(begin + across - 1, high)];
+    const outside = across - (to - from + 1);
+    let [red, green, blue] = [reds, greens, blues].map((part) => part[UNVISITED] * outside);
+    for (let at = place + from; at <= place + to; at += 1) {
+      const symbol = bytes[at] - ZERO;
+      red += reds[symbol];
+      green += greens[symbol];
+      blue += blues[symbol];
+    }
+    pixels[4 * x] = red / across;
+    pixels[4 * x + 1] = green / across;
+    pixels[4 * x + 2] = blue / across;
+    pixels[4 * x + 3] = 255;
+  }
 }

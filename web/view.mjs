@@ -1,45 +1,78 @@
-/** The view of one machine: its verdict in words, its diagram, its table, and what stands behind. */
+/** The view of one machine: its verdict in words, diagram, tape and table, and what stands behind. */
+import { Again } from "./again.mjs";
 import { showBehind, stepsOf } from "./behind.mjs";
 import { Diagram } from "./diagram.mjs";
+import { tellFacts } from "./facts.mjs";
 import { linkOf } from "./fields.mjs";
 import { listen } from "./gestures.mjs";
+import { tellGiven } from "./given.mjs";
 import { machineOf, sentence, stateLetter } from "./machine.mjs";
-import { copy, made, part, save } from "./parts.mjs";
+import { copy, copyPicture, made, part, save, tellLive } from "./parts.mjs";
+import { Tape } from "./tape.mjs";
 
 const NARROW = "(max-width: 900px)";
+const ELSEWHERE = "https://bbchallenge.org/";
+/** @type {Record<string, string>} */
+const DOUBTS = {
+  bad: "The checker refutes it.",
+  over: "The checker would need larger limits to tell.",
+  unread: "The checker doesn’t read the line.",
+};
+
+/**
+ * @typedef {import("./machine.mjs").Verdict} Verdict
+ * @typedef {{machine: string, verdict: Verdict, answer: string, plan: Record<string, any>}} About a machine,
+ *   its
+ *   verdict at these limits, and the checker's answer
+ */
 
 export class View {
   constructor() {
-    this.diagram = new Diagram();
-    /** @type {{machine: string, plan: Record<string, any>} | null} */
+    this.diagram = new Diagram((place) => this.tape.go(place.step));
+    this.tape = new Tape((place, closes) => this.diagram.goTo(place, closes));
+    this.again = new Again((about) => this.showAgain(about));
+    /** @type {About | null} */
     this.about = null;
-    listen(this.diagram);
+    listen(this.diagram, (told, byKeys) => {
+      part("place-told").textContent = told;
+      byKeys && tellLive(told);
+    });
     /** @param {string} id @param {() => void} act */
     const on = (id, act) => part(id).addEventListener("click", act);
-    on("zoom-in", () => this.diagram.zoom(true));
-    on("zoom-out", () => this.diagram.zoom(false));
+    on("zoom-in", () => this.diagram.zoom(4));
+    on("zoom-out", () => this.diagram.zoom(1 / 4));
     on("fit", () => this.diagram.fit());
+    on("marked", () => this.diagram.reopen());
     on("png", async () => save(/** @type {Blob} */ (await this.diagram.png()), `${this.about?.machine}.png`));
+    on("copy-png", () => copyPicture(this.diagram.png(), part("copy-png")));
+    on("copy-text", () => copy(this.about?.machine ?? "", part("copy-text")));
     on("link", () => this.link());
     on("back", () => part("rows").focus());
   }
 
   /**
-   * Shows a machine with its verdict, decided at these limits.
-   * @param {string} machine @param {import("./machine.mjs").Verdict} verdict
-   * @param {Record<string, any>} plan @param {boolean} moves whether a narrow page scrolls to it
+   * Shows a machine with its verdict.
+   * @param {About} about @param {boolean} moves whether a narrow page scrolls to it
+   * @param {import("./given.mjs").Given} given the line as it was given
    */
-  open(machine, verdict, plan, moves) {
+  open(about, moves, given) {
+    const { machine, verdict } = about;
     const isMachine = verdict.kind !== "refused";
-    this.about = { machine, plan };
+    this.about = about;
     part("machine").hidden = false;
-    part("machine-text").textContent = isMachine ? machine : "No machine";
-    part("machine-says").textContent = sentence(verdict);
-    document.querySelectorAll(".picture, .columns").forEach((box) => {
+    part("machine-text").textContent = machine;
+    part("machine-says").textContent = `${doubtOf(about)}${sentence(verdict)}`;
+    part("machine-says").classList.toggle("doubted", isMachine && doubtOf(about) !== "");
+    tellGiven(given, verdict);
+    document.querySelectorAll(".picture, .columns, #tape, #about, #machine-links").forEach((box) => {
       /** @type {HTMLElement} */ (box).hidden = !isMachine;
     });
+    this.again.forget(about);
     if (isMachine) {
-      this.show(machineOf(machine), verdict, plan);
+      this.show(about);
+    }
+    if (moves) {
+      tellLive(part("machine-says").textContent ?? "");
     }
     if (moves && matchMedia(NARROW).matches) {
       part("machine").scrollIntoView({ block: "start" });
@@ -47,21 +80,31 @@ export class View {
     }
   }
 
-  /**
-   * @param {import("./machine.mjs").Machine} machine @param {import("./machine.mjs").Verdict} verdict
-   * @param {Record<string, any>} plan
-   */
-  show(machine, verdict, plan) {
+  /** Shows a machine's pictures, its table, and what is known of it. */
+  show(/** @type {About} */ { machine: text, verdict, answer, plan }) {
+    const machine = machineOf(text);
     const cells = Number(plan.cells);
+    const steps = Number(plan.steps);
     part("machine-table").replaceChildren(tableOf(machine));
     part("legend").replaceChildren(...legendOf(machine));
-    part("diagram").setAttribute("aria-label", `Space-time diagram of ${machine.text}. ${sentence(verdict)}`);
-    const steps = stepsOf(verdict, Number(plan.steps));
-    this.diagram.open({ machine: machine.text, cells, symbols: machine.symbols, ...steps }, []);
-    showBehind({ machine: machine.text, cells, verdict }, (marks) => {
-      this.diagram.marks = marks;
-      this.diagram.draw();
+    part("diagram").setAttribute("aria-label", `Space-time diagram of ${text}. ${sentence(verdict)}`);
+    /** @type {HTMLAnchorElement} */ (part("elsewhere")).href = ELSEWHERE + text;
+    part("marked").hidden = verdict.kind !== "cycler" && verdict.kind !== "translated";
+    const { last, upto } = stepsOf(verdict, steps);
+    const about = { machine: text, cells };
+    showBehind({ ...about, verdict }, (marks, pair) => {
+      this.diagram.open({ ...about, last, upto, pair }, marks);
+      this.tape.open({ ...about, last: upto }, pair?.first ?? 0);
     });
+    tellFacts({ ...about, steps, verdict, isConfirmed: answer === "ok" || verdict.kind === "undecided" });
+  }
+
+  /** Shows what larger limits said; the list keeps what it has. */
+  showAgain(/** @type {About} */ about) {
+    this.about = about;
+    part("machine-says").textContent = `${doubtOf(about)}${sentence(about.verdict)}`;
+    tellLive(part("machine-says").textContent ?? "");
+    this.show(about);
   }
 
   /** Puts the machine's link into the address, and where it can be pasted from. */
@@ -73,6 +116,12 @@ export class View {
   }
 }
 
+/** What is said before a verdict that the checker doesn't confirm; nothing of others. */
+function doubtOf(/** @type {About} */ { verdict, answer }) {
+  const isSure = answer === "ok" || verdict.kind === "undecided" || verdict.kind === "refused";
+  return isSure ? "" : `${DOUBTS[answer] ?? DOUBTS.unread} The line says: `;
+}
+
 /** A machine's table: a row for each state, a column for each symbol. */
 function tableOf(/** @type {import("./machine.mjs").Machine} */ machine) {
   const column = (/** @type {number} */ symbol) => made("th", { scope: "col" }, String(symbol));
@@ -80,7 +129,10 @@ function tableOf(/** @type {import("./machine.mjs").Machine} */ machine) {
   const head = made("tr", {}, made("td", { "aria-label": "state and symbol" }), ...symbols);
   const rows = Array.from({ length: machine.states }, (_, state) => {
     const entries = machine.rules.slice(state * machine.symbols, (state + 1) * machine.symbols);
-    const cells = entries.map(({ entry }) => made("td", {}, entry === null ? "---" : entryText(entry)));
+    const cells = entries.map(({ symbol, entry }) => {
+      const given = { "data-entry": `${stateLetter(state)}${symbol}` };
+      return made("td", given, entry === null ? "---" : entryText(entry));
+    });
     return made("tr", {}, made("th", { scope: "row" }, stateLetter(state)), ...cells);
   });
   return made("table", {}, head, ...rows);

@@ -4,32 +4,52 @@
  * @typedef {{mode: "decide" | "check", clean: boolean, plan: Record<string, any>}} Asked
  * @typedef {{job: number, bytes: Uint8Array, lines: Uint8Array | null, starts: Uint32Array,
  *   kinds: Uint8Array, steps: Float64Array, answers: Uint8Array, kindCounts: number[],
- *   answerCounts: number[], without: number, done: boolean, read: number, held: number}} Part `held` is the
- *   memory of the engine, in bytes
+ *   answerCounts: number[], first: number, numbers: Uint32Array | null, source: Uint8Array | null,
+ *   places: Uint32Array | null, left: number, next: number, nextLine: number, done: boolean, taken: number,
+ *   held: number}} Part
+ *   `first` is the number of the first line, `numbers` those of all where some between them were left out;
+ *   `source` has the lines as they were given and `places` where they begin, where some aren't as the engine
+ *   was
+ *   given them; `left` is how many were left out; `next` and `nextLine` say which byte and line of the piece
+ *   come
+ *   next; `taken` are the milliseconds that it took, `held` is the memory of the engine, in bytes
+ * @typedef {{job: number, at: string, lines: number, bytes: number}} Note what is begun: the first line of a
+ *   batch,
+ *   and how many lines and bytes it has
  */
 import { load } from "./bb.mjs";
 import { ANSWERS, KINDS } from "./machine.mjs";
-import { prepared } from "./prepare.mjs";
+import { lineAt, prepared } from "./prepare.mjs";
 import { readAnswers, readLines, startsOf, tallied } from "./replies.mjs";
-import { traced } from "./traced.mjs";
+import { growthOf, lastOf, pictured, traced } from "./traced.mjs";
 
 const NEWLINE = 10;
 // A piece is answered in batches that take about so long, so that what was done stays where it is stopped.
 const BATCH_MILLISECONDS = 60;
-const FIRST_BYTES = 256;
+// The first batch has one line.
+const FIRST_BYTES = 1;
+const MOST_NAMED = 1_023;
+const REFUSED = KINDS.indexOf("refused");
 const MOST_BYTES = 1_048_576;
+// A call costs much by itself where a line of a larger batch takes less than this part of the time.
+const SHARED = 0.75;
 const WARM_MILLISECONDS = 60;
 const WARM_PLAN = { steps: 200, cells: 256, depth: 20, nodes: 1_000 };
 
 /** @type {import("./bb.mjs").Engine | undefined} */
 let engine;
 let size = FIRST_BYTES;
+// Milliseconds that a line of the batch before took; infinite before the first one.
+let pace = Infinity;
 
 /** A batch answered: its lines, what is said of each, and the answer of the checker. */
-function answered(/** @type {Uint8Array} */ given, /** @type {Asked} */ { mode, plan }) {
+function answered(
+  /** @type {Uint8Array} */ given,
+  /** @type {Asked} */ { mode, plan },
+  starts = startsOf(given),
+) {
   const { steps, cells, depth, nodes } = plan;
   const host = /** @type {import("./bb.mjs").Engine} */ (engine);
-  const starts = startsOf(given);
   const count = starts.length - 1;
   const told = mode === "decide" ? host.decideBytes(given, plan, count).bytes : given;
   const reply = host.checkBytes(told, { steps, cells, depth, nodes }, count).bytes;
@@ -42,20 +62,52 @@ function answered(/** @type {Uint8Array} */ given, /** @type {Asked} */ { mode, 
 }
 
 /** Answers a piece of a list in batches, each sent when it is done. */
-function work(/** @type {number} */ job, /** @type {Uint8Array} */ given, /** @type {Asked} */ asked) {
-  const { bytes, without } = prepared(given, asked);
-  let from = 0;
+function work(/** @type {any} */ { job, bytes: given, line: first, asked }) {
+  const list = prepared(given, asked);
+  let [from, line] = [0, 0];
   do {
-    const newline = bytes.indexOf(NEWLINE, Math.max(from, Math.min(from + size, bytes.length) - 1));
-    const end = newline < 0 ? bytes.length : newline + 1;
+    const newline = list.bytes.indexOf(NEWLINE, Math.max(from, Math.min(from + size, list.bytes.length) - 1));
+    const end = newline < 0 ? list.bytes.length : newline + 1;
+    const batch = list.bytes.subarray(from, end);
+    const starts = startsOf(batch).slice();
+    const count = starts.length - 1;
+    postMessage({ job, at: lineAt(batch, 0, MOST_NAMED), lines: count, bytes: batch.length });
     const begun = performance.now();
-    const part = answered(bytes.subarray(from, end), asked);
+    const part = answered(batch, asked, starts);
     const taken = performance.now() - begun;
-    const done = end === bytes.length;
-    send({ job, ...part, without: done ? without : 0, done, read: done ? given.length : 0 });
-    size = nextSize(taken);
-    from = end;
-  } while (from < bytes.length);
+    size = nextSize(taken, count);
+    const done = end === list.bytes.length;
+    const origin = originOf(list, given, { from, line, count }, part.kindCounts);
+    const next = done ? given.length : list.places?.[line + count] ?? end;
+    const nextLine = list.numbers?.[line + count] ?? line + count;
+    const place = { first: list.numbers === null ? first + line : first, next, nextLine };
+    send({ job, ...part, ...origin, ...place, left: done ? list.left : 0, done, taken });
+    [from, line] = [end, line + count];
+  } while (from < list.bytes.length);
+}
+
+/**
+ * Which lines those of a batch are, and as what they were given; nothing where that is plain.
+ * @param {import("./prepare.mjs").Prepared} list @param {Uint8Array} given
+ * @param {{from: number, line: number, count: number}} batch @param {number[]} kindCounts
+ */
+function originOf({ bytes, numbers, places }, given, { from, line, count }, kindCounts) {
+  if (count === 0 || (places === null && kindCounts[REFUSED] === 0)) {
+    return { numbers: null, source: null, places: null };
+  }
+  const begins = places ?? startsOf(bytes.subarray(from)).subarray(0, count).map((start) => start + from);
+  const mine = places === null ? begins : places.subarray(line, line + count);
+  const last = mine[count - 1] ?? 0;
+  const newline = given.indexOf(NEWLINE, last);
+  const source = given.slice(mine[0], newline < 0 ? given.length : newline);
+  const shifted = mine.map((place) => place - mine[0]);
+  return { numbers: numbers?.slice(line, line + count) ?? null, source, places: shifted };
+}
+
+/** The verdict on one machine and the checker's answer to it. */
+function decidedOne(/** @type {{machine: string, plan: Record<string, any>}} */ { machine, plan }) {
+  const part = answered(new TextEncoder().encode(machine), { mode: "decide", clean: false, plan });
+  return { line: new TextDecoder().decode(part.bytes).trimEnd(), answer: ANSWERS[part.answers[0]] };
 }
 
 /** Answers a list again and again for a while, so that the browser compiles well what is called often. */
@@ -66,15 +118,25 @@ function warm(/** @type {Uint8Array} */ list) {
   }
 }
 
-/** How many bytes the next batch has, at least; it ends with a line. */
-function nextSize(/** @type {number} */ taken) {
-  const factor = taken > 2 * BATCH_MILLISECONDS ? 0.25 : taken < BATCH_MILLISECONDS / 2 ? 2 : 1;
+/**
+ * How many bytes the next batch has, at least; it ends with a line. Where a call costs much by itself, as
+ * with
+ * large tapes, more lines share it.
+ * @param {number} taken by the batch before, in milliseconds @param {number} lines that it had
+ */
+function nextSize(taken, lines) {
+  const before = pace;
+  pace = taken / Math.max(1, lines);
+  const isCheaper = lines > 0 && pace < SHARED * before;
+  const grows = taken < BATCH_MILLISECONDS / 2 || (taken < 2 * BATCH_MILLISECONDS && isCheaper);
+  const factor = taken > 2 * BATCH_MILLISECONDS ? 0.25 : grows ? 2 : 1;
   return Math.max(1, Math.min(MOST_BYTES, Math.floor(size * factor)));
 }
 
 function send(/** @type {Part} */ part) {
-  const moved = [part.bytes, part.starts, part.kinds, part.steps, part.answers].map((array) => array.buffer);
-  postMessage(part, /** @type {any} */ (part.lines ? [...moved, part.lines.buffer] : moved));
+  const { bytes, starts, kinds, steps, answers, lines, source } = part;
+  const moved = [bytes, starts, kinds, steps, answers, lines, source].filter((array) => array !== null);
+  postMessage(part, /** @type {any} */ (moved.map((array) => /** @type {Uint8Array} */ (array).buffer)));
 }
 
 /**
@@ -93,12 +155,23 @@ function sorted(rows, steps, down) {
 async function answer(/** @type {any} */ asked) {
   engine ??= await load(asked.module);
   if (asked.what === "list") {
-    size = asked.isNew ? FIRST_BYTES : size;
-    work(asked.job, asked.bytes, asked.asked);
+    if (asked.size !== undefined) {
+      [size, pace] = [asked.size, Infinity];
+    }
+    work(asked);
   } else if (asked.what === "warm") {
     warm(asked.list);
   } else if (asked.what === "sort") {
     postMessage({ order: sorted(asked.rows, asked.steps, asked.down) });
+  } else if (asked.what === "picture") {
+    const picture = pictured(engine, asked);
+    postMessage({ picture }, /** @type {any} */ ([picture.image.buffer, picture.sample.bytes.buffer]));
+  } else if (asked.what === "growth") {
+    postMessage({ growth: growthOf(asked) });
+  } else if (asked.what === "one") {
+    postMessage(decidedOne(asked));
+  } else if (asked.what === "last") {
+    postMessage({ last: lastOf(asked) });
   } else {
     postMessage({ traced: traced(engine, asked) });
   }

@@ -12,6 +12,7 @@ import subprocess
 import sys
 import tempfile
 import unittest
+import zlib
 from typing import Any, List, Tuple
 
 import budlarem
@@ -182,6 +183,24 @@ class PictureTest(unittest.TestCase):
             for every in (1, 3):
                 self.assertEqual(list(pictures.traced(machine, 500, every=every)), rows[::every])
             self.assertEqual(pictures.spread(machine, 500, 65_536, 20), pictures.sampled(iter(rows), 20))
+
+    def test_a_wide_run_is_scaled_down(self) -> None:
+        whole = budlarem.picture("1RA1RA", 5_000, rows=11)
+        self.assertEqual((whole.across, whole.is_part, (whole.left, whole.right)), (3, False, (0, 4_608)))
+        self.assertEqual(self.size(whole), (1_537, 10))
+        data = zlib.decompress(whole.png[whole.png.index(b"IDAT") + 4 : -16])
+        lines = [data[k + 1 : k + 1 + 3 * 1_537] for k in range(0, len(data), 1 + 3 * 1_537)]
+        black, white, grey = (pictures.COLOURS[k] for k in (1, 0, pictures.UNVISITED))
+        # Step 512: 512 cells are 1, the head is on a 0, and nothing else is visited.
+        wanted = [black] * 512 + [white] + [grey] * (3 * 1_537 - 513)
+        for pixel in range(1_537):
+            cells = wanted[3 * pixel : 3 * pixel + 3]
+            mean = [round(sum(cell[part] for cell in cells) / 3) for part in range(3)]
+            self.assertEqual(list(lines[1][3 * pixel : 3 * pixel + 3]), mean)
+        twice = budlarem.picture("1RA1RA", 5_000, rows=11, scale=2)
+        self.assertEqual(self.size(twice), (3_074, 20))
+        cut = budlarem.picture("1RA1RA", 5_000, rows=11, columns=100)
+        self.assertEqual((cut.across, cut.is_part, self.size(cut)), (1, True, (100, 10)))
 
     def test_what_cannot_be_drawn(self) -> None:
         with self.assertRaisesRegex(budlarem.PictureError, "lower scale to 2500"):

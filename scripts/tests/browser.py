@@ -64,6 +64,8 @@ class Page:
 
     def open(self, link: str = "") -> None:
         """Opens the page from the disk, and waits for what it decides first."""
+        if self.driver.current_url.startswith("file:"):
+            self.js("sessionStorage.clear()")
         self.driver.get("about:blank")
         self.driver.get("file://" + self.path + link)
         self.ended()
@@ -71,6 +73,50 @@ class Page:
     def js(self, script: str, *words: Any) -> Any:
         """What a script in the page gives."""
         return self.driver.execute_script(script, *words)
+
+    def click(self, name: str) -> None:
+        """Clicks an element, as whoever uses the page does."""
+        self.js("document.getElementById(arguments[0]).click()", name)
+
+    def press(self, name: str, *keys: str) -> None:
+        """Presses keys in an element, one after another."""
+        element = self.driver.find_element(By.ID, name)
+        self.js("arguments[0].focus({ preventScroll: true })", element)
+        for key in keys:
+            element.send_keys(key)
+
+    def type(self, name: str, text: str) -> None:
+        """Puts a text into a field, as if it was typed."""
+        self.js(
+            "const field = document.getElementById(arguments[0]); field.value = arguments[1];"
+            "field.dispatchEvent(new Event('input', { bubbles: true }))",
+            name,
+            text,
+        )
+
+    def choose_option(self, name: str, value: str) -> None:
+        """Chooses an option of a menu by its value."""
+        self.js(
+            "const menu = document.getElementById(arguments[0]); menu.value = arguments[1];"
+            "menu.dispatchEvent(new Event('change', { bubbles: true }))",
+            name,
+            value,
+        )
+
+    def open_list(self, text: str) -> None:
+        """Types a list, in place of a file where one is chosen, and waits until it is answered."""
+        self.js(
+            "document.getElementById('file-shown').hidden || document.getElementById('file-remove').click()"
+        )
+        self.type("list", text)
+        self.js("document.getElementById('results').dataset.state = 'asked'")
+        self.run()
+        self.ended()
+
+    def media(self, **features: str) -> None:
+        """Has the browser prefer something, such as `prefers_color_scheme="dark"`."""
+        told = [{"name": name.replace("_", "-"), "value": value} for name, value in features.items()]
+        self.driver.execute_cdp_cmd("Emulation.setEmulatedMedia", {"features": told})
 
     def text(self, name: str) -> str:
         """The text of an element."""
@@ -95,13 +141,13 @@ class Page:
         self.until(lambda: self.state() in ("done", "stopped", "ended"))
         return str(self.state())
 
-    def drawn(self) -> Dict[str, Any]:
-        """Waits until the diagram is drawn, and gives where it stands."""
+    def drawn(self) -> Dict[str, float]:
+        """Waits until the diagram is drawn, and gives where it stands: the numbers of its view."""
         script = "return {...document.getElementById('diagram').dataset}"
-        drawn: Dict[str, Any] = self.until(
+        drawn: Dict[str, str] = self.until(
             lambda: (found := self.js(script)).get("state") == "drawn" and found
         )
-        return drawn
+        return {name: float(value) for name, value in drawn.items() if name != "state"}
 
     def plan(self, plan: Dict[str, Any], mode: str, clean: bool = False) -> None:
         """Sets the fields; those that aren't named get their defaults."""
@@ -140,7 +186,11 @@ class Page:
 
     def saved(self) -> bytes:
         """The bytes that the page saves."""
-        self.js("document.getElementById('save').click()")
+        self.click("save")
+        return self.taken()
+
+    def taken(self) -> bytes:
+        """The bytes of a list that the page is about to save."""
         names = [os.path.join(self.folder, name) for name in ("verdicts.txt", "answers.txt")]
         path = self.until(lambda: next(filter(is_whole, names), None))
         with open(path, "rb") as file:

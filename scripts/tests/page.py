@@ -4,36 +4,34 @@
     scripts/tests/page.py crates/bb/out/bb [--quick] [--seed S]
 
 First it runs `scripts/web`, which builds the page where it isn't up to date, in about two minutes, after
-`./bb`. The page is opened from the disk, in a headless Chromium: the first run of the README, the examples,
-all plans at some limits, random machines and claims at random limits, all machines of four states as a
-dropped file, refused limits, noise, a stop in the middle of a machine, a link, pictures, a tree, a phone's
-width. It takes five minutes, `--quick` some twenty seconds. Without `chromium`, `chromedriver` and Python's
+`./bb`. The page is opened from the disk, in a headless Chromium: what it writes is held against the program,
+byte for byte (the first run of the README, the examples, all plans at some limits, random machines and claims
+at random limits, all machines of four states as a dropped file, noise), and its reader against `forms.json`;
+then refused limits, a stop in the middle of a machine, links, settings, pictures, the tape, what is known of a
+machine, contrasts, names, widths, a phone, and what the page could send. It takes six minutes, `--quick` less
+than one. Without `chromium`, `chromedriver` and Python's
 selenium it is skipped, with a line that says which package is missing. The last line is `N passed, M
 failed`, with `, K skipped` where some were; the status is 1 where any failed.
 """
 
-import base64
 import functools
 import http.server
 import os
 import random
-import re
 import shutil
 import tempfile
 import threading
 import time
-from typing import Any, Dict, List, Tuple
 
 from engine import FOUR, README, examples, forged, plans, random_machines, random_plan
 from machine_list import has_lister, listed
-from program import SWITCHES, ended, joined, words_of_plan
+from page_held import Held
+from program import SWITCHES, joined
 from tally import TOP, Tally, end_with, words
 from web_engine import MODULE, PAGE, built, documented
 
-CHAMPION = "1RB1LB_1LA0LC_1RZ1LD_1RD0RA"
-TRANSLATED = "1LB0LA_1RA---"
-TREE = "1RB1LB_1LA0RC_0LD1RC_---1LA"
 LONG = "0RB---_0LA---"
+MOST_BYTES = 260_000
 # Bars in seconds, on a quiet machine.
 FIRST_VERDICT, STILL, STOPPED = 0.3, 0.1, 0.3
 REFUSED = [
@@ -46,25 +44,6 @@ REFUSED = [
 ]
 
 
-class Held:
-    """The program and a page, and how often they wrote the same."""
-
-    def __init__(self, program: str, page: Any, tally: Tally) -> None:
-        self.program, self.page, self.tally = program, page, tally
-
-    def written(self, name: str, plan: Dict[str, Any], given: bytes) -> bytes:
-        """What the program writes."""
-        return ended([self.program, name, *words_of_plan(plan)], given).output
-
-    def same(self, what: str, name: str, plan: Dict[str, Any], given: bytes, drop: bool = False) -> bytes:
-        """Holds that the page saves what the program writes."""
-        found = self.page.answered(name, plan, given, drop)
-        wanted = self.written(name, plan, given)
-        first = next((k for k, pair in enumerate(zip(found, wanted)) if pair[0] != pair[1]), "at its end")
-        self.tally.hold("%s: %s %s: differs at byte %s" % (what, name, plan, first), found == wanted)
-        return bytes(found)
-
-
 def hold_first(held: Held) -> None:
     """What the page shows when it is opened, and the first run of the README."""
     page, tally = held.page, held.tally
@@ -75,7 +54,7 @@ def hold_first(held: Held) -> None:
     held.same("README", "decide", {}, README)
     held.same("README", "decide", {name: False for name in SWITCHES}, README)
     cells = page.js("return [...document.querySelectorAll('#shown .row')].map((row) => row.textContent)")
-    tally.hold("a broken line's column: %s" % cells, cells[-1:] == ["3refused 2open"])
+    tally.hold("a broken line: %s" % cells, cells[-1:] == ["31rB1LBrefused 2\u2013"])
 
 
 def hold_cleaning(held: Held) -> None:
@@ -87,9 +66,8 @@ def hold_cleaning(held: Held) -> None:
     page.ended()
     wanted = held.written("decide", {}, b"1RB1LB_1LA1RZ\n1RA1RA\n1rB\nno machine\n")
     held.tally.hold("machines out of lines", page.saved() == wanted)
-    held.tally.hold(
-        "lines without one: " + page.text("status"), "4 lines had no machine" in page.text("status")
-    )
+    told = "2 decided, 0 undecided, 2 refused, 2 left out"
+    held.tally.hold("lines without one: " + page.text("status"), told in page.text("status"))
 
 
 def hold_examples(held: Held, quick: bool) -> None:
@@ -124,7 +102,7 @@ def hold_random(held: Held, count: int, seed: int) -> None:
     held.page.plan({}, "auto")
     held.page.file(decided)
     held.page.ended()
-    held.tally.hold("verdict lines are told", "so they are checked" in held.page.text("status"))
+    held.tally.hold("verdict lines are told", "verdict lines, checked" in held.page.text("status"))
 
 
 def hold_refused(held: Held) -> None:
@@ -153,92 +131,13 @@ def hold_stop(held: Held) -> None:
     plan = {"steps": 10**12, "cells": 64, "depth": 9, **{name: False for name in SWITCHES}}
     page.plan(plan, "decide")
     page.file(b"1RB1LB_1LA1RZ\n" * 40 + LONG.encode() + b"\n")
-    page.until(lambda: page.text("status").startswith("Running") and "40 lines" in page.text("status"))
+    page.until(lambda: page.text("status").startswith("Running") and "40 decided" in page.text("status"))
     begun = time.monotonic()
     page.js("document.getElementById('stop').click()")
     held.tally.hold("it stopped: " + page.text("status"), page.state() == "stopped")
     held.tally.within("the stop", time.monotonic() - begun, STOPPED)
     held.tally.hold("what was decided stays", page.saved() == b"1RB1LB_1LA1RZ halt 6 4\n" * 40)
     held.same("the list after it", "decide", {}, README)
-
-
-def pixel(page: Any, x: float, y: float) -> List[int]:
-    """The colour of the diagram at a place, in pixels of the page."""
-    script = (
-        "const canvas = document.getElementById('diagram'); const ratio = Number(canvas.dataset.ratio);"
-        "const [x, y] = [arguments[0] * ratio, arguments[1] * ratio];"
-        "return [...canvas.getContext('2d').getImageData(x, y, 1, 1).data].slice(0, 3)"
-    )
-    return list(page.js(script, x, y))
-
-
-def colour(page: Any, name: str) -> List[int]:
-    """A colour of the page's style."""
-    text = page.js(
-        "return getComputedStyle(document.documentElement).getPropertyValue(arguments[0])", name
-    ).strip()
-    return [int(text[at : at + 2], 16) for at in (1, 3, 5)]
-
-
-def traced(program: str, machine: str, upto: int) -> List[Tuple[int, int, int, str]]:
-    """For each step the head's position, the least one visited, and the cells."""
-    command = [program, "trace", "--upto", str(upto), "--", machine]
-    rows, low = [], 0
-    for line in ended(command).output.decode().splitlines():
-        step, state, head, cells = line.split()
-        low = min(low, int(head)) if state != "Z" else low
-        rows.append((int(step), int(head), low, cells))
-    return rows
-
-
-def hold_picture(held: Held, machine: str, upto: int) -> None:
-    """Each cell of a diagram has its symbol's colour, or the head's."""
-    page = held.page
-    page.open("#machine=%s" % machine)
-    view = {name: int(value) for name, value in page.drawn().items() if re.fullmatch(r"-?\d+", value)}
-    size, left = view["size"], view["left"]
-    colours = [colour(page, "--s%d" % symbol) for symbol in range(10)] + [colour(page, "--head")]
-    right = True
-    for step, head, low, cells in traced(held.program, machine, upto):
-        for at, symbol in enumerate(cells, low):
-            x, y = (at - left) * size, (step - view["top"]) // view["every"] * size
-            wanted = colours[10] if at == head and size < 6 else colours[int(symbol)]
-            if at != head or size < 6:
-                right = right and pixel(page, x + size * 0.25, y + size * 0.3) == wanted
-            else:
-                right = right and pixel(page, x + 1, y + size / 2) == colours[10]
-    held.tally.hold("the pixels of %s" % machine, right)
-
-
-def hold_stretch(held: Held) -> None:
-    """The outlined stretch of a translated cycler stands where its line says."""
-    page = held.page
-    page.open("#machine=%s" % TRANSLATED)
-    line = held.written("decide", {}, TRANSLATED.encode()).decode().split()
-    first, second, _, length = map(int, line[3:])
-    view = {name: int(value) for name, value in page.drawn().items() if re.fullmatch(r"-?\d+", value)}
-    page.until(lambda: page.js("return document.querySelectorAll('#behind .same').length") == 2 * length)
-    page.until(lambda: "show it" in page.text("behind"))
-    rows = {row[0]: row for row in traced(held.program, TRANSLATED, second)}
-    mark, size = colour(page, "--mark"), view["size"]
-    for step in (first, second):
-        x = (rows[step][1] - view["left"]) * size
-        y = (step - view["top"]) // view["every"] * size
-        above = [pixel(page, x + size * (k + 0.3), y - 1) for k in range(length)]
-        held.tally.hold("the stretch at step %d" % step, all(one == mark for one in above))
-
-
-def hold_tree(held: Held) -> None:
-    """The levels and nodes of a tree are those of the line."""
-    page = held.page
-    page.open("#machine=%s" % TREE)
-    levels, nodes = held.written("decide", {}, TREE.encode()).decode().split()[2:]
-    counts = page.js(
-        "return [...document.querySelectorAll('.level')].map((one) => Number(one.dataset.count))"
-    )
-    held.tally.hold("the tree: %s" % counts, (len(counts), sum(counts)) == (int(levels), int(nodes)))
-    differs = page.js("return document.querySelector('#behind .error') !== null")
-    held.tally.hold("the page says nothing of a difference", not differs)
 
 
 def hold_link(held: Held) -> None:
@@ -278,20 +177,6 @@ class Quiet(http.server.SimpleHTTPRequestHandler):
         pass
 
 
-def hold_pictures(held: Held) -> None:
-    """Diagrams, where the module has traces."""
-    held.page.open("#machine=%s" % CHAMPION)
-    told = held.page.until(lambda: (text := held.page.text("diagram-told")) and text != "Drawing …" and text)
-    if "bb_trace" in told:
-        held.tally.skip("pictures: this module has no bb_trace")
-        return
-    hold_picture(held, CHAMPION, 107)
-    hold_picture(held, "1RB1LB_1LA1RZ", 6)
-    hold_stretch(held)
-    png = held.page.js("return document.getElementById('diagram').toDataURL('image/png')").split(",")[1]
-    held.tally.hold("a PNG", base64.b64decode(png).startswith(b"\x89PNG"))
-
-
 def hold_four_states(held: Held) -> None:
     """All machines of four states as a dropped file, and how long the page stood still meanwhile."""
     if not has_lister(held.tally, "machines of four states"):
@@ -315,12 +200,13 @@ def hold_four_states(held: Held) -> None:
 
 
 def hold_phone(program: str, tally: Tally, folder: str) -> None:
-    """A page of 360 pixels isn't wider than that, and chooses a line by keys."""
+    """A phone: widths, fingers, and a line that is chosen by keys."""
     from browser import Page
+    from page_access import hold_narrow
+    from page_pictures import hold_fingers
 
-    page = Page(PAGE, folder, 360, 740, is_phone=True)
+    page = Page(PAGE, folder, 390, 844, is_phone=True)
     page.open()
-    tally.hold("nothing is wider than a phone", page.js("return document.documentElement.scrollWidth") <= 360)
     script = (
         "const rows = document.getElementById('rows'); rows.focus();"
         "for (const key of ['ArrowDown', 'Enter'])"
@@ -328,9 +214,13 @@ def hold_phone(program: str, tally: Tally, folder: str) -> None:
     )
     page.js(script)
     page.until(lambda: page.text("machine-text") == "1RA1RA")
-    tally.hold("still not wider", page.js("return document.documentElement.scrollWidth") <= 360)
+    hold_narrow(page, tally, 390)
+    hold_fingers(page, Held(program, page, tally))
     tally.hold("no error in a phone's console: %s" % page.errors(), not page.errors())
     page.end()
+    narrow = Page(PAGE, folder, 320, 640, is_phone=True)
+    hold_narrow(narrow, tally, 320)
+    narrow.end()
 
 
 def hold_unsupported(tally: Tally, folder: str) -> None:
@@ -351,6 +241,10 @@ def hold_unsupported(tally: Tally, folder: str) -> None:
 def hold_all(program: str, tally: Tally, quick: bool, seed: int) -> None:
     """All of it, in pages that are ended whatever comes."""
     from browser import Page
+    from page_access import hold_access
+    from page_lists import hold_lists
+    from page_machine import hold_machine
+    from page_pictures import hold_pictures
 
     with tempfile.TemporaryDirectory() as folder:
         page = Page(PAGE, folder)
@@ -361,9 +255,12 @@ def hold_all(program: str, tally: Tally, quick: bool, seed: int) -> None:
             hold_cleaning(held)
             hold_stop(held)
             hold_refused(held)
-            hold_pictures(held)
-            hold_tree(held)
             hold_link(held)
+            hold_lists(held, quick, seed)
+            hold_pictures(held, quick, seed)
+            if not quick:
+                hold_machine(held)
+            hold_access(held)
             if not quick:
                 hold_random(held, 20_000, seed)
                 hold_noise(held, random.Random(seed))
@@ -400,7 +297,7 @@ def main() -> int:
         elif built():
             size = os.path.getsize(PAGE)
             print("the page has %d bytes" % size)
-            tally.hold("the page has %d bytes" % size, size <= 200_000)
+            tally.hold("the page has %d bytes" % size, size <= MOST_BYTES)
             hold_all(asked.program, tally, asked.quick, asked.seed)
         else:
             tally.hold("scripts/web builds", False)

@@ -87,6 +87,21 @@ def sampling(program: str) -> Held:
     yield "positions that are asked for alone", rows[2][1:] == [BLACK, BLACK]
 
 
+def scaling(program: str) -> Held:
+    """A picture of more than 2,000 positions is scaled down: a pixel has the mean colour of its cells."""
+    trace = ended([program, "trace", "--upto", "4000", GOES_RIGHT]).output
+    status, made, told = ended([sys.executable, PICTURE, "--rows", "10"], trace)
+    wide, high = struct.unpack(">II", made[16:24])
+    yield "%d by %d: %r" % (wide, high, told), (status, wide, high) == (0, 1_793, 8)
+    yield "that is said", b"a pixel has the mean colour of 2 cells" in told and b"positions" not in told
+    data = zlib.decompress(made[made.index(b"IDAT") + 4 : -16])
+    row = data[2 * (1 + 3 * wide) + 1 :][: 3 * wide]
+    found = [tuple(row[k : k + 3]) for k in range(0, len(row), 3)]
+    # Step 1,024: the head is on position 1,024, which is 0; position 1,025 isn't visited yet.
+    mean = tuple(round((a + b) / 2) for a, b in zip(WHITE, GREY))
+    yield "the means of a row", found == [BLACK] * 512 + [mean] + [GREY] * (wide - 513)
+
+
 def refusals(program: str) -> Held:
     """Sizes below 1 are refused, and pictures that are too large, in one line that says what would do."""
     for option in ("--every", "--rows", "--columns", "--scale"):
@@ -115,7 +130,7 @@ def first_of_readme(program: str) -> Held:
 def main() -> int:
     program = words(__doc__).parse_args().program
     tally = Tally()
-    for part in (champion, sampling, refusals, first_of_readme):
+    for part in (champion, sampling, scaling, refusals, first_of_readme):
         for what, holds in part(program):
             tally.hold(what, holds)
     return tally.end()

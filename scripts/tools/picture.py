@@ -4,8 +4,9 @@
     ./bb trace --upto 107 1RB1LB_1LA0LC_1RZ1LD_1RD0RA | scripts/tools/picture.py --scale 4 > picture.png
 
 A row is a step, from the top down; a column is a position, from the left. A colour is a symbol: 0 is white,
-1 black. The head is red. Positions not visited yet are grey. A long trace is sampled and a wide one is cut
-by itself; standard error then says which steps and positions are shown. A row whose head lies outside the
+1 black. The head is red. Positions not visited yet are grey. A long trace is sampled and a wide one scaled down
+by itself: a pixel then has the mean colour of its cells, and the head isn't seen. `--columns`, `--left` and
+`--right` cut. Standard error says which steps and positions are shown. A row whose head lies outside the
 positions shown has no red. A picture of more than 100 million pixels is refused. A trace of 60,000 lines
 takes about a second. Needs nothing but Python; it uses the package in `python/src`, without its library.
 """
@@ -33,7 +34,7 @@ def words() -> argparse.ArgumentParser:
     )
     parser.add_argument("--rows", type=from_one, default=2_000, help="at most so many rows (default: 2,000)")
     parser.add_argument(
-        "--columns", type=from_one, default=2_000, help="at most so many columns (default: 2,000)"
+        "--columns", type=from_one, help="cut to so many columns (default: scaled down above 2,000)"
     )
     parser.add_argument(
         "--left", type=int, metavar="P", help="the first position shown (default: the lowest)"
@@ -72,6 +73,8 @@ def main() -> int:
         print("picture: every %d steps" % picture.every, file=sys.stderr)
     if picture.is_cut:
         print("picture: up to step %d; --rows or --every shows more" % picture.last, file=sys.stderr)
+    if picture.across > 1:
+        print("picture: a pixel has the mean colour of %d cells" % picture.across, file=sys.stderr)
     if picture.is_part:
         print("picture: positions %d to %d" % (picture.left, picture.right), file=sys.stderr)
     sys.stdout.buffer.write(picture.png)

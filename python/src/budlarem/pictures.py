@@ -7,7 +7,7 @@ import math
 import os
 import struct
 import zlib
-from typing import Iterable, Iterator, List, Optional, Sequence, Tuple, Union
+from typing import Dict, Iterable, Iterator, List, Optional, Sequence, Tuple, Union
 
 from ._errors import naming
 from .engine import Configuration, trace
@@ -34,6 +34,8 @@ COLOURS = [
 ]  # fmt: skip
 UNVISITED, HEAD = 10, 11
 MOST_PIXELS = 100_000_000
+# A picture of more positions is scaled down, where no width is asked for.
+MOST_WIDE = 2_000
 _DIGITS = bytes(max(code - ord("0"), 0) if code < 58 else 0 for code in range(256))
 
 
@@ -55,8 +57,9 @@ class Row:
 class Picture:
     """A picture as a PNG file, and what it shows: each of how many steps, up to which, which positions.
 
-    `is_cut` says that steps follow which aren't shown, `is_part` that not all positions are shown. A notebook
-    shows it by itself.
+    `is_cut` says that steps follow which aren't shown, `is_part` that not all positions are shown. A pixel
+    stands for `across` cells, and where that are several it has their mean colour. A notebook shows it by
+    itself.
     """
 
     png: bytes = dataclasses.field(repr=False)
@@ -66,6 +69,7 @@ class Picture:
     right: int
     is_cut: bool
     is_part: bool
+    across: int = 1
 
     def save(self, path: Union[str, "os.PathLike[str]"]) -> None:
         """Writes the PNG file. Raises PictureError where the name is one of another kind of file, OSError
@@ -187,15 +191,15 @@ def spread(machine: str, upto: int, cells: int, most: int) -> Tuple[List[Row], i
 
 
 def stretch(
-    chosen: Sequence[Row], columns: int, first: Optional[int], last: Optional[int]
+    chosen: Sequence[Row], columns: Optional[int], first: Optional[int], last: Optional[int]
 ) -> Tuple[int, int, bool]:
     """The first and the last position shown, and whether those aren't just the ones visited: those that were
-    asked for, else all, or so many `columns` of them about the middle."""
+    asked for, else all, or so many `columns` of them about the middle where so many are asked for."""
     low = min(row.low for row in chosen)
     high = max(row.low + len(row.cells) - 1 for row in chosen)
     left = low if first is None else first
     right = high if last is None else last
-    if right - left >= columns:
+    if columns is not None and right - left >= columns:
         if first is None and last is None:
             left = (low + high - columns) // 2 + 1
         elif first is None:
@@ -204,16 +208,37 @@ def stretch(
     return left, right, (left, right) != (low, high)
 
 
-def places(row: Row, left: int, right: int) -> bytes:
-    """The places of a row, each as the number of its colour."""
+def places(row: Row, left: int, right: int, has_head: bool = True) -> bytes:
+    """The places of a row, each as the number of its colour; the head's as that of its symbol, where it isn't
+    to be seen."""
     shown = bytearray([UNVISITED]) * (right - left + 1)
     begin, end = max(left, row.low), min(right + 1, row.low + len(row.cells))
     if begin < end:
         cells = row.cells[begin - row.low : end - row.low].encode()
         shown[begin - left : end - left] = cells.translate(_DIGITS)
-    if left <= row.position <= right:
+    if has_head and left <= row.position <= right:
         shown[row.position - left] = HEAD
     return bytes(shown)
+
+
+def means(places: bytes, across: int) -> bytes:
+    """The mean colours of so many places each, three bytes a pixel: red, green, blue."""
+    found = bytearray()
+    known: Dict[bytes, bytes] = {}
+    for begin in range(0, len(places), across):
+        part = places[begin : begin + across]
+        mean = known.get(part)
+        if mean is None:
+            mean = known[part] = _mean(part)
+        found += mean
+    return bytes(found)
+
+
+def _mean(places: bytes) -> bytes:
+    """The mean colour of places, rounded."""
+    count = len(places)
+    sums = [sum(COLOURS[place][part] for place in places) for part in range(3)]
+    return bytes((2 * total + count) // (2 * count) for total in sums)
 
 
 def _chunk(kind: bytes, data: bytes) -> bytes:
@@ -263,7 +288,7 @@ def drawn(
     every: int,
     is_cut: bool = False,
     *,
-    columns: int = 2_000,
+    columns: Optional[int] = None,
     left: Optional[int] = None,
     right: Optional[int] = None,
     scale: int = 1,
@@ -274,9 +299,21 @@ def drawn(
     first, last, is_part = stretch(chosen, columns, left, right)
     if last < first:
         raise PictureError("no position to show")
-    _refuse_large(len(chosen), last - first + 1, scale)
-    data = png([places(row, first, last) for row in chosen], scale)
-    return Picture(data, every, chosen[-1].step, first, last, is_cut, is_part)
+    across = 1 if columns is not None else -(-(last - first + 1) // MOST_WIDE)
+    wide = -(-(last - first + 1) // across)
+    _refuse_large(len(chosen), wide, scale)
+    shown = (places(row, first, first + wide * across - 1, across == 1) for row in chosen)
+    if across == 1:
+        data = png(list(shown), scale)
+    else:
+        data = _scaled((means(row, across) for row in shown), wide, len(chosen), scale)
+    return Picture(data, every, chosen[-1].step, first, last, is_cut, is_part, across)
+
+
+def _scaled(rows: Iterable[bytes], wide: int, high: int, scale: int) -> bytes:
+    """A PNG file of rows of colours, each pixel so many times as wide and high."""
+    wider = (b"".join(row[k : k + 3] * scale for k in range(0, len(row), 3)) for row in rows)
+    return png_of_colours(wide * scale, high * scale, (row for row in wider for _ in range(scale)))
 
 
 def picture(
@@ -286,7 +323,7 @@ def picture(
     cells: int = 65_536,
     every: Optional[int] = None,
     rows: int = 2_000,
-    columns: int = 2_000,
+    columns: Optional[int] = None,
     left: Optional[int] = None,
     right: Optional[int] = None,
     scale: int = 1,
@@ -295,16 +332,19 @@ def picture(
 
     A row is a step, from the top down, a column a position. 0 is white, 1 black, the head red, a position not
     visited yet grey. `every`: each of so many steps, else such a power of two that at most `rows` are left.
-    `left`, `right`: the positions shown, else all, or `columns` of them about the middle. `scale`: how many
-    pixels a place is wide and high.
+    `left`, `right`: the positions shown, else all, or `columns` of them about the middle where so many are
+    asked for. Where they are more than 2,000 and no `columns` are asked for, the picture is scaled down: a
+    pixel has the mean colour of the cells that it stands for, and the head isn't seen. `scale`: how many pixels
+    a place is wide and high.
 
     Raises what `trace` does, and PictureError.
 
     >>> picture("1RB1LB_1LA1RZ", 100)
-    Picture(every=1, last=6, left=-2, right=1, is_cut=False, is_part=False)
+    Picture(every=1, last=6, left=-2, right=1, is_cut=False, is_part=False, across=1)
     """
-    for name, number in (("rows", rows), ("columns", columns), ("scale", scale)):
-        in_range(name, number, 1, 2**64 - 1)
+    for name, asked in (("rows", rows), ("columns", columns), ("scale", scale)):
+        if asked is not None:
+            in_range(name, asked, 1, 2**64 - 1)
     shown = {"columns": columns, "left": left, "right": right}
     positions = {name: number if number is None else whole(name, number) for name, number in shown.items()}
     if every is None:

@@ -1,0 +1,272 @@
+"""Lists in the page: how their lines are read, what is told of them, and how settings go with them."""
+
+import json
+import os
+import random
+import re
+import subprocess
+import time
+from typing import Any, Dict, List, Tuple
+
+from machines import mixed
+from page_held import Held
+from program import SWITCHES
+from tally import TOP, Tally
+
+FORMS = os.path.join(TOP, "scripts", "tests", "forms.json")
+READER = os.path.join(TOP, "scripts", "tests", "reader.mjs")
+LONG = "0RB---_0LA---"
+# A machine under way is named, and verdicts come, within so many seconds.
+SOON = 1.5
+ROWS = (
+    "return [...document.querySelectorAll('#shown .row')].map((row) => "
+    "[...row.children].map((cell) => cell.textContent))"
+)
+
+
+def readings(lines: List[str]) -> Tuple[Dict[str, Any], List[Dict[str, Any]]]:
+    """What the page's reader says it rewrites and advises, and its readings of lines."""
+    given = "".join(json.dumps(line) + "\n" for line in lines)
+    done = subprocess.run(["node", READER], input=given, stdout=subprocess.PIPE, text=True, check=True)
+    told, *found = map(json.loads, done.stdout.splitlines())
+    return told, found
+
+
+def wanted_of(form: Dict[str, Any]) -> Dict[str, Any]:
+    """The reading that a form must have."""
+    if "nothing" in form:
+        return {"kind": "nothing"}
+    if "refusal" in form:
+        return {"kind": "refusal", **{name: form[name] for name in ("refusal", "reason", "place")}}
+    texts = {name: form.get(name, "") for name in ("before", "behind")}
+    return {"kind": "machine", "machine": form["machine"], "rewritten": form.get("rewritten", []), **texts}
+
+
+def hold_forms(tally: Tally) -> None:
+    """The page's reader gives each form the reading that it must have."""
+    if not tally.has("the reader", "node"):
+        return
+    with open(FORMS, encoding="utf-8") as file:
+        forms = json.load(file)
+    told, found = readings([form["line"] for form in forms["forms"]])
+    tally.hold(
+        "the sentences of the reader", told == {name: forms[name] for name in ("advice", "rewritings")}
+    )
+    for form, reading in zip(forms["forms"], found):
+        tally.hold("%r is read as %s" % (form["line"], reading), reading == wanted_of(form))
+
+
+def disguised(machine: str, source: random.Random) -> str:
+    """A machine in a form in which it must be found again."""
+    forms = [
+        "%s", "  %s\r", "%s halt 6 4", "17. %s", "12,%s,x", "`%s`, it halts.", "\ufeff%s", "%s # a comment",
+        "[%s](https://bbchallenge.org/{})", "https://bbchallenge.org/%s", "| %s | cycler |",
+    ]  # fmt: skip
+    form = source.choice(forms).replace("{}", machine)
+    text = machine.lower() if source.random() < 0.3 and "_" in machine else machine
+    if "_" in machine and source.random() < 0.2 and "http" not in form:
+        text = text.replace("_", " ")
+    return form % text
+
+
+def hold_disguised(tally: Tally, count: int, seed: int) -> None:
+    """Random machines in random forms come back as they were, or are refused; none as another machine."""
+    if not tally.has("machines in random forms", "node"):
+        return
+    source = random.Random(seed)
+    machines = list(mixed(count, seed))
+    _, found = readings([disguised(machine, source) for machine in machines])
+    taken = [one.get("machine") for one in found]
+    wrong = [pair for pair in zip(machines, taken) if pair[1] not in (None, pair[0])]
+    tally.hold("another machine: %s" % wrong[:3], not wrong)
+    missing = sum(machine is None for machine in taken)
+    tally.hold("%d of %d aren't taken" % (missing, count), missing <= count / 10)
+
+
+def hold_list_of_forms(held: Held) -> None:
+    """A file of all forms: each line is decided as it is read, and told with its own number."""
+    with open(FORMS, encoding="utf-8") as file:
+        forms = [form for form in json.load(file)["forms"] if "\n" not in form["line"]]
+    # What marks the order of bytes stands at the begin of a file alone.
+    lines = [form["line"].replace("\ufeff", "") for form in forms]
+    given = [form.get("machine", line) for form, line in zip(forms, lines) if "nothing" not in form]
+    page = held.page
+    page.plan({"steps": 1000}, "decide", True)
+    page.file("".join(line + "\n" for line in lines).encode())
+    page.ended()
+    wanted = held.written("decide", {"steps": 1000}, "".join(one + "\n" for one in given).encode())
+    held.hold("all forms as a file", page.saved() == wanted)
+    page.choose_option("order", "list")
+    numbers = [number for number, form in enumerate(forms, 1) if "nothing" not in form]
+    rows = page.js(ROWS)
+    held.hold("true numbers: %s" % rows[:2], [int(row[0]) for row in rows] == numbers[: len(rows)])
+
+
+def hold_refused_rows(held: Held) -> None:
+    """A refused line shows its text, with a caret under the place, the reason in words and its number."""
+    page = held.page
+    page.plan({}, "auto", True)
+    page.open_list("# a list\n\n1RB1LB 1LA1RZ\n1RB1LH_1LA1RZ\n")
+    rows = page.js(ROWS)
+    held.hold("one machine of two states: %s" % rows, rows[0][1].startswith("1RB1LB_1LA1RZ"))
+    held.hold("what was rewritten stands beside it", "1RB1LB 1LA1RZ" in rows[0][1])
+    held.hold("a refused line's text: %s" % rows, rows[1][:2] == ["4", "1RB1LH_1LA1RZ"])
+    held.hold("its check", rows[1][3] == "\u2013")
+    told = page.text("machine-given")
+    held.hold("in words: " + told, "spaces between groups read as _" in told)
+    page.js("document.querySelectorAll('#shown .row')[1].click()")
+    head, says = page.text("machine-text"), page.text("machine-says")
+    held.hold("its number: " + head, "Line 4" in head)
+    held.hold("the reason: " + says, "H: the halting state is Z here" in says and "refused 14" in says)
+    text, caret = page.text("machine-caret").split("\n")
+    held.hold("the caret", text == "1RB1LH_1LA1RZ" and caret == "     ^")
+
+
+def counted(page: Any) -> Dict[str, int]:
+    """The kinds with their counts, as the buttons tell them."""
+    script = "return [...document.querySelectorAll('#kinds button')].map((one) => one.textContent)"
+    return {text.split()[0]: int(text.split()[1]) for text in page.js(script)}
+
+
+def hold_counts(held: Held) -> None:
+    """Each line is counted once: decided, undecided, refused or left out; and the kinds have the same."""
+    page = held.page
+    page.plan({"steps": 100}, "auto", True)
+    page.open_list("1RB1LB_1LA1RZ\n1RA1RA\nno\n# c\n\n1RB1LC_1RC1RB_1RD0LE_1LA1LD_1RZ0LA\n")
+    status, kinds = page.text("status"), counted(page)
+    wanted = "2 decided, 1 undecided, 1 refused, 2 left out"
+    held.hold("each line once: " + status, wanted in status)
+    held.hold("the kinds: %s" % kinds, (sum(kinds.values()), kinds["refused"]) == (4, 1))
+
+
+def hold_modes(held: Held) -> None:
+    """Verdict lines are told by whole ones; a button says what it does; comments aren't checked."""
+    page = held.page
+    page.plan({}, "auto", True)
+    page.open_list("1RA1RA\n")
+    page.type("list", "# the cycler 1RB\n1RB1LB_1LA1RZ halts\n1RA1RA cycler\n")
+    held.hold("words don't make verdict lines", page.text("run") == "Decide")
+    page.type("list", "# theirs\n1RB1LB_1LA1RZ halt 6 4\n\n1RA1RA cycler 1 2\n1RB1LB_1LA1RZ\n")
+    held.hold("it checks", page.text("run") == "Check")
+    page.open_list("# theirs\n1RB1LB_1LA1RZ halt 6 4\n\n1RA1RA cycler 1 2\r\n1RB1LB_1LA1RZ\n")
+    held.hold("comments are nothing", page.saved() == b"ok\nbad\nunread\n")
+    held.hold("their numbers", [row[0] for row in page.js(ROWS)] == ["2", "4", "5"])
+    page.js("document.querySelectorAll('#shown .row')[1].click()")
+    held.hold("a refuted claim: " + page.text("machine-says"), "refutes" in page.text("machine-says"))
+    names = page.js("return [...document.getElementById('mode').options].map((one) => one.textContent)")
+    held.hold("the choice of form: %s" % names, "found out" not in names)
+
+
+def hold_settings(held: Held) -> None:
+    """An example's settings go with it; the button for the defaults resets all."""
+    page = held.page
+    fields = (
+        "return [document.getElementById('steps').value, document.getElementById('clean').checked, "
+        "document.getElementById('mode').value, document.getElementById('examples').value]"
+    )
+    page.click("defaults")
+    usual = page.js(fields)
+    page.js("document.getElementById('results').dataset.state = 'asked'")
+    script = (
+        "return [...document.getElementById('examples').options].find((one) => "
+        "one.textContent === 'small limits').value"
+    )
+    page.choose_option("examples", page.js(script))
+    page.ended()
+    held.hold("an example's settings: %s" % page.js(fields), page.js(fields)[:2] != usual[:2])
+    page.type("list", "1RA1RA\n")
+    held.hold("an edit has the defaults: %s" % page.js(fields), page.js(fields) == usual)
+    page.type("steps", "7")
+    page.js("document.getElementById('clean').checked = false")
+    page.choose_option("mode", "check")
+    page.click("defaults")
+    held.hold("all defaults: %s" % page.js(fields), page.js(fields) == usual)
+
+
+def hold_first_row(held: Held) -> None:
+    """Each new list opens its first row."""
+    page = held.page
+    page.plan({}, "auto", True)
+    for machine in ("1RA1RA", "0RB---_0LA---"):
+        page.open_list("%s\n1RB1LB_1LA1RZ\n" % machine)
+        held.hold("the first row of a new list", page.text("machine-text") == machine)
+
+
+def hold_numbers(held: Held) -> None:
+    """Limits as people write them."""
+    page = held.page
+    for text, steps in (("1e3", 1000), ("1_000", 1000), ("10^3", 1000), ("1.5e3", 1500), ("1,000", 1000)):
+        page.plan({"steps": text}, "decide", True)
+        page.open_list("1RB1LC_1RC1RB_1RD0LE_1LA1LD_1RZ0LA\n")
+        page.click("link")
+        held.hold("%s is a number" % text, "steps=%d" % steps in page.js("return location.hash"))
+    page.js("history.replaceState(null, '', location.pathname)")
+
+
+def decided(page: Any) -> int:
+    """How many lines are decided, as the page tells it."""
+    found = re.search(r"([0-9,]+) decided", page.text("status"))
+    return int(found.group(1).replace(",", "")) if found else 0
+
+
+def hold_one_by_one(held: Held) -> None:
+    """What is decided is shown while another machine takes long, which is named; a stop keeps it."""
+    page = held.page
+    plan = {"steps": 10**12, "cells": 64, "depth": 9, **{name: False for name in SWITCHES}}
+    page.plan(plan, "decide")
+    fast = b"1RB1LB_1LA1RZ\n" * 700
+    begun = time.monotonic()
+    page.file(fast + LONG.encode() + b"\n" + fast)
+    page.until(lambda: LONG in page.text("under-way"))
+    held.tally.within("a machine that takes long is named", time.monotonic() - begun, 2 * SOON)
+    page.until(lambda: decided(page) >= 1_300)
+    before = page.text("status")
+    time.sleep(0.5)
+    held.hold("the clock runs", page.text("status") != before)
+    page.click("stop")
+    held.hold("it stopped: " + page.text("status"), page.state() == "stopped")
+    kept = page.saved()
+    held.hold("what was decided stays", kept.startswith(b"1RB1LB_1LA1RZ halt 6 4\n" * 700))
+
+
+def hold_session(held: Held) -> None:
+    """A reload keeps list and limits; of a list that is too long it says so; a machine alone is a link."""
+    page = held.page
+    page.open()
+    page.plan({"steps": 123}, "auto", True)
+    page.open_list("1RA1RA\n0RB---_0LA---\n")
+    page.driver.refresh()
+    page.ended()
+    held.hold(
+        "the list is there",
+        page.js("return document.getElementById('list').value") == "1RA1RA\n0RB---_0LA---\n",
+    )
+    held.hold("the limits too", page.js("return document.getElementById('steps').value") == "123")
+    page.file(b"1RA1RA\n")
+    page.ended()
+    page.driver.refresh()
+    told = page.until(lambda: page.text("list-gone"))
+    held.hold("a file is named as gone: " + told, "isn\u2019t kept" in told and "list" in told)
+    page.type("list", "# " + "x" * 1_000_001 + "\n1RA1RA\n")
+    page.run()
+    page.ended()
+    page.driver.refresh()
+    told = page.until(lambda: page.text("list-gone"))
+    held.hold("a long list is named as gone: " + told, "1,000,0" in told)
+    page.js("sessionStorage.clear()")
+    page.open("#1RB1LC_1RC1RB_1RD0LE_1LA1LD_1RZ0LA")
+    held.hold("a machine as a link", page.text("machine-text") == "1RB1LC_1RC1RB_1RD0LE_1LA1LD_1RZ0LA")
+
+
+def hold_lists(held: Held, quick: bool, seed: int) -> None:
+    hold_forms(held.tally)
+    hold_disguised(held.tally, 1_000 if quick else 20_000, seed)
+    hold_list_of_forms(held)
+    hold_refused_rows(held)
+    hold_counts(held)
+    hold_modes(held)
+    hold_settings(held)
+    hold_first_row(held)
+    hold_numbers(held)
+    hold_one_by_one(held)
+    hold_session(held)

@@ -1,0 +1,394 @@
+"""Diagrams of the page: their pixels, scaling, zooming, what is pointed at, and the tape below."""
+
+import base64
+import random
+import re
+import tempfile
+import time
+from typing import Any, Dict, List, Tuple
+
+from selenium.webdriver.common.keys import Keys
+
+from page_held import HEAD, UNVISITED, Held, Row, colour, palette, pixels, traced
+from web_engine import Engine
+
+CHAMPION = "1RB1LB_1LA0LC_1RZ1LD_1RD0RA"
+CHAMPION_5 = "1RB1LC_1RC1RB_1RD0LE_1LA1LD_1RZ0LA"
+TRANSLATED = "1LB0LA_1RA---"
+# The champion of four states, which goes to the right for ever in place of its halt.
+LATE = "1RB1LB_1LA0LC_1RE1LD_1RD0RA_1RE1RE"
+TREE = "1RB1LB_1LA0RC_0LD1RC_---1LA"
+# A view within so many seconds up to step 10^7, on a quiet machine, and of the last steps of the champion.
+VIEW, LAST_VIEW = 0.1, 1.5
+STILL = 0.1
+
+
+def hold_cells(held: Held, machine: str, upto: int) -> None:
+    """Each cell of a diagram has its symbol's colour, or the head's."""
+    page = held.page
+    page.open("#machine=%s" % machine)
+    view, colours = page.drawn(), palette(page)
+    wide, high, left = view["wide"], view["high"], view["left"]
+    is_framed = wide >= 6 and high >= 6
+    places, wanted = [], []
+    for row in traced(held.program, machine, upto):
+        for at, symbol in enumerate(row.cells, row.low):
+            x, y = (at - left) * wide, (row.step - view["top"]) // view["every"] * high
+            is_head = at == row.head
+            places.append([x + 1, y + high / 2] if is_head and is_framed else [x + wide / 4, y + high * 0.1])
+            wanted.append(colours[HEAD if is_head else int(symbol)])
+    found = pixels(page, places)
+    held.hold("the pixels of %s: %d by %d" % (machine, wide, high), found == wanted)
+
+
+def mean(row: Row, first: int, across: int, colours: List[List[int]]) -> List[float]:
+    """The mean colour of so many cells of a row."""
+    cells = [at - row.low for at in range(first, first + across)]
+    kinds = [int(row.cells[at]) if 0 <= at < len(row.cells) else UNVISITED for at in cells]
+    return [sum(colours[kind][part] for kind in kinds) / across for part in range(3)]
+
+
+def with_origin(machine: str) -> str:
+    """A machine that runs as this one, with its symbols doubled: where it begins it writes the second ones."""
+    groups = [re.findall("...", group) for group in machine.split("_")]
+    symbols = len(groups[0])
+
+    def entry(text: str, more: int) -> str:
+        led = text[2] if text[2] == "Z" else chr(ord(text[2]) + 1)
+        return "%d%s%s" % (int(text[0]) + more, text[1], led)
+
+    begin = entry(groups[0][0], symbols) + "---" * (2 * symbols - 1)
+    doubled = ["".join(entry(text, more) for more in (0, symbols) for text in group) for group in groups]
+    return "_".join([begin, *doubled])
+
+
+def sampled(step: int) -> Row:
+    """A step of the run of the champion of five states, above 0, by the engine alone."""
+    with tempfile.TemporaryDirectory() as folder:
+        engine = Engine(folder)
+        reply = engine.call(
+            "trace", {"steps": step, "from": step, "every": 1}, with_origin(CHAMPION_5).encode()
+        )
+        engine.end()
+    _, state, head, cells = reply.reply.decode().split()
+    begin = next(at for at, symbol in enumerate(cells) if symbol in "23")
+    before = state if state == "Z" else chr(ord(state) - 1)
+    return Row(step, before, int(head), -begin, cells.replace("2", "0").replace("3", "1"))
+
+
+def hold_scaled(held: Held, seed: int) -> None:
+    """The run of the champion of five states is seen whole: a pixel has the mean colour of its cells."""
+    page, source = held.page, random.Random(seed)
+    page.open("#machine=%s&steps=50000000" % CHAMPION_5)
+    view, colours = page.drawn(), palette(page)
+    every, across = int(view["every"]), int(view["across"])
+    wide = page.js("return document.getElementById('diagram').clientWidth") - int(view["x"])
+    told = page.text("diagram-told")
+    held.hold("a pixel is the mean of cells: " + told, "mean colour of %d cells" % across in told)
+    held.hold("all cells are seen: " + told, "all of 12,289 cells visited" in told)
+    last = int(re.sub(r"\D", "", told.split(" to ")[1].split(",  ")[0].split(" every")[0]))
+    held.hold("it goes from the start to the halt", last <= 47_176_870 < last + every and view["top"] == 0)
+    for number in source.sample(range(50, last // every), 6):
+        row = sampled(number * every)
+        columns = [source.randrange(1, wide - 40) for _ in range(40)]
+        begins = [int(view["left"]) + across * (x + 20) for x in columns]
+        wanted = [mean(row, begin, across, colours) for begin in begins]
+        found = pixels(page, [[x + 20, number] for x in columns])
+        near = [all(abs(a - b) <= 1 for a, b in zip(*pair)) for pair in zip(found, wanted)]
+        held.hold("the means of step %d: %d of 40" % (row.step, sum(near)), all(near))
+
+
+def steps_seen(page: Any) -> float:
+    """How many steps the view has."""
+    view = page.drawn()
+    height = page.js("return document.getElementById('diagram').clientHeight") - view["y"]
+    return float(height / view["high"] * view["every"])
+
+
+def hold_zoom(held: Held) -> None:
+    """From a glance at 10^7 steps to 100 steps in a few gestures, at the head; and back to the whole."""
+    page, gestures, longest = held.page, 0, 0.0
+    page.open("#machine=%s&steps=10000000" % CHAMPION_5)
+    page.js("window.longest = 0")
+    whole = page.drawn()
+    held.hold("10^7 steps are seen", steps_seen(page) >= 10**7)
+    page.click("fit")
+    while steps_seen(page) > 100 and gestures < 20:
+        begun = time.monotonic()
+        page.press("diagram", "+")
+        page.drawn()
+        longest = max(longest, time.monotonic() - begun)
+        gestures += 1
+    held.hold("in %d gestures to 100 steps" % gestures, gestures <= 9)
+    held.tally.within("a view up to step 10^7", longest, VIEW)
+    held.tally.within("it stood still meanwhile for", page.js("return window.longest") / 1000, STILL)
+    near = page.drawn()
+    held.hold("single cells are seen: %s" % near, near["high"] >= 6 and near["wide"] == near["high"])
+    rows = {row.step: row for row in traced(held.program, CHAMPION_5, int(near["top"]) + 200)}
+    head = rows[int(near["top"]) + 3].head
+    held.hold("the head is in view", 0 <= (head - near["left"]) * near["wide"] < 900)
+    for _ in range(gestures):
+        page.press("diagram", "-")
+    held.hold("and back: %s" % page.drawn(), steps_seen(page) >= 0.9 * 10**7)
+    page.press("diagram", "0")
+    held.hold("the whole again", page.drawn() == whole)
+
+
+def hold_wheel(held: Held) -> None:
+    """The wheel zooms at the pointer, after a click: the cell under it stays there."""
+    page = held.page
+    page.open("#machine=%s&steps=10000000" % CHAMPION_5)
+    before = page.drawn()
+    script = (
+        "const canvas = document.getElementById('diagram'); arguments[0] && canvas.focus();"
+        "const box = canvas.getBoundingClientRect(); canvas.dispatchEvent(new WheelEvent('wheel', "
+        "{ deltaY: -200, clientX: box.x + 300, clientY: box.y + 200, bubbles: true, cancelable: true }))"
+    )
+    page.js(script, False)
+    held.hold("no zoom before a click", page.drawn() == before)
+    step = before["top"] + int(200 - before["y"]) // before["high"] * before["every"]
+    page.js(script, True)
+    page.until(lambda: page.drawn() != before)
+    after = page.drawn()
+    y = (step - after["top"]) / after["every"] * after["high"] + after["y"]
+    held.hold("closer: %s" % after, after["every"] < before["every"])
+    held.hold("the step stays under the pointer: %.1f" % y, abs(y - 200) <= 2 + after["high"])
+
+
+def hold_goto(held: Held) -> None:
+    """Going to a step shows its cells and its tape; a step beyond the last one is the last one."""
+    page = held.page
+    page.open("#machine=%s&steps=50000000" % CHAMPION_5)
+    page.drawn()
+    page.js("window.longest = 0")
+    begun = time.monotonic()
+    page.type("tape-step", "47,176,860")
+    page.js("document.getElementById('tape-form').requestSubmit()")
+    page.until(lambda: "47,176,860" in page.text("tape-told"))
+    page.until(lambda: page.drawn()["every"] == 1)
+    held.tally.within("the champion's last steps", time.monotonic() - begun, LAST_VIEW)
+    view, row = page.drawn(), sampled(47_176_860)
+    held.hold("the step is in view: %s" % view, view["top"] <= 47_176_860 <= view["top"] + 400 / view["high"])
+    told = page.text("tape-told")
+    symbol = row.cells[row.head - row.low]
+    wanted = "Step 47,176,860: state %s reads %s at position %s" % (row.state, symbol, signed(row.head))
+    held.hold("the tape: " + told, told.startswith(wanted))
+    page.press("tape", Keys.END)
+    page.until(lambda: "halted" in page.text("tape-told"))
+    held.hold("its last step: " + page.text("tape-told"), "Step 47,176,870: halted" in page.text("tape-told"))
+    held.tally.within("it stood still for at most", page.js("return window.longest") / 1000, STILL)
+    page.type("tape-step", "many")
+    page.js("document.getElementById('tape-form').requestSubmit()")
+    held.hold("no number: " + page.text("tape-refused"), "whole number" in page.text("tape-refused"))
+
+
+def signed(number: int) -> str:
+    return "{:,}".format(number).replace("-", "\u2212")
+
+
+def tape_told(row: Row, entry: str) -> str:
+    """What the page says of a step, as far as the entry that comes next."""
+    symbol = row.cells[row.head - row.low] if 0 <= row.head - row.low < len(row.cells) else "0"
+    head = "Step {:,}: state {} reads {} at position {}".format(row.step, row.state, symbol, signed(row.head))
+    return "%s; %s:" % (head, entry)
+
+
+def entry_of(machine: str, row: Row) -> str:
+    symbol = int(row.cells[row.head - row.low]) if 0 <= row.head - row.low < len(row.cells) else 0
+    return machine.split("_")[ord(row.state) - ord("A")][3 * symbol : 3 * symbol + 3]
+
+
+def hold_tape(held: Held) -> None:
+    """The tape goes on and back by a step, by buttons and keys; it plays, or steps where that is preferred."""
+    page = held.page
+    page.open("#machine=%s" % CHAMPION)
+    page.drawn()
+    rows = traced(held.program, CHAMPION, 107)
+    right = True
+    for row in rows[:60]:
+        page.until(lambda: page.text("tape-told").startswith("Step %d:" % row.step))
+        right = right and page.text("tape-told").startswith(tape_told(row, entry_of(CHAMPION, row)))
+        shown = page.js(
+            "return [...document.querySelectorAll('#tape-cells .cell')].filter((one) => "
+            "!one.querySelector('.blank')).map((one) => [Number(one.dataset.at), "
+            "one.querySelector('.symbol').textContent])"
+        )
+        around = {at: symbol for at, symbol in enumerate(row.cells, row.low)}
+        right = right and all(around.get(at, "0") == symbol for at, symbol in shown)
+        used = page.js("return document.querySelector('#machine-table td.used')?.dataset.entry")
+        symbol = around.get(row.head, "0")
+        right = right and used == row.state + symbol
+        page.click("tape-on") if row.step % 2 else page.press("tape", Keys.ARROW_RIGHT)
+    held.hold("60 steps of the tape", right)
+    page.click("tape-back")
+    page.until(lambda: page.text("tape-told").startswith("Step 59:"))
+    page.press("tape", Keys.ARROW_LEFT, Keys.HOME)
+    page.until(lambda: page.text("tape-told").startswith("Step 0:"))
+    page.click("tape-play")
+    held.hold("it plays", page.text("tape-play") == "Pause")
+    page.until(lambda: int(page.text("tape-told").split(":")[0].split()[1]) >= 2)
+    page.click("tape-play")
+    held.hold("it pauses", page.text("tape-play") == "Play")
+    page.media(prefers_reduced_motion="reduce")
+    before = page.text("tape-told")
+    page.until(lambda: page.text("tape-play") == "Step")
+    page.click("tape-play")
+    page.until(lambda: page.text("tape-told") != before)
+    after = page.text("tape-told")
+    time.sleep(0.6)
+    held.hold("one step where less motion is wanted", page.text("tape-told") == after)
+    page.media()
+
+
+def hold_pointed(held: Held) -> None:
+    """What is told at the pointer, and of what keys point at: step, state, position, symbol."""
+    page = held.page
+    page.open("#machine=%s" % CHAMPION)
+    view, rows = page.drawn(), traced(held.program, CHAMPION, 107)
+    script = (
+        "const canvas = document.getElementById('diagram'); const box = canvas.getBoundingClientRect();"
+        "canvas.dispatchEvent(new PointerEvent('pointermove', { clientX: box.x + arguments[0], "
+        "clientY: box.y + arguments[1], bubbles: true }))"
+    )
+    right = True
+    for row in rows[::7]:
+        for at, symbol in enumerate(row.cells, row.low):
+            x = view["x"] + (at - view["left"] + 0.5) * view["wide"]
+            y = view["y"] + (row.step - view["top"] + 0.5) * view["high"]
+            page.js(script, x + 1, y + 1)
+            state = "halted" if row.state == "Z" else "state " + row.state
+            wanted = "Step %d, %s; position %s: symbol %s; " % (row.step, state, signed(at), symbol)
+            right = right and page.text("place-told").startswith(wanted)
+    held.hold("told at the pointer: " + page.text("place-told"), right)
+    page.press("diagram", "0", *["+"] * 3, Keys.ARROW_DOWN, Keys.ARROW_DOWN, Keys.ARROW_RIGHT)
+    page.drawn()
+    held.hold("told by keys: " + page.text("place-told"), "Step 2, state" in page.text("place-told"))
+    page.press("diagram", Keys.ENTER)
+    page.until(lambda: page.text("tape-told").startswith("Step 2:"))
+    axes = page.js(
+        "const pen = document.getElementById('diagram').getContext('2d');"
+        "const data = pen.getImageData(0, 22, 76, 300).data; const colours = new Set();"
+        "for (let at = 0; at < data.length; at += 4) colours.add(data.slice(at, at + 3).join());"
+        "return colours.size"
+    )
+    held.hold("there are axes: %s" % axes, axes > 1)
+
+
+def marked_rows(held: Held, machine: str) -> Tuple[List[int], Dict[str, float]]:
+    """The numbers of a translated cycler's line, and the view in which it opens."""
+    held.page.open("#machine=%s" % machine)
+    line = held.written("decide", {}, machine.encode()).decode().split()
+    return [int(word) for word in line[3:]], held.page.drawn()
+
+
+def hold_stretch(held: Held) -> None:
+    """The outlined stretch of a translated cycler stands where its line says."""
+    page = held.page
+    (first, second, _, length), view = marked_rows(held, TRANSLATED)
+    page.until(lambda: page.js("return document.querySelectorAll('#behind .same').length") == 2 * length)
+    page.until(lambda: "show it" in page.text("behind"))
+    rows = {row.step: row for row in traced(held.program, TRANSLATED, second)}
+    mark = colour(page, "--mark")
+    for step in (first, second):
+        x = (rows[step].head - view["left"]) * view["wide"]
+        y = (step - view["top"]) // view["every"] * view["high"]
+        above = pixels(page, [[x + view["wide"] * (k + 0.3), y - 1] for k in range(length)])
+        held.hold("the stretch at step %d" % step, all(one == mark for one in above))
+
+
+def hold_marks_in_view(held: Held) -> None:
+    """Records that agree late are in view when the verdict opens, apart from each other; the whole is a key
+    away."""
+    page = held.page
+    line = held.written("decide", {}, LATE.encode()).decode().split()
+    machine, first, second = line[0], int(line[3]), int(line[4])
+    held.hold("they agree late: %s" % line, second - first < second / 40)
+    page.open("#machine=%s" % machine)
+    view = page.drawn()
+    height = page.js("return document.getElementById('diagram').clientHeight") - view["y"]
+    places = [(step - view["top"]) / view["every"] * view["high"] for step in (first, second)]
+    held.hold("both are seen: %s in %d" % (places, height), all(0 <= y < height for y in places))
+    held.hold("they are apart", places[1] - places[0] >= 8)
+    page.click("fit")
+    page.until(lambda: page.drawn()["top"] == 0)
+    page.click("marked")
+    page.until(lambda: page.drawn() == view)
+    held.hold("and again", True)
+
+
+def hold_fingers(page: Any, held: Held) -> None:
+    """On a phone one finger scrolls the page; the picture is moved only after a tap into it."""
+    page.open("#machine=%s&steps=100000" % CHAMPION_5)
+    before = page.drawn()
+    page.js("document.getElementById('diagram').scrollIntoView({ block: 'center' })")
+    hint = page.js("return document.getElementById('diagram-keys').innerText")
+    held.hold("the hint says so: " + hint, "Tap into the picture first" in hint)
+    box = page.js(
+        "const { x, y, width, height } = document.getElementById('diagram').getBoundingClientRect();"
+        "return [x + width / 2, y + height / 2]"
+    )
+    place = page.js("return scrollY")
+    swipe(page, box)
+    page.until(lambda: page.js("return scrollY") != place)
+    held.hold("one finger scrolls the page", page.drawn() == before)
+    page.js("document.getElementById('diagram').scrollIntoView({ block: 'center' })")
+    box = page.js(
+        "const { x, y, width, height } = document.getElementById('diagram').getBoundingClientRect();"
+        "return [x + width / 2, y + height / 2]"
+    )
+    touch(page, "touchStart", [box])
+    touch(page, "touchEnd", [])
+    page.until(lambda: page.js("return document.activeElement.id") == "diagram")
+    place = page.js("return scrollY")
+    swipe(page, box)
+    page.until(lambda: page.drawn()["top"] > before["top"])
+    held.hold("after a tap it moves the picture", page.js("return scrollY") == place)
+
+
+def touch(page: Any, kind: str, places: List[List[float]]) -> None:
+    points = [{"x": x, "y": y} for x, y in places]
+    page.driver.execute_cdp_cmd("Input.dispatchTouchEvent", {"type": kind, "touchPoints": points})
+
+
+def swipe(page: Any, place: List[float]) -> None:
+    """Moves one finger up."""
+    x, y = place
+    touch(page, "touchStart", [[x, y]])
+    for far in range(10, 130, 10):
+        touch(page, "touchMove", [[x, y - far]])
+    touch(page, "touchEnd", [])
+
+
+def hold_tree(held: Held) -> None:
+    """The levels and nodes of a tree are those of the line."""
+    page = held.page
+    page.open("#machine=%s" % TREE)
+    levels, nodes = held.written("decide", {}, TREE.encode()).decode().split()[2:]
+    counts = page.js(
+        "return [...document.querySelectorAll('.level')].map((one) => Number(one.dataset.count))"
+    )
+    held.hold("the tree: %s" % counts, (len(counts), sum(counts)) == (int(levels), int(nodes)))
+    differs = page.js("return document.querySelector('#behind .error') !== null")
+    held.hold("the page says nothing of a difference", not differs)
+
+
+def hold_png(held: Held) -> None:
+    png = held.page.js("return document.getElementById('diagram').toDataURL('image/png')").split(",")[1]
+    held.hold("a PNG", base64.b64decode(png).startswith(b"\x89PNG"))
+
+
+def hold_pictures(held: Held, quick: bool, seed: int) -> None:
+    """All that diagrams show; the long runs only where there is time."""
+    hold_cells(held, CHAMPION, 107)
+    hold_cells(held, "1RB1LB_1LA1RZ", 6)
+    hold_stretch(held)
+    hold_png(held)
+    hold_tree(held)
+    hold_pointed(held)
+    hold_wheel(held)
+    if not quick:
+        hold_scaled(held, seed)
+        hold_zoom(held)
+        hold_goto(held)
+        hold_tape(held)
+        hold_marks_in_view(held)

@@ -1,0 +1,62 @@
+/** What is told of a line that isn't the machine and nothing else: how it was read, or why it wasn't. */
+import { part } from "./parts.mjs";
+import { ADVICE, readingOf } from "./reading.mjs";
+import { REWRITINGS } from "./texts.mjs";
+import { shown } from "./machine.mjs";
+
+// Characters that are shown about the place where a line goes wrong.
+const AROUND = 30;
+
+/**
+ * @typedef {import("./machine.mjs").Verdict} Verdict
+ * @typedef {import("./reading.mjs").Reading} Reading
+ * @typedef {{text: string | null, number: number, isRead: boolean}} Given the line, null where it is the
+ *   machine, its number, and whether lines are read in other forms
+ */
+
+/** Tells a line's text and, of a refused one, where and why it goes wrong. */
+export function tellGiven(/** @type {Given} */ given, /** @type {Verdict} */ verdict) {
+  const isRefused = verdict.kind === "refused";
+  const reading = given.text !== null && given.isRead ? readingOf(given.text) : null;
+  const told = reading?.kind === "machine" && !isRefused ? rewrittenTold(reading, given.text ?? "") : "";
+  Object.assign(part("machine-given"), { textContent: told, hidden: told === "" });
+  const caret = isRefused && given.text !== null ? caretOf(given.text, placeOf(reading, verdict)) : "";
+  Object.assign(part("machine-caret"), { textContent: caret, hidden: caret === "" });
+  if (isRefused) {
+    part("machine-text").textContent = `Line ${shown(given.number + 1)} is no machine`;
+    part("machine-says").textContent = refusedTold(reading, verdict);
+  }
+}
+
+/** @param {Reading | null} reading @param {Verdict} verdict */
+function placeOf(reading, { numbers: [column] }) {
+  return reading?.kind === "refusal" ? reading.place : column;
+}
+
+/** @param {Reading | null} reading @param {Verdict} verdict */
+function refusedTold(reading, { numbers: [column], text }) {
+  if (reading?.kind !== "refusal") {
+    return `Refused: as it stands it goes wrong at column ${shown(column)}; ${ADVICE.none}.`;
+  }
+  return `Refused: ${reading.reason}; ${ADVICE[reading.refusal]}. The program says ${text}.`;
+}
+
+/** @param {import("./reading.mjs").Machine} reading @param {string} text */
+function rewrittenTold({ rewritten, before, behind }, text) {
+  const kinds = rewritten.map((kind) => REWRITINGS[/** @type {"spaces"} */ (kind)]);
+  const beside = [before, behind].filter((one) => one !== "").map((one) => `“${one}”`);
+  const parts = [
+    ...(kinds.length > 0 ? [`The line is “${text.trim()}”: ${kinds.join("; ")}`] : []),
+    ...(beside.length > 0 ? [`Beside it stands ${beside.join(" and ")}`] : []),
+  ];
+  return parts.length > 0 ? `${parts.join(". ")}.` : "";
+}
+
+/** A line about a place, with a caret under it. */
+function caretOf(/** @type {string} */ text, /** @type {number} */ place) {
+  const characters = [...text.replace(/^\ufeff/, "")].map((one) => (/[\s\p{C}]/u.test(one) ? " " : one));
+  const first = Math.max(0, place - 1 - AROUND);
+  const [head, tail] = [first > 0 ? "…" : "", place - 1 + AROUND < characters.length ? "…" : ""];
+  const seen = characters.slice(first, place - 1 + AROUND).join("");
+  return `${head}${seen}${tail}\n${" ".repeat(head.length + place - 1 - first)}^`;
+}

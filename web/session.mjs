@@ -1,0 +1,40 @@
+/** What a reload keeps: the list, its limits and switches, and how its lines are taken. */
+
+const KEY = "budlarem";
+const MOST_CHARACTERS = 1_000_000;
+
+/**
+ * @typedef {{text: string, gone: string, plan: Record<string, any>, mode: string, clean: boolean}} Kept
+ *   `gone`
+ *   names a list that is too long to be kept
+ */
+
+/** Keeps these for a reload; where the browser keeps nothing, nothing is kept. */
+export function keep(/** @type {Kept} */ { text, gone, plan, mode, clean }) {
+  const isShort = gone === "" && text.length <= MOST_CHARACTERS;
+  const named = gone || `The list of ${text.length.toLocaleString("en")} characters`;
+  const kept = { text: isShort ? text : "", gone: isShort ? "" : named, plan, mode, clean };
+  try {
+    sessionStorage.setItem(KEY, JSON.stringify(kept));
+  } catch {
+    forget();
+  }
+}
+
+/** What was kept; null where nothing was. @returns {Kept | null} */
+export function kept() {
+  try {
+    return JSON.parse(sessionStorage.getItem(KEY) ?? "null");
+  } catch {
+    return null;
+  }
+}
+
+/** Keeps nothing. */
+export function forget() {
+  try {
+    sessionStorage.removeItem(KEY);
+  } catch {
+    // There is no storage then.
+  }
+}

@@ -1,0 +1,265 @@
+/** The tape at one step: its cells about the head, the entry that is used next, and moving on by one step. */
+import { Asker } from "./pool.mjs";
+import { machineOf, shown, stateLetter } from "./machine.mjs";
+import { made, part, signed } from "./parts.mjs";
+
+/**
+ * @typedef {import("./traced.mjs").Row} Row
+ * @typedef {{machine: string, cells: number, last: number}} About `last` is the last step that may be shown
+ */
+
+const FAR = 1e9;
+// Rows are asked for in stretches: as many as have about so many cells.
+const STRETCH_CELLS = 2_000_000;
+const [FEWEST, MOST] = [16, 512];
+const CELL_PIXELS = 26;
+const PACE_MILLISECONDS = 250;
+
+const button = (/** @type {string} */ id) => /** @type {HTMLButtonElement} */ (part(id));
+
+export class Tape {
+  /** @param {(place: import("./diagram.mjs").Place, closes: boolean) => void} went follows a step's change */
+  constructor(went) {
+    this.went = went;
+    this.asker = new Asker();
+    /** @type {About | null} */
+    this.about = null;
+    this.step = 0;
+    /** @type {Row[]} */
+    this.rows = [];
+    this.isEnd = false;
+    this.closes = false;
+    this.timer = 0;
+    this.calm = matchMedia("(prefers-reduced-motion: reduce)");
+    this.box = part("tape");
+    this.listen();
+  }
+
+  listen() {
+    /** @param {string} id @param {() => void} act */
+    const on = (id, act) => part(id).addEventListener("click", act);
+    on("tape-first", () => this.go(0));
+    on("tape-back", () => this.go(this.step - 1));
+    on("tape-on", () => this.go(this.step + 1));
+    on("tape-play", () => this.play());
+    part("tape-form").addEventListener("submit", (event) => {
+      event.preventDefault();
+      this.goToAsked();
+    });
+    this.box.addEventListener("keydown", (event) => this.pressed(event));
+    new ResizeObserver(() => this.draw()).observe(this.box);
+    this.calm.addEventListener("change", () => this.pause());
+  }
+
+  /** Shows a machine's tape at a step. */
+  open(/** @type {About} */ about, step = 0) {
+    this.pause();
+    Object.assign(this, { about, rows: [], isEnd: false });
+    this.go(step);
+  }
+
+  get row() {
+    return this.rows.find((row) => row.step === this.step);
+  }
+
+  /** Goes to the step that the field names. */
+  goToAsked() {
+    const field = /** @type {HTMLInputElement} */ (part("tape-step"));
+    const text = field.value.replace(/[\s,_]/g, "");
+    const isNumber = /^\d{1,15}$/.test(text);
+    field.setAttribute("aria-invalid", String(!isNumber));
+    const last = this.about?.last ?? 0;
+    part("tape-refused").textContent = isNumber ? "" : `A step is a whole number, 0 to ${shown(last)}.`;
+    if (isNumber) {
+      this.pause();
+      this.go(Number(text), true);
+    }
+  }
+
+  /** Goes to a step; where the run ends before, to its last one. */
+  go(/** @type {number} */ step, closes = false) {
+    if (this.about === null) {
+      return;
+    }
+    const from = this.step;
+    this.step = Math.max(0, Math.min(step, this.about.last));
+    this.closes = closes;
+    if (this.row !== undefined) {
+      this.arrive();
+      return;
+    }
+    this.ask(from);
+  }
+
+  /** Asks for the rows about a step: those that follow in the direction of the way. */
+  ask(/** @type {number} */ from) {
+    const { machine, cells } = /** @type {About} */ (this.about);
+    const wide = this.rows[0]?.cells.length ?? this.step;
+    const many = Math.round(Math.max(FEWEST, Math.min(MOST, STRETCH_CELLS / Math.max(1, wide))));
+    const back = this.step < from ? many - 4 : Math.min(4, many / 4);
+    const begin = Math.max(0, this.step - Math.floor(back));
+    const question = { what: "trace", machine, cells, from: begin, every: 1, upto: begin + many };
+    this.asker.ask({ ...question, between: [-FAR, FAR] }, (answer) => this.take(answer));
+  }
+
+  take(/** @type {any} */ answer) {
+    if (answer.error) {
+      part("tape-told").textContent = `The tape can’t be shown: ${answer.message}.`;
+      return;
+    }
+    /** @type {Row[]} */
+    const rows = answer.traced.rows;
+    this.rows = rows;
+    const last = rows[rows.length - 1];
+    if (last !== undefined && this.row === undefined) {
+      this.step = last.step;
+    } else if (last === undefined) {
+      this.lookForEnd();
+      return;
+    }
+    this.arrive();
+  }
+
+  /** Beyond the run's last step: the worker says which that is. */
+  lookForEnd() {
+    const { machine, cells } = /** @type {About} */ (this.about);
+    const question = { what: "last", machine, cells, upto: this.step };
+    this.asker.ask(question, (answer) => {
+      if (!answer.error && answer.last < this.step) {
+        this.go(answer.last, this.closes);
+      }
+    });
+  }
+
+  arrive() {
+    this.draw();
+    const { row } = this;
+    if (row !== undefined) {
+      this.went({ step: row.step, position: row.head }, this.closes);
+    }
+    this.closes = false;
+  }
+
+  /** Whether the run goes on after this step. */
+  get goesOn() {
+    const { row, about } = this;
+    return row !== undefined && about !== null && this.entry() !== null && this.step < about.last;
+  }
+
+  /** The entry of the table that is used next; null where there is none. */
+  entry() {
+    const { row, about } = this;
+    if (row === undefined || about === null || row.state === "Z") {
+      return null;
+    }
+    const machine = machineOf(about.machine);
+    const symbol = row.cells[row.head - row.low] ?? 0;
+    return machine.rules[(row.state.charCodeAt(0) - 65) * machine.symbols + symbol].entry;
+  }
+
+  play() {
+    if (this.timer !== 0 || this.calm.matches) {
+      this.timer === 0 ? this.go(this.step + 1) : this.pause();
+      return;
+    }
+    this.timer = setInterval(() => {
+      this.goesOn ? this.go(this.step + 1) : this.pause();
+    }, PACE_MILLISECONDS);
+    this.showPlay();
+  }
+
+  pause() {
+    clearInterval(this.timer);
+    this.timer = 0;
+    this.showPlay();
+  }
+
+  showPlay() {
+    const words = this.calm.matches ? "Step" : this.timer === 0 ? "Play" : "Pause";
+    part("tape-play").textContent = words;
+  }
+
+  pressed(/** @type {KeyboardEvent} */ event) {
+    const far = event.shiftKey ? 10 : 1;
+    /** @type {Record<string, () => void>} */
+    const keys = {
+      ArrowLeft: () => this.go(this.step - far),
+      ArrowRight: () => this.go(this.step + far),
+      Home: () => this.go(0),
+      End: () => this.go(this.about?.last ?? 0),
+      " ": () => this.play(),
+    };
+    if (event.key in keys && !event.ctrlKey && !event.metaKey && !event.altKey) {
+      event.preventDefault();
+      keys[event.key]();
+    }
+  }
+
+  draw() {
+    const { row, about } = this;
+    if (row === undefined || about === null) {
+      return;
+    }
+    const around = Math.max(2, Math.floor((this.box.clientWidth / CELL_PIXELS - 1) / 2));
+    const cells = [];
+    for (let at = row.head - around; at <= row.head + around; at += 1) {
+      cells.push(cellOf(row, at));
+    }
+    part("tape-cells").replaceChildren(...cells);
+    const told = this.told(row);
+    part("tape-told").textContent = told;
+    this.box.setAttribute("aria-label", `Tape. ${told}`);
+    const field = /** @type {HTMLInputElement} */ (part("tape-step"));
+    if (document.activeElement !== field) {
+      field.value = String(row.step);
+    }
+    button("tape-first").disabled = row.step === 0;
+    button("tape-back").disabled = row.step === 0;
+    button("tape-on").disabled = !this.goesOn;
+    button("tape-play").disabled = !this.goesOn && this.timer === 0;
+    this.markEntry(row);
+  }
+
+  /** Marks the entry in the machine's table. */
+  markEntry(/** @type {Row} */ row) {
+    const symbol = row.cells[row.head - row.low] ?? 0;
+    document.querySelectorAll("#machine-table td[data-entry]").forEach((cell) => {
+      const isUsed = /** @type {HTMLElement} */ (cell).dataset.entry === `${row.state}${symbol}`;
+      cell.classList.toggle("used", isUsed);
+      isUsed ? cell.setAttribute("aria-current", "true") : cell.removeAttribute("aria-current");
+    });
+  }
+
+  /** The step, the state, and what comes next, in words. */
+  told(/** @type {Row} */ row) {
+    const symbol = row.cells[row.head - row.low] ?? 0;
+    const head = `Step ${shown(row.step)}: `;
+    if (row.state === "Z") {
+      return `${head}halted, at position ${signed(row.head)}.`;
+    }
+    const entry = this.entry();
+    const now = `${head}state ${row.state} reads ${symbol} at position ${signed(row.head)}`;
+    if (entry === null) {
+      return `${now}; no entry is defined there, so it halts.`;
+    }
+    const { write, move, next } = entry;
+    const code = `${write}${move > 0 ? "R" : "L"}${stateLetter(next)}`;
+    const goes = next < 0 ? "halts" : `goes to ${stateLetter(next)}`;
+    return `${now}; ${code}: it writes ${write}, moves ${move > 0 ? "right" : "left"} and ${goes}.`;
+  }
+}
+
+/** A cell of the tape with its symbol's colour; the head's has the state above it. */
+function cellOf(/** @type {Row} */ row, /** @type {number} */ at) {
+  const isSeen = at >= row.low && at < row.low + row.cells.length;
+  const symbol = isSeen ? row.cells[at - row.low] : 0;
+  const isHead = at === row.head;
+  const state = made("span", { class: "state" }, isHead ? row.state : "");
+  const cell = made("span", { class: isSeen || isHead ? "symbol" : "symbol blank" }, String(symbol));
+  if (isSeen || isHead) {
+    cell.style.background = `var(--s${symbol})`;
+    cell.style.color = `var(--on${symbol})`;
+  }
+  const position = made("span", { class: "position" }, at % 5 === 0 ? signed(at) : "");
+  return made("span", { class: isHead ? "cell head" : "cell", "data-at": at }, state, cell, position);
+}
