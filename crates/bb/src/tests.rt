@@ -88,36 +88,43 @@ fn three_lines_are_decided_by_running_alone(rt: HostRuntime) {
     }
 }
 
-/// Options, a machine, and what deciding it counts by the definition of a verdict: steps, nodes and levels.
-static COSTS: [(&[&str], &[u8], [u64; 3]); 10] = [
-    (&[], b"1RB1LB_1LA1RZ", [6, 0, 0]),
-    (&[], b"0RB---_0LA---", [1_000_004, 0, 0]),
-    (&["--steps=3"], b"0RB---_0LA---", [9, 4, 2]),
-    (&[], b"1RA1RA", [131_072, 0, 0]),
-    (&[], b"1RB0RB_1LA1LA", [1_000_008, 0, 0]),
-    (&["--no-backward"], b"1RB---_1RC---_1RA---", [131_077, 0, 0]),
-    (&["--no-backward"], b"0LB---_0RC1RC_1RA---", [393_214, 0, 0]),
-    (&["--no-cyclers"], b"0RB---_0LA---", [2_000_000, 4, 2]),
-    (&["--cells=1", "--depth=1"], b"1RA1RA", [0, 0, 0]),
-    (
-        &["--cells=1", "--depth=1", "--no-backward"],
-        b"1RA1RA",
-        [0, 0, 0],
-    ),
-];
+/// Holds what `serve` counts of a machine, by the definition of a verdict: steps, nodes and levels; and that
+/// deciding it in one run writes the same for no more steps.
+fn assert_cost(
+    rt: &(impl Abort + AllocGlobal),
+    options: &[&'static str],
+    machine: &[u8],
+    counts: [u64; 3],
+) {
+    let (end, written) = served(rt, options, machine);
+    let (in_one_run, same) = decided(rt, options, machine);
+    assert_eq!(rt; written.as_slice(), same.as_slice());
+    let peak = end.expect(rt, "no fault").peak;
+    assert_eq!(rt;
+        [peak.steps, peak.nodes, peak.most_levels],
+        counts,
+        "{machine:?}"
+    );
+    assert!(rt; in_one_run.expect(rt, "no fault").peak.steps <= peak.steps);
+}
 
 #[test]
 fn serving_counts_the_cost(rt: HostRuntime) {
-    for (options, machine, [steps, nodes, levels]) in &COSTS {
-        let (end, written) = served(&rt, options, machine);
-        let (in_one_run, same) = decided(&rt, options, machine);
-        assert_eq!(rt; written.as_slice(), same.as_slice());
-        let peak = end.expect(&rt, "no fault").peak;
-        assert_eq!(rt; peak.steps, *steps, "{machine:?}");
-        assert_eq!(rt; peak.nodes, *nodes, "{machine:?}");
-        assert_eq!(rt; peak.most_levels, *levels, "{machine:?}");
-        assert!(rt; in_one_run.expect(&rt, "no fault").peak.steps <= peak.steps);
-    }
+    assert_cost(&rt, &[], b"1RB1LB_1LA1RZ", [6, 0, 0]);
+    assert_cost(&rt, &[], b"0RB---_0LA---", [1_000_004, 0, 0]);
+    assert_cost(&rt, &["--steps=3"], b"0RB---_0LA---", [9, 4, 2]);
+    assert_cost(&rt, &[], b"1RA1RA", [131_072, 0, 0]);
+    assert_cost(&rt, &[], b"1RB0RB_1LA1LA", [1_000_008, 0, 0]);
+    assert_cost(&rt, &[], b"1RB---_1RC---_1RA---", [131_077, 0, 0]);
+    assert_cost(&rt, &[], b"0LB---_0RC1RC_1RA---", [393_214, 0, 0]);
+    assert_cost(&rt, &["--no-cyclers"], b"0RB---_0LA---", [2_000_000, 4, 2]);
+}
+
+#[test]
+fn serving_counts_no_steps_in_one_cell(rt: HostRuntime) {
+    let one_cell = ["--cells=1", "--depth=1", "--no-backward"].as_slice();
+    assert_cost(&rt, &one_cell[..2], b"1RA1RA", [0, 0, 0]);
+    assert_cost(&rt, one_cell, b"1RA1RA", [0, 0, 0]);
 }
 
 /// The words of an end, and its status.
