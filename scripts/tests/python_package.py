@@ -149,9 +149,22 @@ def hold_wheel(tally: Tally, program: str, wheel: pathlib.Path, python: str, fol
     shutil.copytree(PACKAGE / "tests", folder / "tests")
     status, told = run([inside, "-m", "unittest", "-q"], cwd=folder)
     tally.hold("the wheel's unit tests by %s:\n%s" % (python, told), status == 0)
+    hold_metadata(tally, inside)
     _, told = run([command, "decide"], cwd=folder, given="1RZ---, x\n")
     tally.hold("the command: %s" % told, told == "1RZ--- halt 1 1\tx\n")
     hold_runner(tally, program, command, folder)
+
+
+def hold_metadata(tally: Tally, python: str) -> None:
+    """What the wheel says of itself: a long description, which names the call that tells the others, and words
+    by which it is found."""
+    asked = "from importlib.metadata import metadata; print(metadata('budlarem').as_string())"
+    status, told = run([python, "-I", "-c", asked])
+    page = (PACKAGE / "README.md").read_text(encoding="utf-8")
+    for row in page.splitlines():
+        tally.hold("the long description has: %s" % row, status == 0 and row.strip() in told)
+    for field in ("Summary: ", "Keywords: busy beaver", "Description-Content-Type: text/markdown"):
+        tally.hold("the wheel's metadata have %s: %s" % (field, told), field in told)
 
 
 def hold_runner(tally: Tally, program: str, command: str, folder: pathlib.Path) -> None:
