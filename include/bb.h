@@ -70,7 +70,9 @@ uint32_t bb_decide(uint64_t steps, uint64_t cells, uint64_t depth, uint64_t node
                    bool translated, bool backward, const uint8_t *list, size_t list_len, uint8_t *out,
                    size_t out_len, size_t *count);
 
-/* The reply to one line, without a newline. A line that is refused costs no tapes. */
+/* The reply to one line, without a newline. A line that is refused costs no tapes. Where more than 1,024 cells
+ * are allowed, up to 4,096 steps are tried on small tapes first: so it makes at most
+ * 3 * steps + 3 * min(steps, 4096) steps. */
 uint32_t bb_decide_line(uint64_t steps, uint64_t cells, uint64_t depth, uint64_t nodes, bool cyclers,
                         bool translated, bool backward, const uint8_t *line, size_t line_len, uint8_t *out,
                         size_t out_len, size_t *count);

@@ -5,11 +5,12 @@ from __future__ import annotations
 import io
 import itertools
 import os
+import re
 import subprocess
 import sys
 import threading
 import unittest
-from typing import Any, Iterator, List
+from typing import Any, Iterator, List, Tuple
 
 import budlarem
 from budlarem import Answer, Limits, Plan
@@ -123,6 +124,27 @@ class CheckTest(unittest.TestCase):
         wrong: Any = [LINES[0], 7]
         with self.assertRaisesRegex(TypeError, r"lines\[1\] is of type int"):
             list(budlarem.check(wrong))
+
+    def test_a_verdict_with_a_field_of_another_type(self) -> None:
+        text: Any = "6"
+        half: Any = 6.0
+        pair: Any = (1, 1)
+        nothing: Any = None
+        cases: List[Tuple[budlarem.Verdict, str]] = [
+            (budlarem.Halt(CHAMPION, text, 4), "steps is '6' of type str, but must be a whole number"),
+            (budlarem.Halt(CHAMPION, half, 4), "steps is 6.0 of type float"),
+            (budlarem.Halt(CHAMPION, True, 4), "steps is True"),
+            (budlarem.Halt(nothing, 6, 4), "machine is None of type NoneType, not str"),
+            (budlarem.Cycler(CHAMPION, 1, text), "second is '6'"),
+            (budlarem.Backward(CHAMPION, 1, text), "nodes is '6'"),
+            (budlarem.Translated(CHAMPION, "R", 1, 2, pair), "extent is of type tuple, not Extent"),
+            (budlarem.Translated(CHAMPION, "R", 1, 2, budlarem.Extent(1, text)), "extent.length is '6'"),
+            (budlarem.Undecided(CHAMPION, nothing), "reason is None"),
+            (budlarem.Refused(text), "column is '6'"),
+        ]
+        for wrong, told in cases:
+            with self.subTest(told), self.assertRaisesRegex(TypeError, r"^lines\[1\]\." + re.escape(told)):
+                list(budlarem.check([LINES[0], wrong]))
 
 
 class BytesTest(unittest.TestCase):

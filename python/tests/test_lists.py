@@ -2,21 +2,24 @@
 
 from __future__ import annotations
 
+import html
 import importlib.util
 import os
 import pathlib
+import re
 import struct
 import subprocess
 import sys
 import tempfile
 import unittest
 import zlib
-from typing import List, Tuple
+from typing import Any, List, Tuple
 
 import budlarem
 from budlarem import Agreement, Growth, lists, pictures, reports
 
 CHAMPION = "1RB1LB_1LA1RZ"
+FOUR_STATES = "1RB1LB_1LA0LC_1RZ1LD_1RD0RA"
 UNDECIDED = "0RB1LD_0RC1RD_0RD---_1LA0RB"
 HAS_PLOTS = all(importlib.util.find_spec(name) for name in ("numpy", "matplotlib"))
 
@@ -38,6 +41,8 @@ class CompareTest(unittest.TestCase):
             ("translated R 1 2", "translated R 2 4 1 1", "agree"),
             ("translated R 1 2", "translated L 1 2", "contradict"),
             ("backward 1 2", "translated L 1 2", "agree"),
+            ("backward 1 2", "backward 1 2", "agree"),
+            ("backward 1 2", "backward 1 3", "contradict"),
             ("undecided steps", "undecided cells", "agree"),
             ("undecided steps", "halt 6 4", "second-decides"),
             ("cycler 1 2", "undecided cells", "first-decides"),
@@ -74,6 +79,20 @@ class CompareTest(unittest.TestCase):
         only = [("only-first", "------"), ("only-first", "1RZ---"), ("only-second", CHAMPION)]
         self.assertEqual(sorted(found[2:]), only)
 
+    def test_machines_that_are_the_same(self) -> None:
+        first = ["1RA1RA translated R 1 2 1 1", "1RB1LB_1LA1RZ halt 6 4", "1RA1LA cycler 1 3"]
+        second = ["1LA1LA translated L 2 4", "1LB1RB_1RA1LZ halt 6 5", "1RA---2RA cycler 1 2"]
+        found = [str(one) for one in budlarem.compare(first, second)]
+        self.assertEqual(
+            found,
+            [
+                "agree\t1RA1RA translated R 1 2 1 1 | 1LA1LA translated L 2 4",
+                "contradict\t1RB1LB_1LA1RZ halt 6 4 | 1LB1RB_1RA1LZ halt 6 5",
+                "only-first\t1RA1LA cycler 1 3 | -",
+                "only-second\t- | 1RA---2RA cycler 1 2",
+            ],
+        )
+
     def test_a_line_that_is_none(self) -> None:
         with self.assertRaisesRegex(ValueError, r"second\[1\]: no verdict line"):
             list(budlarem.compare([], ["refused 1", "x"]))
@@ -96,6 +115,13 @@ class NormalTest(unittest.TestCase):
 
     def test_no_machine(self) -> None:
         self.assertRaises(budlarem.MachineError, budlarem.normal, "1RB")
+        with self.assertRaisesRegex(
+            budlarem.MachineError, r"^machines\[1\]: no machine, from column 4 on: '1RB'"
+        ):
+            list(budlarem.distinct([CHAMPION, "1RB"]))
+        wrong: Any = [CHAMPION, None]
+        with self.assertRaisesRegex(TypeError, r"^machines\[1\] is of type NoneType"):
+            list(budlarem.distinct(wrong))
 
 
 class TriageTest(unittest.TestCase):
@@ -119,6 +145,17 @@ class TriageTest(unittest.TestCase):
         self.assertEqual((found.steps, found.visited), (1_000, (11, 101, 1_001)))
         self.assertEqual(lists.last_step("1RA1RA", 100_000, 778), 777)
         self.assertEqual(lists.last_step(CHAMPION, 100_000), 6)
+
+    def test_a_halt_is_told_with_its_steps_and_cells(self) -> None:
+        for machine, steps in (("------", 0), ("1RZ---", 1), (CHAMPION, 6), (FOUR_STATES, 107)):
+            rows = list(budlarem.trace(machine, steps))
+            told = tuple(len(rows[step].cells) for step in (steps // 100, steps // 10, steps))
+            for limit in (107, 108, 199, 250, 1_000_000):
+                found = budlarem.triage(machine, steps=limit)
+                self.assertEqual(
+                    (found.steps, found.visited, found.growth), (steps, told, Growth.HALTS), limit
+                )
+        self.assertIs(budlarem.triage(FOUR_STATES, steps=106).growth, Growth.ROOT)
 
 
 class PictureTest(unittest.TestCase):
@@ -176,6 +213,8 @@ class PictureTest(unittest.TestCase):
     def test_it_is_shown_and_saved(self) -> None:
         picture = budlarem.picture(CHAMPION, 6)
         self.assertTrue(picture._repr_png_().startswith(b"\x89PNG"))
+        with self.assertRaisesRegex(budlarem.PictureError, "^x.jpg: a picture is a PNG file"):
+            picture.save("x.jpg")
         with tempfile.TemporaryDirectory() as folder:
             path = pathlib.Path(folder) / "picture.png"
             picture.save(path)
@@ -204,10 +243,16 @@ class ReportTest(unittest.TestCase):
     def test_a_page(self) -> None:
         with tempfile.TemporaryDirectory() as folder:
             path = pathlib.Path(folder) / "page.html"
-            budlarem.report(self.LINES, path, steps=1_000, title="<lists>")
+            made = budlarem.report(self.LINES, path, steps=1_000, title="<lists>")
             page = path.read_text(encoding="utf-8")
+            self.assertEqual((made.path, made.html), (str(path), page))
+            self.assertNotIn("html=", repr(made))
             self.assertEqual(os.listdir(folder), ["page.html"])
         self.assertIn("&lt;lists&gt;", page)
+        frame = re.fullmatch(
+            '<iframe title="&lt;lists&gt;" srcdoc="([^"]*)" style="[^"]*"></iframe>', made._repr_html_()
+        )
+        self.assertEqual(frame and html.unescape(frame[1]), page)
         self.assertIn("1 of 1 undecided machines", page)
         self.assertEqual(page.count("data:image/png;base64,"), 1)
         self.assertFalse("http" in page.replace("http://www.w3.org", ""), "an address")
@@ -235,10 +280,8 @@ class CommandTest(unittest.TestCase):
         return ended.returncode, ended.stdout.decode().splitlines(), ended.stderr.decode()
 
     def test_fields_are_carried(self) -> None:
-        status, lines, _ = self.run_with("decide", given="1RZ---, a b\r\n%s\nx;y\n" % CHAMPION)
-        self.assertEqual(
-            (status, lines), (1, ["1RZ--- halt 1 1\ta b", CHAMPION + " halt 6 4", "refused 1\ty"])
-        )
+        status, lines, _ = self.run_with("decide", given="1RZ---, a b\r\n%s\n# c\nx;y\n" % CHAMPION)
+        self.assertEqual((status, lines), (1, ["1RZ--- halt 1 1\ta b", CHAMPION + " halt 6 4", "refused 1"]))
 
     def test_files_and_statuses(self) -> None:
         with tempfile.TemporaryDirectory() as folder:

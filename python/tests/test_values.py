@@ -4,6 +4,7 @@ from __future__ import annotations
 
 import dataclasses
 import pickle
+import pydoc
 import unittest
 from typing import Any, List
 
@@ -135,3 +136,19 @@ class VerdictsTest(unittest.TestCase):
             self.assertTrue(budlarem.is_machine(text), text)
         for text in ("", "---", "_", "1RB---", "2RA---", "1RZ---_", "1rZ---", widest + "_" + "---" * 10):
             self.assertFalse(budlarem.is_machine(text), text)
+
+    def test_only_texts_are_machines_or_not(self) -> None:
+        wrongs: List[Any] = [None, 1, b"------"]
+        for wrong in wrongs:
+            with self.subTest(wrong), self.assertRaisesRegex(TypeError, "^text is of type .*, not str$"):
+                budlarem.is_machine(wrong)
+
+
+class HelpTest(unittest.TestCase):
+    def test_the_calls_come_first(self) -> None:
+        page = pydoc.plain(pydoc.render_doc(budlarem))
+        first = page[: page.index("PACKAGE CONTENTS")]
+        calls = [name for name in budlarem.__all__ if name.islower() and callable(getattr(budlarem, name))]
+        self.assertGreater(len(calls), 15)
+        for name in calls:
+            self.assertRegex(first, r"\b%s\b" % name)

@@ -15,7 +15,19 @@ import tempfile
 
 from tally import TOP, Tally, end_with, words
 
-ALWAYS = ["CONTENTS", "bb", "bb.1", "bb.h", "libbb.a", "libbb.so", "bb.wasm", "bb.html", "bb.mjs"]
+ALWAYS = [
+    "CONTENTS",
+    "README.txt",
+    "bb",
+    "bb.1",
+    "bb.h",
+    "libbb.a",
+    "libbb.so",
+    "bb.wasm",
+    "bb.html",
+    "bb.mjs",
+]
+ALWAYS += ["%s.%s" % (program, shell) for program in ("bb", "budlarem") for shell in ("bash", "zsh", "fish")]
 
 
 def built(tally: Tally, commit: str, folder: pathlib.Path) -> pathlib.Path:
@@ -44,6 +56,13 @@ def hold_contents(tally: Tally, folder: pathlib.Path) -> None:
         tally.hold("the sha256 of %s" % name, told.get(name) == hashlib.sha256(path.read_bytes()).hexdigest())
     tally.hold("CONTENTS names the kit and the commit", "\nkit " in text and text.startswith("commit "))
     tally.hold("a wheel", len(list(folder.glob("budlarem-*.whl"))) == 1)
+    tally.hold("an npm package", len(list(folder.glob("budlarem-*.tgz"))) == 1)
+    page = (folder / "README.txt").read_text(encoding="utf-8").splitlines()
+    for name in set(files) - {"README.txt"}:
+        tally.hold("README.txt says what %s is for" % name, name in page)
+    command = [line for line in page if "`grep '  ' CONTENTS | sha256sum" in line]
+    check = subprocess.run("grep '  ' CONTENTS | sha256sum --check --quiet", shell=True, cwd=folder)
+    tally.hold("the command that holds the files: %s" % command, command and check.returncode == 0)
 
 
 def main() -> int:

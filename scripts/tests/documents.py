@@ -50,8 +50,8 @@ FORMER = re.compile(
     r"`[^`]+` is gone|`[^`]+` is (?=`)|\(it was `[^`]+`\)|in place of `[^`]+`|constants `[^`]+` are"
 )
 MACHINE = r"(?:<machine>|(?:\d[LR][A-Z]|---)+(?:_(?:\d[LR][A-Z]|---)+)*)"
-ENDINGS = "rt antt edit md py mjs html h c rs txt png svg wasm a so".split()
-COMMANDS = ("bb", "./bb", "scripts/", "budlarem", "./test")
+ENDINGS = "rt antt edit md py mjs html h c rs v ml txt png svg wasm a so".split()
+COMMANDS = ("bb", "./bb", "coq/", "scripts/", "budlarem", "./test")
 # Documents that speak of another language too.
 LANGUAGES = {
     "docs/python.md": ["python"],
@@ -62,6 +62,7 @@ LANGUAGES = {
     "docs/recipes.md": ["python", "script"],
     "docs/contributing.md": ["python"],
     "docs/clusters.md": ["python"],
+    "docs/coq.md": ["coq"],
 }
 # Lines of a document, and what is told of each: '' where nothing is wrong.
 BROKEN = [

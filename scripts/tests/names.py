@@ -18,9 +18,12 @@ BLOCK = re.compile(r"(?:pub(?:\(crate\))? )?(impl|struct|enum|trait)\b(.*) \{$")
 CLAUSE = re.compile(r" +(?:requires|ensures) (\w+) \{")
 MEMBER = re.compile(r"    (?:pub(?:\(crate\))? )?(?:ghost )?(\w+)(?::|,$| = | \{|\()")
 FIELD = re.compile(r"  pub (\S+) : ")
+OF_COQ = re.compile(r"^(?:Definition|Fixpoint|Inductive|Record|Theorem|Lemma) (\w+)", re.M)
 PROGRAMS = (
     "test",
     "bb",
+    "coq/build",
+    "coq/theorem",
     "scripts/beside_the_gate",
     "scripts/dist",
     "scripts/five_states",
@@ -53,7 +56,7 @@ class Sources:
 
     Names stand by their crate (`below` has what a crate stands on), and by what they are members of: a type,
     a record, a module or a crate. Those of other languages stand by the language: `python`, `script`
-    (JavaScript, HTML) or `header` (C). `options` are those of all commands, `program_options` those of `bb`;
+    (JavaScript, HTML), `header` (C) or `coq`. `options` are those of all commands, `program_options` those of `bb`;
     `texts` has the words of the scripts that make files, `words` those of the lines that the program writes.
     """
 
@@ -227,6 +230,8 @@ def read_other(sources: Sources, path: str, text: str) -> None:
         sources.languages["script"] |= set(re.findall(r"\w+", without_comments(text)))
     if path.startswith("scripts/tools/") and path.endswith(".rs"):
         sources.options |= set(re.findall(r"\"(--[a-z]+)\" =>", text))
+    if path.endswith(".v"):
+        sources.languages["coq"] |= set(OF_COQ.findall(text))
     if path.endswith(".h"):
         sources.languages["header"] |= set(re.findall(r"\w+", without_comments(text)))
     if path.endswith(".py") or path in PROGRAMS:
@@ -243,7 +248,7 @@ def sources_of(top: str) -> Sources:
     for path in sorted(sources.files):
         if re.fullmatch(r"crates/\w+", path):
             read_crate(sources, top, os.path.basename(path))
-        elif path.endswith((".py", ".mjs", ".html", ".h", ".rs")) or path in PROGRAMS:
+        elif path.endswith((".py", ".mjs", ".html", ".h", ".rs", ".v")) or path in PROGRAMS:
             read_other(sources, path, read(top, path))
     for line in read(top, "crates.txt").split("\n"):
         crate, _, below = line.partition(":")

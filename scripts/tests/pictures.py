@@ -3,22 +3,25 @@
 
     scripts/tests/pictures.py crates/bb/out/bb
 
-It compares sizes and pixels with what the traces say, and what is said of sampling and cutting. It takes two
-seconds. The last line is `N passed, M failed`; the status is 1 where any failed.
+It compares sizes and pixels with what the traces say, and what is said of sampling and cutting. The machine of
+README's first picture halts with the limit that stands below it. It takes four seconds. The last line is `N
+passed, M failed`; the status is 1 where any failed.
 """
 
 import os
+import re
 import struct
 import sys
 import zlib
 from typing import Dict, Iterator, List, Optional, Tuple
 
-from program import ended
+from program import ended, kind_of, replies
 from tally import TOP, Tally, end_with, words
 
 PICTURE = os.path.join(TOP, "scripts", "tools", "picture.py")
 FOUR_STATES = "1RB1LB_1LA0LC_1RZ1LD_1RD0RA"
 GOES_RIGHT = "1RA1RA"
+FIVE_STATES = "1RB1LC_1RC1RB_1RD0LE_1LA1LD_1RZ0LA"
 WHITE, BLACK, GREY, RED = (255, 255, 255), (20, 20, 20), (225, 225, 225), (220, 30, 30)
 
 
@@ -114,10 +117,20 @@ def refusals(program: str) -> Held:
     yield "too many columns are refused: %r" % said, rows is None and "lower --rows or --columns" in said
 
 
+def first_of_readme(program: str) -> Held:
+    """The limit with which README's champion halts, as it says below its first picture."""
+    with open(os.path.join(TOP, "README.md"), encoding="utf-8") as file:
+        steps = re.findall(r"!\[.*\n\n.*`bb decide --steps ([0-9]+)`", file.read())
+    yield "README names a limit: %s" % steps, len(steps) == 1
+    for limit, kind in ((int(steps[0]), "halt"), (int(steps[0]) - 1, "undecided")):
+        (line,) = replies([program, "decide", "--steps", str(limit)], [FIVE_STATES])
+        yield "%d steps: %s" % (limit, line), kind_of(line) == kind
+
+
 def main() -> int:
     program = words(__doc__).parse_args().program
     tally = Tally()
-    for part in (champion, sampling, scaling, refusals):
+    for part in (champion, sampling, scaling, refusals, first_of_readme):
         for what, holds in part(program):
             tally.hold(what, holds)
     return tally.end()

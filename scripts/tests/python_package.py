@@ -36,6 +36,9 @@ MODULES = (
     "lists",
     "pictures",
     "reports",
+    "reading",
+    "judging",
+    "same",
     "commands",
     "runner.progress",
 )

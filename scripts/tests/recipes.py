@@ -10,6 +10,7 @@ knows fails. Processes are killed and interrupted, by their ids. It takes a minu
 """
 
 import collections
+import gzip
 import os
 import re
 import signal
@@ -26,32 +27,33 @@ from program import ended, options_of_pass
 from tally import TOP, Tally, end_with, heed_interruption, words
 
 DOCUMENT = os.path.join(TOP, "docs", "recipes.md")
-# A line of a list, and the machine that is taken out of it, or else what standard error says of it.
-TAKEN: List[Tuple[bytes, Union[bytes, int, None]]] = [
+# A line of a list, and the machine that is taken out of it, or why there is none; None where it isn't told of.
+TAKEN: List[Tuple[bytes, Union[bytes, None, str]]] = [
     (b"1RB1LB_1LA1RZ", b"1RB1LB_1LA1RZ"),
-    (b"\t 1RB1LB_1LA1RZ  # a comment, with 1RA1RA", b"1RB1LB_1LA1RZ"),
+    (b"\t 1RB1LB_1LA1RZ  # a comment, with 1RA1RA", "two different machines"),
+    (b"\t 1RB1LB_1LA1RZ  # a comment", b"1RB1LB_1LA1RZ"),
     (b"12,1RA1RA,translated", b"1RA1RA"),
     (b"1RB1LB_1LA1RZ halt 6 4\r", b"1RB1LB_1LA1RZ"),
-    (b"\xef\xbb\xbf1RA1RA", b"1RA1RA"),
+    (b"1RB1LB_1LA1RH", b"1RB1LB_1LA1RZ"),
     (b"\xff 1RA1RB_1LB1RA \xfe\x80", b"1RA1RB_1LB1RA"),
     (b"\"1RA1RA\";'$(exit 3)' `exit 4` %s \\n", b"1RA1RA"),
     (b"------", b"------"),
     (b"0RB---_0LA---", b"0RB---_0LA---"),
     (b"0RB---2LA_0LA------", b"0RB---2LA_0LA------"),
-    (b"1RB1LB_1LA1RC", b"1RB1LB_1LA1RC"),
+    (b"1RB1LB_1LA1RC", "entry 4 names state C"),
     (b"# nothing but 1RA1RA", None),
     (b"", None),
     (b" \t ", None),
-    (b"1RB1LB 1LA1RZ", 2),
-    (b"1RA1RA,1RA1RA,1RA1RA", 3),
-    (b"1rB1LB", 0),
-    (b"x1RA1RA", 0),
-    (b"1RA1RA_", 0),
-    (b"1RA1RA__1RA1RA", 0),
-    (b"1RA1RA-old", 0),
-    (b"1RA", 0),
-    (b"----------", 0),
-    (b"a name", 0),
+    (b"1RB1LB 1LA1RZ", b"1RB1LB_1LA1RZ"),
+    (b"1RA1RA,1RA1RA,1RA1RA", "each of 3 words is a machine by itself"),
+    (b"1rB1LB", "entry 1 names state B"),
+    (b"x1RA1RA", "entry 1 is no entry: x1R"),
+    (b"1RA1RA_", "group 2 is empty"),
+    (b"1RA1RA__1RA1RA", "group 2 is empty"),
+    (b"1RA1RA-old", "entry 3 is no entry: -ol"),
+    (b"1RA", "1 entry can't be divided"),
+    (b"----------", "a row of dashes"),
+    (b"a name", "no machine in this line"),
     (b"1RZ1RZ", b"1RZ1RZ"),
 ]
 # Lists of machines: none, no newline at the end, all decided or none, and lines that are no machine's.
@@ -65,6 +67,7 @@ LISTS = {
     b"1RB0LA_0RC---_1RD0LD_1LA1RB\n"
     b"1RB1LC_1RC1RB_1RD0LE_1LA1LD_1RZ0LA\n" + b"x" * 100_000 + b"\n1RA1RA",
 }
+GREATEST = ["--steps=1000000000000", "--cells=67108864", "--depth=10000", "--nodes=1000000000000"]
 CLAIMS_ELSEWHERE = b"""1RB1LB_1LA--- halt 6 4
 0RB---_0LA--- cycler 2 4
 0RB---_0LA--- backward 2 4
@@ -138,34 +141,50 @@ def words_of(commands: str) -> List[str]:
 Held = Iterator[Tuple[str, object]]
 
 
-def preparing(folder: Folder, blocks: List[str]) -> Held:
+def place_package(folder: Folder) -> None:
+    """Puts the package's command where the recipes look for it."""
+    script = "#!/bin/sh\nPYTHONPATH='%s' exec '%s' -m budlarem \"$@\"\n"
+    folder.write("budlarem", (script % (os.path.join(TOP, "python", "src"), sys.executable)).encode())
+    os.chmod(os.path.join(folder.path, "budlarem"), 0o755)
+
+
+def preparing(folder: Folder, blocks: List[str], tally: Tally) -> Held:
     """Machines are taken out of lines, and what isn't taken is shown."""
     take, spell, refused = blocks
-    for ending in (b"\n", b""):
-        folder.write("list.txt", b"\n".join(line for line, _ in TAKEN) + ending)
-        status, output, error = folder.run(take)
-        wanted = b"".join(machine + b"\n" for _, machine in TAKEN if isinstance(machine, bytes))
-        yield "machines are taken out of lines", (status, output, folder.read("machines.txt")) == (
-            0,
-            b"",
-            wanted,
-        )
-        told = [
-            b"line %d: %d machines: %s" % (number, found, line)
-            for number, (line, found) in enumerate(TAKEN, 1)
-            if isinstance(found, int)
-        ]
-        yield "the other lines are shown: %r" % error, error.splitlines() == told
-    folder.write("list.txt", b"")
-    yield "no list, no machines", folder.run(take) == (0, b"", b"") and folder.read("machines.txt") == b""
-    folder.write("list.txt", b"1RB1LB_1LA1RH\n")
-    held = folder.run(spell)[0] == 0 and folder.read("spelled.txt") == b"1RB1LB_1LA1RZ\n"
-    yield "another halting letter", held
     for name, content in LISTS.items():
         folder.write("machines.txt", content)
         lines = folder.decided(content).splitlines()
         shown = [b"%d: %s\n" % pair for pair in enumerate(lines, 1) if pair[1].startswith(b"refused")]
         yield "what was refused of %s" % name, folder.run(refused) == (0, b"".join(shown), b"")
+    if not has_library(tally, "the recipe of budlarem read"):
+        return
+    place_package(folder)
+    wanted = b"".join(machine + b"\n" for _, machine in TAKEN if isinstance(machine, bytes))
+    for lead, ending in ((b"", b"\n"), (b"\xef\xbb\xbf", b"")):
+        content = lead + b"\n".join(line for line, _ in TAKEN) + ending
+        for form in (content, gzip.compress(content)):
+            folder.write("list.txt", form)
+            status, output, error = folder.run(take)
+            taken = folder.read("machines.txt")
+            yield "machines are taken: %r" % taken, (status, output, taken) == (0, b"", wanted)
+            yield from _told(error.decode().splitlines())
+    folder.write("list.txt", b"")
+    yield "no list, no machines", folder.run(take)[:2] == (0, b"") and folder.read("machines.txt") == b""
+    folder.write("list.txt", b"1RB1LB_1LA1RX\n")
+    held = folder.run(spell)[0] == 0 and folder.read("machines.txt") == b"1RB1LB_1LA1RZ\n"
+    yield "another halting letter", held
+
+
+def _told(error: List[str]) -> Held:
+    """Each line that isn't taken is shown with the reason, and each rewriting."""
+    for number, (line, found) in enumerate(TAKEN, 1):
+        begin = "list.txt:%d: " % number
+        told = [row for row in error if row.startswith(begin)]
+        if isinstance(found, str):
+            yield "%r is refused: %s" % (line, told), told[0].startswith(begin + "refused: " + found)
+        else:
+            is_rewritten = found is not None and found not in line
+            yield "what is told of %r: %s" % (line, told), len(told) == is_rewritten
 
 
 def counting_more(folder: Folder, blocks: List[str]) -> Held:
@@ -214,9 +233,9 @@ def counting(folder: Folder, blocks: List[str]) -> Held:
         yield "the verdicts of %s" % name, status == 0 and sorted(output.splitlines()) == wanted
 
 
-def wrong_claims(folder: Folder, blocks: List[str]) -> Held:
+def wrong_claims(folder: Folder, blocks: List[str], tally: Tally) -> Held:
     """Claims that aren't confirmed are shown, and those of tools that count a step more are confirmed."""
-    confirmed, counted = blocks
+    confirmed, by_package, counted = blocks
     claims = os.path.join(TOP, "examples", "claims")
     with open(os.path.join(claims, "lines.txt"), "rb") as file:
         lines = file.read()
@@ -242,6 +261,45 @@ def wrong_claims(folder: Folder, blocks: List[str]) -> Held:
     for name, content in LISTS.items():
         folder.write("verdicts.txt", folder.decided(content))
         yield "nothing wrong in %s" % name, folder.run(confirmed) == (0, b"", b"")
+    if has_library(tally, "the recipe of budlarem check"):
+        place_package(folder)
+        folder.write("verdicts.txt", lines)
+        status, _, error = folder.run(by_package)
+        wanted = ended([folder.program, "check", *GREATEST], lines).output
+        yield "the package's answers: %r" % error, (status, folder.read("answers.txt")) == (0, wanted)
+
+
+def judging(folder: Folder, blocks: List[str], tally: Tally) -> Held:
+    """What others claim is judged, and what to look at is shown."""
+    if not has_library(tally, "the recipe of budlarem judge"):
+        return
+    place_package(folder)
+    judge, look = blocks
+    folder.write("machines.txt", b"1RB1LB_1LA1RZ\n1RA1RA\n0RB---_0LA---\n")
+    folder.write("theirs.txt", b"1LB1RB_1RA1LZ halt 6 4\n1RA1RA, halts\nx\n------ halt 0 0\n")
+    status, _, error = folder.run(judge)
+    rows = [line.split(b"\t")[:2] for line in folder.read("judged.txt").splitlines()]
+    words = b"confirmed contradicted unreadable confirmed no-line not-listed".split()
+    numbers = b"1 2 3 4 3 4".split()
+    yield "each line is judged: %r" % error, (status, rows) == (0, [list(row) for row in zip(words, numbers)])
+    shown = [row.split(b"\t")[0] for row in folder.run(look)[1].splitlines()]
+    yield "what to look at: %r" % shown, shown == [words[1], words[2], words[4], words[5]]
+
+
+def publishing(folder: Folder, blocks: List[str], tally: Tally) -> Held:
+    """A run's folder is published, and the archive's page is read."""
+    if not has_library(tally, "the recipe of budlarem publish"):
+        return
+    place_package(folder)
+    publish, look = blocks
+    folder.write("machines.txt", b"1RB1LB_1LA1RZ\n1RA1RA\n0RB---_0LA---\n")
+    folder.run("budlarem run machines.txt --out decided")
+    status, output, error = folder.run(publish)
+    yield "it is published: %r" % error, status == 0 and output.endswith(b"  decided.tar\n")
+    shown = folder.run(look)[1]
+    yield "its page: %r" % shown, shown.startswith(
+        b"Verdicts on 3 machines\n"
+    ) and b"python3 again.py" in shown
 
 
 def long_list() -> bytes:
@@ -394,11 +452,14 @@ def any_length(folder: Folder, blocks: List[str], tally: Tally) -> Held:
     """The runner of the package, where the library is built, beside a run of the program for each pass."""
     if not has_library(tally, "the recipe of the runner"):
         return
-    script = "#!/bin/sh\nPYTHONPATH='%s' exec '%s' -m budlarem \"$@\"\n"
-    folder.write("budlarem", (script % (os.path.join(TOP, "python", "src"), sys.executable)).encode())
-    os.chmod(os.path.join(folder.path, "budlarem"), 0o755)
+    place_package(folder)
     first, second = re.findall(r"--pass (\S+)", blocks[0])
+    folder.write("machines.txt", LISTS["a list of anything"])
+    status, _, error = folder.run("rm -rf decided\n" + blocks[0])
+    early = status != 0 and b"budlarem read" in error and not os.path.exists(folder.path + "/decided")
+    yield "a list in other forms: %r" % error, early
     for name, content in LISTS.items():
+        content = LISTS["a list that is decided"] * 3 + content
         folder.write("machines.txt", content)
         status, _, error = folder.run("rm -rf decided\n" + blocks[0])
         wanted = b""
@@ -424,11 +485,13 @@ def main() -> int:
     found = recipes()
     look = found.get("Is the list whole", [""])[0]
     tests: Dict[str, Tuple[int, Callable[[Folder, List[str]], Held]]] = {
-        "Preparing a list": (3, preparing),
+        "Preparing a list": (3, lambda folder, blocks: preparing(folder, blocks, tally)),
         "Counting a step more": (1, counting_more),
         "Deciding again what was left": (2, deciding_again),
         "Counting verdicts": (1, counting),
-        "Finding wrong claims": (2, wrong_claims),
+        "Finding wrong claims": (3, lambda folder, blocks: wrong_claims(folder, blocks, tally)),
+        "Judging what others publish": (2, lambda folder, blocks: judging(folder, blocks, tally)),
+        "Publishing what was decided": (2, lambda folder, blocks: publishing(folder, blocks, tally)),
         "More than one core": (2, lambda folder, blocks: all_cores(folder, blocks, look, tally)),
         "Is the list whole": (1, whole),
         "Lists of any length": (1, lambda folder, blocks: any_length(folder, blocks, tally)),

@@ -18,11 +18,14 @@ import os
 import pathlib
 import random
 import resource
+import shlex
 import signal
 import subprocess
+import sys
+
 from library_built import has_library
-from runs import LONG_MACHINE, PASSES, Case, expected, folder, hold_interrupted, is_at_work, kill_often
-from runs import killed, most_memory, random_list, seen
+from runs import LONG_MACHINE, PASSES, Case, environment, expected, folder, hold_interrupted, is_at_work
+from runs import kill_often, killed, most_memory, random_list, seen
 from tally import Tally, end_with, words
 
 # Limits at which a line costs nothing to speak of.
@@ -166,6 +169,54 @@ def hold_lists(tally: Tally, program: str, top: pathlib.Path) -> None:
     tally.hold("a clean list: %s" % clean.said(), status == 0 and clean.verdicts() == lines)
 
 
+def hold_words(tally: Tally, top: pathlib.Path) -> None:
+    """What can't be a list or a folder is refused by its name; a run's folder says what its files are."""
+    case = Case(top / "words", b"1RB1LB_1LA1RZ\n")
+    for path, status, sentence in (
+        (str(top), 3, "the list %s can't be read: it is a folder" % top),
+        (str(top / "none"), 3, "the list %s can't be read: No such file" % (top / "none")),
+    ):
+        found = case.run(path)
+        said = case.said()
+        tally.hold("%s: status %d: %s" % (path, found, said), found == status and sentence in said)
+        tally.hold("%s: nothing is begun" % path, not case.out.exists())
+    case.out.write_bytes(b"mine")
+    status = case.run()
+    tally.hold("a file: %s" % case.said(), status == 2 and "is a file; give a folder" in case.said())
+    os.unlink(case.out)
+    tally.hold("a run: %s" % case.said(), case.run() == 0)
+    page = (case.out / "README.txt").read_text(encoding="utf-8")
+    for name in sorted(os.listdir(case.out)):
+        tally.hold("README.txt names %s" % name, name in page or name == "pass-2")
+    hold_commands(tally, case, page)
+
+
+def hold_commands(tally: Tally, case: Case, page: str) -> None:
+    """The commands of a run's page are run where it was begun."""
+    commands = [shlex.split(line)[1:] for line in page.splitlines() if line.startswith("    budlarem ")]
+    tally.hold(
+        "three commands: %s" % commands, [words[0] for words in commands] == ["run", "check", "publish"]
+    )
+    for words in commands:
+        command = [sys.executable, "-m", "budlarem", *words]
+        done = subprocess.run(command, env=environment(), cwd=case.out.parent, capture_output=True, text=True)
+        tally.hold("%s: status %d: %s" % (words, done.returncode, done.stderr), done.returncode == 0)
+
+
+def hold_signals(tally: Tally, top: pathlib.Path) -> None:
+    """SIGTERM and SIGHUP end a run with a line, and it goes on."""
+    for number in (signal.SIGTERM, signal.SIGHUP):
+        case = Case(top / number.name, b"1RZ---\n" * 30 + LONG_MACHINE * 3)
+        case.words = ["--pass", LONG_PASS, "--threads", "2"]
+        with case.start() as process:
+            seen(process, lambda: case.pieces() > 0 and is_at_work(process.pid))
+            process.send_signal(number)
+            status = process.wait(60)
+        said = case.said()
+        told = "ended by %s; the same command goes on after what stands in %s\n" % (number.name, case.out)
+        tally.hold("%s: status %d: %s" % (number.name, status, said), status == 128 + number and told in said)
+
+
 def hold_memory(tally: Tally, top: pathlib.Path) -> None:
     """Ten times the list takes the same memory; the longer list alone has 72 MB, and its verdicts 100."""
     case = Case(top / "memory", b"")
@@ -181,6 +232,8 @@ def main() -> int:
     if not has_library(tally, "the runner"):
         return tally.end()
     with folder() as top:
+        hold_words(tally, top)
+        hold_signals(tally, top)
         if is_quick:
             hold_kills(tally, program, top, 1, 3_000, seed)
             return tally.end()

@@ -3,28 +3,29 @@
 
     scripts/tests/scripts.py
 
-All Python in `scripts/` passes `mypy --strict` and `black --check`, and so does `./test`. Each script that can be
-started tells its help with status 0, and ends with status 2 and a sentence where it is given an option that it
-doesn't have. It takes half a minute. The last line is `N passed, M failed`, with `, K skipped` where something
-isn't installed; the status is 1 where any failed.
+All Python in `scripts/` and `coq/` passes `mypy --strict` and `black --check`, and so does `./test`. Each script
+that can be started tells its help with status 0, and ends with status 2 and a sentence where it is given an
+option that it doesn't have. It takes half a minute. The last line is `N passed, M failed`, with `, K skipped`
+where something isn't installed; the status is 1 where any failed.
 """
 
+import itertools
 import os
 import subprocess
 from typing import Iterator, List
 
 from tally import TOP, Tally, end_with, words
 
-SCRIPTS = os.path.join(TOP, "scripts")
+FOLDERS = ("scripts", "coq")
 SETTINGS = os.path.join("python", "pyproject.toml")
 # So many seconds a script has for its help, and for refusing words: then it counts as having begun its work.
 PATIENCE = 120
 
 
 def files() -> Iterator[str]:
-    """The paths of all files of `scripts/`, but for what is built, and of `./test`."""
+    """The paths of all files of these folders, but for what is built, and of `./test`."""
     yield "test"
-    for folder, folders, names in os.walk(SCRIPTS):
+    for folder, folders, names in itertools.chain(*(os.walk(os.path.join(TOP, top)) for top in FOLDERS)):
         folders[:] = sorted(name for name in folders if name not in ("out", "__pycache__"))
         for name in sorted(names):
             yield os.path.relpath(os.path.join(folder, name), TOP)

@@ -2,37 +2,45 @@
 use Rattle.std.specs.Prelude.{◌≡◌, ℕ, ◌⊎◌, List, Option, Result, Ok, Err, if◌then◌else◌}
 use Rattle.std.specs.String.{string_bytes}
 use Rattle.bb_machine.specs.Limits.{Bounds}
+use Rattle.bb_machine.specs.declared.plan.Plan.{Plan}
 use Rattle.bb_lines.specs.declared.fault.Fault.{Fault}
 use Rattle.bb_lines.specs.declared.fault.Fault.TheVariants.{Memory}
 use Rattle.bb_run.specs.declared.summary.Summary.{Summary}
 use Rattle.bb_run.specs.CheckEnds.{CheckEnds}
-use Rattle.bb_run.specs.Ends.{DecideInOneRunEnds, TraceEnds}
-use Rattle.bb_command.specs.declared.command.Request.{Request}
-use Rattle.bb_command.specs.declared.command.Request.TheVariants.{Decide, Check, Trace}
+use Rattle.bb_run.specs.Ends.{DecideEnds, DecideInOneRunEnds, TraceEnds}
+use Rattle.bb_command.specs.declared.command.Work.{Work}
+use Rattle.bb_command.specs.declared.command.Work.TheVariants.{Decide, Check, Trace}
 
--- memory ran out before the request was begun: nothing is read and nothing written
+-- memory ran out before the work was begun: nothing is read and nothing written
 pub record IsNotBegun (left left_then held held_then : Option (List ℕ)) (end : Result Summary Fault)
     : Type 0 where
   pub fault : end ≡ Err Memory
   pub unread : left_then ≡ left
   pub unwritten : held_then ≡ held
 
--- how a request that was begun ends: each machine of a list is decided in one run; for a trace nothing is
--- read
-abbrev pub RequestEnds : Request → Bounds → Option (List ℕ) → Option (List ℕ) → Option (List ℕ)
+-- how work that was begun ends: on a list to decide as `Decides` says; for a trace nothing is read
+abbrev pub WorkEnds : (Plan → Type 0) → Work → Bounds → Option (List ℕ) → Option (List ℕ) → Option (List ℕ)
     → Option (List ℕ) → Result Summary Fault → Type 0
-RequestEnds (Decide plan) bounds left left_then held held_then end =
-    DecideInOneRunEnds bounds plan left left_then held held_then end
-RequestEnds Check bounds left left_then held held_then end =
+WorkEnds Decides (Decide plan) bounds left left_then held held_then end = Decides plan
+WorkEnds Decides Check bounds left left_then held held_then end =
     CheckEnds bounds left left_then held held_then end
-RequestEnds (Trace text) bounds left left_then held held_then end =
+WorkEnds Decides (Trace text) bounds left left_then held held_then end =
     (left_then ≡ left) × TraceEnds bounds (string_bytes text) held held_then end
 
--- how serving ends: as the request does, or without having begun
-abbrev pub ServeEnds : Request → Bounds → Option (List ℕ) → Option (List ℕ) → Option (List ℕ)
+-- how serving ends, with the summary of the definition of a verdict: as the work does, or without having begun
+abbrev pub ServeEnds : Work → Bounds → Option (List ℕ) → Option (List ℕ) → Option (List ℕ)
     → Option (List ℕ) → Result Summary Fault → Type 0
-ServeEnds request bounds left left_then held held_then end =
-    RequestEnds request bounds left left_then held held_then end
+ServeEnds work bounds left left_then held held_then end =
+    WorkEnds (λ plan. DecideEnds bounds plan left left_then held held_then end)
+    work bounds left left_then held held_then end
+    ⊎ IsNotBegun left left_then held held_then end
+
+-- the same where each machine of a list is decided in one run
+abbrev pub ServeInOneRunEnds : Work → Bounds → Option (List ℕ) → Option (List ℕ) → Option (List ℕ)
+    → Option (List ℕ) → Result Summary Fault → Type 0
+ServeInOneRunEnds work bounds left left_then held held_then end =
+    WorkEnds (λ plan. DecideInOneRunEnds bounds plan left left_then held held_then end)
+    work bounds left left_then held held_then end
     ⊎ IsNotBegun left left_then held held_then end
 
 -- the exit status at each end

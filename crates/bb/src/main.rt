@@ -16,7 +16,7 @@ use bb_lines::fault::Fault;
 use bb_lines::watched::Watched;
 use bb_run::Summary;
 use progress::{Counts, Progress};
-use serve::{serve, status};
+use serve::{serve_in_one_run, status};
 use std::alloc::{AllocError, Global};
 use std::io::{ErrorKind, IsTerminal, Read};
 use std::process::ExitCode;
@@ -104,11 +104,11 @@ fn serve_input<'a, R: Read + Drop>(
     input: R,
     counts: &'a Counts,
 ) -> (Result<Summary, Fault>, Option<io::Error>) {
-    let progress = Progress::of(rt, &asked.request, size, counts);
+    let progress = Progress::of(rt, &asked.work, size, counts);
     let shown = progress.as_ref();
     let mut reader = Watched::new(Observed::new(input, shown));
     let mut writer = Watched::new(Observed::new(rt.stdout(), shown));
-    let end = serve(rt.alloc(), asked, &mut reader, &mut writer, counts);
+    let end = serve_in_one_run(rt.alloc(), asked, &mut reader, &mut writer, counts);
     if let Some(progress) = shown {
         progress.end();
     }
@@ -128,6 +128,11 @@ fn tell_error(rt: &HostRuntime, asked: &Asked, fault: &Fault, error: &io::Error)
         return Ok(());
     }
     match (fault, &asked.file) {
+        (Fault::Read, Some(file)) if file.as_str() == "-" => {
+            eprintln!(rt;
+                "-: {error}; - is no file name here, and without FILE standard input is read"
+            )
+        }
         (Fault::Read, Some(file)) => eprintln!(rt; "{file}: {error}"),
         (Fault::Read, None) => eprintln!(rt; "standard input: {error}"),
         _ => eprintln!(rt; "standard output: {error}"),

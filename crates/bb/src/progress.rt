@@ -1,7 +1,7 @@
 //! How far a list has come, as a line on a terminal.
 
 use arrayvec::ArrayString;
-use bb_command::Request;
+use bb_command::Work;
 use bb_run::{AnswerCounts, VerdictCounts};
 use std::cell::Cell;
 use std::fmt::Write;
@@ -39,18 +39,18 @@ pub struct Progress<'a> {
 }
 
 impl<'a> Progress<'a> {
-    /// The progress of this request over a list of so many bytes. None for a trace, where standard error is
+    /// The progress of this work over a list of so many bytes. None for a trace, where standard error is
     /// no terminal, and where standard output is neither a file nor the null device.
     pub fn of(
         rt: &'a HostRuntime,
-        request: &Request,
+        work: &Work,
         size: Option<u64>,
         counts: &'a Counts,
     ) -> Option<Progress<'a>> {
-        let is_check = match request {
-            Request::Decide(_) => false,
-            Request::Check => true,
-            Request::Trace(_) => return None,
+        let is_check = match work {
+            Work::Decide(_) => false,
+            Work::Check => true,
+            Work::Trace(_) => return None,
         };
         if !rt.stderr().is_terminal() || !is_output_kept(rt) {
             return None;

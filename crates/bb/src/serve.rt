@@ -1,42 +1,46 @@
 //! Does what was asked for, and says how it ended.
-ghost use Rattle.std.specs.Prelude.{◌≡◌, ◌↔◌, false, true};
+ghost use Rattle.std.specs.Prelude.{◌≡◌, ◌≢◌, ◌⊎◌, ◌↔◌, false, true};
+ghost use Rattle.std.specs.String.{string_bytes};
 ghost use Rattle.bb_machine.specs.declared.plan.Plan.{Plan};
 ghost use Rattle.bb_lines.specs.Watched.{is_marked, watched_inner};
 ghost use Rattle.bb_run.specs.BorneOut.{VerdictsAreBorneOut};
-ghost use Rattle.bb.specs.Ends.{IsNotBegun, ServeEnds, end_status};
+ghost use Rattle.bb_run.specs.CheckEnds.{CheckEnds};
+ghost use Rattle.bb_run.specs.Ends.{TraceEnds};
+ghost use Rattle.bb.specs.Ends.{IsNotBegun, ServeEnds, ServeInOneRunEnds, end_status};
 
 use crate::progress::Counts;
-use bb_command::{Asked, Request};
+use bb_command::{Asked, Work};
 use bb_lines::fault::Fault;
 use bb_lines::watched::Watched;
+use bb_machine::Limits;
 use bb_run::laws::verdicts_are_borne_out;
 use bb_run::{
-    Summary, ring_bench, ring_pair, run_check_with_counts, run_decide_in_one_run_with_counts,
-    run_trace,
+    AnswerCounts, Summary, ring_bench, ring_pair, run_check_with_counts, run_decide,
+    run_decide_in_one_run_with_counts, run_trace,
 };
 use bb_tape::RingTape;
 use std::alloc::Global;
 use std::io::{Read, Write};
 
 /// Does what is asked for on rings and a path of its own, which take no memory once they are made. For a
-/// trace nothing is read. The lines of a list are counted in `counts` as they are answered.
+/// trace nothing is read. The summary of a list that is decided has the exact cost of each machine by the
+/// definition of a verdict.
 pub fn serve<R: Read, W: Write>(
     alloc: Global,
     asked: &Asked,
     reader: &mut Watched<R>,
     writer: &mut Watched<W>,
-    counts: &Counts,
 ) -> Result<Summary, Fault>
     requires reader { is_marked reader.old ≡ false }
     requires writer { is_marked writer.old ≡ false }
 
-    // How the request ends, and what is read and written then; or memory ran out before it began.
-    ensures ends { ServeEnds asked.now.request asked.now.limits
+    // How the work ends, and what is read and written then; or memory ran out before it began.
+    ensures ends { ServeEnds asked.now.work asked.now.limits
         (R.remaining (watched_inner reader.old)) (R.remaining (watched_inner reader.new))
         (W.contents (watched_inner writer.old)) (W.contents (watched_inner writer.new)) result }
 
     // What stands behind each verdict that deciding writes.
-    ensures borne_out { (plan : Plan) → asked.now.request ≡ Request.Decide plan
+    ensures borne_out { (plan : Plan) → asked.now.work ≡ Work.Decide plan
         → VerdictsAreBorneOut asked.now.limits plan }
 
     // Memory runs out only before it begins: nothing was read or written.
@@ -49,8 +53,50 @@ pub fn serve<R: Read, W: Write>(
 {
     verdicts_are_borne_out();
     let limits = asked.limits;
-    match &asked.request {
-        Request::Decide(plan) => match ring_bench(alloc, &limits) {
+    match &asked.work {
+        Work::Decide(plan) => match ring_bench(alloc, &limits) {
+            Ok(mut bench) => run_decide(reader, writer, &limits, *plan, &mut bench),
+            Err(_) => Err(Fault::Memory),
+        },
+        Work::Check => check_list(alloc, &limits, reader, writer, &AnswerCounts::default()),
+        Work::Trace(text) => trace_text(alloc, &limits, text, writer),
+    }
+}
+
+/// The same as [`serve`], byte for byte, but each machine of a list is decided in one run, so that a line costs
+/// what its verdict names, and the summary has what was made. The lines of a list are counted in `counts` as
+/// they are answered.
+pub fn serve_in_one_run<R: Read, W: Write>(
+    alloc: Global,
+    asked: &Asked,
+    reader: &mut Watched<R>,
+    writer: &mut Watched<W>,
+    counts: &Counts,
+) -> Result<Summary, Fault>
+    requires reader { is_marked reader.old ≡ false }
+    requires writer { is_marked writer.old ≡ false }
+
+    // How the work ends, and what is read and written then; or memory ran out before it began.
+    ensures ends { ServeInOneRunEnds asked.now.work asked.now.limits
+        (R.remaining (watched_inner reader.old)) (R.remaining (watched_inner reader.new))
+        (W.contents (watched_inner writer.old)) (W.contents (watched_inner writer.new)) result }
+
+    // What stands behind each verdict that deciding writes.
+    ensures borne_out { (plan : Plan) → asked.now.work ≡ Work.Decide plan
+        → VerdictsAreBorneOut asked.now.limits plan }
+
+    // Memory runs out only before it begins: nothing was read or written.
+    ensures memory { result ≡ Err Fault.Memory → IsNotBegun
+        (R.remaining (watched_inner reader.old)) (R.remaining (watched_inner reader.new))
+        (W.contents (watched_inner writer.old)) (W.contents (watched_inner writer.new)) result }
+
+    ensures read { (result ≡ Err Fault.Read) ↔ (is_marked reader.new ≡ true) }
+    ensures write { (result ≡ Err Fault.Write) ↔ (is_marked writer.new ≡ true) }
+{
+    verdicts_are_borne_out();
+    let limits = asked.limits;
+    match &asked.work {
+        Work::Decide(plan) => match ring_bench(alloc, &limits) {
             Ok(mut bench) => run_decide_in_one_run_with_counts(
                 reader,
                 writer,
@@ -61,21 +107,61 @@ pub fn serve<R: Read, W: Write>(
             ),
             Err(_) => Err(Fault::Memory),
         },
-        Request::Check => match ring_pair(alloc, &limits) {
-            Ok((mut pair, mut path)) => run_check_with_counts(
-                reader,
-                writer,
-                &limits,
-                &mut pair,
-                &mut path,
-                &counts.answers,
-            ),
-            Err(_) => Err(Fault::Memory),
-        },
-        Request::Trace(text) => match RingTape::new(alloc, limits.cells()) {
-            Ok(mut tape) => run_trace(text.as_str().as_bytes(), &limits, &mut tape, writer),
-            Err(_) => Err(Fault::Memory),
-        },
+        Work::Check => check_list(alloc, &limits, reader, writer, &counts.answers),
+        Work::Trace(text) => trace_text(alloc, &limits, text, writer),
+    }
+}
+
+/// Checks a list on rings of its own.
+fn check_list<R: Read, W: Write>(
+    alloc: Global,
+    limits: &Limits,
+    reader: &mut Watched<R>,
+    writer: &mut Watched<W>,
+    counts: &AnswerCounts,
+) -> Result<Summary, Fault>
+    requires reader { is_marked reader.old ≡ false }
+    requires writer { is_marked writer.old ≡ false }
+    ensures ends { CheckEnds limits.now
+        (R.remaining (watched_inner reader.old)) (R.remaining (watched_inner reader.new))
+        (W.contents (watched_inner writer.old)) (W.contents (watched_inner writer.new)) result
+        ⊎ IsNotBegun
+        (R.remaining (watched_inner reader.old)) (R.remaining (watched_inner reader.new))
+        (W.contents (watched_inner writer.old)) (W.contents (watched_inner writer.new)) result }
+    ensures memory { result ≡ Err Fault.Memory → IsNotBegun
+        (R.remaining (watched_inner reader.old)) (R.remaining (watched_inner reader.new))
+        (W.contents (watched_inner writer.old)) (W.contents (watched_inner writer.new)) result }
+    ensures read { (result ≡ Err Fault.Read) ↔ (is_marked reader.new ≡ true) }
+    ensures write { (result ≡ Err Fault.Write) ↔ (is_marked writer.new ≡ true) }
+{
+    match ring_pair(alloc, limits) {
+        Ok((mut pair, mut path)) => {
+            run_check_with_counts(reader, writer, limits, &mut pair, &mut path, counts)
+        }
+        Err(_) => Err(Fault::Memory),
+    }
+}
+
+/// Traces the machine with a text on a ring of its own.
+fn trace_text<W: Write>(
+    alloc: Global,
+    limits: &Limits,
+    text: &String,
+    writer: &mut Watched<W>,
+) -> Result<Summary, Fault>
+    requires writer { is_marked writer.old ≡ false }
+    ensures ends { TraceEnds limits.now (string_bytes text.now)
+        (W.contents (watched_inner writer.old)) (W.contents (watched_inner writer.new)) result
+        ⊎ ((result ≡ Err Fault.Memory)
+        × (W.contents (watched_inner writer.new) ≡ W.contents (watched_inner writer.old))) }
+    ensures memory { result ≡ Err Fault.Memory
+        → W.contents (watched_inner writer.new) ≡ W.contents (watched_inner writer.old) }
+    ensures no_read { result ≢ Err Fault.Read }
+    ensures write { (result ≡ Err Fault.Write) ↔ (is_marked writer.new ≡ true) }
+{
+    match RingTape::new(alloc, limits.cells()) {
+        Ok(mut tape) => run_trace(text.as_str().as_bytes(), limits, &mut tape, writer),
+        Err(_) => Err(Fault::Memory),
     }
 }
 

@@ -1,9 +1,9 @@
 //! Command lines from end to end, over bytes in memory, with answers that were worked out by hand.
 
 use crate::progress::Counts;
-use crate::serve::{serve, status};
+use crate::serve::{serve, serve_in_one_run, status};
 use arrayvec::ArrayString;
-use bb_command::{Stop, ask};
+use bb_command::{Asked, Stop, ask};
 use bb_lines::fault::Fault;
 use bb_lines::watched::Watched;
 use bb_machine::limits::{MAX_CELLS, MAX_LEVELS, MAX_NODES, MAX_STEPS};
@@ -12,24 +12,42 @@ use std::fmt::Write;
 use std::process::Abort;
 use std::test::Fail;
 
-/// What `decide` with these options ends in and writes.
+/// What `decide` with these options asks for.
+fn asked_with(rt: &(impl Abort + AllocGlobal), options: &[&'static str]) -> Asked {
+    let mut words: Vec<&str> = ["bb", "decide"].to_vec(rt.alloc()).expect(rt, "memory");
+    words.extend_from_slice(options).expect(rt, "memory");
+    ask(rt.alloc(), words.as_slice()).expect(rt, "a command line")
+}
+
+/// What the program ends in and writes on `decide` with these options.
 fn decided(
     rt: &(impl Abort + AllocGlobal),
     options: &[&'static str],
     input: &[u8],
 ) -> (Result<Summary, Fault>, Vec<u8>) {
-    let mut words: Vec<&str> = ["bb", "decide"].to_vec(rt.alloc()).expect(rt, "memory");
-    words.extend_from_slice(options).expect(rt, "memory");
-    let asked = ask(rt.alloc(), words.as_slice()).expect(rt, "a command line");
+    let asked = asked_with(rt, options);
     let mut reader = Watched::new(input);
     let mut writer = Watched::new(Vec::new(rt.alloc()));
-    let end = serve(
+    let end = serve_in_one_run(
         rt.alloc(),
         &asked,
         &mut reader,
         &mut writer,
         &Counts::default(),
     );
+    (end, writer.into_inner())
+}
+
+/// The same of `serve`, whose summary has the cost by the definition of a verdict.
+fn served(
+    rt: &(impl Abort + AllocGlobal),
+    options: &[&'static str],
+    input: &[u8],
+) -> (Result<Summary, Fault>, Vec<u8>) {
+    let asked = asked_with(rt, options);
+    let mut reader = Watched::new(input);
+    let mut writer = Watched::new(Vec::new(rt.alloc()));
+    let end = serve(rt.alloc(), &asked, &mut reader, &mut writer);
     (end, writer.into_inner())
 }
 
@@ -55,20 +73,51 @@ fn refuses_long_lines(rt: HostRuntime) -> Result<(), Fail> {
 /// The program's stored run.
 #[test]
 fn three_lines_are_decided_by_running_alone(rt: HostRuntime) {
-    let (end, written) = decided(
-        &rt,
-        &["--no-cyclers", "--no-translated", "--no-backward"],
-        b"1RB1LB_1LA1RZ\n1RA1RA\n1rB1LB\n",
-    );
-    assert_eq!(rt;
-        written.as_slice(),
-        b"1RB1LB_1LA1RZ halt 6 4\n1RA1RA undecided cells\nrefused 2\n".as_slice()
-    );
-    assert_eq!(rt; status(&end), 1);
-    let summary = end.expect(&rt, "no fault");
-    assert!(rt; !summary.clean);
-    assert_eq!(rt; summary.peak.steps, 65_535);
-    assert_eq!(rt; summary.peak.most_cells, 65_536);
+    let options = ["--no-cyclers", "--no-translated", "--no-backward"].as_slice();
+    let input = b"1RB1LB_1LA1RZ\n1RA1RA\n1rB1LB\n".as_slice();
+    for (end, written) in [served(&rt, options, input), decided(&rt, options, input)] {
+        assert_eq!(rt;
+            written.as_slice(),
+            b"1RB1LB_1LA1RZ halt 6 4\n1RA1RA undecided cells\nrefused 2\n".as_slice()
+        );
+        assert_eq!(rt; status(&end), 1);
+        let summary = end.expect(&rt, "no fault");
+        assert!(rt; !summary.clean);
+        assert_eq!(rt; summary.peak.steps, 65_535);
+        assert_eq!(rt; summary.peak.most_cells, 65_536);
+    }
+}
+
+/// Options, a machine, and what deciding it counts by the definition of a verdict: steps, nodes and levels.
+static COSTS: [(&[&str], &[u8], [u64; 3]); 10] = [
+    (&[], b"1RB1LB_1LA1RZ", [6, 0, 0]),
+    (&[], b"0RB---_0LA---", [1_000_004, 0, 0]),
+    (&["--steps=3"], b"0RB---_0LA---", [9, 4, 2]),
+    (&[], b"1RA1RA", [131_072, 0, 0]),
+    (&[], b"1RB0RB_1LA1LA", [1_000_008, 0, 0]),
+    (&["--no-backward"], b"1RB---_1RC---_1RA---", [131_077, 0, 0]),
+    (&["--no-backward"], b"0LB---_0RC1RC_1RA---", [393_214, 0, 0]),
+    (&["--no-cyclers"], b"0RB---_0LA---", [2_000_000, 4, 2]),
+    (&["--cells=1", "--depth=1"], b"1RA1RA", [0, 0, 0]),
+    (
+        &["--cells=1", "--depth=1", "--no-backward"],
+        b"1RA1RA",
+        [0, 0, 0],
+    ),
+];
+
+#[test]
+fn serving_counts_the_cost(rt: HostRuntime) {
+    for (options, machine, [steps, nodes, levels]) in &COSTS {
+        let (end, written) = served(&rt, options, machine);
+        let (in_one_run, same) = decided(&rt, options, machine);
+        assert_eq!(rt; written.as_slice(), same.as_slice());
+        let peak = end.expect(&rt, "no fault").peak;
+        assert_eq!(rt; peak.steps, *steps, "{machine:?}");
+        assert_eq!(rt; peak.nodes, *nodes, "{machine:?}");
+        assert_eq!(rt; peak.most_levels, *levels, "{machine:?}");
+        assert!(rt; in_one_run.expect(&rt, "no fault").peak.steps <= peak.steps);
+    }
 }
 
 /// The words of an end, and its status.
@@ -98,7 +147,7 @@ fn asks_all_deciders(rt: HostRuntime) {
     let input = b"1RB1LB_1LA1RZ\n0RB---_0LA---\n1RA1RA\n".as_slice();
     let mut reader = Watched::new(input);
     let mut writer = Watched::new(Vec::new(rt.alloc()));
-    let end = serve(
+    let end = serve_in_one_run(
         rt.alloc(),
         &asked,
         &mut reader,
@@ -136,7 +185,7 @@ fn checks(rt: HostRuntime) {
         let asked = ask(rt.alloc(), words).expect(&rt, "a command line");
         let mut writer = Watched::new(Vec::new(rt.alloc()));
         let mut reader = Watched::new(claims);
-        let end = serve(
+        let end = serve_in_one_run(
             rt.alloc(),
             &asked,
             &mut reader,
@@ -173,7 +222,7 @@ fn traces(rt: HostRuntime) {
     let asked = ask(rt.alloc(), words.as_slice()).expect(&rt, "a command line");
     let mut writer = Watched::new(Vec::new(rt.alloc()));
     let mut reader = Watched::new(b"not read".as_slice());
-    let end = serve(
+    let end = serve_in_one_run(
         rt.alloc(),
         &asked,
         &mut reader,

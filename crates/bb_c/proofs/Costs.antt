@@ -1,43 +1,59 @@
 -- What two tries cost together.
 use Rattle.std.proofs.Common.{◌≡◌, ℕ, ◌+◌, ◌≤◌, max, inl, inr, ℤ, Bool, false, IsTrue, IfOk, Result, Ok, Err}
-use Rattle.std.proofs.Common.{ap, subst, arith}
+use Rattle.std.proofs.Common.{◌<◌, OnOk, refl, rules, ap, subst, arith}
 use Rattle.bb_machine.specs.Limits.{Bounds}
 use Rattle.bb_machine.specs.Machine.{Table}
 use Rattle.bb_machine.specs.declared.plan.Plan.{Plan}
+use Rattle.bb_sim.specs.declared.meter.Meter.{Meter}
+use Rattle.bb_sim.specs.Span.{Inside}
 use Rattle.bb_tape.specs.declared.tape.Memory.{Memory}
 use Rattle.bb_cert.specs.declared.verdict.Verdict.{Verdict}
 use Rattle.bb_cert.specs.declared.verdict.Verdict.TheVariants.{Backward, Undecided}
-use Rattle.bb_decide.specs.Fingerprint.{AgreesByChance, CostsWhatItNames, named_step}
+use Rattle.bb_decide.specs.Fingerprint.{AgreesByChance, CostsWhatItNames, most_steps, named_step}
 use Rattle.bb_decide.specs.Keys.{spread}
-use Rattle.bb_decide.specs.Sure.{IsFoundByRun}
+use Rattle.bb_decide.specs.OneRun.{CountsRuns}
+use Rattle.bb_decide.specs.Sure.{IsFoundByRun, NoneIsSmaller}
 use Rattle.bb_decide.specs.Verdict.{IsVerdict}
 use Rattle.bb_decide.proofs.Facts.{verdict_is_unique}
-use Rattle.bb_c.specs.Cost.{CostsInTwoTries, FindsNothing, few_bounds, first_steps}
+use Rattle.bb_c.specs.Cost.{CostsInTwoTries, CountsTries, FindsNothing, few_bounds, first_steps}
+use Rattle.bb_c.specs.Cost.{AreRunSteps, without_trees}
 
--- what agrees up to a step agrees up to a later one
-later : {key : ℤ → ℕ} {table : Table} {n : ℕ} (m : ℕ) → n ≤ m → AgreesByChance key table n
-    → AgreesByChance key table m
-later m more chance = record {
+-- a step within small limits is one within larger ones
+larger : {table : Table} {lower upper : Bounds} {n : ℕ} → NoneIsSmaller lower upper → Inside table lower n
+    → Inside table upper n
+larger bounds inside =
+    let steps = bounds.steps in
+    let cells = bounds.cells in
+    let few = inside.within_steps in
+    let narrow = inside.within_cells in
+    record {
+      here = inside.here;
+      exists = inside.exists;
+      within_steps = omega (arith, steps, few);
+      within_cells = omega (arith, cells, narrow);
+    }
+
+-- what agrees up to a step within limits agrees up to a later one within larger limits
+later : {key : ℤ → ℕ} {table : Table} {lower upper : Bounds} {n : ℕ} (m : ℕ) → n ≤ m
+    → NoneIsSmaller lower upper → AgreesByChance key table lower n → AgreesByChance key table upper m
+later m more bounds chance = record {
   first = chance.first;
   second = chance.second;
-  order = chance.order;
+  alike = chance.alike;
+  inside = larger bounds chance.inside;
   no_later = let early = chance.no_later in omega (arith, early, more);
-  one = chance.one;
-  other = chance.other;
-  at_first = chance.at_first;
-  at_second = chance.at_second;
-  state = chance.state;
-  head = chance.head;
-  print = chance.print;
   differ = chance.differ;
 }
+
+same_bounds : (bounds : Bounds) → NoneIsSmaller bounds bounds
+same_bounds bounds = search rules
 
 -- one try costs no more than two may
 pub costs_one_try : (table : Table) (bounds : Bounds) (plan : Plan) (steps : ℕ) (verdict : Verdict)
     → CostsWhatItNames spread table bounds steps verdict → CostsInTwoTries table bounds plan steps verdict
 costs_one_try table bounds plan steps verdict costs none =
     inl (costs (λ chance. none (later (max (named_step bounds verdict) (first_steps bounds)) (omega arith)
-    chance)))
+    (same_bounds bounds) chance)))
 
 pub if_one_try : (table : Table) (bounds : Bounds) (plan : Plan) (steps : ℕ) (result : Result Verdict Memory)
     → IfOk result (CostsWhatItNames spread table bounds steps)
@@ -49,17 +65,32 @@ if_one_try table bounds plan steps (Err memory) costs = tt
 pub not_both : {b : Bool} → IsTrue b → b ≡ false → ⊥
 not_both is not = cc
 
-module _ (table : Table) (lower upper : Bounds) (plan : Plan) where
+module _ (table : Table) (lower upper : Bounds) (plan : Plan) (smaller : NoneIsSmaller lower upper) where
+  named_as : (verdict : Verdict) → IsFoundByRun verdict → named_step lower verdict ≡ named_step upper verdict
+  named_as (Backward levels nodes) found = absurd found
+  named_as (Undecided why) found = absurd found
+  named_as verdict found = refl
+
+  named_alike : (verdict : Verdict) → IsFoundByRun verdict → (steps : ℕ)
+      → CostsWhatItNames spread table lower steps verdict
+      → (AgreesByChance spread table lower (named_step lower verdict) → ⊥) → steps ≤ most_steps upper verdict
+  named_alike (Backward levels nodes) found steps costs none = absurd found
+  named_alike (Undecided why) found steps costs none = absurd found
+  named_alike verdict found steps costs none = costs none
+
   -- what a run finds names the same step within all limits
   pub costs_first_try : (steps : ℕ) (verdict : Verdict) → IsFoundByRun verdict
       → CostsWhatItNames spread table lower steps verdict → CostsInTwoTries table upper plan steps verdict
-  costs_first_try steps (Backward levels nodes) found costs = absurd found
-  costs_first_try steps (Undecided why) found costs = absurd found
-  costs_first_try steps verdict found costs = costs_one_try table upper plan steps verdict costs
+  costs_first_try steps (Backward levels nodes) found costs none = absurd found
+  costs_first_try steps (Undecided why) found costs none = absurd found
+  costs_first_try steps verdict found costs none =
+      inl (named_alike verdict found steps costs (λ chance. none
+      (later (max (named_step upper verdict) (first_steps upper))
+      (omega (arith, named_as verdict found)) smaller chance)))
 
   -- a try in which a run finds nothing costs no more than its limit
   costs_limit : (steps : ℕ) (verdict : Verdict) → (IsFoundByRun verdict → ⊥)
-      → CostsWhatItNames spread table lower steps verdict → (AgreesByChance spread table lower.steps → ⊥)
+      → CostsWhatItNames spread table lower steps verdict → (AgreesByChance spread table lower lower.steps → ⊥)
       → steps ≤ lower.steps
   costs_limit steps (Backward levels nodes) apart costs none = costs none
   costs_limit steps (Undecided why) apart costs none = costs none
@@ -67,15 +98,15 @@ module _ (table : Table) (lower upper : Bounds) (plan : Plan) where
 
   -- no other verdict within its limits is one that a run finds
   finds_nothing : (first : Verdict) → lower ≡ few_bounds upper
-      → IsVerdict table lower (record plan { backward = false }) first → (IsFoundByRun first → ⊥)
-      → FindsNothing table (few_bounds upper) (record plan { backward = false })
+      → IsVerdict table lower (without_trees plan) first → (IsFoundByRun first → ⊥)
+      → FindsNothing table (few_bounds upper) (without_trees plan)
   finds_nothing first few is nothing =
-      subst (λ bounds. FindsNothing table bounds (record plan { backward = false })) few
+      subst (λ bounds. FindsNothing table bounds (without_trees plan)) few
       (λ other other_is found. nothing (subst IsFoundByRun
-      (verdict_is_unique table lower (record plan { backward = false }) other first other_is is) found))
+      (verdict_is_unique table lower (without_trees plan) other first other_is is) found))
 
   pub costs_both_tries : (tried steps : ℕ) (first verdict : Verdict) → lower ≡ few_bounds upper
-      → IsVerdict table lower (record plan { backward = false }) first → (IsFoundByRun first → ⊥)
+      → IsVerdict table lower (without_trees plan) first → (IsFoundByRun first → ⊥)
       → CostsWhatItNames spread table lower tried first
       → CostsWhatItNames spread table upper steps verdict
       → CostsInTwoTries table upper plan (steps + tried) verdict
@@ -83,6 +114,48 @@ module _ (table : Table) (lower upper : Bounds) (plan : Plan) where
       let latest = max (named_step upper verdict) (first_steps upper) in
       let small : lower.steps ≡ first_steps upper = ap (λ (b : Bounds). b.steps) few in
       let one = costs_limit tried first nothing costs_first
-      (λ chance. none (later latest (omega (arith, small)) chance)) in
-      let other = costs (λ chance. none (later latest (omega arith) chance)) in
+      (λ chance. none (later latest (omega (arith, small)) smaller chance)) in
+      let other = costs (λ chance. none (later latest (omega arith) (same_bounds upper) chance)) in
       inr (finds_nothing first few is nothing, omega (arith, one, other, small))
+
+-- ---- how many steps were counted
+
+run_steps : {table : Table} {bounds : Bounds} {plan : Plan} {meter : Meter} → CountsRuns spread table bounds plan meter
+    → AreRunSteps table bounds plan meter.steps
+run_steps counts = record { latest = counts.latest; runs = counts.runs }
+
+-- by one try, where the cells are few
+pub counts_one_try : (table : Table) (bounds : Bounds) (plan : Plan) (meter : Meter) (result : Result Verdict Memory)
+    → bounds.cells ≤ 1024 → OnOk result (CountsRuns spread table bounds plan meter)
+    → OnOk result (CountsTries table bounds plan meter.steps)
+counts_one_try table bounds plan meter (Ok verdict) few counts = inl (few, run_steps counts)
+counts_one_try table bounds plan meter (Err memory) few counts = tt
+
+module _ (table : Table) (lower upper : Bounds) (plan : Plan) (many : 1024 < upper.cells)
+    (few : lower ≡ few_bounds upper) where
+  -- by the first of two
+  pub counts_first_try : (verdict : Verdict) (meter : Meter) → IsVerdict table lower (without_trees plan) verdict
+      → IsFoundByRun verdict → CountsRuns spread table lower (without_trees plan) meter
+      → CountsTries table upper plan meter.steps
+  counts_first_try verdict meter is found counts = inr (inl (
+    many,
+    record { verdict = verdict; is_verdict = rw few at is; by_run = found },
+    rw few at (run_steps counts),
+  ))
+
+  -- by both
+  pub counts_both_tries : (smaller : NoneIsSmaller lower upper) (first : Verdict) (tried steps : Meter)
+      → IsVerdict table lower (without_trees plan) first → (IsFoundByRun first → ⊥)
+      → CountsRuns spread table lower (without_trees plan) tried → CountsRuns spread table upper plan steps
+      → CountsTries table upper plan (steps.steps + tried.steps)
+  counts_both_tries smaller first tried steps is nothing counts_first counts = inr (inr (
+    many,
+    record {
+      nothing = finds_nothing table lower upper plan smaller first few is nothing;
+      tried = tried.steps;
+      is_tried = rw few at (run_steps counts_first);
+      then_made = steps.steps;
+      is_then_made = run_steps counts;
+      sum = omega arith;
+    },
+  ))

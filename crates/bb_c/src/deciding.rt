@@ -14,7 +14,8 @@ ghost use Rattle.bb_run.specs.BorneOut.{VerdictsAreBorneOut};
 ghost use Rattle.bb_run.specs.Reply.{IsReply};
 ghost use Rattle.bb_c.specs.Buffer.{IsFilled, IsTooShort, IsUntouched};
 ghost use Rattle.bb_c.specs.Call.{bounds_of, plan_of};
-ghost use Rattle.bb_c.specs.Cost.{CostsInTwoTries, IsWithinTwoTries, few_bounds};
+ghost use Rattle.bb_decide.specs.OneRun.{CountsRuns};
+ghost use Rattle.bb_c.specs.Cost.{CostsInTwoTries, CountsTries, IsWithinTwoTries, few_bounds};
 
 use crate::buffer::{CLEAN, LIMITS, MEMORY, NOT_CLEAN, SHORT, give};
 use arrayvec::ArrayVec;
@@ -200,6 +201,7 @@ fn verdict_on(
     ensures verdict { IfOk result (IsVerdict machine.now limits.now plan) }
     ensures numbers { IfOk result HasNumbers }
     ensures bound { IfOk result (CostsInTwoTries machine.now limits.now plan meter.new.steps) }
+    ensures counted { OnOk result (CountsTries machine.now limits.now plan meter.new.steps) }
     ensures within { OnOk result (IsWithinTwoTries limits.now meter.new.steps) }
 {
     if limits.cells() <= FEW_CELLS {
@@ -255,6 +257,7 @@ fn verdict_within(
     ensures verdict { IfOk result (IsVerdict machine.now limits.now plan) }
     ensures numbers { IfOk result HasNumbers }
     ensures bound { IfOk result (CostsWhatItNames spread machine.now limits.now meter.new.steps) }
+    ensures counted { OnOk result (CountsRuns spread machine.now limits.now plan meter.new) }
     ensures within { OnOk result (IsWithinCost limits.now meter.new) }
 {
     let mut bench = ring_bench(alloc, limits)?;

@@ -16,8 +16,8 @@ use Rattle.bb_command.specs.declared.command.Asked.{Asked}
 use Rattle.bb_command.specs.declared.command.Numbers.{Numbers}
 use Rattle.bb_command.specs.declared.command.Stop.{Stop}
 use Rattle.bb_command.specs.declared.command.Stop.TheVariants.{Help, Words, Limits, Memory}
-use Rattle.bb_command.specs.declared.command.Request.{Request}
-use Rattle.bb_command.specs.declared.command.Request.TheVariants.{Decide, Check, Trace}
+use Rattle.bb_command.specs.declared.command.Work.{Work}
+use Rattle.bb_command.specs.declared.command.Work.TheVariants.{Decide, Check, Trace}
 use Rattle.bb_command.specs.CommandLine.{command_line}
 
 -- ---- what the words say
@@ -81,25 +81,25 @@ trace_bounds rows = record {
 
 -- verdicts for a list, by this plan, under these limits, from this file
 pub record AsksToDecide (rows : List Row) (asked : Asked) : Type 0 where
-  pub request : asked.request ≡ Decide (decide_plan rows)
+  pub work : asked.work ≡ Decide (decide_plan rows)
   pub limits : asked.limits ≡ list_bounds rows
   pub file : option_map string_bytes asked.file ≡ first_of (codes "file") rows
 
 -- answers to a list, under these limits, from this file
 pub record AsksToCheck (rows : List Row) (asked : Asked) : Type 0 where
-  pub request : asked.request ≡ Check
+  pub work : asked.work ≡ Check
   pub limits : asked.limits ≡ list_bounds rows
   pub file : option_map string_bytes asked.file ≡ first_of (codes "file") rows
 
 -- a trace of the machine with this text
-abbrev pub IsTraceOf : Text → Request → Type 0
+abbrev pub IsTraceOf : Text → Work → Type 0
 IsTraceOf text (Trace machine) = string_bytes machine ≡ text
 IsTraceOf text (Decide plan) = ⊥
 IsTraceOf text Check = ⊥
 
 -- a trace of the machine with the text that is given, under these limits; it reads no file
 pub record AsksToTrace (rows : List Row) (asked : Asked) : Type 0 where
-  pub request : IsTraceOf (unwrap_or (first_of (codes "machine") rows) []) asked.request
+  pub work : IsTraceOf (unwrap_or (first_of (codes "machine") rows) []) asked.work
   pub limits : asked.limits ≡ trace_bounds rows
   pub file : asked.file ≡ None
 

@@ -45,7 +45,7 @@ use std::alloc::{AllocError, Global};
 
 /// What is to be done.
 #[derive(Debug, Drop)]
-pub enum Request {
+pub enum Work {
     /// A verdict for each machine of a list, by these deciders.
     Decide(Plan),
     /// An answer to each verdict line of a list.
@@ -58,7 +58,7 @@ pub enum Request {
 #[derive(Debug, Drop)]
 pub struct Asked {
     /// What is to be done.
-    pub request: Request,
+    pub work: Work,
     /// Under which limits.
     pub limits: Limits,
     /// Where the list is read from; standard input where there is none. A trace reads none.
@@ -489,7 +489,7 @@ fn decide_of(alloc: Global, matches: &ArgMatches<'_>) -> Result<Asked, Stop>
     let limits = list_limits(matches)?;
     let file = list_file(alloc, matches)?;
     Ok(Asked {
-        request: Request::Decide(plan),
+        work: Work::Decide(plan),
         limits,
         file,
     })
@@ -503,7 +503,7 @@ fn check_of(alloc: Global, matches: &ArgMatches<'_>) -> Result<Asked, Stop>
     let limits = list_limits(matches)?;
     let file = list_file(alloc, matches)?;
     Ok(Asked {
-        request: Request::Check,
+        work: Work::Check,
         limits,
         file,
     })
@@ -544,7 +544,7 @@ fn trace_of(alloc: Global, matches: &ArgMatches<'_>) -> Result<Asked, Stop>
     let limits = accepted(&trace_numbers(matches))?;
     let text = matches.get_str("machine").unwrap_or("");
     Ok(Asked {
-        request: Request::Trace(String::from_str(alloc, text)?),
+        work: Work::Trace(String::from_str(alloc, text)?),
         limits,
         file: None,
     })

@@ -6,4 +6,4 @@ pub mod advice;
 pub mod command;
 
 pub use advice::Advice;
-pub use command::{Asked, Numbers, Request, Stop, ask, numbers_given};
+pub use command::{Asked, Numbers, Stop, Work, ask, numbers_given};

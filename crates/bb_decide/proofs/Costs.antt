@@ -317,6 +317,14 @@ walk_of_none Made table bounds old new within none made =
       not_made = λ not_made. absurd (not_made made);
     }
 
+-- a walk keeps both steps and cells
+pub walk_keeps : (bounds : Bounds) (found : Option Verdict) (old new : Meter) → CountsTree bounds old new found
+    → (new.steps ≡ old.steps) × (new.most_cells ≡ old.most_cells)
+walk_keeps bounds None old new counts = (counts.steps, counts.most_cells)
+walk_keeps bounds (Some (Backward h k)) old new counts =
+    (ap (λ (m : Meter). m.steps) counts, ap (λ (m : Meter). m.most_cells) counts)
+walk_keeps bounds (Some verdict) old new counts = absurd counts
+
 module _ (table : Table) (bounds : Bounds) (plan : Plan) (passes : PassesCycles table bounds plan
     × PassesTranslations table bounds plan) where
   reached : IsTrue plan.backward → ReachesWalk table bounds plan
@@ -331,21 +339,13 @@ module _ (table : Table) (bounds : Bounds) (plan : Plan) (passes : PassesCycles 
       walk_of_tree (ReachesWalk table bounds plan) table bounds old new h k counts finds (reached on)
   counts_walk (Some verdict) old new on finds counts = absurd finds
 
-  -- neither steps nor cells
-  walk_keeps : (found : Option Verdict) (old new : Meter) → CountsTree bounds old new found
-      → (new.steps ≡ old.steps) × (new.most_cells ≡ old.most_cells)
-  walk_keeps None old new counts = (counts.steps, counts.most_cells)
-  walk_keeps (Some (Backward h k)) old new counts =
-      (ap (λ (m : Meter). m.steps) counts, ap (λ (m : Meter). m.most_cells) counts)
-  walk_keeps (Some verdict) old new counts = absurd counts
-
   -- where the searches found nothing, the walk is made where it is on
   pub counts_all : (found : Option Verdict) (begin old new : Meter)
       → SearchesCount table bounds plan begin old
       → IsTrue plan.backward → FindsTree table bounds found → CountsTree bounds old new found
       → DecidersCount table bounds plan begin new
   counts_all found begin old new searches on finds counts =
-      let kept = walk_keeps found old new counts in
+      let kept = walk_keeps bounds found old new counts in
       record {
         searched = old;
         searches = searches;
@@ -390,6 +390,14 @@ on_where_not false is = absurd cc
 pub off_where_not : (test : Bool) → not test ≡ true → IsTrue test → ⊥
 off_where_not true is on = cc
 off_where_not false is on = cc
+
+pub on_is : (test : Bool) → not test ≡ false → test ≡ true
+on_is true is = refl
+on_is false is = absurd cc
+
+pub off_is : (test : Bool) → not test ≡ true → test ≡ false
+off_is true is = absurd cc
+off_is false is = refl
 
 -- what holds of an answer, from what else holds of it
 pub if_ok_map : {A E : Type 0} (r : Result A E) (P Q : A → Type 0) → ((x : A) → P x → Q x) → IfOk r P

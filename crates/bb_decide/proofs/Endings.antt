@@ -1,5 +1,5 @@
 -- How the run of a search ends, as a simulation does or with what was found, and what is promised of it then.
-use Rattle.std.proofs.Common.{◌≡◌, ℕ, ℤ, Bool, IfOk, Ok, Option, Some, None, Result, refl, ap}
+use Rattle.std.proofs.Common.{◌≡◌, ℕ, ℤ, Bool, IfOk, IsTrue, OnErr, Ok, Err, Option, Some, None, Result, refl, ap}
 use Rattle.bb_machine.specs.declared.entry.Next.TheVariants.{Halt}
 use Rattle.bb_machine.specs.Limits.{Bounds}
 use Rattle.bb_machine.specs.Machine.{Table}
@@ -12,7 +12,7 @@ use Rattle.bb_sim.specs.declared.runner.Moved.{Moved}
 use Rattle.bb_sim.specs.declared.runner.Moved.TheVariants.{Halted, NoCells, NoSteps, Stepped}
 use Rattle.bb_sim.specs.declared.runner.Runner.{Runner}
 use Rattle.bb_sim.specs.declared.simulation.Outcome.{Outcome}
-use Rattle.bb_sim.specs.Meter.{IsWithinRun, counted}
+use Rattle.bb_sim.specs.Meter.{CountsPart, IsWithinRun, counted}
 use Rattle.bb_sim.specs.Outcome.{IsOutcome}
 use Rattle.bb_sim.specs.Run.{Never}
 use Rattle.bb_sim.specs.Runner.{Answers, Moves, Reaches, Stands, high_of, low_of, state_of, steps_of}
@@ -27,7 +27,7 @@ use Rattle.bb_decide.specs.declared.ending.Ending.{Ending}
 use Rattle.bb_decide.specs.declared.ending.Ending.TheVariants.{Found, Ran}
 use Rattle.bb_decide.specs.inside.Ending.{Seeks, TellsEnd, WatchPromised, Watches, WatchesRun}
 use Rattle.bb_decide.proofs.Benches.{IsAsLent}
-use Rattle.bb_decide.proofs.Counted.{counted_to, counts_on, taken_over}
+use Rattle.bb_decide.proofs.Counted.{HasCut, counted_to, counts_on, taken_over}
 
 -- nothing was found: the run has ended as a simulation does, and the meter has taken it over
 pub record HasEnded (table : Table) (bounds : Bounds) (n : ℕ) (first meter : Meter) (outcome : Outcome)
@@ -103,6 +103,7 @@ module _ {T : Type 0} {view : T → TapeView} {grows : Bool} {table : Table} {bo
       found = none;
       ran = ended.is_outcome;
       counted = ended.run.counted;
+      cut = tt;
       within = ended.run.within;
       never = tt;
       promised = record { claim = tt; numbers = tt; memory = tt };
@@ -117,6 +118,7 @@ module _ {T : Type 0} {view : T → TapeView} {grows : Bool} {table : Table} {bo
       found = is.found;
       ran = tt;
       counted = is.counted;
+      cut = tt;
       within = is.within;
       never = is.never;
       promised = record { claim = is.claim; numbers = is.numbers; memory = tt };
@@ -124,11 +126,28 @@ module _ {T : Type 0} {view : T → TapeView} {grows : Bool} {table : Table} {bo
       path = lent.path;
     }
 
+    pub seeks_until_cut : {Finds : Option Verdict → Type 0} {fault : Memory}
+        → HasCut table bounds first meter → IsTrue grows
+        → Seeks Finds grows view table bounds old new first meter (Err fault)
+    seeks_until_cut cut memory = record {
+      found = tt;
+      ran = tt;
+      counted = tt;
+      cut = cut.part;
+      within = cut.within;
+      never = tt;
+      promised = record { claim = tt; numbers = tt; memory = memory };
+      tapes = lent.tapes;
+      path = lent.path;
+    }
+
     pub watches : {key : ℤ → ℕ} {result : Result (Option Ending) Memory}
-        → IfOk result (Watches table bounds key first meter) → IsWithinRun bounds first meter
+        → IfOk result (Watches table bounds key first meter)
+        → OnErr result (CountsPart table bounds first meter) → IsWithinRun bounds first meter
         → WatchPromised table grows result → WatchesRun grows view table bounds key old new first meter result
-    watches watched within promised = record {
+    watches watched cut within promised = record {
       watched = watched;
+      cut = cut;
       within = within;
       promised = promised;
       tapes = lent.tapes;

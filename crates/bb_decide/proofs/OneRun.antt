@@ -1,5 +1,6 @@
 -- What one watched run means for the verdict, and what it costs.
-use Rattle.std.proofs.Common.{◌≡◌, ℕ, ◌+◌, ◌<◌, ◌≤◌, inl, inr, Some, None, IsTrue, true, false, Option, ℤ, ap, arith}
+use Rattle.std.proofs.Common.{◌≡◌, ℕ, ◌+◌, ◌<◌, ◌≤◌, inl, inr, Some, None, IsTrue, true, false, Option, ℤ, refl, ap, sym}
+use Rattle.std.proofs.Common.{◌∙◌, arith}
 use Rattle.std.specs.Prelude.{IfOk, Result}
 use Rattle.std.proofs.Common.{Ok, Err}
 use Rattle.std.proofs.lemmas.Bool.{cases_lt}
@@ -20,10 +21,11 @@ use Rattle.bb_cert.specs.declared.verdict.Verdict.TheVariants.{Cycler, Translate
 use Rattle.bb_cert.proofs.Facts.{agreeing_records_never_halt, agreeing_records_never_repeat, repeats_never_halt}
 use Rattle.bb_decide.specs.declared.ending.Ending.{Ending}
 use Rattle.bb_decide.specs.declared.ending.Ending.TheVariants.{Found, Ran}
-use Rattle.bb_decide.specs.Cycle.{CountsSearch, FindsCycle, HasNoCycle}
-use Rattle.bb_decide.specs.Fingerprint.{AgreesByChance, most_steps, named_step}
+use Rattle.bb_decide.specs.Cycle.{CountsSearch, FindsCycle, HasNoCycle, IsCycle}
+use Rattle.bb_decide.specs.Fingerprint.{AgreesByChance, LooksAsPartner, most_steps, named_step}
 use Rattle.bb_decide.specs.Translation.{FindsTranslation, HasNoTranslation, IsFirstTranslation}
-use Rattle.bb_decide.specs.inside.Ending.{EndingCosts, EndsBoth, EndsSearches, IsSuspected, RanAs, Watches}
+use Rattle.bb_decide.specs.inside.Ending.{EndingCosts, EndsBoth, EndsSearches, RanAs, Watches}
+use Rattle.bb_decide.specs.OneRun.{IsStoppedAt}
 use Rattle.bb_decide.specs.inside.Ending.{found_of, is_settled, verdict_of_outcome}
 use Rattle.bb_decide.specs.Backward.{CountsTree, FindsTree}
 use Rattle.bb_decide.specs.Verdict.{IsVerdict}
@@ -87,22 +89,38 @@ module _ (table : Table) (bounds : Bounds) (key : ℤ → ℕ) (old new : Meter)
   watched_costs (Ran outcome) watched = run_costs watched.1 outcome watched.2
   watched_costs (Found verdict) watched = cycle_costs (Found verdict) tt watched.1
 
--- after a suspicion
-module _ {table : Table} {bounds : Bounds} {key : ℤ → ℕ} {n : ℕ} (here : IsSuspected table bounds key n) where
-  by_chance : HasNoCycle table bounds → (latest : ℕ) → n ≤ latest → AgreesByChance key table latest
+-- a cycle looks as its partner does, whatever the keys
+pub cycle_looks : {table : Table} {bounds : Bounds} (key : ℤ → ℕ) {a t : ℕ} → IsCycle table bounds a t
+    → LooksAsPartner key table a t
+cycle_looks key cycle = record {
+  partner = cycle.partner;
+  one = cycle.same.here;
+  other = cycle.same.here;
+  at_partner = cycle.same.at_first;
+  at_step = cycle.same.at_second;
+  state = refl;
+  head = refl;
+  print = refl;
+}
+
+-- where the watched run was stopped
+module _ {table : Table} {bounds : Bounds} {key : ℤ → ℕ} {n : ℕ} (here : IsStoppedAt key table bounds n) where
+  by_chance : HasNoCycle table bounds → (latest : ℕ) → n ≤ latest → AgreesByChance key table bounds latest
   by_chance none latest late = record {
-    first = here.first;
+    first = here.partner;
     second = n;
-    order = here.order;
+    alike = here.alike;
+    inside = here.inside;
     no_later = late;
-    one = here.one;
-    other = here.other;
-    at_first = here.at_first;
-    at_second = here.at_second;
-    state = here.state;
-    head = here.head;
-    print = here.print;
-    differ = λ same. none here.first n (here.cycle same);
+    differ = λ same. none here.partner n (record {
+      partner = here.alike.partner;
+      inside = here.inside;
+      same = record {
+        here = here.alike.one;
+        at_first = here.alike.at_partner;
+        at_second = here.alike.at_step ∙ ap Some (sym same);
+      };
+    });
   }
 
   not_earlier : (b : ℕ) → (b < n → ⊥) → n ≤ b
@@ -110,7 +128,7 @@ module _ {table : Table} {bounds : Bounds} {key : ℤ → ℕ} {n : ℕ} (here :
 
   -- the step that an outcome names is no earlier
   outcome_by_chance : HasNoCycle table bounds → (outcome : Outcome) → IsOutcome table bounds outcome
-      → AgreesByChance key table (named_step bounds (verdict_of_outcome outcome))
+      → AgreesByChance key table bounds (named_step bounds (verdict_of_outcome outcome))
   outcome_by_chance none outcome is = by_chance none (named_step bounds (verdict_of_outcome outcome))
       (named_by_outcome table bounds outcome is n here.inside).0
 
@@ -121,7 +139,7 @@ module _ {table : Table} {bounds : Bounds} {key : ℤ → ℕ} {n : ℕ} (here :
   exact_costs old mid new zero counts (Found (Cycler first second)) found ran searched none =
       let one : mid.steps ≡ old.steps + n = ap (λ (m : Meter). m.steps) counts in
       let two : new.steps ≡ mid.steps + second = ap (λ (m : Meter). m.steps) searched in
-      let late = not_earlier second (λ less. here.no_cycle first second less found.cycle) in
+      let late = here.first first second (cycle_looks key found.cycle) in
       omega (arith, one, two, late, zero)
   exact_costs old mid new zero counts (Ran outcome) found ran searched none =
       absurd (none (outcome_by_chance found outcome ran))
@@ -133,7 +151,7 @@ module _ {table : Table} {bounds : Bounds} {key : ℤ → ℕ} {n : ℕ} (here :
       → EndingCosts key table bounds steps ending
   chance_costs nowhere steps (Found (Translated side first second extent)) found ran none =
       absurd (none (by_chance nowhere second
-      (not_earlier second (λ less. here.no_translation side first second less found.0.translation))))
+      (not_earlier second (λ less. here.no_record side first second less found.0.translation))))
   chance_costs nowhere steps (Ran outcome) found ran none =
       absurd (none (outcome_by_chance nowhere outcome ran))
   chance_costs nowhere steps (Found verdict) found ran none = absurd found

@@ -223,6 +223,15 @@ module _ {table : Table} {bounds : Bounds} {before after : Runner}
           numbers = rw end.is at numbers;
         })
 
+    -- the record that was made agrees with its partner
+    pub agrees_here : {side : Side} → told ≡ Some side → (verdict : Verdict)
+        → Looks side after view right left saved_right saved_left new_right new_left new_saved_right
+        new_saved_left (Some verdict)
+        → (a : ℕ) × IsTranslation table bounds side a (steps_of after)
+    agrees_here {side} is verdict looks =
+        let end = ends side is verdict looks in
+        (end.first, record { pair = end.pair; inside = taken.step.inside })
+
     -- else the search goes on
     pub goes_on_from : (side : Side) → told ≡ Some side
         → Looks side after view right left saved_right saved_left new_right new_left new_saved_right

@@ -149,14 +149,14 @@ verdict_is_unique table bounds plan one other a b =
     ]
 
 module _ (table : Table) (bounds : Bounds) where
-  cycle_steps_are_one : (n m : ℕ) → CycleSteps table bounds n → CycleSteps table bounds m → n ≡ m
+  pub cycle_steps_are_one : (n m : ℕ) → CycleSteps table bounds n → CycleSteps table bounds m → n ≡ m
   cycle_steps_are_one n m (inl one) (inl other) = first_cycle_is_one table bounds one.0 n other.0 m one.1
       other.1
   cycle_steps_are_one n m (inl one) (inr none) = absurd (none.0 one.0 n one.1.cycle)
   cycle_steps_are_one n m (inr none) (inl other) = absurd (none.0 other.0 m other.1.cycle)
   cycle_steps_are_one n m (inr one) (inr other) = last_step_is_unique table bounds n m one.1 other.1
 
-  translation_steps_are_one : (n m : ℕ) → TranslationSteps table bounds n → TranslationSteps table bounds m
+  pub translation_steps_are_one : (n m : ℕ) → TranslationSteps table bounds n → TranslationSteps table bounds m
       → n ≡ m
   translation_steps_are_one n m (inl one) (inl other) =
       first_translation_is_one table bounds one.0 other.0 one.1 n other.1 m one.2 other.2
@@ -165,7 +165,7 @@ module _ (table : Table) (bounds : Bounds) where
   translation_steps_are_one n m (inr one) (inr other) = last_step_is_unique table bounds n m one.1 other.1
 
 -- what is made costs as much each time, if its steps do
-steps_if_made_are_one : (Made : Type 0) (Cost : ℕ → Type 0) → ((n m : ℕ) → Cost n → Cost m → n ≡ m)
+pub steps_if_made_are_one : (Made : Type 0) (Cost : ℕ → Type 0) → ((n m : ℕ) → Cost n → Cost m → n ≡ m)
     → (n m : ℕ) → StepsIfMade Made Cost n → StepsIfMade Made Cost m → n ≡ m
 steps_if_made_are_one Made Cost one n m (inl first) (inl second) = one n m first.1 second.1
 steps_if_made_are_one Made Cost one n m (inl first) (inr second) = absurd (second.0 first.0)

@@ -7,8 +7,10 @@ use Rattle.bb_tape.specs.declared.tape.TheConstants.{MAX_CELLS}
 use Rattle.bb_tape.specs.Content.{Content, cell}
 use Rattle.bb_sim.specs.Configuration.{Configuration}
 use Rattle.bb_sim.specs.Run.{conf}
+use Rattle.bb_sim.specs.Span.{Inside}
 use Rattle.bb_cert.specs.declared.verdict.Verdict.{Verdict}
 use Rattle.bb_cert.specs.declared.verdict.Verdict.TheVariants.{Halt, Cycler, Translated, Backward, Undecided}
+use Rattle.bb_decide.specs.Partner.{IsPartner}
 
 -- the sum of the first n of f 0, f 1 and so on
 unfoldable pub sum_to : (ℕ → ℕ) → ℕ → ℕ
@@ -27,21 +29,25 @@ total key tape = sum_to (λ k. key (place k) * cell tape (place k)) (2 * MAX_CEL
 abbrev pub fingerprint : (ℤ → ℕ) → Content → ℕ
 fingerprint key tape = total key tape % 2 ^ 64
 
--- two different configurations, the second of them no later than a step, have state, position and
--- fingerprint in common
-pub record AgreesByChance (key : ℤ → ℕ) (table : Table) (latest : ℕ) : Type 0 where
-  pub first : ℕ
-  pub second : ℕ
-  pub order : first < second
-  pub no_later : second ≤ latest
+-- step s has the state, the head and the fingerprint of its partner p
+pub record LooksAsPartner (key : ℤ → ℕ) (table : Table) (p s : ℕ) : Type 0 where
+  pub partner : IsPartner p s
   pub one : Configuration
   pub other : Configuration
-  pub at_first : conf table first ≡ Some one
-  pub at_second : conf table second ≡ Some other
+  pub at_partner : conf table p ≡ Some one
+  pub at_step : conf table s ≡ Some other
   pub state : one.state ≡ other.state
   pub head : one.head ≡ other.head
   pub print : fingerprint key one.tape ≡ fingerprint key other.tape
-  pub differ : one ≡ other → ⊥
+
+-- a step inside, no later than another one, looks as its partner does, and is another configuration
+pub record AgreesByChance (key : ℤ → ℕ) (table : Table) (bounds : Bounds) (latest : ℕ) : Type 0 where
+  pub first : ℕ
+  pub second : ℕ
+  pub alike : LooksAsPartner key table first second
+  pub inside : Inside table bounds second
+  pub no_later : second ≤ latest
+  pub differ : alike.one ≡ alike.other → ⊥
 
 -- the step that a verdict names: that of a halt, the second one of a pair; of others the limit of steps
 abbrev pub named_step : Bounds → Verdict → ℕ
@@ -62,4 +68,4 @@ most_steps bounds (Undecided why) = bounds.steps
 -- a verdict cost no more steps than what it names allows, unless configurations up to there agree by chance
 abbrev pub CostsWhatItNames : (ℤ → ℕ) → Table → Bounds → ℕ → Verdict → Type 0
 CostsWhatItNames key table bounds steps verdict =
-    (AgreesByChance key table (named_step bounds verdict) → ⊥) → steps ≤ most_steps bounds verdict
+    (AgreesByChance key table bounds (named_step bounds verdict) → ⊥) → steps ≤ most_steps bounds verdict

@@ -2,15 +2,14 @@
 use Rattle.std.specs.Prelude.{ℕ, ◌+◌, ◌*◌, ◌/◌, ◌%◌, ◌^◌, ℤ}
 use Rattle.std.specs.Int.{cast_unsigned, w64}
 use Rattle.std.specs.Prelude.{bit_xor}
-use Rattle.bb_decide.specs.declared.keys.TheConstants.{MULTIPLIER}
 
 -- twice the position and one, which is never 0
 abbrev pub odd : ℤ → ℕ
 odd position = (cast_unsigned w64 position * 2 % 2 ^ 64 + 1) % 2 ^ 64
 
--- that times an odd number
+-- that times the odd number nearest 2^64 divided by the golden ratio
 abbrev pub product : ℤ → ℕ
-product position = odd position * MULTIPLIER % 2 ^ 64
+product position = odd position * 11400714819323198485 % 2 ^ 64
 
 -- with its high half folded onto its low one
 abbrev pub spread : ℤ → ℕ

@@ -1,5 +1,5 @@
 -- Laws of verdicts.
-use Rattle.std.specs.Prelude.{◌≡◌, ℕ, ◌+◌, ◌*◌, ◌<◌, ◌≤◌, Bool}
+use Rattle.std.specs.Prelude.{◌≡◌, ℕ, ◌+◌, ◌*◌, ◌<◌, ◌≤◌, Bool, ℤ}
 use Rattle.bb_machine.specs.Limits.{Bounds}
 use Rattle.bb_machine.specs.Machine.{Table, IsMachine}
 use Rattle.bb_sim.specs.Span.{Inside}
@@ -17,6 +17,7 @@ use Rattle.bb_decide.specs.Sure.{IsFoundByRun, IsLeastPower, NoneIsSmaller, Stay
 use Rattle.bb_decide.specs.Translation.{IsTranslation}
 use Rattle.bb_decide.specs.Verdict.{IsVerdict}
 use Rattle.bb_decide.specs.Cost.{DecisionSteps}
+use Rattle.bb_decide.specs.OneRun.{MakesRuns}
 
 -- two verdicts on one machine, within the same bounds and by the same plan, are the same
 abbrev pub VerdictIsUnique : Type 0
@@ -27,6 +28,12 @@ VerdictIsUnique = (table : Table) (bounds : Bounds) (plan : Plan) (a b : Verdict
 abbrev pub StepsAreUnique : Type 0
 StepsAreUnique = (table : Table) (bounds : Bounds) (plan : Plan) (a b : ℕ)
     → DecisionSteps table bounds plan a → DecisionSteps table bounds plan b → a ≡ b
+
+-- so do its runs where it is decided in one, and the last step of any of them is the same each time
+abbrev pub RunsAreUnique : Type 0
+RunsAreUnique = (key : ℤ → ℕ) (table : Table) (bounds : Bounds) (plan : Plan) (a b : ℕ × ℕ)
+    → MakesRuns key table bounds plan.cyclers plan.translated a.0 a.1
+    → MakesRuns key table bounds plan.cyclers plan.translated b.0 b.1 → (a.0 ≡ b.0) × (a.1 ≡ b.1)
 
 -- no more than three runs' steps
 abbrev pub StepsAreBounded : Type 0

@@ -7,6 +7,7 @@ pub mod FewCells
 pub mod Fingerprint
 pub mod Keys
 pub mod Laws
+pub mod OneRun
 pub mod Partner
 pub mod Sure
 pub mod Translation

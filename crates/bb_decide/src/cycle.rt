@@ -2,7 +2,7 @@
 //! Monte Carlo factorization algorithm", 1980): one configuration is kept, anew at each power of two, and
 //! each later one is compared with it.
 ghost use Rattle.std.specs.Prelude.{◌≡◌, ◌*◌, ◌≤◌, Err, IfOk, IfSome, IsTrue, OnErr, OnOk};
-ghost use Rattle.bb_sim.specs.Meter.{IsWithinRun};
+ghost use Rattle.bb_sim.specs.Meter.{CountsPart, IsWithinRun};
 ghost use Rattle.bb_sim.specs.Run.{Never};
 ghost use Rattle.bb_cert.specs.claims.Claim.{Claim};
 ghost use Rattle.bb_cert.specs.verdict.Verdict.{HasNumbers};
@@ -22,7 +22,8 @@ use bb_tape::{Memory, Tape, TapeFault};
 /// The pair of the first step, from step 2 on, whose configuration is that of its partner, the greatest power
 /// of two below it. None where there is none inside the limits.
 ///
-/// After an error nothing is said of what the tapes hold; the next call resets them.
+/// After an error nothing is said of what the tapes hold; the next call resets them. The steps that were made
+/// are counted then too.
 #[inline(never)]
 pub fn cyclers<T: Tape>(
     machine: &Machine,
@@ -36,6 +37,7 @@ pub fn cyclers<T: Tape>(
     ensures sure { IfOk result (FindsRepeats machine.now limits.now) }
     ensures few_cells { IfOk result (FindsInFewCells machine.now limits.now) }
     ensures counted { IfOk result (CountsSearch machine.now limits.now meter.old meter.new) }
+    ensures cut { OnErr result (CountsPart machine.now limits.now meter.old meter.new) }
     ensures within { IsWithinRun limits.now meter.old meter.new }
     ensures never { IfOk result (λ found. IfSome found (λ verdict. Never machine.now)) }
     ensures claim { IfOk result (λ found. IfSome found (Claim machine.now)) }
@@ -86,14 +88,18 @@ fn run_to_cycle<T: Tape>(
     let mut next_kept = 0;
     loop {
         let mut uncounted = Meter::new();
-        match runner.advance(machine, &mut bench.run, limits, &mut uncounted)? {
+        let Ok(moved) = runner.advance(machine, &mut bench.run, limits, &mut uncounted) else {
+            count_run(meter, runner);
+            return Err(Memory);
+        };
+        match moved {
             Moved::Stepped => {}
             moved => {
                 count_run(meter, runner);
                 return Ok(Ending::Ran(outcome_of(moved, runner, &bench.run)));
             }
         }
-        // In Z the run ends, in a state in which it wasn't before.
+        // Z is never met twice, so this step can't be a repeat: the run ends.
         let Some(_) = runner.state() else {
             count_run(meter, runner);
             let outcome = outcome_of(Moved::Halted, runner, &bench.run);
@@ -108,6 +114,7 @@ fn run_to_cycle<T: Tape>(
         }
         if runner.steps() >= next_kept {
             let Ok(()) = save(&mut bench.right, &bench.run) else {
+                count_run(meter, runner);
                 return Err(Memory);
             };
             kept = runner;

@@ -1,5 +1,5 @@
 //! The keys of positions, of which a tape's fingerprint is made.
-ghost use Rattle.std.specs.Prelude.{◌≡◌, ℕ, ℤ};
+ghost use Rattle.std.specs.Prelude.{◌≡◌, ◌≢◌, ℕ, ℤ};
 ghost use Rattle.bb_decide.specs.Keys.{spread};
 
 /// A key for each position. Whatever the keys are, equal tapes have equal fingerprints; the better they are
@@ -28,7 +28,10 @@ impl Keys for SpreadKeys {
     ghost key_of = { λ keys position. spread position };
 
     #[inline(always)]
-    fn key(&self, position: i64) -> u64 {
+    fn key(&self, position: i64) -> u64
+        ensures key { result ≡ spread position }
+        ensures some { result ≢ 0 }
+    {
         let odd = position.cast_unsigned().wrapping_mul(2).wrapping_add(1);
         let product = odd.wrapping_mul(MULTIPLIER);
         product ^ (product >> 29)

@@ -2,7 +2,7 @@
 ghost use Rattle.bb_decide.specs.FewCells.{FewCellsAreDecided};
 ghost use Rattle.bb_decide.specs.Laws.{AgreeingRecordsAreFound, LargerLimitsKeep, RepeatsAreFound};
 ghost use Rattle.bb_decide.specs.Laws.{VerdictIsUnique, VerdictsAreConfirmed, VerdictsHold, StepsAreBounded};
-ghost use Rattle.bb_decide.specs.Laws.{SmallLimitsDecide, StepsAreUnique};
+ghost use Rattle.bb_decide.specs.Laws.{RunsAreUnique, SmallLimitsDecide, StepsAreUnique};
 
 /// No machine has two verdicts under one set of limits and one plan.
 pub fn verdict_is_unique()
@@ -13,6 +13,11 @@ pub fn verdict_is_unique()
 pub fn steps_are_unique()
     ensures unique { StepsAreUnique }
     ensures bounded { StepsAreBounded }
+{}
+
+/// Deciding it in one run has no two counts of steps either, and its latest step is the same each time.
+pub fn runs_are_unique()
+    ensures { RunsAreUnique }
 {}
 
 /// What a verdict claims holds, so the checker confirms it under the same limits.

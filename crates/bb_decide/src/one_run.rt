@@ -1,5 +1,5 @@
 //! The verdict on one machine by one run, watched for all that a verdict may be.
-ghost use Rattle.std.specs.Prelude.{◌≡◌, ◌≤◌, ◌*◌, IfOk, IfSome, IsTrue, OnErr, OnOk};
+ghost use Rattle.std.specs.Prelude.{◌≡◌, ◌≤◌, ◌*◌, true, IfOk, IfSome, IsTrue, OnErr, OnOk};
 ghost use Rattle.bb_sim.specs.Run.{Never};
 ghost use Rattle.bb_cert.specs.declared.checker.answer.Answer.{Answer};
 ghost use Rattle.bb_cert.specs.declared.verdict.reader.Line.{Line};
@@ -11,7 +11,8 @@ ghost use Rattle.bb_cert.specs.verdict.Verdict.{HasNumbers};
 ghost use Rattle.bb_decide.specs.Bench.{BenchHasCells};
 ghost use Rattle.bb_decide.specs.FewCells.{DecidesFewCells};
 ghost use Rattle.bb_decide.specs.Fingerprint.{CostsWhatItNames};
-ghost use Rattle.bb_decide.specs.inside.Ending.{EndingCosts, EndsBoth, EndsPromised, EndsSearches};
+ghost use Rattle.bb_decide.specs.OneRun.{CountsRuns};
+ghost use Rattle.bb_decide.specs.inside.Ending.{AddsRuns, EndingCosts, EndsBoth, EndsPromised, EndsSearches};
 ghost use Rattle.bb_decide.specs.inside.Ending.{IsWithinThreeRuns};
 ghost use Rattle.bb_decide.specs.Sure.{KeepsEarlier};
 ghost use Rattle.bb_decide.specs.Verdict.{IsVerdict};
@@ -58,6 +59,8 @@ pub fn decide_in_one_run<T: Tape, K: Keys>(
         IsLineOf (Line.Claim machine.now verdict) (line_text machine.now verdict)) }
     ensures bound { IfOk result
         (CostsWhatItNames (K.key_of keys.now) machine.now limits.now meter.new.steps) }
+    ensures counted { OnOk result
+        (CountsRuns (K.key_of keys.now) machine.now limits.now plan meter.new) }
     ensures walk { OnOk result
         (CountsWalk (MakesWalk machine.now limits.now plan) machine.now limits.now meter.new) }
     ensures within { IsWithinCost limits.now meter.new }
@@ -86,6 +89,8 @@ fn settle<T: Tape, K: Keys>(
     ensures numbers { IfOk result HasNumbers }
     ensures bound { IfOk result
         (CostsWhatItNames (K.key_of keys.now) machine.now limits.now meter.new.steps) }
+    ensures counted { OnOk result
+        (CountsRuns (K.key_of keys.now) machine.now limits.now plan meter.new) }
     ensures walk { OnOk result
         (CountsWalk (MakesWalk machine.now limits.now plan) machine.now limits.now meter.new) }
     ensures within { IsWithinCost limits.now meter.new }
@@ -125,6 +130,8 @@ fn search<T: Tape, K: Keys>(
     requires tapes { BenchHasCells T.view limits.now.cells bench.old }
     requires steps { meter.old.steps ≡ 0 }
     ensures ended { IfOk result (EndsSearches machine.now limits.now plan) }
+    ensures adds { OnOk result (AddsRuns (K.key_of keys.now) machine.now limits.now plan.cyclers
+        plan.translated meter.old meter.new) }
     ensures costs { IfOk result
         (EndingCosts (K.key_of keys.now) machine.now limits.now meter.new.steps) }
     ensures within { IsWithinThreeRuns limits.now meter.old meter.new }
@@ -158,6 +165,8 @@ fn search_both<T: Tape, K: Keys>(
     requires tapes { BenchHasCells T.view limits.now.cells bench.old }
     requires steps { meter.old.steps ≡ 0 }
     ensures ended { IfOk result (EndsBoth machine.now limits.now) }
+    ensures adds { OnOk result
+        (AddsRuns (K.key_of keys.now) machine.now limits.now true true meter.old meter.new) }
     ensures costs { IfOk result
         (EndingCosts (K.key_of keys.now) machine.now limits.now meter.new.steps) }
     ensures within { IsWithinThreeRuns limits.now meter.old meter.new }

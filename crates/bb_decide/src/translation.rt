@@ -1,6 +1,6 @@
 //! The search for records that agree.
 ghost use Rattle.std.specs.Prelude.{◌≡◌, ◌*◌, ◌≤◌, IfOk, IfSome, IsTrue, OnErr};
-ghost use Rattle.bb_sim.specs.Meter.{IsWithinRun};
+ghost use Rattle.bb_sim.specs.Meter.{CountsPart, IsWithinRun};
 ghost use Rattle.bb_sim.specs.Run.{Never};
 ghost use Rattle.bb_cert.specs.claims.Claim.{Claim};
 ghost use Rattle.bb_cert.specs.verdict.Verdict.{HasNumbers};
@@ -23,7 +23,8 @@ use bb_tape::{Memory, Tape};
 /// The first record of either side, from record 2 on, that agrees with its partner, the record of that side
 /// whose number is the greatest power of two below its own. None where there is none inside the limits.
 ///
-/// After an error nothing is said of what the tapes hold; the next call resets them.
+/// After an error nothing is said of what the tapes hold; the next call resets them. The steps that were made
+/// are counted then too.
 #[inline(never)]
 pub fn translated<T: Tape>(
     machine: &Machine,
@@ -36,6 +37,7 @@ pub fn translated<T: Tape>(
     ensures found { IfOk result (FindsTranslation machine.now limits.now) }
     ensures sure { IfOk result (FindsAgreeingRecords machine.now limits.now) }
     ensures counted { IfOk result (CountsSearch machine.now limits.now meter.old meter.new) }
+    ensures cut { OnErr result (CountsPart machine.now limits.now meter.old meter.new) }
     ensures within { IsWithinRun limits.now meter.old meter.new }
     ensures never { IfOk result (λ found. IfSome found (λ verdict. Never machine.now)) }
     ensures claim { IfOk result (λ found. IfSome found (Claim machine.now)) }
@@ -86,14 +88,18 @@ fn run_to_records<T: Tape>(
     loop {
         let cells = runner.cells();
         let mut uncounted = Meter::new();
-        match runner.advance(machine, &mut bench.run, limits, &mut uncounted)? {
+        let Ok(moved) = runner.advance(machine, &mut bench.run, limits, &mut uncounted) else {
+            count_run(meter, runner);
+            return Err(Memory);
+        };
+        match moved {
             Moved::Stepped => {}
             moved => {
                 count_run(meter, runner);
                 return Ok(Ending::Ran(outcome_of(moved, runner, &bench.run)));
             }
         }
-        // In Z the run ends, in a state in which it wasn't before.
+        // Z is never met twice, so this step can't be a repeat: the run ends.
         let Some(_) = runner.state() else {
             count_run(meter, runner);
             let outcome = outcome_of(Moved::Halted, runner, &bench.run);
@@ -105,7 +111,7 @@ fn run_to_records<T: Tape>(
         let Some(side) = widened_side(&runner, cells) else {
             continue;
         };
-        match look_on(
+        let Ok(found) = look_on(
             side,
             &mut right,
             &mut left,
@@ -113,7 +119,11 @@ fn run_to_records<T: Tape>(
             &bench.run,
             &mut bench.right,
             &mut bench.left,
-        )? {
+        ) else {
+            count_run(meter, runner);
+            return Err(Memory);
+        };
+        match found {
             Some(verdict) => {
                 count_run(meter, runner);
                 return Ok(Ending::Found(verdict));

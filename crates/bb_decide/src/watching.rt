@@ -116,14 +116,18 @@ fn run_watched<T: Tape, K: Keys>(
         let position = runner.position();
         let old = bench.run.read_inside(position);
         let mut uncounted = Meter::new();
-        match runner.advance(machine, &mut bench.run, limits, &mut uncounted)? {
+        let Ok(moved) = runner.advance(machine, &mut bench.run, limits, &mut uncounted) else {
+            count_run(meter, runner);
+            return Err(Memory);
+        };
+        match moved {
             Moved::Stepped => {}
             moved => {
                 count_run(meter, runner);
                 return Ok(Some(Ending::Ran(outcome_of(moved, runner, &bench.run))));
             }
         }
-        // In Z the run ends, in a state in which it wasn't before.
+        // Z is never met twice, so this step can't be a repeat: the run ends.
         let Some(_) = runner.state() else {
             count_run(meter, runner);
             let outcome = outcome_of(Moved::Halted, runner, &bench.run);
@@ -142,7 +146,7 @@ fn run_watched<T: Tape, K: Keys>(
         let Some(side) = widened_side(&runner, cells) else {
             continue;
         };
-        match look_on(
+        let Ok(found) = look_on(
             side,
             &mut right,
             &mut left,
@@ -150,7 +154,11 @@ fn run_watched<T: Tape, K: Keys>(
             &bench.run,
             &mut bench.right,
             &mut bench.left,
-        )? {
+        ) else {
+            count_run(meter, runner);
+            return Err(Memory);
+        };
+        match found {
             Some(verdict) => {
                 count_run(meter, runner);
                 return Ok(Some(Ending::Found(verdict)));

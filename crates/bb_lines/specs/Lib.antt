@@ -2,5 +2,6 @@ pub mod inside
 pub mod Fault
 pub mod Watched
 pub mod Lines
+pub mod Cost
 pub mod Ends
 pub mod Output

@@ -6,6 +6,7 @@ ghost use Rattle.std.specs.Io.{ReadsAtMost};
 ghost use Rattle.std.specs.Io.KnownBytes.{Consumes, IsAtEnd, ReadConsumes};
 ghost use Rattle.bb_lines.specs.Watched.{watched_inner, is_marked, reads_of};
 ghost use Rattle.bb_lines.specs.Lines.{complete, lines, unfinished};
+ghost use Rattle.bb_lines.specs.Cost.{high_cost};
 ghost use Rattle.bb_lines.specs.Ends.{MatchEnd, AppendsPrefixOfReplies};
 ghost use Rattle.bb_lines.specs.Ends.{AppendsReplies, AppendsSome, ListEnds};
 ghost use Rattle.bb_lines.specs.inside.Progress.{prefixes, HasNoNewline, AreAnswered};
@@ -189,7 +190,7 @@ impl<'a, R: Read, W: Write, A: Responder> Engine<'a, R, W, A> {
         requires ready { A.is_ready self.old.responder.now }
         requires kept { length self.old.kept.items ≤ A.KEEP }
         requires one_line { HasNoNewline self.old.kept.items }
-        requires prompt { HIGH_COST < A.cost self.old.responder.now → self.old.waiting.items ≡ [] }
+        requires prompt { high_cost < A.cost self.old.responder.now → self.old.waiting.items ≡ [] }
         ensures ends { let held = W.contents (watched_inner self.old.writer.now) in
             let held_then = W.contents (watched_inner self.new.writer.now) in
             let Reply = A.replies_with self.old.responder.now in
@@ -203,7 +204,7 @@ impl<'a, R: Read, W: Write, A: Responder> Engine<'a, R, W, A> {
         ensures kept { let left = unfinished (self.old.kept.items ++ piece.now) in
             OnOk result (self.new.kept.items ≡ take A.KEEP left) }
         ensures one_line { OnOk result (HasNoNewline self.new.kept.items) }
-        ensures prompt { HIGH_COST < A.cost self.new.responder.now
+        ensures prompt { high_cost < A.cost self.new.responder.now
             → OnOk result (self.new.waiting.items ≡ []) }
         ensures memory { result ≡ Err Fault.Memory → IsTrue A.GROWS }
         ensures write { (result ≡ Err Fault.Write) ↔ (is_marked self.new.writer.now ≡ true) }
@@ -231,7 +232,7 @@ impl<'a, R: Read, W: Write, A: Responder> Engine<'a, R, W, A> {
         requires writer { is_marked self.old.writer.now ≡ false }
         requires ready { A.is_ready self.old.responder.now }
         requires kept { length self.old.kept.items ≤ A.KEEP }
-        requires prompt { HIGH_COST < A.cost self.old.responder.now → self.old.waiting.items ≡ [] }
+        requires prompt { high_cost < A.cost self.old.responder.now → self.old.waiting.items ≡ [] }
         ensures ends { let held = W.contents (watched_inner self.old.writer.now) in
             let held_then = W.contents (watched_inner self.new.writer.now) in
             let Reply = A.replies_with self.old.responder.now in
@@ -243,7 +244,7 @@ impl<'a, R: Read, W: Write, A: Responder> Engine<'a, R, W, A> {
             ⊥
             (WritesPrefix Reply held held_then self.old.waiting.items (line ∷ [])) }
         ensures kept { OnOk result (self.new.kept.items ≡ []) }
-        ensures prompt { HIGH_COST < A.cost self.new.responder.now
+        ensures prompt { high_cost < A.cost self.new.responder.now
             → OnOk result (self.new.waiting.items ≡ []) }
         ensures memory { result ≡ Err Fault.Memory → IsTrue A.GROWS }
         ensures write { (result ≡ Err Fault.Write) ↔ (is_marked self.new.writer.now ≡ true) }
@@ -272,7 +273,7 @@ impl<'a, R: Read, W: Write, A: Responder> Engine<'a, R, W, A> {
         requires writer { is_marked self.old.writer.now ≡ false }
         requires ready { A.is_ready self.old.responder.now }
         requires kept { length self.old.kept.items ≤ A.KEEP }
-        requires prompt { HIGH_COST < A.cost self.old.responder.now → self.old.waiting.items ≡ [] }
+        requires prompt { high_cost < A.cost self.old.responder.now → self.old.waiting.items ≡ [] }
         ensures ends { let held = W.contents (watched_inner self.old.writer.now) in
             let held_then = W.contents (watched_inner self.new.writer.now) in
             let Reply = A.replies_with self.old.responder.now in
@@ -284,7 +285,7 @@ impl<'a, R: Read, W: Write, A: Responder> Engine<'a, R, W, A> {
             ⊥
             (WritesPrefix Reply held held_then self.old.waiting.items (line ∷ [])) }
         ensures kept { OnOk result (self.new.kept.items ≡ []) }
-        ensures prompt { HIGH_COST < A.cost self.new.responder.now
+        ensures prompt { high_cost < A.cost self.new.responder.now
             → OnOk result (self.new.waiting.items ≡ []) }
         ensures memory { result ≡ Err Fault.Memory → IsTrue A.GROWS }
         ensures write { (result ≡ Err Fault.Write) ↔ (is_marked self.new.writer.now ≡ true) }
@@ -317,7 +318,7 @@ fn answer<W: Write, A: Responder>(
     requires writer { is_marked writer.old ≡ false }
     requires ready { A.is_ready responder.old }
     requires few { length line.now ≤ A.KEEP }
-    requires prompt { HIGH_COST < A.cost responder.old → waiting.old.items ≡ [] }
+    requires prompt { high_cost < A.cost responder.old → waiting.old.items ≡ [] }
     ensures ends { let held = W.contents (watched_inner writer.old) in
         let held_then = W.contents (watched_inner writer.new) in
         let Reply = A.replies_with responder.old in
@@ -327,7 +328,7 @@ fn answer<W: Write, A: Responder>(
         (WritesSome Reply held held_then waiting.old.items (line.now ∷ []))
         ⊥
         (WritesPrefix Reply held held_then waiting.old.items (line.now ∷ [])) }
-    ensures prompt { HIGH_COST < A.cost responder.new → OnOk result (waiting.new.items ≡ []) }
+    ensures prompt { high_cost < A.cost responder.new → OnOk result (waiting.new.items ≡ []) }
     ensures memory { result ≡ Err Fault.Memory → IsTrue A.GROWS }
     ensures write { (result ≡ Err Fault.Write) ↔ (is_marked writer.new ≡ true) }
     ensures no_read { result ≢ Err Fault.Read }

@@ -222,13 +222,16 @@ fn is_digit(byte: u8, symbols: u8) -> bool
 }
 
 fn read_digit(byte: u8, symbols: usize) -> Option<u8>
-    requires { symbols ≤ MAX_SYMBOLS }
     ensures { MatchOption result
         ((w : ℕ) → w < symbols → 48 + w ≢ byte)
         (λ w. (w < symbols) × (48 + w ≡ byte)) }
 {
-    if is_digit(byte, symbols as u8) {
-        Some(byte - b'0')
+    if byte < b'0' {
+        return None;
+    }
+    let digit = byte - b'0';
+    if (digit as usize) < symbols {
+        Some(digit)
     } else {
         None
     }

@@ -1,4 +1,6 @@
 -- What a run over lines is summed up in, from what each line did to it.
+use Rattle.std.specs.List.{AllByRecursion}
+use Rattle.std.proofs.Common.{◌↔◌, IsTrue}
 use Rattle.std.proofs.Common.{◌≡◌, ℕ, ◌≤◌, max, List, [], ◌∷◌, ◌++◌, Option, Result, Ok, Err, refl, sym}
 use Rattle.std.proofs.Common.{subst, ap, ◌∙◌, inl, inr, arith}
 use Rattle.std.specs.List.{FoldsTo}
@@ -11,16 +13,19 @@ use Rattle.bb_sim.specs.declared.meter.Meter.{Meter}
 use Rattle.bb_sim.specs.Span.{span, IsLastInside}
 use Rattle.bb_sim.proofs.Facts.{last_step_is_unique}
 use Rattle.bb_cert.specs.declared.verdict.Verdict.TheVariants.{Backward}
-use Rattle.bb_decide.specs.Cost.{DecisionSteps}
+use Rattle.bb_decide.specs.Cost.{CountsWalk, DecisionSteps, IsWithinCost, MakesWalk}
+use Rattle.bb_decide.specs.Keys.{spread}
+use Rattle.bb_decide.specs.OneRun.{MakesRuns}
 use Rattle.bb_decide.specs.Verdict.{IsVerdict}
-use Rattle.bb_decide.proofs.Facts.{is_tree, steps_are_bounded, steps_are_unique, walk_is_made}
+use Rattle.bb_decide.proofs.Facts.{is_tree, runs_are_unique, steps_are_bounded, steps_are_unique, walk_is_made}
 use Rattle.bb_lines.specs.declared.fault.Fault.{Fault}
 use Rattle.bb_lines.specs.declared.fault.Fault.TheVariants.{Memory}
 use Rattle.bb_lines.specs.Ends.{ListEnds}
 use Rattle.bb_run.specs.declared.summary.Summary.{Summary}
 use Rattle.bb_run.specs.Seen.{CountsExactly, CountsInOneRun, SawBy, SawLine, SawLines, SawMachine, SawRefusal}
 use Rattle.bb_run.specs.Seen.{none_seen}
-use Rattle.bb_run.specs.Summary.{AreStepsOf, IsOneRunSummary, IsPeak, IsSpanOf, IsSummary, IsTreeOf}
+use Rattle.bb_run.specs.Summary.{AreRunStepsOf, AreStepsOf, AreTreesWithin, IsOneRunSummary, IsPeak}
+use Rattle.bb_run.specs.Summary.{IsRunSpanOf, IsSpanOf, IsSummary, IsTreeOf}
 use Rattle.bb_run.proofs.Peaks.{IsPeak-over, IsPeak-past, all_more, clean_more}
 
 -- two machines of one line are the same
@@ -28,10 +33,14 @@ same_table : TextsDiffer → (line : List ℕ) (a b : Table) → IsTextOf a line
 same_table one line a b first second =
     one a b first.machine second.machine (first.is_text ∙ sym second.is_text)
 
--- what is counted exactly is within what deciding may cost
-exactly_bounded : (bounds : Bounds) (plan : Plan) (table : Table) (meter : Meter)
-    → CountsExactly bounds plan table meter → CountsInOneRun bounds plan table meter
-exactly_bounded bounds plan table meter counts = record {
+-- deciding a machine has counted no more than it may, and the nodes and levels of its walk
+record CountsWithin (bounds : Bounds) (plan : Plan) (table : Table) (meter : Meter) : Type 0 where
+  within : IsWithinCost bounds meter
+  walk : CountsWalk (MakesWalk table bounds plan) table bounds meter
+
+exactly_within : (bounds : Bounds) (plan : Plan) (table : Table) (meter : Meter)
+    → CountsExactly bounds plan table meter → CountsWithin bounds plan table meter
+exactly_within bounds plan table meter counts = record {
   within = record {
     steps = steps_are_bounded table bounds plan meter.steps counts.steps;
     most_cells = subst (λ n. n ≤ bounds.cells) (sym counts.most_cells) counts.is_last.inside.within_cells;
@@ -41,16 +50,37 @@ exactly_bounded bounds plan table meter counts = record {
   walk = counts.walk;
 }
 
--- what the lines so far come to where each machine's steps and span are counted
-record IsExact (bounds : Bounds) (plan : Plan) (lines : List (List ℕ)) (summary : Summary) : Type 0 where
-  common : IsOneRunSummary bounds plan lines summary
-  steps : IsPeak (AreStepsOf bounds plan) lines summary.peak.steps
-  cells : IsPeak (IsSpanOf bounds) lines summary.peak.most_cells
+-- a way to count has one count of steps and one of cells for each machine's text, and none for another line
+record CountsOnce (bounds : Bounds) (plan : Plan) (Counts : Table → Meter → Type 0)
+    (Steps Cells : List ℕ → ℕ → Type 0) : Type 0 where
+  limited : (table : Table) (meter : Meter) → Counts table meter → CountsWithin bounds plan table meter
+  steps : {line : List ℕ} {table : Table} {meter : Meter} → IsTextOf table line → Counts table meter
+      → Steps line meter.steps
+  cells : {line : List ℕ} {table : Table} {meter : Meter} → IsTextOf table line → Counts table meter
+      → Cells line meter.most_cells
+  one_of_steps : {line : List ℕ} {table : Table} {meter : Meter} → IsTextOf table line → Counts table meter
+      → (n : ℕ) → Steps line n → n ≡ meter.steps
+  one_of_cells : {line : List ℕ} {table : Table} {meter : Meter} → IsTextOf table line → Counts table meter
+      → (n : ℕ) → Cells line n → n ≡ meter.most_cells
+  machine_of_steps : {line : List ℕ} (n : ℕ) → Steps line n → IsMachineLine line
+  machine_of_cells : {line : List ℕ} (n : ℕ) → Cells line n → IsMachineLine line
 
-module _ (one : TextsDiffer) (bounds : Bounds) (plan : Plan) where
-  none_summed : IsOneRunSummary bounds plan [] none_seen
+-- what the lines so far come to, whichever way it is counted
+record IsSummed (bounds : Bounds) (plan : Plan) (Steps Cells : List ℕ → ℕ → Type 0) (lines : List (List ℕ))
+    (summary : Summary) : Type 0 where
+  clean : IsTrue summary.clean ↔ AllByRecursion IsMachineLine lines
+  steps : IsPeak Steps lines summary.peak.steps
+  cells : IsPeak Cells lines summary.peak.most_cells
+  trees : AreTreesWithin bounds plan lines summary.peak.most_levels summary.peak.nodes
+  within : IsWithinCost bounds summary.peak
+
+module _ (one : TextsDiffer) {bounds : Bounds} {plan : Plan} {Counts : Table → Meter → Type 0}
+    {Steps Cells : List ℕ → ℕ → Type 0} (once : CountsOnce bounds plan Counts Steps Cells) where
+  none_summed : IsSummed bounds plan Steps Cells [] none_seen
   none_summed = record {
     clean = (λ e. tt, λ all. refl);
+    steps = record { bound = tt; reached = inl refl };
+    cells = record { bound = tt; reached = inl refl };
     trees = tt;
     within = record {
       steps = omega arith;
@@ -61,16 +91,18 @@ module _ (one : TextsDiffer) (bounds : Bounds) (plan : Plan) where
   }
 
   module _ (lines : List (List ℕ)) (line : List ℕ) (old new : Summary) (cost : ℕ) where
-    machine_summed : {Counts : Table → Meter → Type 0}
-        → ((table : Table) (meter : Meter) → Counts table meter → CountsInOneRun bounds plan table meter)
-        → IsOneRunSummary bounds plan lines old → SawMachine Counts old line new cost
-        → IsOneRunSummary bounds plan (lines ++ line ∷ []) new
-    machine_summed bounded before saw =
+    machine_summed : IsSummed bounds plan Steps Cells lines old → SawMachine Counts old line new cost
+        → IsSummed bounds plan Steps Cells (lines ++ line ∷ []) new
+    machine_summed before saw =
         let w = before.within in
         let steps = ap (λ (m : Meter). m.steps) saw.peak in
         let cells = ap (λ (m : Meter). m.most_cells) saw.peak in record {
           clean = clean_more IsMachineLine lines before.clean
               (λ e. (sym saw.clean ∙ e, (saw.table, saw.of)), λ are. saw.clean ∙ are.0);
+          steps = IsPeak-over Steps before.steps (once.steps saw.of saw.counts)
+              (once.one_of_steps saw.of saw.counts) steps;
+          cells = IsPeak-over Cells before.cells (once.cells saw.of saw.counts)
+              (once.one_of_cells saw.of saw.counts) cells;
           trees = all_more (λ other within h k tree.
               let few = within h k tree in
               (omega (arith, few.0, levels), omega (arith, few.1, nodes))) lines before.trees is_tree_within;
@@ -82,8 +114,8 @@ module _ (one : TextsDiffer) (bounds : Bounds) (plan : Plan) where
           };
         }
       where
-        limited : CountsInOneRun bounds plan saw.table saw.meter
-        limited = bounded saw.table saw.meter saw.counts
+        limited : CountsWithin bounds plan saw.table saw.meter
+        limited = once.limited saw.table saw.meter saw.counts
 
         nodes : new.peak.nodes ≡ max old.peak.nodes saw.meter.nodes
         nodes = ap (λ (m : Meter). m.nodes) saw.peak
@@ -99,98 +131,109 @@ module _ (one : TextsDiffer) (bounds : Bounds) (plan : Plan) where
             let counted = limited.walk.of_tree (walk_is_made plan verdict) h k (is_tree plan verdict) in
             (omega (arith, counted.0, levels), omega (arith, counted.1, nodes))
 
-    refusal_summed : IsOneRunSummary bounds plan lines old → SawRefusal old line new cost
-        → IsOneRunSummary bounds plan (lines ++ line ∷ []) new
+    refusal_summed : IsSummed bounds plan Steps Cells lines old → SawRefusal old line new cost
+        → IsSummed bounds plan Steps Cells (lines ++ line ∷ []) new
     refusal_summed before saw = record {
       clean = clean_more IsMachineLine lines before.clean
           (λ e. (let wrong = sym saw.clean ∙ e in cc), λ are. absurd (saw.no_machine are.1));
+      steps = IsPeak-past Steps before.steps (λ n has. saw.no_machine (once.machine_of_steps n has))
+          (ap (λ (m : Meter). m.steps) saw.peak);
+      cells = IsPeak-past Cells before.cells (λ n has. saw.no_machine (once.machine_of_cells n has))
+          (ap (λ (m : Meter). m.most_cells) saw.peak);
       trees = rw saw.peak (all_more (λ other within. within) lines before.trees
           (λ levels nodes tree. absurd (saw.no_machine (tree.table, tree.of))));
       within = rw saw.peak before.within;
     }
 
-    machine_exact : IsExact bounds plan lines old → SawMachine (CountsExactly bounds plan) old line new cost
-        → IsExact bounds plan (lines ++ line ∷ []) new
-    machine_exact before saw = record {
-      common = machine_summed (exactly_bounded bounds plan) before.common saw;
-      steps = IsPeak-over _ before.steps
-          (record { table = saw.table; of = saw.of; are_steps = saw.counts.steps })
-          same_steps
-          (ap (λ (m : Meter). m.steps) saw.peak);
-      cells = IsPeak-over _ before.cells
-          (record {
-            table = saw.table;
-            of = saw.of;
-            last = saw.counts.last;
-            is_last = saw.counts.is_last;
-            is_span = saw.counts.most_cells;
-          })
-          same_span
-          (ap (λ (m : Meter). m.most_cells) saw.peak);
-    } where
-      same_steps : (n : ℕ) → AreStepsOf bounds plan line n → n ≡ saw.meter.steps
-      same_steps n other =
-          let e = same_table one line other.table saw.table other.of saw.of in
-          steps_are_unique saw.table bounds plan n saw.meter.steps
-          (subst (λ t. DecisionSteps t bounds plan n) e other.are_steps) saw.counts.steps
+  lines_summed : (lines : List (List ℕ)) (summary : Summary) → SawLines Counts lines summary
+      → IsSummed bounds plan Steps Cells lines summary
+  lines_summed lines summary saw = chained_keeps _ (IsSummed bounds plan Steps Cells) more lines none_seen
+      summary none_summed saw where
+        more : (past : List (List ℕ)) (old : Summary) (line : List ℕ) (new : Summary)
+            → IsSummed bounds plan Steps Cells past old → SawLine Counts old line new
+            → IsSummed bounds plan Steps Cells (past ++ line ∷ []) new
+        more past old line new before (cost, inl machine) = machine_summed past line old new cost before machine
+        more past old line new before (cost, inr refusal) = refusal_summed past line old new cost before refusal
 
-      same_span : (n : ℕ) → IsSpanOf bounds line n → n ≡ saw.meter.most_cells
-      same_span n other =
-          let e = same_table one line other.table saw.table other.of saw.of in
-          let last = last_step_is_unique saw.table bounds other.last saw.counts.last
-          (subst (λ t. IsLastInside t bounds other.last) e other.is_last) saw.counts.is_last in
-          other.is_span ∙ ap (λ t. span t other.last) e ∙ ap (λ k. span saw.table k) last
-          ∙ sym saw.counts.most_cells
+module _ (one : TextsDiffer) (bounds : Bounds) (plan : Plan) where
+  counts_cost : CountsOnce bounds plan (CountsExactly bounds plan) (AreStepsOf bounds plan) (IsSpanOf bounds)
+  counts_cost = record {
+    limited = exactly_within bounds plan;
+    steps = λ of counts. record { table = _; of = of; are_steps = counts.steps };
+    cells = λ of counts. record {
+      table = _;
+      of = of;
+      last = counts.last;
+      is_last = counts.is_last;
+      is_span = counts.most_cells;
+    };
+    one_of_steps = λ {line} {table} {meter} of counts n other.
+        let e = same_table one line other.table table other.of of in
+        steps_are_unique table bounds plan n meter.steps
+        (subst (λ t. DecisionSteps t bounds plan n) e other.are_steps) counts.steps;
+    one_of_cells = λ {line} {table} {meter} of counts n other.
+        let e = same_table one line other.table table other.of of in
+        let last = last_step_is_unique table bounds other.last counts.last
+        (subst (λ t. IsLastInside t bounds other.last) e other.is_last) counts.is_last in
+        other.is_span ∙ ap (λ t. span t other.last) e ∙ ap (λ k. span table k) last ∙ sym counts.most_cells;
+    machine_of_steps = λ n has. (has.table, has.of);
+    machine_of_cells = λ n has. (has.table, has.of);
+  }
 
-    refusal_exact : IsExact bounds plan lines old → SawRefusal old line new cost
-        → IsExact bounds plan (lines ++ line ∷ []) new
-    refusal_exact before saw = record {
-      common = refusal_summed before.common saw;
-      steps = IsPeak-past _ before.steps (λ n has. saw.no_machine (has.table, has.of))
-          (ap (λ (m : Meter). m.steps) saw.peak);
-      cells = IsPeak-past _ before.cells (λ n has. saw.no_machine (has.table, has.of))
-          (ap (λ (m : Meter). m.most_cells) saw.peak);
-    }
+  counts_runs : CountsOnce bounds plan (CountsInOneRun bounds plan) (AreRunStepsOf bounds plan)
+      (IsRunSpanOf bounds plan)
+  counts_runs = record {
+    limited = λ table meter counts. record { within = counts.within; walk = counts.walk };
+    steps = λ of counts.
+        record { table = _; of = of; latest = counts.runs.latest; are_steps = counts.runs.runs };
+    cells = λ of counts. record {
+      table = _;
+      of = of;
+      steps = _;
+      latest = counts.runs.latest;
+      runs = counts.runs.runs;
+      is_span = counts.runs.most_cells;
+    };
+    one_of_steps = λ {line} {table} {meter} of counts n other.
+        let e = same_table one line other.table table other.of of in
+        (runs_are_unique spread table bounds plan (n, other.latest) (meter.steps, counts.runs.latest)
+        (subst (λ t. MakesRuns spread t bounds plan.cyclers plan.translated n other.latest) e other.are_steps)
+        counts.runs.runs).0;
+    one_of_cells = λ {line} {table} {meter} of counts n other.
+        let e = same_table one line other.table table other.of of in
+        let latest = (runs_are_unique spread table bounds plan (other.steps, other.latest)
+        (meter.steps, counts.runs.latest)
+        (subst (λ t. MakesRuns spread t bounds plan.cyclers plan.translated other.steps other.latest) e
+        other.runs)
+        counts.runs.runs).1 in
+        other.is_span ∙ ap (λ t. span t other.latest) e ∙ ap (λ k. span table k) latest
+        ∙ sym counts.runs.most_cells;
+    machine_of_steps = λ n has. (has.table, has.of);
+    machine_of_cells = λ n has. (has.table, has.of);
+  }
 
   -- a run is summed up
   pub summed : (lines : List (List ℕ)) (summary : Summary)
       → SawLines (CountsExactly bounds plan) lines summary → IsSummary bounds plan lines summary
-  summed lines summary saw =
-      let all = chained_keeps _ (IsExact bounds plan) more lines none_seen summary none saw in record {
-        clean = all.common.clean;
-        peak_steps = all.steps;
-        peak_cells = all.cells;
-        trees = all.common.trees;
-        within_levels = all.common.within.most_levels;
-        within_nodes = all.common.within.nodes;
-      } where
-        none : IsExact bounds plan [] none_seen
-        none = record {
-          common = none_summed;
-          steps = record { bound = tt; reached = inl refl };
-          cells = record { bound = tt; reached = inl refl };
-        }
-
-        more : (past : List (List ℕ)) (old : Summary) (line : List ℕ) (new : Summary)
-            → IsExact bounds plan past old → SawLine (CountsExactly bounds plan) old line new
-            → IsExact bounds plan (past ++ line ∷ []) new
-        more past old line new before (cost, inl machine) =
-            machine_exact past line old new cost before machine
-        more past old line new before (cost, inr refusal) =
-            refusal_exact past line old new cost before refusal
+  summed lines summary saw = let all = lines_summed one counts_cost lines summary saw in record {
+    clean = all.clean;
+    peak_steps = all.steps;
+    peak_cells = all.cells;
+    trees = all.trees;
+    within_levels = all.within.most_levels;
+    within_nodes = all.within.nodes;
+  }
 
   -- so is one that decides each machine in one run
   pub summed_in_one_run : (lines : List (List ℕ)) (summary : Summary)
       → SawLines (CountsInOneRun bounds plan) lines summary → IsOneRunSummary bounds plan lines summary
-  summed_in_one_run lines summary saw =
-      chained_keeps _ (IsOneRunSummary bounds plan) more lines none_seen summary none_summed saw where
-        more : (past : List (List ℕ)) (old : Summary) (line : List ℕ) (new : Summary)
-            → IsOneRunSummary bounds plan past old → SawLine (CountsInOneRun bounds plan) old line new
-            → IsOneRunSummary bounds plan (past ++ line ∷ []) new
-        more past old line new before (cost, inl machine) =
-            machine_summed past line old new cost (λ table meter counts. counts) before machine
-        more past old line new before (cost, inr refusal) =
-            refusal_summed past line old new cost before refusal
+  summed_in_one_run lines summary saw = let all = lines_summed one counts_runs lines summary saw in record {
+    clean = all.clean;
+    peak_steps = all.steps;
+    peak_cells = all.cells;
+    trees = all.trees;
+    within = all.within;
+  }
 
 -- what a decider's lines do to its summary, whatever else it has
 module _ {D : Type 0} (Counts : Bounds → Plan → Table → Meter → Type 0) (bounds : D → Bounds)

@@ -8,6 +8,8 @@ use Rattle.bb_cert.specs.declared.verdict.Verdict.TheVariants.{Backward}
 use Rattle.bb_machine.specs.declared.plan.Plan.{Plan}
 use Rattle.bb_decide.specs.Verdict.{IsVerdict}
 use Rattle.bb_decide.specs.Cost.{IsWithinCost, DecisionSteps}
+use Rattle.bb_decide.specs.Keys.{spread}
+use Rattle.bb_decide.specs.OneRun.{MakesRuns}
 use Rattle.bb_run.specs.declared.summary.Summary.{Summary}
 
 -- the line is the text of a machine that is decided by so many steps
@@ -23,6 +25,23 @@ pub record IsSpanOf (bounds : Bounds) (line : List ℕ) (width : ℕ) : Type 0 w
   pub last : ℕ
   pub is_last : IsLastInside table bounds last
   pub is_span : width ≡ span table last
+
+-- the line is the text of a machine that is decided in one run by so many steps, with the program's keys
+pub record AreRunStepsOf (bounds : Bounds) (plan : Plan) (line : List ℕ) (steps : ℕ) : Type 0 where
+  pub table : Table
+  pub of : IsTextOf table line
+  pub latest : ℕ
+  pub are_steps : MakesRuns spread table bounds plan.cyclers plan.translated steps latest
+
+-- the line is the text of a machine that has this span at the last step of any run by which it is decided
+-- in one run
+pub record IsRunSpanOf (bounds : Bounds) (plan : Plan) (line : List ℕ) (width : ℕ) : Type 0 where
+  pub table : Table
+  pub of : IsTextOf table line
+  pub steps : ℕ
+  pub latest : ℕ
+  pub runs : MakesRuns spread table bounds plan.cyclers plan.translated steps latest
+  pub is_span : width ≡ span table latest
 
 -- the line is the text of a machine whose verdict is a tree of so many levels and nodes
 pub record IsTreeOf (bounds : Bounds) (plan : Plan) (line : List ℕ) (levels nodes : ℕ) : Type 0 where
@@ -56,11 +75,12 @@ pub record IsSummary (bounds : Bounds) (plan : Plan) (lines : List (List ℕ)) (
   pub within_levels : summary.peak.most_levels ≤ bounds.depth
   pub within_nodes : summary.peak.nodes ≤ bounds.nodes
 
--- where each machine is decided in one run: `clean` says that each line is a machine's text; the peaks are
--- what was made, within the bounds, steps within three times theirs; and levels and nodes are no less than
--- those of each tree that is a verdict
+-- the same where each machine is decided in one run: the peaks are those of the steps and spans of the runs
+-- that were made
 pub record IsOneRunSummary (bounds : Bounds) (plan : Plan) (lines : List (List ℕ)) (summary : Summary)
     : Type 0 where
   pub clean : IsTrue summary.clean ↔ AllByRecursion IsMachineLine lines
+  pub peak_steps : IsPeak (AreRunStepsOf bounds plan) lines summary.peak.steps
+  pub peak_cells : IsPeak (IsRunSpanOf bounds plan) lines summary.peak.most_cells
   pub trees : AreTreesWithin bounds plan lines summary.peak.most_levels summary.peak.nodes
   pub within : IsWithinCost bounds summary.peak

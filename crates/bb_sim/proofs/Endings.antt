@@ -64,6 +64,7 @@ module _ {table : Table} {bounds : Bounds} {old new : Runner} {view_old view_new
       record {
         outcome = outcome end.last;
         counted = end.counted;
+        cut = tt;
         within = end.within;
         limit = limit;
         memory = tt;

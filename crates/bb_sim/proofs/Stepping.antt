@@ -101,13 +101,16 @@ module _ {grows : Bool} {table : Table} {bounds : Bounds} {old : Runner} {view :
     memory = tt;
     wanted = tt;
     uncounted = tt;
+    unmade = tt;
+    window = tt;
   }
 
   pub refused : {new : Runner} {view_new : TapeView} {meter_new : Meter} {fault : Memory}
       → Answers table bounds old.steps moved.Stepped → view_new.limit ≡ view.limit
-      → IsTrue grows → meter_new ≡ meter
+      → IsTrue grows → meter_new ≡ meter → steps_of new ≡ steps_of old
+      → cells_between (low_of new) (high_of new) ≡ span table (steps_of old + 1)
       → Advances grows table bounds old new view view_new meter meter_new (Err fault)
-  refused wanted limit memory uncounted = record {
+  refused wanted limit memory uncounted unmade window = record {
     answers = tt;
     moves = tt;
     reaches = tt;
@@ -116,6 +119,8 @@ module _ {grows : Bool} {table : Table} {bounds : Bounds} {old : Runner} {view :
     memory = memory;
     wanted = wanted;
     uncounted = uncounted;
+    unmade = unmade;
+    window = window;
   }
 
 module _ {table : Table} {old : Runner} {view : TapeView} {write : ℕ} {dir : Dir} {next : Next}
@@ -141,6 +146,14 @@ module _ {table : Table} {old : Runner} {view : TapeView} {write : ℕ} {dir : D
   -- the position that the step's end counts for
   abbrev pub counts_for : ℤ
   counts_for = counted_position next (beside dir old.position)
+
+  -- a window that has taken that position in has the cells of the span up to the next step
+  pub widened_span : (low high : ℤ) → low ≡ int_min (low_of old) counts_for
+      → high ≡ int_max (high_of old) counts_for → cells_between low high ≡ span table (old.steps + 1)
+  widened_span low high is_low is_high =
+      ap (λ l. cells_between l high) (is_low ∙ ap (λ l. int_min l counts_for) (sym stands.window_low))
+      ∙ ap (cells_between (int_min view.low counts_for))
+      (is_high ∙ ap (λ h. int_max h counts_for) (sym stands.window_high)) ∙ sym next-span
 
   -- a runner and its tape after the step
   pub record Stepped (new : Runner) (view_new : TapeView) : Type 0 where
@@ -191,13 +204,7 @@ module _ {table : Table} {old : Runner} {view : TapeView} {write : ℕ} {dir : D
       → {grows : Bool} → Advances grows table bounds old new view view_new meter_old meter_new
       (Ok moved.Stepped)
   made bounds new view_new meter_old meter_new sound named limit few apart fits is counts =
-      let low : low_of new ≡ int_min view.low counts_for = is.low
-      ∙ ap (λ l. int_min l counts_for) (sym stands.window_low) in
-      let high : high_of new ≡ int_max view.high counts_for = is.high
-      ∙ ap (λ h. int_max h counts_for) (sym stands.window_high) in
-      let cells : cells_between (low_of new) (high_of new) ≡ span table (old.steps + 1) =
-      ap (λ l. cells_between l (high_of new)) low ∙ ap (cells_between (int_min view.low counts_for)) high
-      ∙ sym next-span in
+      let cells = widened_span (low_of new) (high_of new) is.low is.high in
       let answers = wanted bounds apart limit fits in
       let inside = inside_here table old view bounds stands sound limit few in
       let near = near_head table old view dir stands running sound in
@@ -216,6 +223,8 @@ module _ {table : Table} {old : Runner} {view : TapeView} {write : ℕ} {dir : D
         memory = tt;
         wanted = tt;
         uncounted = tt;
+        unmade = tt;
+        window = tt;
       }
 
 -- a step into Z, which leaves the window as it is
@@ -238,6 +247,19 @@ into_Z table old view write dir Halt stands here sound nowhere new view_new step
       high = steps.high ∙ sym (max-same (high_of old) (pos 0) high);
       tape = is ∙ ap (λ s. written s old.position write) (sym (inside_stays view (pos 0) zero));
     }
+
+-- where a step goes to no state, the window that there is has the cells of the next span already
+pub span_in_Z : (table : Table) (old : Runner) (view : TapeView) (write : ℕ) (dir : Dir) (next : Next)
+    (stands : Stands table old view)
+    (here : Go write dir next ≡ entry_at table old.state (cell view.content old.position))
+    → IsSound view → GoesNowhere table (Go write dir next)
+    → cells_between (low_of old) (high_of old) ≡ span table (steps_of old + 1)
+span_in_Z table old view write dir (State q) stands here sound nowhere = absurd nowhere
+span_in_Z table old view write dir Halt stands here sound nowhere =
+    let low : low_of old ≤ℤ pos 0 = rw (← stands.window_low) sound.from_zero in
+    let high : pos 0 ≤ℤ high_of old = rw (← stands.window_high) sound.to_zero in
+    widened_span stands here (low_of old) (high_of old) (sym (min-same (low_of old) (pos 0) low))
+    (sym (max-same (high_of old) (pos 0) high))
 
 pub fits_Z : (view : TapeView) (write : ℕ) (dir : Dir) (next : Next) (table : Table) (p : ℤ) → IsSound view
     → GoesNowhere table (Go write dir next)

@@ -3,7 +3,7 @@ use Rattle.std.specs.Prelude.{◌≡◌, ℕ, ◌+◌, ◌≤◌, max}
 use Rattle.bb_sim.specs.declared.meter.Meter.{Meter}
 use Rattle.bb_machine.specs.Limits.{Bounds}
 use Rattle.bb_machine.specs.Machine.{Table}
-use Rattle.bb_sim.specs.Span.{span, IsLastInside}
+use Rattle.bb_sim.specs.Span.{span, Inside, IsLastInside}
 
 -- nothing counted
 abbrev pub zero_meter : Meter
@@ -27,6 +27,14 @@ pub record CountsRun (table : Table) (bounds : Bounds) (old new : Meter) : Type 
   pub last : ℕ
   pub is_last : IsLastInside table bounds last
   pub counts : CountsTo table last old new
+
+-- a run that was refused memory was counted up to there: the steps of one that is inside, and cells no fewer
+-- than its span
+pub record CountsPart (table : Table) (bounds : Bounds) (old new : Meter) : Type 0 where
+  pub at : ℕ
+  pub inside : Inside table bounds at
+  pub steps : new.steps ≡ old.steps + at
+  pub cells : max old.most_cells (span table at) ≤ new.most_cells
 
 -- no more than a run within bounds was counted
 pub record IsWithinRun (bounds : Bounds) (old new : Meter) : Type 0 where

@@ -46,7 +46,7 @@ impl Runner {
     ghost use Rattle.bb_sim.specs.Meter.{stepped};
     ghost use Rattle.bb_sim.specs.Runner.{Answers, Moves, Reaches, Stands, high_of};
     ghost use Rattle.bb_sim.specs.Runner.{low_of, position_of, state_of, steps_of};
-    ghost use Rattle.bb_sim.specs.Span.{Inside};
+    ghost use Rattle.bb_sim.specs.Span.{Inside, span};
     ghost use Rattle.bb_sim.specs.inside.Advancing.{Advances};
     ghost use Rattle.bb_sim.specs.inside.Widening.{GoesNowhere, Widens, StepsTo};
     ghost use Rattle.bb_sim.specs.declared.runner.Moved.{Moved};
@@ -70,7 +70,8 @@ impl Runner {
 
     /// Makes one step of the machine, if it doesn't halt here and the limits allow it.
     ///
-    /// After an error the runner must be started again; it comes only where a step would have been made.
+    /// After an error the runner must be started again; it comes only where a step would have been made. Its
+    /// steps are as they were then, and its window is that which the step needed.
     #[inline]
     pub fn advance<T: Tape>(
         &mut self,
@@ -93,6 +94,9 @@ impl Runner {
         ensures memory { OnErr result (IsTrue T.GROWS) }
         ensures wanted { OnErr result (Answers machine.now limits.now (steps_of self.old) Moved.Stepped) }
         ensures uncounted { OnErr result (meter.new ≡ meter.old) }
+        ensures unmade { OnErr result (steps_of self.new ≡ steps_of self.old) }
+        ensures window { OnErr result (cells_between (low_of self.new) (high_of self.new)
+            ≡ span machine.now (steps_of self.old + 1)) }
     {
         self.show_inside(machine, tape, limits);
         let Next::State(state) = self.state else {
@@ -210,6 +214,7 @@ impl Runner {
         ensures limit { (T.view tape.new).limit ≡ (T.view tape.old).limit }
         ensures memory { OnErr result (IsTrue T.GROWS) }
         ensures uncounted { OnErr result (meter.new ≡ meter.old) }
+        ensures unmoved { OnErr result (self.new ≡ self.old) }
     {
         let Ok(()) = tape.write(self.position, write) else {
             return Err(Memory);

@@ -1,6 +1,6 @@
 //! A whole run within limits.
 ghost use Rattle.std.specs.Prelude.{◌≡◌, ◌+◌, ◌<◌, ◌^◌, IfOk, IsTrue, OnErr, OnOk};
-ghost use Rattle.bb_sim.specs.Meter.{CountsRun, IsWithinRun};
+ghost use Rattle.bb_sim.specs.Meter.{CountsPart, CountsRun, IsWithinRun};
 ghost use Rattle.bb_sim.specs.Outcome.{IsOutcome};
 ghost use Rattle.bb_sim.specs.inside.Simulating.{Simulates};
 
@@ -22,7 +22,8 @@ pub enum Outcome {
 
 /// Runs a machine from its start until it halts or a limit is met.
 ///
-/// After an error nothing is said of what the tape holds; the next run resets it.
+/// After an error nothing is said of what the tape holds; the next run resets it. The steps that were made are
+/// counted then too.
 #[inline(never)]
 pub fn simulate<T: Tape>(
     machine: &Machine,
@@ -34,6 +35,7 @@ pub fn simulate<T: Tape>(
     requires room { meter.old.steps + limits.now.steps + 1 < 2 ^ 64 }
     ensures outcome { IfOk result (IsOutcome machine.now limits.now) }
     ensures counted { OnOk result (CountsRun machine.now limits.now meter.old meter.new) }
+    ensures cut { OnErr result (CountsPart machine.now limits.now meter.old meter.new) }
     ensures within { IsWithinRun limits.now meter.old meter.new }
     ensures limit { (T.view tape.new).limit ≡ (T.view tape.old).limit }
     ensures memory { OnErr result (IsTrue T.GROWS) }

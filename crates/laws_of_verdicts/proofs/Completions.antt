@@ -79,7 +79,7 @@ module _ (table filled : Table) (completion : IsCompletion table filled) where
   unfolding next
   next_kept c d e = followed_kept c d (entry_at table c.state (cell c.tape c.head)) refl e
 
-  conf_kept : (n : ℕ) (c : Configuration) → conf table n ≡ Some c → conf filled n ≡ Some c
+  pub conf_kept : (n : ℕ) (c : Configuration) → conf table n ≡ Some c → conf filled n ≡ Some c
   unfolding conf
   conf_kept zero c e = e
   conf_kept (suc n) c e =

@@ -3,6 +3,14 @@ mod ChangedRuns
 mod ChangedTrees
 mod Changes
 mod Completions
+mod Composed
+mod Covers
 mod EveryStart
+pub mod Facts
+mod Fillings
+mod Found
+mod GapHalts
 mod LaterSteps
+mod NormalForms
 mod Sums
+mod Walks

@@ -1,4 +1,9 @@
 pub mod Change
+pub mod Closed
 pub mod Completion
 pub mod EveryStart
+pub mod Found
+pub mod Gap
 pub mod LaterSteps
+pub mod NormalForm
+pub mod Walk

@@ -1,10 +1,15 @@
 //! Laws of what verdicts say beyond their machine's run within limits, as contracts: a call of each does
 //! nothing.
 ghost use Rattle.laws_of_verdicts.specs.Change.{ChangesKeepAnswers, ChangesKeepClaims, ChangesKeepVerdicts};
+ghost use Rattle.laws_of_verdicts.specs.Closed.{CoversDecide, CoversSettle};
 ghost use Rattle.laws_of_verdicts.specs.Completion.{CompletionsKeepAnswers, CompletionsKeepClaims};
 ghost use Rattle.laws_of_verdicts.specs.Completion.{CompletionsKeepVerdicts, CompletionsNeverHalt};
 ghost use Rattle.laws_of_verdicts.specs.EveryStart.{EveryStartHaltsSoonOrNever};
+ghost use Rattle.laws_of_verdicts.specs.Found.{CyclersAreFound};
+ghost use Rattle.laws_of_verdicts.specs.Gap.{FilledGapsHaltNext, GapsKeepHalts};
 ghost use Rattle.laws_of_verdicts.specs.LaterSteps.{CyclersComeAgain, TranslatedCyclersMoveOn};
+ghost use Rattle.laws_of_verdicts.specs.NormalForm.{NormalFormCovers};
+ghost use Rattle.laws_of_verdicts.specs.Walk.{WalksAreInNormalForm};
 
 use bb_cert::claims::laws::agreeing_records_go_on;
 
@@ -52,4 +57,31 @@ pub fn changes_keep_verdicts()
 pub fn changes_keep_claims()
     ensures claim { ChangesKeepClaims }
     ensures answer { ChangesKeepAnswers }
+{}
+
+/// A machine that halts on a `---` halts there with any other `---` filled, and one step later with this one
+/// filled by an entry into Z.
+pub fn gap_halts_complete()
+    ensures same { GapsKeepHalts }
+    ensures next { FilledGapsHaltNext }
+{}
+
+/// A list of true lines that goes on below each machine that halts on one of several `---` settles every
+/// machine of its size, but for the completions of its undecided lines' machines.
+pub fn covers_settle()
+    ensures settle { CoversSettle }
+    ensures decide { CoversDecide }
+{}
+
+/// A list in tree normal form, whose machines go on only by the first unused state and symbol, and at first
+/// to the right, covers its size all the same. The lines of a walk in depth are such a list.
+pub fn normal_form_covers()
+    ensures covers { NormalFormCovers }
+    ensures walks { WalksAreInNormalForm }
+{}
+
+/// What the checker confirms of a cycler, whoever found it, deciding finds with the cyclers on, within three
+/// times the steps that it names.
+pub fn cyclers_are_found()
+    ensures { CyclersAreFound }
 {}

@@ -1,11 +1,12 @@
 //! Lists and traces over broken streams: what is written by then, and which fault it is.
 
+use crate::support::engine::Engine;
 use crate::support::rows::{ALL, DEFAULTS};
 use crate::support::streams::{Pieces, Sink, assert_failed};
 use bb_lines::fault::Fault;
 use bb_lines::watched::Watched;
 use bb_machine::Limits;
-use bb_run::{ring_bench, run_decide, run_trace};
+use bb_run::{ring_bench, run_trace};
 use bb_tape::MapTape;
 use std::io::ErrorKind;
 use std::process::Abort;
@@ -17,6 +18,7 @@ const OUTPUT: &[u8; 42] = b"------ halt 0 0\nrefused 1\n------ halt 0 0\n";
 /// Decides a list on rings over these streams, and answers whether it was clean.
 fn decided(
     rt: &(impl Abort + AllocGlobal),
+    engine: Engine,
     reader: Pieces,
     sink: &mut Sink,
 ) -> Result<bool, Fault> {
@@ -25,7 +27,7 @@ fn decided(
     let mut bench = ring_bench(rt.alloc(), &limits).expect(rt, "memory");
     let mut reader = Watched::new(reader);
     let mut writer = Watched::new(sink);
-    let end = run_decide(&mut reader, &mut writer, &limits, ALL, &mut bench);
+    let end = engine.decide(&mut reader, &mut writer, &limits, ALL, &mut bench);
     assert_failed(rt, reader.failed(), end, Fault::Read);
     assert_failed(rt, writer.failed(), end, Fault::Write);
     Ok(end?.clean)
@@ -34,13 +36,14 @@ fn decided(
 /// A list over these streams ends so, and the sink has these bytes then.
 fn assert_decided(
     rt: &(impl Abort + AllocGlobal),
+    engine: Engine,
     reader: Pieces,
     mut sink: Sink,
     end: Result<bool, Fault>,
     written: &[u8],
 ) {
-    assert_eq!(rt; decided(rt, reader, &mut sink), end);
-    assert_eq!(rt; sink.bytes.as_slice(), written);
+    assert_eq!(rt; decided(rt, engine, reader, &mut sink), end, "{engine:?}");
+    assert_eq!(rt; sink.bytes.as_slice(), written, "{engine:?}");
 }
 
 /// The list in one piece.
@@ -50,55 +53,99 @@ fn whole() -> Pieces {
 
 #[test]
 fn a_list_comes_in_any_pieces(rt: HostRuntime) {
-    for most in [1, 14] {
-        for first in 1..15 {
-            let reader = Pieces::of(INPUT, first, most);
-            assert_decided(&rt, reader, Sink::of(128, 128), Ok(false), OUTPUT);
+    for engine in Engine::BOTH {
+        for most in [1, 14] {
+            for first in 1..15 {
+                let reader = Pieces::of(INPUT, first, most);
+                assert_decided(&rt, engine, reader, Sink::of(128, 128), Ok(false), OUTPUT);
+            }
         }
     }
 }
 
 #[test]
 fn a_read_of_a_list_fails(rt: HostRuntime) {
-    for error in [ErrorKind::Interrupted, ErrorKind::BrokenPipe] {
-        for k in 0..15 {
-            let written = match k {
-                0..=6 => 0,
-                7 => 16,
-                _ => 26,
-            };
-            let reader = Pieces::failing(INPUT, 1, k, error);
-            let sink = Sink::of(128, 128);
-            assert_decided(&rt, reader, sink, Err(Fault::Read), &OUTPUT[..written]);
+    for engine in Engine::BOTH {
+        for error in [ErrorKind::Interrupted, ErrorKind::BrokenPipe] {
+            for k in 0..15 {
+                let written = match k {
+                    0..=6 => 0,
+                    7 => 16,
+                    _ => 26,
+                };
+                let reader = Pieces::failing(INPUT, 1, k, error);
+                let sink = Sink::of(128, 128);
+                assert_decided(
+                    &rt,
+                    engine,
+                    reader,
+                    sink,
+                    Err(Fault::Read),
+                    &OUTPUT[..written],
+                );
+            }
         }
+        let reader = Pieces::failing(b"1RZ---\n0RB", 10, 1, ErrorKind::Interrupted);
+        let sink = Sink::of(128, 128);
+        assert_decided(
+            &rt,
+            engine,
+            reader,
+            sink,
+            Err(Fault::Read),
+            b"1RZ--- halt 1 1\n",
+        );
     }
-    let reader = Pieces::failing(b"1RZ---\n0RB", 10, 1, ErrorKind::Interrupted);
-    let sink = Sink::of(128, 128);
-    assert_decided(&rt, reader, sink, Err(Fault::Read), b"1RZ--- halt 1 1\n");
 }
 
 #[test]
 fn a_write_of_a_list_fails(rt: HostRuntime) {
-    for room in 0..42 {
-        let sink = Sink::of(128, room);
-        assert_decided(&rt, whole(), sink, Err(Fault::Write), &OUTPUT[..room]);
+    for engine in Engine::BOTH {
+        for room in 0..42 {
+            let sink = Sink::of(128, room);
+            assert_decided(
+                &rt,
+                engine,
+                whole(),
+                sink,
+                Err(Fault::Write),
+                &OUTPUT[..room],
+            );
+        }
+        let reader = Pieces::of(b"1RZ---", 6, 6);
+        assert_decided(
+            &rt,
+            engine,
+            reader,
+            Sink::of(128, 3),
+            Err(Fault::Write),
+            b"1RZ",
+        );
     }
-    let reader = Pieces::of(b"1RZ---", 6, 6);
-    assert_decided(&rt, reader, Sink::of(128, 3), Err(Fault::Write), b"1RZ");
 }
 
 /// A list into sinks that take no byte, can't be flushed, or take a byte a call.
 #[test]
 fn a_list_goes_into_odd_sinks(rt: HostRuntime) {
-    assert_decided(&rt, whole(), Sink::of(0, 128), Err(Fault::Write), b"");
-    assert_decided(
-        &rt,
-        whole(),
-        Sink::without_flush(),
-        Err(Fault::Write),
-        OUTPUT,
-    );
-    assert_decided(&rt, whole(), Sink::of(1, 128), Ok(false), OUTPUT);
+    for engine in Engine::BOTH {
+        assert_decided(
+            &rt,
+            engine,
+            whole(),
+            Sink::of(0, 128),
+            Err(Fault::Write),
+            b"",
+        );
+        assert_decided(
+            &rt,
+            engine,
+            whole(),
+            Sink::without_flush(),
+            Err(Fault::Write),
+            OUTPUT,
+        );
+        assert_decided(&rt, engine, whole(), Sink::of(1, 128), Ok(false), OUTPUT);
+    }
 }
 
 const MACHINE: &[u8; 13] = b"1RB1LB_1LA1RZ";

@@ -4,6 +4,7 @@ ghost use Rattle.std.specs.Prelude.{◌≡◌};
 use crate::support::checking::checked;
 use crate::support::counting_tape::{NEVER, counting_tape};
 use crate::support::deciding::decided;
+use crate::support::engine::Engine;
 use crate::support::rows::{ALL, DEFAULTS, Four};
 use bb_cert::{Pair, Path, walk};
 use bb_decide::Bench;
@@ -24,6 +25,7 @@ static DECIDED: [(Four, &[u8], u64); 4] = [
 /// Decides a line on such tapes, and answers how often it wrote.
 fn writes_of_deciding<T: Tape>(
     rt: &(impl Abort + AllocGlobal),
+    engine: Engine,
     tapes: (T, T, T),
     limits: &Limits,
     line: &[u8],
@@ -36,30 +38,53 @@ fn writes_of_deciding<T: Tape>(
     let right = counting_tape(tapes.1, NEVER);
     let left = counting_tape(tapes.2, NEVER);
     let mut bench = Bench::new(rt.alloc(), run, right, left, limits).expect(rt, "a bench");
-    let (end, _) = decided(rt, &mut bench, limits, ALL, line);
+    let (end, _) = decided(rt, engine, &mut bench, limits, ALL, line);
     assert!(rt; end.is_ok());
     let saved = bench.right.writes.saturating_add(bench.left.writes);
     bench.run.writes.saturating_add(saved)
+}
+
+/// Decides a line by an engine, on rings and on maps, with at most so many writes.
+fn assert_few_writes(
+    rt: &(impl Abort + AllocGlobal),
+    engine: Engine,
+    limits: &Limits,
+    line: &[u8],
+    most: u64,
+) {
+    let rings = (
+        RingTape::new(rt.alloc(), limits.cells()).expect(rt, "memory"),
+        RingTape::new(rt.alloc(), limits.cells()).expect(rt, "memory"),
+        RingTape::new(rt.alloc(), limits.cells()).expect(rt, "memory"),
+    );
+    let on_rings = writes_of_deciding(rt, engine, rings, limits, line);
+    let maps = (
+        MapTape::new(rt.alloc(), limits.cells()),
+        MapTape::new(rt.alloc(), limits.cells()),
+        MapTape::new(rt.alloc(), limits.cells()),
+    );
+    let on_maps = writes_of_deciding(rt, engine, maps, limits, line);
+    assert!(rt; (1..=most).contains(&on_rings), "{on_rings} on rings");
+    assert_eq!(rt; on_maps, on_rings);
 }
 
 #[test]
 fn deciding_writes_once_a_step_and_twice_a_node(rt: HostRuntime) {
     for (four, line, most) in &DECIDED {
         let limits = Limits::new(four[0], four[1], four[2], four[3]).expect(&rt, "limits");
-        let rings = (
-            RingTape::new(rt.alloc(), limits.cells()).expect(&rt, "memory"),
-            RingTape::new(rt.alloc(), limits.cells()).expect(&rt, "memory"),
-            RingTape::new(rt.alloc(), limits.cells()).expect(&rt, "memory"),
-        );
-        let on_rings = writes_of_deciding(&rt, rings, &limits, line);
-        let maps = (
-            MapTape::new(rt.alloc(), limits.cells()),
-            MapTape::new(rt.alloc(), limits.cells()),
-            MapTape::new(rt.alloc(), limits.cells()),
-        );
-        let on_maps = writes_of_deciding(&rt, maps, &limits, line);
-        assert!(rt; (1..=*most).contains(&on_rings), "{on_rings} on rings");
-        assert_eq!(rt; on_maps, on_rings);
+        assert_few_writes(&rt, Engine::InTurn, &limits, line, *most);
+    }
+}
+
+/// In one run the first cycle is suspected and found, twice 4 steps, and the first records that agree are
+/// found at step 2; with fewer steps the run and the tree are made.
+static IN_ONE_RUN: [u64; 4] = [8, 3 + 8, 2, 1];
+
+#[test]
+fn deciding_in_one_run_writes_once_a_step_and_twice_a_node(rt: HostRuntime) {
+    for ((four, line, _), most) in DECIDED.iter().zip(&IN_ONE_RUN) {
+        let limits = Limits::new(four[0], four[1], four[2], four[3]).expect(&rt, "limits");
+        assert_few_writes(&rt, Engine::InOneRun, &limits, line, *most);
     }
 }
 

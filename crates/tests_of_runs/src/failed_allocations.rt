@@ -6,6 +6,7 @@ ghost use Rattle.bb_decide.specs.Bench.{BenchHasCells};
 
 use crate::support::checking::checked;
 use crate::support::counting_tape::{CountingTape, NEVER, counting_tape};
+use crate::support::engine::Engine;
 use crate::support::rows::{PAIRS, TREES};
 use crate::support::streams::Sink;
 use crate::support::tracing::{traced, traced_on_a_ring};
@@ -14,7 +15,7 @@ use bb_decide::{Bench, Plan};
 use bb_lines::fault::Fault;
 use bb_lines::watched::Watched;
 use bb_machine::Limits;
-use bb_run::{Summary, run_decide};
+use bb_run::Summary;
 use bb_tape::{MapTape, Tape};
 use linked_list_allocator::LocalHeap;
 use std::process::Abort;
@@ -65,6 +66,7 @@ const BY_TREES: &[u8] = b"1RB1LB_1LA1RZ halt 6 4
 
 /// Decides the list, with a reader and a writer over arrays.
 fn decided_over_arrays<T: Tape>(
+    engine: Engine,
     bench: &mut Bench<T>,
     limits: &Limits,
     plan: Plan,
@@ -77,7 +79,7 @@ fn decided_over_arrays<T: Tape>(
     let mut sink = Sink::of(128, 128);
     let mut reader = Watched::new(MACHINES);
     let mut writer = Watched::new(&mut sink);
-    let end = run_decide(&mut reader, &mut writer, limits, plan, bench);
+    let end = engine.decide(&mut reader, &mut writer, limits, plan, bench);
     (end, sink)
 }
 
@@ -85,6 +87,7 @@ fn decided_over_arrays<T: Tape>(
 /// it did.
 fn deciding_wants_more(
     rt: &(impl Abort + AllocGlobal),
+    engine: Engine,
     heap: &LocalHeap,
     left: usize,
     plan: Plan,
@@ -98,11 +101,11 @@ fn deciding_wants_more(
     let left_tape = MapTape::new_in(heap, limits.cells());
     let mut bench = Bench::new(rt.alloc(), run, right, left_tape, &limits).expect(rt, "a bench");
     let rest: Vec<u8, &LocalHeap> = Vec::with_capacity(heap, HEAP - left)?;
-    let (end, sink) = decided_over_arrays(&mut bench, &limits, plan);
+    let (end, sink) = decided_over_arrays(engine, &mut bench, &limits, plan);
     drop(rest);
     let wanted = wanted_memory(rt, &end, sink.bytes.as_slice(), output);
     if wanted {
-        let (end, sink) = decided_over_arrays(&mut bench, &limits, plan);
+        let (end, sink) = decided_over_arrays(engine, &mut bench, &limits, plan);
         assert!(rt; end.is_ok() && sink.bytes.as_slice() == output, "again");
     }
     Ok(wanted)
@@ -111,12 +114,13 @@ fn deciding_wants_more(
 /// Decides a list with more and more bytes left for the tapes, until they are enough.
 fn deciding_on_a_heap(
     rt: &(impl Abort + AllocGlobal),
+    engine: Engine,
     plan: Plan,
     output: &[u8],
 ) -> Result<(), Fail> {
     let heap = LocalHeap::new(rt.alloc(), HEAP)?;
     for left in 0..HEAP {
-        if !deciding_wants_more(rt, &heap, left, plan, output)? {
+        if !deciding_wants_more(rt, engine, &heap, left, plan, output)? {
             assert!(rt; left > 0);
             return Ok(());
         }
@@ -126,15 +130,18 @@ fn deciding_on_a_heap(
 
 #[test]
 fn deciding_on_heaps_that_are_too_small(rt: HostRuntime) -> Result<(), Fail> {
-    deciding_on_a_heap(&rt, PAIRS, BY_PAIRS)?;
-    deciding_on_a_heap(&rt, TREES, BY_TREES)
+    for engine in Engine::BOTH {
+        deciding_on_a_heap(&rt, engine, PAIRS, BY_PAIRS)?;
+        deciding_on_a_heap(&rt, engine, TREES, BY_TREES)?;
+    }
+    Ok(())
 }
 
 /// More calls that may take memory than a run below makes.
 const MOST: u64 = 10_000;
 
 /// A bench of maps that refuse a call, each the one after so many.
-fn refusing_bench(
+pub(crate) fn refusing_bench(
     rt: &(impl Abort + AllocGlobal),
     limits: &Limits,
     before: [u64; 3],
@@ -156,17 +163,18 @@ fn will_refuse(bench: &Bench<CountingTape<MapTape>>) -> bool {
 /// Decides a list with a call of a tape refused, and again; whether there was such a call.
 fn deciding_is_refused(
     rt: &(impl Abort + AllocGlobal),
+    engine: Engine,
     plan: Plan,
     output: &[u8],
     before: [u64; 3],
 ) -> bool {
     let limits = Limits::new(1000, 64, 10, 100).expect(rt, "limits");
     let mut bench = refusing_bench(rt, &limits, before);
-    let (end, sink) = decided_over_arrays(&mut bench, &limits, plan);
+    let (end, sink) = decided_over_arrays(engine, &mut bench, &limits, plan);
     let refused = wanted_memory(rt, &end, sink.bytes.as_slice(), output);
     assert_eq!(rt; refused, !will_refuse(&bench));
     if refused {
-        let (end, sink) = decided_over_arrays(&mut bench, &limits, plan);
+        let (end, sink) = decided_over_arrays(engine, &mut bench, &limits, plan);
         assert!(rt;
             !wanted_memory(rt, &end, sink.bytes.as_slice(), output),
             "again"
@@ -178,6 +186,7 @@ fn deciding_is_refused(
 /// How many refusals end deciding, each in a run of its own, where all come from one of the tapes.
 fn refusals_of_deciding(
     rt: &(impl Abort + AllocGlobal),
+    engine: Engine,
     plan: Plan,
     output: &[u8],
     tape: usize,
@@ -188,22 +197,26 @@ fn refusals_of_deciding(
         _ => [NEVER, NEVER, k],
     };
     (0..MOST)
-        .position(|k| !deciding_is_refused(rt, plan, output, before(k)))
+        .position(|k| !deciding_is_refused(rt, engine, plan, output, before(k)))
         .expect(rt, "a run that isn't refused")
 }
 
-/// The first machine changes 4 cells, the second 127 in a whole run and 8 up to its records. Its whole run is
-/// compared with configurations 1, 2, 4 .. 64, its records with the first and the second; the third's run
-/// with configurations 1 and 2. The third's tree has 4 nodes, each with a cell that isn't known before.
+/// The first machine writes a 1 into 4 cells; the second writes a 1 in two steps of four, 64 times in a whole
+/// run of 127 steps and 4 times up to its records. Its whole run is compared with configurations 1, 2, 4 ..
+/// 64, its records with the first and the second; the third's run with configurations 1 and 2. The third's
+/// tree has 4 nodes, each with a cell that isn't known before. In one run the second goes up to its records,
+/// and the third, which writes no 1, up to its cycle and once more.
 #[test]
 fn deciding_ends_at_each_refusal(rt: HostRuntime) {
-    for (plan, output, changed, copied) in [
-        (PAIRS, BY_PAIRS, 4 + 127 + 127 + 8, 7 + 2 + 2),
-        (TREES, BY_TREES, 4 + 127 + 4, 0),
+    for (engine, plan, output, changed, copied) in [
+        (Engine::InTurn, PAIRS, BY_PAIRS, 4 + 64 + 64 + 4, 7 + 2 + 2),
+        (Engine::InTurn, TREES, BY_TREES, 4 + 64 + 4, 0),
+        (Engine::InOneRun, PAIRS, BY_PAIRS, 4 + 4, 2 + 2),
+        (Engine::InOneRun, TREES, BY_TREES, 4 + 64 + 4, 0),
     ] {
-        let while_running = refusals_of_deciding(&rt, plan, output, 0);
-        let at_right = refusals_of_deciding(&rt, plan, output, 1);
-        let at_left = refusals_of_deciding(&rt, plan, output, 2);
+        let while_running = refusals_of_deciding(&rt, engine, plan, output, 0);
+        let at_right = refusals_of_deciding(&rt, engine, plan, output, 1);
+        let at_left = refusals_of_deciding(&rt, engine, plan, output, 2);
         assert!(rt; changed <= while_running, "{while_running}");
         assert!(rt;
             copied <= at_right.saturating_add(at_left),
@@ -243,13 +256,13 @@ fn checking_is_refused(rt: &(impl Abort + AllocGlobal), before: [u64; 2]) -> boo
     refused
 }
 
-/// The first two claims change 4 and 8 cells, the tree has 4 nodes, and of each pair the first configuration
+/// The first two claims write a 1 4 times each, the tree has 4 nodes, and of each pair the first configuration
 /// is kept.
 #[test]
 fn checking_ends_at_each_refusal(rt: HostRuntime) {
     let while_running = (0..MOST).position(|k| !checking_is_refused(&rt, [k, NEVER]));
     let at_saving = (0..MOST).position(|k| !checking_is_refused(&rt, [NEVER, k]));
-    assert!(rt; while_running.is_some_and(|refused| 4 + 8 + 4 <= refused));
+    assert!(rt; while_running.is_some_and(|refused| 4 + 4 + 4 <= refused));
     assert!(rt; at_saving.is_some_and(|refused| 2 <= refused));
 }
 

@@ -8,6 +8,8 @@ mod checked_lists;
 #[cfg(test)]
 mod confirmed_verdicts;
 #[cfg(test)]
+mod counted_refusals;
+#[cfg(test)]
 mod counted_writes;
 #[cfg(test)]
 mod counts;

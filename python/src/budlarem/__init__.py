@@ -7,6 +7,18 @@
     1RA1RA translated R 1 2 1 1
 
 The verdicts are those of the library; nothing here decides anything, and nothing proves what is here.
+
+The calls, of which `help(budlarem.decide)` and so on say more:
+
+    decide, decide_bytes, decide_carried    the verdicts on a list of machines
+    check, check_bytes                      the checker's answers to a list of verdicts
+    parse, is_machine                       a verdict out of its line; whether a text is a machine
+    read                                    the machines of a list as people have them
+    judge, compare                          what others claim, or two lists, beside each other
+    normal, distinct, triage                the normal form of machines; how their cells grow
+    trace, picture, at                      the run of a machine, drawn too, and its later steps
+    report                                  a page on a list of verdicts
+    publish                                 an archive of a list, which others can check
 """
 
 from ._library import LibraryError
@@ -22,6 +34,8 @@ from .engine import (
     decide_bytes,
     trace,
 )
+from .claims import WORDS, Said, Word
+from .judging import Judged, Judgement, Judging, judge
 from .later import Place, at
 from .limits import Limits, LimitsError, Plan
 from .pictures import Picture, PictureError, picture
@@ -38,7 +52,9 @@ from .lists import (
     normal,
     triage,
 )
-from .reports import ReportError, report
+from .publishing import Published, PublishError, UnconfirmedError, publish
+from .reading import Reading, Reason, Rewriting, read
+from .reports import Report, ReportError, report
 from .verdicts import (
     Answer,
     Backward,
@@ -65,6 +81,9 @@ __all__ = [
     "Extent",
     "Growth",
     "Halt",
+    "Judged",
+    "Judgement",
+    "Judging",
     "LibraryError",
     "Limits",
     "LimitsError",
@@ -74,13 +93,23 @@ __all__ = [
     "PictureError",
     "Place",
     "Plan",
+    "PublishError",
+    "Published",
+    "Reading",
+    "Reason",
     "Refused",
+    "Report",
     "ReportError",
+    "Rewriting",
+    "Said",
     "Trace",
     "Translated",
     "Triage",
+    "UnconfirmedError",
     "Undecided",
     "Verdict",
+    "WORDS",
+    "Word",
     "__version__",
     "at",
     "check",
@@ -91,9 +120,12 @@ __all__ = [
     "decide_carried",
     "distinct",
     "is_machine",
+    "judge",
     "normal",
     "parse",
     "picture",
+    "publish",
+    "read",
     "report",
     "trace",
     "triage",

@@ -16,15 +16,18 @@ Given = TypeVar("Given")
 
 class Pace:
     """How much goes into a batch: twice as much after a short one, eight times as much after one that was
-    shorter than an eighth of that, half as much after a long one."""
+    shorter than an eighth of that, half as much after a long one. A steady pace is always the greatest."""
 
     SHORT, LONG = 0.05, 0.2  # seconds
 
-    def __init__(self, most: int) -> None:
-        self.now, self._most = 1, most
+    def __init__(self, most: int, is_steady: bool = False) -> None:
+        self.now, self._most = most if is_steady else 1, most
+        self._is_steady = is_steady
 
     def took(self, seconds: float) -> None:
         """Tells how long a batch took."""
+        if self._is_steady:
+            return
         if seconds < self.SHORT:
             self.now = min((8 if seconds < self.SHORT / 8 else 2) * self.now, self._most)
         elif seconds > self.LONG:

@@ -6,11 +6,11 @@ import dataclasses
 from typing import Callable, Iterable, Iterator, List, Optional, Sequence, Tuple, Union
 
 from . import _batches
-from ._batches import MOST_BYTES, MOST_LINES, Batch, Blocks
+from ._batches import LONG, MOST_BYTES, MOST_LINES, Batch, BinaryReader, Blocks
 from ._crew import Pace, in_order
 from ._library import NOT_CLEAN, SHORT, Reply, Room, forbid_fork, loaded
 from .limits import Limits, Plan, in_range, whole
-from .verdicts import STATES, VERDICTS, Answer, Refused, Verdict, verdict_of
+from .verdicts import STATES, VERDICTS, Answer, Refused, Verdict, hold_fields, verdict_of
 
 __all__ = [
     "Configuration",
@@ -23,6 +23,9 @@ __all__ = [
     "trace",
 ]
 
+# How many bytes a block has at most that is checked with large tapes; and from how many cells on a call costs
+# the tapes, so that batches are no smaller where claims are checked.
+_LARGE, _LARGE_TAPES = 1 << 22, 1 << 20
 # It makes a call over lines, and leaves the reply in the room.
 Call = Callable[[Room, bytes], None]
 _ANSWERS = {str(answer): answer for answer in Answer}
@@ -41,14 +44,15 @@ _SHORT_RUN = 100_000
 
 class MachineError(ValueError):
     """A text is no machine. `machine` is the text, `column` is 1 plus the length of its longest prefix that
-    begins one."""
+    begins one, `place` says which of a list it is, as `machines[2]`, where it is of one."""
 
-    def __init__(self, machine: str, column: int) -> None:
-        super().__init__(machine, column)
-        self.machine, self.column = machine, column
+    def __init__(self, machine: str, column: int, place: str = "") -> None:
+        super().__init__(machine, column, place)
+        self.machine, self.column, self.place = machine, column, place
 
     def __str__(self) -> str:
-        return "no machine, from column %d on: %.200r" % (self.column, self.machine)
+        told = "no machine, from column %d on: %.200r" % (self.column, self.machine)
+        return "%s: %s" % (self.place, told) if self.place else told
 
 
 def deciding(limits: Limits, plan: Plan) -> Call:
@@ -137,9 +141,26 @@ def decide(
     return (_verdict(machine, line) for machine, line in told)
 
 
+def column_of(text: str) -> Optional[int]:
+    """The column with which the library refuses a text; None where it is a machine. Nothing is run. Raises
+    LibraryError, RuntimeError, MemoryError."""
+    forbid_fork()
+    room = Room()
+    line = text.encode("utf-8", "surrogateescape")[:LONG]
+    deciding(Limits(0, 1, 0, 0), Plan(False, False, False))(room, line)
+    reply = room.reply().text
+    return int(reply.split()[1]) if reply.startswith(b"refused ") else None
+
+
 def _lines_of(items: Iterable[Union[str, Verdict]]) -> Iterator[str]:
-    """The lines of verdicts and lines; what is neither is left as it is."""
-    return (str(item) if isinstance(item, VERDICTS) else item for item in items)
+    """The lines of verdicts and lines; what is neither is left as it is. Raises TypeError, with its place,
+    for a verdict that has a field of another type."""
+    for place, item in enumerate(items):
+        if isinstance(item, VERDICTS):
+            hold_fields("lines[%d]" % place, item)
+            yield str(item)
+        else:
+            yield item
 
 
 def check(
@@ -154,13 +175,17 @@ def check(
     """
     threads = _made_ready(limits, Plan(), threads)
     _listed("lines", lines)
-    pace = Pace(MOST_LINES)
+    pace = _checking_pace(MOST_LINES, limits)
     told = _told(_batches.of_texts(_lines_of(lines), "lines", pace), checking(limits), threads, pace)
     return (_ANSWERS[answer] for _, answer in told)
 
 
-def _replies(blocks: Blocks, call: Call, threads: int) -> Iterator[bytes]:
-    pace = Pace(MOST_BYTES)
+def _checking_pace(most: int, limits: Limits) -> Pace:
+    """How many claims are checked together."""
+    return Pace(most, is_steady=limits.cells >= _LARGE_TAPES)
+
+
+def _replies(blocks: Blocks, call: Call, threads: int, pace: Pace) -> Iterator[bytes]:
     return (reply.text for _, reply in in_order(call, _batches.of_bytes(blocks, pace), threads, pace))
 
 
@@ -176,7 +201,7 @@ def decide_bytes(
     b'1RB1LB_1LA1RZ halt 6 4\\n'
     """
     threads = _made_ready(limits, plan, threads)
-    return _replies(blocks, deciding(limits, plan), threads)
+    return _replies(blocks, deciding(limits, plan), threads, Pace(MOST_BYTES))
 
 
 def check_bytes(blocks: Blocks, limits: Limits = Limits(), *, threads: int = 1) -> Iterator[bytes]:
@@ -187,7 +212,18 @@ def check_bytes(blocks: Blocks, limits: Limits = Limits(), *, threads: int = 1) 
     b'ok\\n'
     """
     threads = _made_ready(limits, Plan(), threads)
-    return _replies(blocks, checking(limits), threads)
+    return _replies(blocks, checking(limits), threads, _checking_pace(MOST_BYTES, limits))
+
+
+def checked(file: BinaryReader, limits: Limits, *, threads: int = 1) -> Iterator[Tuple[bytes, bytes]]:
+    """Lines of a file, and the bytes that `bb check` writes for them, in large blocks: with large tapes what a
+    call costs is the tapes. A line of more than LONG bytes is cut. Raises what `decide` does."""
+    threads = _made_ready(limits, Plan(), threads)
+    most = _LARGE if threads == 1 else _LARGE // 4
+    pace = Pace(most, is_steady=True)
+    blocks = iter(lambda: file.read(most), b"")
+    told = in_order(checking(limits), _batches.of_bytes(blocks, pace), threads, pace)
+    return ((lines, reply.text) for lines, reply in told)
 
 
 @dataclasses.dataclass(frozen=True)

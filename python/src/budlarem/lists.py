@@ -6,14 +6,17 @@ import collections
 import dataclasses
 import enum
 import math
-import re
 from typing import Deque, Dict, Iterable, Iterator, List, Optional, Tuple, Union
 
-from .engine import Trace, decide, trace
+from .engine import MachineError, decide, trace
 from .limits import Limits, Plan, in_range
+from .reading import Reading, read
+from .reading.files import Source
+from .same import form_of, turned
 from .verdicts import (
     STATES,
     VERDICTS,
+    Backward,
     Cycler,
     Halt,
     Refused,
@@ -38,41 +41,51 @@ __all__ = [
     "triage",
 ]
 
-_FIRST_FIELD = re.compile(r"([^\s,;]*)[\s,;]*(.*)", re.DOTALL)
-
 
 @dataclasses.dataclass(frozen=True)
 class Carried:
-    """A verdict, and what stood behind the machine on its line. As a text: the verdict line, and the other
-    fields behind a tab, where there are some."""
+    """A verdict, and the reading of its line. As a text: the verdict line, and what else stood on the line
+    behind a tab, where something did."""
 
     verdict: Verdict
-    fields: str
+    reading: Reading
+
+    @property
+    def fields(self) -> str:
+        """What else stood on the line; nothing where it was refused."""
+        return self.reading.fields
 
     def __str__(self) -> str:
         return "%s\t%s" % (self.verdict, self.fields) if self.fields else str(self.verdict)
 
 
 def decide_carried(
-    lines: Iterable[str], limits: Limits = Limits(), plan: Plan = Plan(), *, threads: int = 1
+    lines: Source, limits: Limits = Limits(), plan: Plan = Plan(), *, threads: int = 1
 ) -> Iterator[Carried]:
-    """Decides the machine that each line begins with, and carries along what stands behind it.
+    """Decides the machine of each line, wherever `read` finds it, and carries along what else stands there.
+    Where it finds none, the verdict is `Refused`, with the column at which `bb` refuses the line.
 
-    A machine ends before the first space, tab, comma or semicolon. Raises what `decide` does.
+    Takes what `read` takes. Raises what `read` and `decide` do.
 
-    >>> [str(carried) for carried in decide_carried(["1RB1LB_1LA1RZ, the champion", "1RA1RA"])]
-    ['1RB1LB_1LA1RZ halt 6 4\\tthe champion', '1RA1RA translated R 1 2 1 1']
+    >>> [str(carried) for carried in decide_carried(["1RB1LB_1LA1RZ, the champion", "1RA1RA", "x"])]
+    ['1RB1LB_1LA1RZ halt 6 4\\tthe champion', '1RA1RA translated R 1 2 1 1', 'refused 1']
     """
-    fields: Deque[str] = collections.deque()
+    return carried(read(lines), limits, plan, threads=threads)
+
+
+def carried(
+    readings: Iterable[Reading], limits: Limits = Limits(), plan: Plan = Plan(), *, threads: int = 1
+) -> Iterator[Carried]:
+    """The verdict of each reading."""
+    waiting: Deque[Reading] = collections.deque()
 
     def machines() -> Iterator[str]:
-        for line in lines:
-            found = _FIRST_FIELD.fullmatch(line) if isinstance(line, str) else None
-            fields.append(found.group(2).rstrip() if found else "")
-            yield found.group(1) if found else line
+        for reading in readings:
+            waiting.append(reading)
+            yield reading.line if reading.machine is None else reading.machine
 
     verdicts = decide(machines(), limits, plan, threads=threads)
-    return (Carried(verdict, fields.popleft()) for verdict in verdicts)
+    return (Carried(verdict, waiting.popleft()) for verdict in verdicts)
 
 
 class Agreement(enum.Enum):
@@ -117,7 +130,7 @@ def agreement(first: Verdict, second: Verdict, undefined_steps: bool = False) ->
     """How two verdicts on a machine go together.
 
     Those contradict each other that can't both be right: a halt and what never halts, two different halts, a
-    cycler and a translated cycler, translated cyclers to both sides.
+    cycler and a translated cycler, translated cyclers to both sides, two different trees.
     """
     if isinstance(first, Undecided) or isinstance(second, Undecided):
         if isinstance(first, Undecided) and isinstance(second, Undecided):
@@ -127,6 +140,8 @@ def agreement(first: Verdict, second: Verdict, undefined_steps: bool = False) ->
         alike = _halts_alike(first, second, undefined_steps)
     elif isinstance(first, Translated) and isinstance(second, Translated):
         alike = first.side == second.side
+    elif isinstance(first, Backward) and isinstance(second, Backward):
+        alike = first == second
     else:
         kinds = {type(first), type(second)}
         alike = Halt not in kinds and kinds != {Cycler, Translated}
@@ -162,6 +177,10 @@ class _Side:
             del self.waiting[machine]
         return verdict
 
+    def left(self) -> List[Verdict]:
+        """The verdicts that wait."""
+        return [verdict for verdicts in self.waiting.values() for verdict in verdicts]
+
 
 def compare(
     first: Iterable[Union[str, Verdict]],
@@ -172,7 +191,9 @@ def compare(
     """Compares two lists of verdicts, or verdict lines, by machine, in whatever order each is.
 
     Both are read side by side; what is held are the verdicts for which the other list had none yet, so lists
-    in about the same order take little memory. What only one has comes last. Refusals are left out, since
+    in about the same order take little memory. What is left then is compared by what the laws of verdicts
+    make the same: mirrored, or with other names for states and symbols. What only one has comes last.
+    Refusals are left out, since
     they don't tell their machine; fields behind a tab too. `undefined_steps`: one of the lists counts a step
     for an undefined entry.
 
@@ -197,10 +218,35 @@ def compare(
                 continue
             pair = (verdict, other) if here == 0 else (other, verdict)
             yield Comparison(agreement(*pair, undefined_steps), verdict.machine, *pair)
-    for machine, verdicts in sides[0].waiting.items():
-        yield from (Comparison(Agreement.ONLY_FIRST, machine, verdict, None) for verdict in verdicts)
-    for machine, verdicts in sides[1].waiting.items():
-        yield from (Comparison(Agreement.ONLY_SECOND, machine, None, verdict) for verdict in verdicts)
+    yield from _compared_by_form(sides[0].left(), sides[1].left(), undefined_steps)
+
+
+def _compared_by_form(
+    first: List[Verdict], second: List[Verdict], undefined_steps: bool
+) -> Iterator[Comparison]:
+    """Compares what has no machine of the same text in the other list: by what the laws of verdicts make the
+    same."""
+    waiting: Dict[str, List[Tuple[Verdict, bool]]] = collections.defaultdict(list)
+    for other in second if first else []:
+        form = form_of(_machine_of(other))
+        waiting[form.text].append((other, form.mirrored))
+    for verdict in first:
+        machine = _machine_of(verdict)
+        form = form_of(machine)
+        found = waiting.get(form.text)
+        if not found:
+            yield Comparison(Agreement.ONLY_FIRST, machine, verdict, None)
+            continue
+        other, mirrored = found.pop(0)
+        kind = agreement(verdict, turned(other, mirrored != form.mirrored), undefined_steps)
+        yield Comparison(kind, machine, verdict, other)
+    left = (other for pairs in waiting.values() for other, _ in pairs) if first else iter(second)
+    yield from (Comparison(Agreement.ONLY_SECOND, _machine_of(other), None, other) for other in left)
+
+
+def _machine_of(verdict: Verdict) -> str:
+    assert verdict.machine is not None
+    return verdict.machine
 
 
 @dataclasses.dataclass(frozen=True)
@@ -262,14 +308,19 @@ def distinct(
 ) -> Iterator[Tuple[Normal, Optional[str]]]:
     """The normal form of each machine, and the first machine before it that has the same one, or None.
 
-    What is held are the normal forms that were met. Raises what `trace` does.
+    What is held are the normal forms that were met. Raises what `trace` does, with the place of the item.
 
     >>> [(form.machine, before) for form, before in distinct(["1RA---", "1LA---"])]
     [('1RA---', None), ('1LA---', '1RA---')]
     """
     met: Dict[str, str] = {}
-    for machine in machines:
-        form = normal(machine, steps=steps, cells=cells)
+    for place, machine in enumerate(machines):
+        if not isinstance(machine, str):
+            raise TypeError("machines[%d] is of type %s, not str" % (place, type(machine).__name__))
+        try:
+            form = normal(machine, steps=steps, cells=cells)
+        except MachineError as error:
+            raise MachineError(machine, error.column, "machines[%d]" % place) from None
         before = met.setdefault(form.normal, machine) if form.normal in met else None
         met.setdefault(form.normal, machine)
         yield form, before
@@ -291,7 +342,7 @@ class Growth(enum.Enum):
 @dataclasses.dataclass(frozen=True)
 class Triage:
     """How many cells a run has visited after a hundredth of `steps`, a tenth, and all, and how that grows.
-    `steps` are fewer than asked for where the cells ended the run."""
+    `steps` are fewer than asked for where the cells ended the run, or the machine halted."""
 
     machine: str
     steps: int
@@ -317,11 +368,17 @@ def growth(visited: Tuple[int, int, int]) -> Growth:
     return Growth.ROOT if power < _ROOT[1] else Growth.LINE
 
 
-def _hundredths(machine: str, steps: int, cells: int) -> Tuple[Trace, List[int]]:
-    """The cells visited after each hundredth of the steps, and the trace that told them."""
+def _hundredths(machine: str, steps: int, cells: int) -> Tuple[Optional[bool], List[int]]:
+    """The cells visited after each hundredth of the steps, up to all of them; and whether the cells ended the
+    run before, None where it made all steps and went on."""
     apart = max(steps // 100, 1)
-    rows = trace(machine, steps, cells, apart, apart)
-    return rows, [len(now.cells) for now in rows]
+    rows = trace(machine, steps, cells, apart + steps % apart, apart)
+    counts, is_at_end = [], False
+    for now in rows:
+        counts.append(len(now.cells))
+        is_at_end = now.state == "Z"
+    went_on = len(counts) == steps // apart and not is_at_end
+    return (None if went_on else rows.cut), counts
 
 
 def last_step(machine: str, steps: int, cells: int = 65_536) -> int:
@@ -335,13 +392,23 @@ def last_step(machine: str, steps: int, cells: int = 65_536) -> int:
         apart = max(apart // 100, 1)
 
 
+def _triage_of_halting(machine: str, steps: int, cells: int) -> Triage:
+    """The triage of a machine that halts after so many steps."""
+    first, second, last = (
+        len(now.cells)
+        for step in (steps // 100, steps // 10, steps)
+        for now in trace(machine, step, cells, start=step)
+    )
+    return Triage(machine, steps, (first, second, last), Growth.HALTS)
+
+
 def triage(machine: str, *, steps: int = 1_000_000, cells: int = 65_536) -> Triage:
     """How the cells that a machine visits grow, looked at after `steps` / 100, / 10, and all of them.
 
     Staying: a tenth of the steps and all have the same cells. Else by the power of the steps with which they
     grow from the first look to the last: below 0.2 it is called a logarithm, below 0.8 a root, else a line.
-    Where the cells end the run, the steps are those that were made. It is a guess from three numbers, and
-    claims nothing.
+    Where the cells end the run, or the machine halts, the steps are those that were made. It is a guess from
+    three numbers, and claims nothing.
 
     Raises what `trace` does; LimitsError where the steps are fewer than 100.
 
@@ -349,13 +416,15 @@ def triage(machine: str, *, steps: int = 1_000_000, cells: int = 65_536) -> Tria
     <Growth.LINE: 'line'>
     """
     in_range("steps", steps, 100, Limits.RANGES["steps"][1])
-    rows, counts = _hundredths(machine, steps, cells)
-    if rows.cut:
+    is_cut, counts = _hundredths(machine, steps, cells)
+    if is_cut is not None:
         steps = last_step(machine, steps, cells)
-        rows, counts = _hundredths(machine, steps, cells)
+    if is_cut is False:
+        return _triage_of_halting(machine, steps, cells)
+    if is_cut:
+        counts = _hundredths(machine, steps, cells)[1]
     if len(counts) < 100:
         last = counts[-1] if counts else 0
-        ended = Growth.HALTS if rows.cut is False and steps >= 100 else Growth.LINE
-        return Triage(machine, steps, (last, last, last), ended)
-    visited = (counts[0], counts[9], counts[99])
+        return Triage(machine, steps, (last, last, last), Growth.LINE)
+    visited = (counts[len(counts) // 100 - 1], counts[len(counts) // 10 - 1], counts[-1])
     return Triage(machine, steps, visited, growth(visited))

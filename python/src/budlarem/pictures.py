@@ -9,6 +9,7 @@ import struct
 import zlib
 from typing import Dict, Iterable, Iterator, List, Optional, Sequence, Tuple, Union
 
+from ._errors import naming
 from .engine import Configuration, trace
 from .limits import in_range, whole
 from .verdicts import MOST_SYMBOLS, STATES, is_machine, size_of
@@ -71,8 +72,13 @@ class Picture:
     across: int = 1
 
     def save(self, path: Union[str, "os.PathLike[str]"]) -> None:
-        """Writes the PNG file. Raises OSError."""
-        with open(path, "wb") as file:
+        """Writes the PNG file. Raises PictureError where the name is one of another kind of file, OSError
+        where it can't be written."""
+        ending = os.path.splitext(os.fspath(path))[1]
+        if ending.lower() not in ("", ".png"):
+            told = os.fspath(path)
+            raise PictureError("%s: a picture is a PNG file, so not a name that ends in %s" % (told, ending))
+        with naming(path), open(path, "wb") as file:
             file.write(self.png)
 
     def _repr_png_(self) -> bytes:

@@ -18,6 +18,7 @@ import re
 import string
 from typing import Any, Callable, Counter, Dict, Iterable, Iterator, List, Optional, Sequence, Tuple, Union
 
+from ._errors import naming
 from .limits import Limits, in_range
 from .lists import Growth, Triage, triage
 from .pictures import COLOURS, HEAD, UNVISITED, Row, png, png_of_colours, spread
@@ -34,7 +35,7 @@ from .verdicts import (
     size_of,
 )
 
-__all__ = ["ReportError", "report"]
+__all__ = ["Report", "ReportError", "report"]
 
 KINDS = ["halt", "cycler", "translated", "backward", "undecided steps", "undecided cells", "refused"]
 # How many pixels a diagram has at most, across and down.
@@ -46,6 +47,20 @@ _INK, _BAR = "#010203", "#040506"
 
 class ReportError(RuntimeError):
     """What a report needs isn't installed. The text says what would do."""
+
+
+@dataclasses.dataclass(frozen=True)
+class Report:
+    """A report that was written: the path of its file, its title, and its text. A notebook shows it."""
+
+    path: str
+    title: str
+    html: str = dataclasses.field(repr=False)
+
+    def _repr_html_(self) -> str:
+        # In a frame, so that neither the page's styles nor the notebook's reach the other.
+        shown = html.escape(self.title), html.escape(self.html)
+        return '<iframe title="%s" srcdoc="%s" style="width:100%%;height:40rem;border:0"></iframe>' % shown
 
 
 @dataclasses.dataclass
@@ -125,7 +140,7 @@ def _modules() -> Tuple[Any, Any]:
         from matplotlib.figure import Figure
     except ImportError as error:
         raise ReportError(
-            "a report needs numpy and matplotlib (%s): pip install 'budlarem[report]', or on Debian"
+            "a report needs numpy and matplotlib (%s): pip install numpy matplotlib, or on Debian"
             " apt install python3-matplotlib" % error
         ) from None
     return numpy, (rc_context, Figure)
@@ -308,13 +323,14 @@ def report(
     cells: int = 65_536,
     threads: Optional[int] = None,
     title: str = "Verdicts",
-) -> None:
+) -> Report:
     """Writes one HTML file on a list of verdicts or verdict lines: counts, distributions, the longest runs,
     and a space-time diagram for undecided machines, smallest first, at most so many `diagrams`, grouped by
     how their cells grow.
 
     An undecided machine is run again, up to `steps` steps and `cells` cells, on so many `threads` (as many as
-    there are cores where not said). The list is read once and not held. A file at `path` is replaced whole.
+    there are cores where not said). The list is read once and not held. A file at `path` is replaced whole. A
+    notebook shows what is given back.
 
     Raises ReportError where numpy or matplotlib is missing, before anything is read; ValueError with its
     place for a text that is no verdict line; OSError where the file can't be written.
@@ -326,9 +342,12 @@ def report(
     found = gathered(verdicts, diagrams)
     machines = [machine for _, machine in found.smallest]
     told = all_shown(machines, steps, cells, threads or os.cpu_count() or 1)
+    page = _page(found, told, title)
     part = pathlib.Path(path).with_name(pathlib.Path(path).name + ".part")
     try:
-        part.write_text(_page(found, told, title), encoding="utf-8")
+        with naming(part):
+            part.write_text(page, encoding="utf-8")
         os.replace(part, path)
     finally:
         part.unlink(missing_ok=True)
+    return Report(os.fspath(path), title, page)

@@ -8,6 +8,8 @@ import functools
 import re
 from typing import Callable, ClassVar, Dict, List, Optional, Pattern, Tuple, Union
 
+from .limits import whole
+
 __all__ = [
     "Answer",
     "Backward",
@@ -142,6 +144,36 @@ Verdict = Union[Halt, Cycler, Translated, Backward, Undecided, Refused]
 VERDICTS = (Halt, Cycler, Translated, Backward, Undecided, Refused)
 
 
+# What type each field of a verdict has.
+_FIELDS: Dict[type, Dict[str, type]] = {
+    Halt: {"machine": str, "steps": int, "score": int},
+    Cycler: {"machine": str, "first": int, "second": int},
+    Translated: {"machine": str, "side": str, "first": int, "second": int},
+    Extent: {"shift": int, "length": int},
+    Backward: {"machine": str, "levels": int, "nodes": int},
+    Undecided: {"machine": str, "reason": str},
+    Refused: {"column": int},
+}
+
+
+def hold_fields(name: str, verdict: Union[Verdict, Extent]) -> None:
+    """Raises TypeError where a field of a verdict, which is called so, has another type than it must have: its
+    line would say something else."""
+    for field, kind in _FIELDS[type(verdict)].items():
+        given = getattr(verdict, field)
+        if type(given) is kind or isinstance(given, str) and kind is str:
+            continue
+        if kind is int:
+            whole("%s.%s" % (name, field), given)
+        else:
+            other = type(given).__name__
+            raise TypeError("%s.%s is %.100r of type %s, not str" % (name, field, given, other))
+    if isinstance(verdict, Translated) and verdict.extent is not None:
+        if not isinstance(verdict.extent, Extent):
+            raise TypeError("%s.extent is of type %s, not Extent" % (name, type(verdict.extent).__name__))
+        hold_fields(name + ".extent", verdict.extent)
+
+
 @functools.lru_cache(maxsize=None)
 def _shape(states: int, symbols: int) -> Pattern[str]:
     """What the text of each machine of so many states and symbols has to match."""
@@ -157,18 +189,20 @@ def size_of(machine: str) -> Tuple[int, int]:
 
 
 def is_machine(text: str) -> bool:
-    """Whether a text is a machine of 1 to 25 states and 2 to 10 symbols.
+    """Whether a text is a machine of 1 to 25 states and 2 to 10 symbols. Raises TypeError where it is no text.
 
     >>> is_machine("1RB1LB_1LA1RZ"), is_machine("1RB1LC_1LA1RZ")
     (True, False)
     """
+    if not isinstance(text, str):
+        raise TypeError("text is of type %s, not str" % type(text).__name__)
     states, symbols = size_of(text)
     if len(text) > LONGEST or states > len(STATES) or not 2 <= symbols <= MOST_SYMBOLS:
         return False
     return _shape(states, symbols).fullmatch(text) is not None
 
 
-def _number(word: str) -> int:
+def whole_number(word: str) -> int:
     """The number below 2^64 that a word is, without sign or leading zeros. Raises ValueError."""
     if len(word) > 20 or not _NUMBER.fullmatch(word) or int(word) >= _TOO_GREAT:
         raise ValueError
@@ -229,7 +263,7 @@ def verdict_of(machine: str, words: str, number: Reader = int) -> Verdict:
 
 def _refused(words: List[str]) -> Refused:
     (column,) = words
-    number = _number(column)
+    number = whole_number(column)
     if not 1 <= number <= LONGEST + 1:
         raise ValueError
     return Refused(number)
@@ -256,6 +290,6 @@ def parse(line: str) -> Verdict:
             return _refused(words.split(" "))
         if not is_machine(machine):
             raise ValueError
-        return verdict_of(machine, words, _number)
+        return verdict_of(machine, words, whole_number)
     except ValueError:
         raise ValueError("no verdict line: %.200r" % line) from None

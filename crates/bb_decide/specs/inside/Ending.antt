@@ -5,22 +5,20 @@ use Rattle.std.specs.Prelude.{Result, ℤ}
 use Rattle.bb_tape.specs.TapeView.{TapeView}
 use Rattle.bb_tape.specs.declared.tape.Memory.{Memory}
 use Rattle.bb_cert.specs.claims.Claim.{Claim}
-use Rattle.bb_cert.specs.declared.verdict.Side.{Side}
 use Rattle.bb_cert.specs.verdict.Extent.{TellsExtent}
 use Rattle.bb_cert.specs.verdict.Verdict.{HasNumbers}
 use Rattle.bb_machine.specs.Limits.{Bounds}
 use Rattle.bb_machine.specs.Machine.{Table}
 use Rattle.bb_machine.specs.declared.plan.Plan.{Plan}
-use Rattle.bb_sim.specs.Configuration.{Configuration}
 use Rattle.bb_sim.specs.declared.meter.Meter.{Meter}
 use Rattle.bb_sim.specs.declared.runner.Moved.{Moved}
 use Rattle.bb_sim.specs.declared.runner.Moved.TheVariants.{Halted, NoSteps, NoCells, Stepped}
 use Rattle.bb_sim.specs.declared.simulation.Outcome.{Outcome}
 use Rattle.bb_sim.specs.declared.simulation.Outcome.TheVariants as outcomes
-use Rattle.bb_sim.specs.Meter.{CountsRun, CountsTo, IsWithinRun}
+use Rattle.bb_sim.specs.Meter.{CountsPart, CountsRun, CountsTo, IsWithinRun}
 use Rattle.bb_sim.specs.Outcome.{IsOutcome}
-use Rattle.bb_sim.specs.Run.{Never, conf}
-use Rattle.bb_sim.specs.Span.{Inside}
+use Rattle.bb_sim.specs.Run.{Never}
+use Rattle.bb_sim.specs.Span.{span}
 use Rattle.bb_cert.specs.declared.verdict.Verdict.{Verdict}
 use Rattle.bb_cert.specs.declared.verdict.Verdict.TheVariants.{Halt, Cycler, Translated, Backward, Undecided}
 use Rattle.bb_cert.specs.declared.verdict.Why.TheVariants as why
@@ -28,9 +26,10 @@ use Rattle.bb_decide.specs.Bench.{BenchHasCells}
 use Rattle.bb_decide.specs.declared.bench.Bench.{Bench}
 use Rattle.bb_decide.specs.declared.ending.Ending.{Ending}
 use Rattle.bb_decide.specs.declared.ending.Ending.TheVariants.{Found, Ran}
-use Rattle.bb_decide.specs.Cycle.{CountsSearch, HasNoCycle, IsCycle, IsFirstCycle}
-use Rattle.bb_decide.specs.Fingerprint.{CostsWhatItNames, fingerprint}
-use Rattle.bb_decide.specs.Translation.{FindsTranslation, HasNoTranslation, IsFirstTranslation, IsTranslation}
+use Rattle.bb_decide.specs.Cycle.{CountsSearch, HasNoCycle, IsFirstCycle}
+use Rattle.bb_decide.specs.Fingerprint.{CostsWhatItNames}
+use Rattle.bb_decide.specs.OneRun.{IsStoppedAt, MakesRuns}
+use Rattle.bb_decide.specs.Translation.{FindsTranslation, HasNoTranslation, IsFirstTranslation}
 use Rattle.bb_decide.specs.inside.Search.{SearchesFind}
 
 -- what a search has found, if anything
@@ -71,32 +70,16 @@ abbrev pub RanAs : Table → Bounds → Ending → Type 0
 RanAs table bounds (Ran outcome) = IsOutcome table bounds outcome
 RanAs table bounds (Found verdict) = Unit {0}
 
--- a run was stopped at step n: no cycle is before, nor records that agree; configuration n has state,
--- position and fingerprint of an earlier one, with which it makes a cycle if the tapes are the same
-pub record IsSuspected (table : Table) (bounds : Bounds) (key : ℤ → ℕ) (n : ℕ) : Type 0 where
-  pub inside : Inside table bounds n
-  pub no_cycle : (a t : ℕ) → t < n → IsCycle table bounds a t → ⊥
-  pub no_translation : (side : Side) (a b : ℕ) → b < n → IsTranslation table bounds side a b → ⊥
-  pub first : ℕ
-  pub order : first < n
-  pub one : Configuration
-  pub other : Configuration
-  pub at_first : conf table first ≡ Some one
-  pub at_second : conf table n ≡ Some other
-  pub state : one.state ≡ other.state
-  pub head : one.head ≡ other.head
-  pub print : fingerprint key one.tape ≡ fingerprint key other.tape
-  pub cycle : one ≡ other → IsCycle table bounds first n
-
 -- what the watched run finds and counts; none where it was stopped
 abbrev pub Watches : Table → Bounds → (ℤ → ℕ) → Meter → Meter → Option Ending → Type 0
 Watches table bounds key old new None =
-    (n : ℕ) × IsSuspected table bounds key n × CountsTo table n old new
+    (n : ℕ) × IsStoppedAt key table bounds n × CountsTo table n old new
 Watches table bounds key old new (Some (Found verdict)) =
     FindsTranslation table bounds (Some verdict) × CountsSearch table bounds old new (Some verdict)
+    × ((n : ℕ) → IsStoppedAt key table bounds n → ⊥)
 Watches table bounds key old new (Some (Ran outcome)) =
     HasNoTranslation table bounds × CountsRun table bounds old new × IsOutcome table bounds outcome
-    × HasNoCycle table bounds
+    × HasNoCycle table bounds × ((n : ℕ) → IsStoppedAt key table bounds n → ⊥)
 
 -- what a search promises, that for cycles or that for records that agree: what it finds, as `Finds` says, or
 -- how its run ended; what it has counted; and the bench as it was, but for what its tapes hold
@@ -106,6 +89,7 @@ pub record Seeks {T : Type 0} (Finds : Option Verdict → Type 0) (grows : Bool)
   pub found : IfOk result (λ ending. Finds (found_of ending))
   pub ran : IfOk result (RanAs table bounds)
   pub counted : IfOk result (λ ending. CountsSearch table bounds old new (found_of ending))
+  pub cut : OnErr result (CountsPart table bounds old new)
   pub within : IsWithinRun bounds old new
   pub never : IfOk result (λ ending. IfSome (found_of ending) (λ verdict. Never table))
   pub promised : EndsPromised table grows result
@@ -117,6 +101,7 @@ pub record WatchesRun {T : Type 0} (grows : Bool) (view : T → TapeView) (table
     (key : ℤ → ℕ) (bench_old bench_new : Bench T) (old new : Meter) (result : Result (Option Ending) Memory)
     : Type 0 where
   pub watched : IfOk result (Watches table bounds key old new)
+  pub cut : OnErr result (CountsPart table bounds old new)
   pub within : IsWithinRun bounds old new
   pub promised : WatchPromised table grows result
   pub tapes : BenchHasCells view bounds.cells bench_new
@@ -146,6 +131,15 @@ pub record IsWithinThreeRuns (bounds : Bounds) (old new : Meter) : Type 0 where
   pub most_cells : new.most_cells ≤ max old.most_cells bounds.cells
   pub nodes : new.nodes ≡ old.nodes
   pub most_levels : new.most_levels ≡ old.most_levels
+
+-- the runs that are made with these searches on were counted: their steps, and the span at the last step of any
+pub record AddsRuns (key : ℤ → ℕ) (table : Table) (bounds : Bounds) (cyclers translated : Bool)
+    (old new : Meter) : Type 0 where
+  pub count : ℕ
+  pub latest : ℕ
+  pub runs : MakesRuns key table bounds cyclers translated count latest
+  pub steps : new.steps ≡ old.steps + count
+  pub most_cells : new.most_cells ≡ max old.most_cells (span table latest)
 
 -- the verdict that an outcome is, where no decider finds anything
 abbrev pub verdict_of_outcome : Outcome → Verdict

@@ -7,7 +7,7 @@ use Rattle.bb_tape.specs.TapeView.{TapeView}
 use Rattle.bb_tape.specs.declared.tape.Memory.{Memory}
 use Rattle.bb_sim.specs.declared.meter.Meter.{Meter}
 use Rattle.bb_sim.specs.declared.simulation.Outcome.{Outcome}
-use Rattle.bb_sim.specs.Meter.{CountsRun, IsWithinRun}
+use Rattle.bb_sim.specs.Meter.{CountsPart, CountsRun, IsWithinRun}
 use Rattle.bb_sim.specs.Outcome.{IsOutcome}
 
 -- how a run within bounds ends, and what was counted of it; no memory is left only on a tape that grows
@@ -15,6 +15,7 @@ pub record Simulates (grows : Bool) (table : Table) (bounds : Bounds) (old new :
     (meter_old meter_new : Meter) (result : Result Outcome Memory) : Type 0 where
   pub outcome : IfOk result (IsOutcome table bounds)
   pub counted : OnOk result (CountsRun table bounds meter_old meter_new)
+  pub cut : OnErr result (CountsPart table bounds meter_old meter_new)
   pub within : IsWithinRun bounds meter_old meter_new
   pub limit : new.limit ≡ old.limit
   pub memory : OnErr result (IsTrue grows)

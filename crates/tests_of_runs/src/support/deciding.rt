@@ -3,18 +3,20 @@ ghost use Rattle.std.specs.Prelude.{◌≡◌};
 ghost use Rattle.bb_cert.specs.tree.Path.{depth_of};
 ghost use Rattle.bb_decide.specs.Bench.{BenchHasCells};
 
+use crate::support::engine::Engine;
 use crate::support::rows::Row;
 use bb_decide::{Bench, Plan};
 use bb_lines::fault::Fault;
 use bb_lines::watched::Watched;
 use bb_machine::Limits;
-use bb_run::{Summary, ring_bench, run_decide, run_decide_in_one_run};
+use bb_run::{Summary, ring_bench};
 use bb_tape::{MapTape, Tape};
 use std::process::Abort;
 
 /// Decides a list, and answers what was written, too.
 pub(crate) fn decided<T: Tape>(
     rt: &(impl Abort + AllocGlobal),
+    engine: Engine,
     bench: &mut Bench<T>,
     limits: &Limits,
     plan: Plan,
@@ -27,7 +29,7 @@ pub(crate) fn decided<T: Tape>(
 {
     let mut reader = Watched::new(input);
     let mut writer = Watched::new(Vec::new(rt.alloc()));
-    let end = run_decide(&mut reader, &mut writer, limits, plan, bench);
+    let end = engine.decide(&mut reader, &mut writer, limits, plan, bench);
     (end, writer.into_inner())
 }
 
@@ -42,7 +44,7 @@ pub(crate) fn decided_on_maps(
     let right = MapTape::new(rt.alloc(), limits.cells());
     let left = MapTape::new(rt.alloc(), limits.cells());
     let mut bench = Bench::new(rt.alloc(), run, right, left, limits).expect(rt, "a bench");
-    decided(rt, &mut bench, limits, plan, input)
+    decided(rt, Engine::InTurn, &mut bench, limits, plan, input)
 }
 
 /// The same on rings.
@@ -53,7 +55,7 @@ pub(crate) fn decided_on_rings(
     input: &[u8],
 ) -> (Result<Summary, Fault>, Vec<u8>) {
     let mut bench = ring_bench(rt.alloc(), limits).expect(rt, "a bench");
-    decided(rt, &mut bench, limits, plan, input)
+    decided(rt, Engine::InTurn, &mut bench, limits, plan, input)
 }
 
 /// Decides a list on rings, each machine in one run.
@@ -64,10 +66,7 @@ pub(crate) fn decided_in_one_run(
     input: &[u8],
 ) -> (Result<Summary, Fault>, Vec<u8>) {
     let mut bench = ring_bench(rt.alloc(), limits).expect(rt, "a bench");
-    let mut reader = Watched::new(input);
-    let mut writer = Watched::new(Vec::new(rt.alloc()));
-    let end = run_decide_in_one_run(&mut reader, &mut writer, limits, plan, &mut bench);
-    (end, writer.into_inner())
+    decided(rt, Engine::InOneRun, &mut bench, limits, plan, input)
 }
 
 /// Each input is decided to its output, on maps and on rings, and in one run.

@@ -44,8 +44,7 @@ def distributed() -> Any:
         return importlib.import_module("distributed")
     except ImportError as error:
         raise RunError(
-            "dask isn't installed (%s): pip install 'budlarem[cluster]', or Debian's python3-distributed"
-            % error
+            "dask isn't installed (%s): pip install distributed, or Debian's python3-distributed" % error
         ) from None
 
 

@@ -1,7 +1,8 @@
 """The command `budlarem run`.
 
 Its statuses: 0 where all lines are machines, 1 where a line was refused or the checker doesn't confirm a
-verdict, 2 where command, limits or folder were refused, 3 for a fault, 130 after an interruption.
+verdict, 2 where command, limits or folder were refused, 3 for a fault, 130 after an interruption, 143 and 129
+after SIGTERM and SIGHUP.
 """
 
 from __future__ import annotations
@@ -15,8 +16,9 @@ from typing import List, Optional
 
 from ..limits import Limits
 from .cutting import MOST_LINES
-from .errors import CheckError, FolderError, RunError
+from .errors import CheckError, FolderError, ListError, RunError
 from .folder import VERDICTS, Folder, limits_of
+from .forms import hold_form
 from .passes import Manner
 from .progress import Progress
 from .source import ListFile
@@ -27,7 +29,9 @@ from .workplace import Workplace, threads
 _HELP = """Decides a list of any length in pieces, on all cores of this computer or by dask's workers. FOLDER
 gets verdicts.txt, with a line for each line of LIST in its order, and summary.json. Whatever ended it, the
 same command goes on after what stands. More passes may be added at the end of the command later: they decide
-what is left."""
+what is left. Lines are read as they are, for speed: where more than half of the first thousand would be
+refused, nothing is decided, and the first of them is told; `budlarem read` takes the machines out of a list in
+other forms."""
 
 # dask's options of TLS, and what its client calls them.
 TLS = {
@@ -67,16 +71,23 @@ def add_command(commands: "argparse._SubParsersAction[argparse.ArgumentParser]")
 
 
 def end_at_interruption(progress: Progress, folder: str) -> None:
-    """Has SIGINT end the process at once, with a sentence: what stands is on the disk."""
-    if signal.getsignal(signal.SIGINT) is signal.SIG_IGN:
-        return
-    text = "%sbudlarem: interrupted; the same command goes on after what stands in %s\n"
+    """Has SIGINT, SIGTERM and SIGHUP end the process at once, with a sentence: what stands is on the disk."""
+    text = "%sbudlarem: %s; the same command goes on after what stands in %s\n"
+    words = {
+        signal.SIGINT: "interrupted",
+        signal.SIGTERM: "ended by SIGTERM",
+        signal.SIGHUP: "ended by SIGHUP",
+    }
 
     def end(number: int, frame: Optional[FrameType]) -> None:
-        os.write(2, (text % (progress.cleared(), folder)).encode("utf-8", "replace"))
-        os._exit(130)
+        told = text % (progress.cleared(), words[signal.Signals(number)], folder)
+        with contextlib.suppress(OSError):
+            os.write(2, told.encode("utf-8", "replace"))
+        os._exit(128 + number)
 
-    signal.signal(signal.SIGINT, end)
+    for number in words:
+        if signal.getsignal(number) is not signal.SIG_IGN:
+            signal.signal(number, end)
 
 
 def _hold_readable(option: str, path: str) -> None:
@@ -115,6 +126,14 @@ def passes_of(words: Optional[List[str]]) -> List[Limits]:
     return [limits_of(word) for word in words] if words else [Limits()]
 
 
+def _opened(path: str) -> ListFile:
+    """The list. Raises ListError."""
+    try:
+        return ListFile(path)
+    except OSError as error:
+        raise ListError("the list %s can't be read: %s" % (path, error.strerror or error)) from None
+
+
 def do_run(asked: argparse.Namespace) -> int:
     """Decides a list; gives the status."""
     progress = Progress()
@@ -124,9 +143,10 @@ def do_run(asked: argparse.Namespace) -> int:
     end_at_interruption(progress, asked.out)
     try:
         place = _workplace(asked, progress)
-        with contextlib.closing(ListFile(asked.list)) as source, contextlib.closing(
-            Folder(asked.out)
-        ) as folder:
+        with contextlib.ExitStack() as opened:
+            source = opened.enter_context(contextlib.closing(_opened(asked.list)))
+            hold_form(source)
+            folder = opened.enter_context(contextlib.closing(Folder(asked.out)))
             manner = Manner(place, identity(), progress, source.name, asked.piece, asked.check)
             outcome = run(folder, source, passes, manner)
         progress.tell("%s; %s" % (outcome, os.path.join(asked.out, VERDICTS)))
@@ -137,6 +157,8 @@ def do_run(asked: argparse.Namespace) -> int:
     except CheckError as error:
         progress.tell(str(error))
         return 1
+    except ListError as error:
+        progress.tell(str(error))
     except RunError as error:
         progress.tell("%s; the same command goes on after what stands" % error)
     except OSError as error:

@@ -7,6 +7,10 @@ class FolderError(ValueError):
     """The folder, the list or the words don't go together; nothing was changed. Status 2."""
 
 
+class ListError(Exception):
+    """The list can't be opened, so nothing was begun. Status 3."""
+
+
 class RunError(Exception):
     """A fault: what stands is kept, and the same command goes on after it. Status 3."""
 

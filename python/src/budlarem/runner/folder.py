@@ -9,20 +9,49 @@ import fcntl
 import json
 import os
 import re
+import shlex
+import string
 from concurrent.futures import Future, ThreadPoolExecutor
 from typing import Any, Deque, Dict, Iterator, List, Optional, Sequence, Tuple
 
+from .._errors import naming
 from ..limits import Limits
 from .errors import FolderError, RunError
 from .journal import Journal, hash_of
+from .source import STANDARD_INPUT
 from .tasks import Identity
 
 FORMAT = 1
 PART = ".part"
-LOCK, RUN, VERDICTS, SUMMARY = "lock", "run.json", "verdicts.txt", "summary.json"
+LOCK, RUN, README, VERDICTS, SUMMARY = "lock", "run.json", "README.txt", "verdicts.txt", "summary.json"
+_PAGE = string.Template(
+    """Verdicts on the machines of $list
+
+`budlarem run` made this folder (version $version, commit $commit).
+
+  verdicts.txt  a verdict for each line of the list, in its order, once the run is
+                at its end
+  summary.json  counts, limits and times, from then on
+  run.json      what the run was begun with
+  pass-1, ..    what each pass decided so far, piece by piece; these folders may
+                be removed when no pass will be added
+  lock          held while a run works here
+  README.txt    this page
+
+Whatever ended the run, it goes on by the same command, where it was begun$same.
+More passes may be added at its end; they decide what is left.
+
+    $go_on
+
+The verdicts are checked again, and published, by
+
+    $check
+    $publish
+"""
+)
 # How many threads read pieces ahead, and hold each against its hash.
 _READERS = 3
-_OURS = re.compile("lock|run.json|verdicts.txt|summary.json|pass-[0-9]+|.*[.]part")
+_OURS = re.compile("lock|run.json|README.txt|verdicts.txt|summary.json|pass-[0-9]+|.*[.]part")
 
 
 def settle_folder(path: str) -> None:
@@ -38,7 +67,7 @@ def write_whole(path: str, blocks: Iterator[bytes], settle_name: bool = True) ->
     """Writes a file whole or not at all, whatever ends the process. Raises OSError; nothing is left then."""
     part = path + PART
     try:
-        with open(part, "wb") as file:
+        with naming(part), open(part, "wb") as file:
             for block in blocks:
                 file.write(block)
             file.flush()
@@ -78,6 +107,31 @@ class Begun:
         }
         return json.dumps(told, indent=2) + "\n"
 
+    def page(self, folder: str) -> str:
+        """What the files of the folder are, and with which commands it goes on."""
+        is_piped = self.list_name == STANDARD_INPUT
+        listed = "-" if is_piped else self.list_name
+        named = [word for limits in self.passes for word in ("--pass", words_of(limits))]
+        told = {
+            "list": self.list_name,
+            "same": ", with the same list on standard input" if is_piped else "",
+            "go_on": shlex.join(["budlarem", "run", listed, "--out", folder, *named]),
+            "check": shlex.join(["budlarem", "check", os.path.join(folder, VERDICTS)]),
+            "publish": shlex.join(
+                [
+                    "budlarem",
+                    "publish",
+                    os.path.basename(os.path.abspath(folder)) + ".tar",
+                    "--verdicts",
+                    folder,
+                ]
+                + ([] if is_piped else ["--list", listed])
+            ),
+            "version": self.identity.version,
+            "commit": self.identity.commit,
+        }
+        return _PAGE.substitute(told)
+
     @classmethod
     def read(cls, text: str) -> Begun:
         """What a text says. Raises ValueError, TypeError, KeyError where it can't be."""
@@ -113,6 +167,8 @@ class Folder:
 
     def __init__(self, path: str) -> None:
         self.path = path
+        if os.path.exists(path) and not os.path.isdir(path):
+            raise FolderError("%s is a file; give a folder, which may be one that isn't there yet" % path)
         os.makedirs(path, exist_ok=True)
         foreign = [name for name in sorted(os.listdir(path)) if not _OURS.fullmatch(name)]
         if foreign and not os.path.exists(self.at(RUN)):
@@ -143,6 +199,11 @@ class Folder:
     def begin(self, begun: Begun) -> None:
         """Writes down what it is begun with."""
         write_whole(self.at(RUN), iter([begun.text().encode()]))
+
+    def explain(self, begun: Begun) -> None:
+        """Writes the page that says what its files are."""
+        page = begun.page(self.path).encode("utf-8", "surrogateescape")
+        write_whole(self.at(README), iter([page]))
 
     def open_pass(self, passes: Sequence[Limits], identity: Identity) -> PassFolder:
         """The folder of the last of these passes."""

@@ -13,6 +13,8 @@ import hashlib
 import os
 from typing import Optional, Tuple
 
+from .._errors import naming
+
 _TEXT = "%-7s %13d %9d %9d %s %9d %s %12d "
 _SEAL = 32
 WIDTH = len(_TEXT % ("", 0, 0, 0, "0" * 64, 0, "0" * 64, 0)) + _SEAL + 1
@@ -58,6 +60,7 @@ class Journal:
     """The journal of one pass, open for reading and writing. `key` says which pass of which run it is."""
 
     def __init__(self, path: str, key: str) -> None:
+        self._path = path
         self._number = os.open(path, os.O_RDWR | os.O_CREAT | os.O_CLOEXEC, 0o666)
         self._key = key
         self._length = os.fstat(self._number).st_size // WIDTH
@@ -92,9 +95,10 @@ class Journal:
             record.milliseconds,
         )
         line, place = self._sealed(index, text).encode(), index * WIDTH
-        while line:
-            count = os.pwrite(self._number, line, place)
-            line, place = line[count:], place + count
+        with naming(self._path):
+            while line:
+                count = os.pwrite(self._number, line, place)
+                line, place = line[count:], place + count
         self._length = max(self._length, index + 1)
 
     def settle(self) -> None:

@@ -2,16 +2,19 @@
 
 from __future__ import annotations
 
+import errno
 import gzip
 import io
+import itertools
 import os
 import stat
 import zlib
-from typing import Iterator, Optional, Tuple
+from typing import Iterator, List, Optional, Tuple
 
 from .._batches import LONG
 from .errors import RunError
 
+STANDARD_INPUT = "standard input"
 BLOCK = 1 << 19
 _GZIP = b"\x1f\x8b"
 # So few lines are found one by one.
@@ -112,13 +115,16 @@ class ListFile:
     opened."""
 
     def __init__(self, path: str) -> None:
-        self.name = "standard input" if path == "-" else path
+        self.name = STANDARD_INPUT if path == "-" else path
+        if os.path.isdir(path) and path != "-":
+            raise IsADirectoryError(errno.EISDIR, "it is a folder, and a file is asked for", path)
         number = 0 if path == "-" else os.open(path, os.O_RDONLY | os.O_CLOEXEC)
         self._raw = io.FileIO(number, closefd=path != "-")
         self._file = io.BufferedReader(self._raw, BLOCK)
         self._begin = os.fstat(number)
         self.is_regular = stat.S_ISREG(self._begin.st_mode)
         self.is_compressed = self._file.peek(2)[:2] == _GZIP
+        self._blocks = self._read_blocks()
 
     @property
     def size(self) -> Optional[int]:
@@ -132,8 +138,26 @@ class ListFile:
             return None
         return min((self._raw.tell() if self.is_compressed else taken) / self.size, 1.0)
 
+    def first_lines(self, most: int) -> List[bytes]:
+        """Its first lines, so many at most, none longer than LONG bytes; `blocks` gives them again. Raises
+        what that does."""
+        held: List[bytes] = []
+        count = 0
+        while count < most:
+            block = next(self._blocks, b"")
+            if not block:
+                break
+            held.append(block)
+            count += block.count(b"\n")
+        self._blocks = itertools.chain(held, self._blocks)
+        lines = b"".join(held).split(b"\n")
+        return [line[:LONG] for line in (lines if lines[-1] else lines[:-1])[:most]]
+
     def blocks(self) -> Iterator[bytes]:
         """Its bytes, cut anywhere. Raises RunError where it can't be read, or changed meanwhile."""
+        return self._blocks
+
+    def _read_blocks(self) -> Iterator[bytes]:
         opened: io.BufferedIOBase = self._file
         if self.is_compressed:
             opened = gzip.GzipFile(fileobj=self._file)

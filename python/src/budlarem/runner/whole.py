@@ -43,6 +43,7 @@ def run(folder: Folder, source: ListFile, passes: Sequence[Limits], manner: Mann
     RunError, OSError."""
     began = time.time()
     begun = begin(folder, source, passes, manner)
+    folder.explain(begun)
     folders: List[PassFolder] = []
     results: List[PassResult] = []
     for number, limits in enumerate(passes, 1):

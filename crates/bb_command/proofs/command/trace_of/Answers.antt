@@ -7,7 +7,7 @@ use Rattle.bb_command.proofs.command.trace_of.Goals as goal
 
 pub returns-clause-asked : goal.returns-clause-asked
 returns-clause-asked c = record {
-  request =
+  work =
       c.in_ok-from_str.ensures.ok
       ∙ ap (λ text. text.now) c.unwrap_or-text.ensures
       ∙ text_or c.get_str.result _

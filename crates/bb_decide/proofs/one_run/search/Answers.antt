@@ -1,5 +1,7 @@
 use Rattle.std.proofs.Common.{arith}
+use Rattle.bb_decide.proofs.Costs.{if_ok_on, off_is, on_is}
 use Rattle.bb_decide.proofs.OneRun.{cycle_costs, if_ok_both, run_costs}
+use Rattle.bb_decide.proofs.RunsMade.{cycles_add, no_search_adds, translations_add}
 use Rattle.bb_decide.proofs.one_run.search.Goals as goal
 
 pub simulate-requires-clause-room : goal.simulate-requires-clause-room
@@ -22,3 +24,24 @@ pub returns-then-not-plan-3-clause-costs : goal.returns-then-not-plan-3-clause-c
 returns-then-not-plan-3-clause-costs g c =
     if_ok_both c.seek_translation.result _ _ _ (cycle_costs _ _ _ _ _ c.requires.steps)
     c.seek_translation.ensures.ran c.seek_translation.ensures.counted
+
+pub returns-then-not-plan-2-clause-adds : goal.returns-then-not-plan-2-clause-adds
+returns-then-not-plan-2-clause-adds g c =
+    rw (off_is _ c.if-not-plan.true, off_is _ c.if-not-plan-2.true)
+    (no_search_adds _ _ _ c.in_ok-outcome.ensures.counted)
+
+pub returns-then-not-plan-clause-adds : goal.returns-then-not-plan-clause-adds
+returns-then-not-plan-clause-adds g c =
+    rw (off_is _ c.if-not-plan.true, on_is _ c.if-not-plan-2.false)
+    (if_ok_on c.seek_cycle.result _ _ _ (cycles_add _ _ _) c.seek_cycle.ensures.found
+    c.seek_cycle.ensures.counted)
+
+pub returns-then-not-plan-3-clause-adds : goal.returns-then-not-plan-3-clause-adds
+returns-then-not-plan-3-clause-adds g c =
+    rw (on_is _ c.if-not-plan.false, off_is _ c.if-not-plan-3.true)
+    (if_ok_on c.seek_translation.result _ _ _ (translations_add _ _ _) c.seek_translation.ensures.found
+    c.seek_translation.ensures.counted)
+
+pub returns-clause-adds : goal.returns-clause-adds
+returns-clause-adds g c =
+    rw (on_is _ c.if-not-plan.false, on_is _ c.if-not-plan-3.false) c.search_both.ensures.adds

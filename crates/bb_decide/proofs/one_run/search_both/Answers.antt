@@ -1,6 +1,8 @@
 use Rattle.std.proofs.Common.{sym, ◌∙◌}
 use Rattle.bb_decide.proofs.OneRun.{both_end, chance_costs, exact_costs, if_ok_both, open_finds_none}
 use Rattle.bb_decide.proofs.OneRun.{settled_ends, watched_costs, watched_ends}
+use Rattle.bb_decide.proofs.Costs.{if_ok_on}
+use Rattle.bb_decide.proofs.RunsMade.{open_adds, settled_adds, watched_adds}
 use Rattle.bb_decide.proofs.one_run.search_both.Goals as goal
 
 pub returns-in-Some-clause-ended : goal.returns-in-Some-clause-ended
@@ -37,3 +39,21 @@ returns-clause-costs g c =
     c.in_ok-ending-2.ensures.found in
     if_ok_both c.seek_translation.result _ _ _ (chance_costs watched.1 none c.seek_translation.new.meter.steps)
     c.seek_translation.ensures.found c.seek_translation.ensures.ran
+
+pub returns-in-Some-clause-adds : goal.returns-in-Some-clause-adds
+returns-in-Some-clause-adds g c =
+    watched_adds _ _ _ c.in-Some.ending (rw c.in-Some.is at c.in_ok-ending.ensures.watched)
+
+pub returns-then-is_settled-clause-adds : goal.returns-then-is_settled-clause-adds
+returns-then-is_settled-clause-adds g c =
+    let watched = rw c.in-None.is at c.in_ok-ending.ensures.watched in
+    settled_adds watched.1 watched.2 c.in_ok-ending-2.ending (sym c.is_settled.ensures ∙ c.if-is_settled.true)
+    c.in_ok-ending-2.ensures.found c.in_ok-ending-2.ensures.ran c.in_ok-ending-2.ensures.counted
+
+pub returns-clause-adds : goal.returns-clause-adds
+returns-clause-adds g c =
+    let watched = rw c.in-None.is at c.in_ok-ending.ensures.watched in
+    if_ok_on c.seek_translation.result _ _ _
+    (open_adds watched.1 watched.2 _ c.in_ok-ending-2.ending (sym c.is_settled.ensures ∙ c.if-is_settled.false)
+    c.in_ok-ending-2.ensures.found c.in_ok-ending-2.ensures.ran c.in_ok-ending-2.ensures.counted)
+    c.seek_translation.ensures.found c.seek_translation.ensures.counted

@@ -2,7 +2,8 @@ use Rattle.std.proofs.Common.{Some, None, ap, ◌∙◌}
 use Rattle.bb_sim.specs.declared.meter.Meter.{Meter}
 use Rattle.bb_decide.proofs.OneRun.{found_is_verdict, no_walk_at_halt, no_walk_beside}
 use Rattle.bb_decide.proofs.OneRun.{walk_counted}
-use Rattle.bb_decide.proofs.Costs.{on_where_not}
+use Rattle.bb_decide.proofs.Costs.{off_where_not, on_where_not}
+use Rattle.bb_decide.proofs.RunsMade.{runs_counted, runs_counted_beside}
 use Rattle.bb_decide.proofs.one_run.settle.Goals as goal
 use Rattle.bb_decide.proofs.one_run.settle.Goals.{in-NoSteps, in-NoCells}
 
@@ -51,4 +52,38 @@ returns-in-None-clause-walk g c =
       | in-NoCells w ↦
           let ended = rw (c.in-Ran.is, w.in-NoCells.is) at c.in_ok-verdict.ensures.ended in
           walk_counted _ _ _ None c.search.new.meter _ ended.0.0 ended.1 on found counted
+    ]
+
+pub returns-in-Found-clause-counted : goal.returns-in-Found-clause-counted
+returns-in-Found-clause-counted g c =
+    runs_counted c.args.plan c.new.ensures c.in_ok-verdict.ensures.adds
+
+pub returns-in-Halt-clause-counted : goal.returns-in-Halt-clause-counted
+returns-in-Halt-clause-counted g c =
+    runs_counted c.args.plan c.new.ensures c.in_ok-verdict.ensures.adds
+
+pub returns-then-not-plan-clause-counted : goal.returns-then-not-plan-clause-counted
+returns-then-not-plan-clause-counted g c =
+    runs_counted c.args.plan c.new.ensures c.in_ok-verdict.ensures.adds
+
+pub returns-in-Some-clause-counted : goal.returns-in-Some-clause-counted
+returns-in-Some-clause-counted g c =
+    runs_counted_beside c.args.plan c.new.ensures c.in_ok-verdict.ensures.adds _ _
+    c.in_ok-verdict-2.ensures.counted
+
+pub returns-in-None-clause-counted : goal.returns-in-None-clause-counted
+returns-in-None-clause-counted g c =
+    runs_counted_beside c.args.plan c.new.ensures c.in_ok-verdict.ensures.adds _ _
+    c.in_ok-verdict-2.ensures.counted
+
+pub returns-then-not-plan-clause-verdict : goal.returns-then-not-plan-clause-verdict
+returns-then-not-plan-clause-verdict g c =
+    let off = off_where_not _ c.if-not-plan.true in
+    elim c.match-outcome.branch [
+      | in-NoSteps w ↦
+          let ended = rw (c.in-Ran.is, w.in-NoSteps.is) at c.in_ok-verdict.ensures.ended in
+          rw w.why-is (ended.0, (ended.1.0, ended.1.1, λ on. absurd (off on)))
+      | in-NoCells w ↦
+          let ended = rw (c.in-Ran.is, w.in-NoCells.is) at c.in_ok-verdict.ensures.ended in
+          rw w.why-is (ended.0, (ended.1.0, ended.1.1, λ on. absurd (off on)))
     ]

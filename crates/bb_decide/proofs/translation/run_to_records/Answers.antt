@@ -1,7 +1,8 @@
-use Rattle.std.proofs.Common.{refl, rules}
+use Rattle.std.proofs.Common.{arith, ap, refl, rules}
+use Rattle.bb_sim.specs.declared.meter.Meter.{Meter}
 use Rattle.bb_decide.proofs.Benches.{lent_at_first, lent_on}
-use Rattle.bb_decide.proofs.Counted.{counted_to, has_counted, taken_over}
-use Rattle.bb_decide.proofs.Endings.{ends_where_in_Z, ends_where_stopped, seeks_and_finds, seeks_to_end}
+use Rattle.bb_decide.proofs.Counted.{counted_to, cut_after_step, cut_at_step, few_steps, has_counted, taken_over}
+use Rattle.bb_decide.proofs.Endings.{ends_where_in_Z, ends_where_stopped, seeks_and_finds, seeks_to_end, seeks_until_cut}
 use Rattle.bb_decide.proofs.Halting.{in_no_state, is_none}
 use Rattle.bb_decide.proofs.Translations.{IsTakenIn, goes_on_from, goes_past, is_found, is_ready}
 use Rattle.bb_decide.proofs.Translations.{searching_at_first}
@@ -18,20 +19,39 @@ loop-moved-init g c =
       lent = lent_on c.start-runner.ensures.limit refl refl (lent_at_first c.requires.tapes);
     }
 
+pub count_run-requires-in_default-moved : goal.count_run-requires-in_default-moved
+count_run-requires-in_default-moved g c =
+    let few = few_steps c.args.machine.now c.args.limits.now c.advance.new.self
+    (g.T.Tape.view c.advance.new.tape) _ c.in-Ok.ensures.reaches in
+    let same = ap (λ (m : Meter). m.steps) c.loop-moved.invariant.lent.meter in
+    let most = c.show_accepted.ensures.accepted.steps in
+    let room = c.requires.room in
+    omega (arith, few, same, most, room)
+
+pub returns-in_default-moved : goal.returns-in_default-moved
+returns-in_default-moved g c =
+    let here = c.loop-moved.invariant in
+    let call = c.in-Ok.ensures in
+    let end = ends_where_stopped here.search.run call.stands _ _ c.in_default-moved.not-Stepped call.answers
+    call.reaches call.moves here.lent.meter c.count_run-in_default-moved.ensures
+    c.outcome_of.ensures in
+    seeks_to_end (lent_on call.limit refl refl here.lent) end
+    (λ side a b found. here.search.none side a b (end.run.last.greatest b found.inside) found)
+
+-- no memory for a step
 pub returns-in_default : goal.returns-in_default
 returns-in_default g c =
     let here = c.loop-moved.invariant in
-    let call = c.in_ok-moved.ensures in
-    let end = ends_where_stopped here.search.run call.stands _ _ c.in_default.not-Stepped call.answers
-    call.reaches call.moves here.lent.meter c.count_run.ensures c.outcome_of.ensures in
-    seeks_to_end (lent_on call.limit refl refl here.lent) end
-    (λ side a b found. here.search.none side a b (end.run.last.greatest b found.inside) found)
+    let call = c.in_default.ensures in
+    let cut = cut_at_step c.loop-moved.runner c.advance.new.self c.advance.ensures.before call.wanted call.unmade
+    call.window here.lent.meter c.count_run.ensures in
+    seeks_until_cut (lent_on c.advance.ensures.limit refl refl here.lent) cut call.memory
 
 -- a step into Z ends the run
 pub returns-in_default-state : goal.returns-in_default-state
 returns-in_default-state g c =
     let here = c.loop-moved.invariant in
-    let call = c.in_ok-moved.ensures in
+    let call = c.in-Ok.ensures in
     let step = has_counted here.search.run call.stands _ _ _ call.reaches call.moves c.in-Stepped.is in
     let halts = in_no_state _ _ c.state.ensures c.in_default-state.not-Some in
     seeks_to_end (lent_on call.limit refl refl here.lent)
@@ -46,7 +66,7 @@ taken_in : (g : given.Over) (c : After-widened_side g)
     (counted_to c.args.machine.now c.args.meter.now c.advance.new.self) c.widened_side.result
 taken_in g c =
     let here = c.loop-moved.invariant.search in
-    let call = c.in_ok-moved.ensures in
+    let call = c.in-Ok.ensures in
     let step = has_counted here.run call.stands _ _ _ call.reaches call.moves c.in-Stepped.is in
     takes_in here step c.in-Some.ensures c.cells-cells.ensures _ c.widened_side.ensures (search rules)
     c.position.ensures c.pass.ensures (search rules) c.position-in-loop-moved.ensures
@@ -56,7 +76,7 @@ taken_in g c =
 pub loop-moved-preserved-in_default-widened_side : goal.loop-moved-preserved-in_default-widened_side
 loop-moved-preserved-in_default-widened_side g c =
     let here = c.loop-moved.invariant in
-    let call = c.in_ok-moved.ensures in
+    let call = c.in-Ok.ensures in
     let taken = taken_in g (goal.at.loop-moved-preserved-in_default-widened_side g c).After-widened_side in
     record {
       search = goes_past here.search taken (is_none _ c.in_default-widened_side.not-Some);
@@ -70,26 +90,34 @@ look_on-requires-clause-ready g c =
     let taken = taken_in g (goal.at.look_on-requires-clause-ready g c).After-widened_side in
     is_ready here taken _ c.in-Some-widened_side.is (g.met.T.Tape.sound c.advance.new.tape)
 
-pub returns-in_err-verdict : goal.returns-in_err-verdict
-returns-in_err-verdict g c = search rules depth 7
-
-pub returns-in-Some-2 : goal.returns-in-Some-2
-returns-in-Some-2 g c =
+-- no memory to keep it
+pub returns-in_default-look_on : goal.returns-in_default-look_on
+returns-in_default-look_on g c =
     let here = c.loop-moved.invariant in
-    let call = c.in_ok-moved.ensures in
-    let taken = taken_in g (goal.at.returns-in-Some-2 g c).After-widened_side in
-    let looks = c.in_ok-verdict.ensures in
+    let call = c.in-Ok.ensures in
+    let taken = taken_in g (goal.at.returns-in_default-look_on g c).After-widened_side in
+    seeks_until_cut
+    (lent_on call.limit c.look_on.ensures.right_limit c.look_on.ensures.left_limit here.lent)
+    (cut_after_step taken.step here.lent.meter c.count_run-in_default-look_on.ensures)
+    c.in_default-look_on.ensures.memory
+
+pub returns-in-Some-found : goal.returns-in-Some-found
+returns-in-Some-found g c =
+    let here = c.loop-moved.invariant in
+    let call = c.in-Ok.ensures in
+    let taken = taken_in g (goal.at.returns-in-Some-found g c).After-widened_side in
+    let looks = c.in-Ok-look_on.ensures in
     seeks_and_finds (lent_on call.limit looks.right_limit looks.left_limit here.lent)
-    (is_found here.search taken _ _ _ _ c.in-Some-widened_side.is _ (rw c.in-Some-2.is at looks.looks)
-    (rw c.in-Some-2.is at looks.numbers)
-    (taken_over call.stands here.lent.meter c.count_run-in-Some-2.ensures))
+    (is_found here.search taken _ _ _ _ c.in-Some-widened_side.is _ (rw c.in-Some-found.is at looks.looks)
+    (rw c.in-Some-found.is at looks.numbers)
+    (taken_over call.stands here.lent.meter c.count_run-in-Some-found.ensures))
 
 pub loop-moved-preserved : goal.loop-moved-preserved
 loop-moved-preserved g c =
     let here = c.loop-moved.invariant in
-    let call = c.in_ok-moved.ensures in
+    let call = c.in-Ok.ensures in
     let taken = taken_in g (goal.at.loop-moved-preserved g c).After-widened_side in
-    let looks = c.in_ok-verdict.ensures in
+    let looks = c.in-Ok-look_on.ensures in
     record {
       search = goes_on_from here.search taken _ _ _ _ c.in-Some-widened_side.side c.in-Some-widened_side.is
           (rw c.in-None.is at looks.looks);

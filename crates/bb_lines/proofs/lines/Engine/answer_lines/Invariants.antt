@@ -1,5 +1,5 @@
 use Rattle.std.proofs.Common.{◌≡◌, ◌<◌, List, ℕ, [], ◌++◌, false, length, take}
-use Rattle.bb_lines.specs.declared.responder.TheConstants.{HIGH_COST}
+use Rattle.bb_lines.specs.Cost.{high_cost}
 use Rattle.bb_lines.specs.Lines.{complete, unfinished}
 use Rattle.bb_lines.specs.Watched.{is_marked, watched_inner}
 use Rattle.bb_lines.specs.inside.Progress.{prefixes, HasNoNewline, AreAnswered, KeepsReferences}
@@ -11,7 +11,7 @@ invariant-loop-at g l = record {
   unmarked : is_marked l.self.writer.now ≡ false;
   ready : g.A.Responder.is_ready l.self.responder.now;
   keeps : g.A.Responder.keeps l.initial.self.responder.now l.self.responder.now;
-  prompt : HIGH_COST < g.A.Responder.cost l.self.responder.now → l.self.waiting.items ≡ [];
+  prompt : high_cost < g.A.Responder.cost l.self.responder.now → l.self.waiting.items ≡ [];
   one_line : HasNoNewline l.self.kept.items;
   reader : l.self.reader.now ≡ l.initial.self.reader.now;
   references : KeepsReferences l.initial.self l.self;

@@ -4,12 +4,15 @@ use Rattle.bb_machine.specs.declared.entry.Next.TheVariants.{State, Halt}
 use Rattle.bb_sim.specs.declared.runner.Runner.{Runner}
 use Rattle.bb_sim.specs.declared.runner.Moved.TheVariants.{Stepped}
 use Rattle.bb_sim.specs.inside.Advancing.{Advances}
+use Rattle.std.specs.Int.{int_max, int_min}
+use Rattle.bb_sim.specs.CellsBetween.{cells_between}
 use Rattle.bb_sim.specs.Meter.{stepped}
+use Rattle.bb_sim.specs.Runner.{high_of, low_of, steps_of}
 use Rattle.bb_sim.specs.inside.Widening.{StepsTo, IsWidened}
 use Rattle.bb_sim.proofs.Outcomes.{halts_last, steps_last, cells_last}
 use Rattle.bb_sim.proofs.Standing.{near_head, head_inside}
 use Rattle.bb_sim.proofs.Stepping.{halts_undefined, running, moves_on, next-span, wanted, made, into_state}
-use Rattle.bb_sim.proofs.Stepping.{Goes, Leads, cells_stay, goes, inside_visited, leads}
+use Rattle.bb_sim.proofs.Stepping.{Goes, Leads, cells_stay, goes, inside_visited, leads, widened_span}
 use Rattle.bb_sim.proofs.runner.Runner.advance.Goals.{After-moved_by-position, In-Some}
 use Rattle.bb_sim.proofs.runner.Runner.advance.Goals as goal
 use Rattle.bb_sim.proofs.runner.Runner.advance.Given as given
@@ -119,6 +122,24 @@ returns-in_default-step_to-clause-wanted g c =
     let result_fits : FitsSigned w64 c.moved_by-position.result = search rules in
     wanted c.requires.stands led.here c.args.limits.now (λ e. c.if-self-steps.false cc)
     c.requires.limit (rw led.there at (simp to_z-of_z at c.if-not-enter.ensures.0))
+
+pub returns-in_default-step_to-clause-unmade : goal.returns-in_default-step_to-clause-unmade
+returns-in_default-step_to-clause-unmade g c =
+    let result_fits : FitsSigned w64 c.moved_by-position.result = search rules in
+    let wider : IsWidened c.args.self.now c.enter.new.self c.moved_by-position.result =
+    simp to_z-of_z at c.if-not-enter.ensures.2 in
+    ap steps_of c.in_default-step_to.ensures.unmoved ∙ wider.steps
+
+pub returns-in_default-step_to-clause-window : goal.returns-in_default-step_to-clause-window
+returns-in_default-step_to-clause-window g c =
+    let led = led_here g (goal.at.returns-in_default-step_to-clause-window g c).After-moved_by-position in
+    let result_fits : FitsSigned w64 c.moved_by-position.result = search rules in
+    let wider : IsWidened c.args.self.now c.enter.new.self c.moved_by-position.result =
+    simp to_z-of_z at c.if-not-enter.ensures.2 in
+    ap (λ r. cells_between (low_of r) (high_of r)) c.in_default-step_to.ensures.unmoved
+    ∙ widened_span c.requires.stands led.here _ _
+    (wider.low ∙ ap (int_min (low_of c.args.self.now)) led.there)
+    (wider.high ∙ ap (int_max (high_of c.args.self.now)) led.there)
 
 -- what all clauses of a step follow from
 made_here : (g : given.Over) (c : goal.In-Ok g)

@@ -3,12 +3,14 @@ use Rattle.std.proofs.lemmas.Int.{ints, to_z-of_z}
 use Rattle.bb_machine.specs.declared.entry.Entry.TheVariants.{Go}
 use Rattle.bb_sim.specs.Configuration.{beside}
 use Rattle.bb_sim.specs.declared.runner.Moved.TheVariants.{Halted, NoSteps}
+use Rattle.bb_sim.specs.CellsBetween.{cells_between}
 use Rattle.bb_sim.specs.Meter.{stepped}
+use Rattle.bb_sim.specs.Runner.{high_of, low_of, steps_of}
 use Rattle.bb_sim.specs.inside.Widening.{StepsTo, GoesNowhere}
 use Rattle.bb_sim.proofs.Outcomes.{halts_last, steps_last}
 use Rattle.bb_sim.proofs.Standing.{near_head, head_inside}
 use Rattle.bb_sim.proofs.Stepping.{halts_undefined, running, moves_on, wanted, made, into_Z, fits_Z, stayed}
-use Rattle.bb_sim.proofs.Stepping.{refused, nothing}
+use Rattle.bb_sim.proofs.Stepping.{refused, nothing, span_in_Z}
 use Rattle.bb_sim.proofs.Stepping.{cells_stay}
 use Rattle.bb_sim.proofs.runner.Runner.advance_to_halt.Goals as goal
 
@@ -57,8 +59,12 @@ returns-in_default-step_to g c =
     (g.met.T.Tape.sound c.args.tape.now) nowhere).0 in
     let wanted_here = wanted c.requires.stands here c.args.limits.now (λ e. c.if-self-steps.false cc)
     c.requires.limit fits in
+    let unmoved = c.in_default-step_to.ensures.unmoved in
     refused wanted_here c.step_to.ensures.limit c.in_default-step_to.ensures.memory
-    c.in_default-step_to.ensures.uncounted
+    c.in_default-step_to.ensures.uncounted (ap steps_of unmoved)
+    (ap (λ r. cells_between (low_of r) (high_of r)) unmoved
+    ∙ span_in_Z table old view c.in-Go.write c.in-Go.dir c.in-Go.next c.requires.stands here
+    (g.met.T.Tape.sound c.args.tape.now) nowhere)
 
 pub returns : goal.returns
 returns g c =

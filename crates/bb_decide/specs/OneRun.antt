@@ -1,0 +1,58 @@
+-- What deciding a machine in one run costs, to the step: this project's own.
+use Rattle.std.specs.Prelude.{◌≡◌, ℕ, ◌+◌, ◌<◌, ◌≤◌, ◌⊎◌, Bool, true, false, max, ℤ}
+use Rattle.bb_machine.specs.Limits.{Bounds}
+use Rattle.bb_machine.specs.Machine.{Table}
+use Rattle.bb_machine.specs.declared.plan.Plan.{Plan}
+use Rattle.bb_sim.specs.declared.meter.Meter.{Meter}
+use Rattle.bb_sim.specs.Outcome.{HaltsNowhere}
+use Rattle.bb_sim.specs.Span.{span, Inside, IsLastInside}
+use Rattle.bb_cert.specs.declared.verdict.Side.{Side}
+use Rattle.bb_decide.specs.Cost.{CycleSteps, StepsIfMade, TranslationSteps}
+use Rattle.bb_decide.specs.Cycle.{HasNoCycle}
+use Rattle.bb_decide.specs.Fingerprint.{LooksAsPartner}
+use Rattle.bb_decide.specs.Translation.{IsTranslation}
+
+-- the watched run is stopped at step s: the first that looks as its partner does, where it is inside and no
+-- record before it agrees with its partner
+pub record IsStoppedAt (key : ℤ → ℕ) (table : Table) (bounds : Bounds) (s : ℕ) : Type 0 where
+  pub partner : ℕ
+  pub alike : LooksAsPartner key table partner s
+  pub inside : Inside table bounds s
+  pub first : (p t : ℕ) → LooksAsPartner key table p t → s ≤ t
+  pub no_record : (side : Side) (a b : ℕ) → b < s → IsTranslation table bounds side a b → ⊥
+
+-- where it isn't stopped, it alone is made: up to the first record that agrees with its partner, or as a whole
+abbrev pub RunsOnce : (ℤ → ℕ) → Table → Bounds → ℕ → ℕ → Type 0
+RunsOnce key table bounds steps latest = ((s : ℕ) → IsStoppedAt key table bounds s → ⊥)
+    × TranslationSteps table bounds steps × (latest ≡ steps)
+
+-- where it is stopped, the search for cycles is made after it, and that for records that agree only where no
+-- cycle was found and the machine doesn't halt
+pub record RunsAgain (key : ℤ → ℕ) (table : Table) (bounds : Bounds) (steps latest : ℕ) : Type 0 where
+  pub stop : ℕ
+  pub is_stop : IsStoppedAt key table bounds stop
+  pub cycles : ℕ
+  pub is_cycles : CycleSteps table bounds cycles
+  pub translations : ℕ
+  pub is_translations : StepsIfMade (HaltsNowhere table bounds × HasNoCycle table bounds)
+      (TranslationSteps table bounds) translations
+  pub sum : steps ≡ stop + (cycles + translations)
+  pub is_latest : latest ≡ max stop (max cycles translations)
+
+-- so many steps are made in all, the last of any run being `latest`, where the search for cycles is on or not,
+-- and that for records that agree: with neither a whole run, with one the steps of that search, and only with
+-- both do fingerprints count
+abbrev pub MakesRuns : (ℤ → ℕ) → Table → Bounds → (cyclers translated : Bool) → ℕ → ℕ → Type 0
+MakesRuns key table bounds false false steps latest = IsLastInside table bounds steps × (latest ≡ steps)
+MakesRuns key table bounds true false steps latest = CycleSteps table bounds steps × (latest ≡ steps)
+MakesRuns key table bounds false true steps latest = TranslationSteps table bounds steps × (latest ≡ steps)
+MakesRuns key table bounds true true steps latest =
+    RunsOnce key table bounds steps latest ⊎ RunsAgain key table bounds steps latest
+
+-- deciding a machine in one run has counted the steps of the runs that it made, and as its widest window the
+-- span at the last step of any of them
+pub record CountsRuns (key : ℤ → ℕ) (table : Table) (bounds : Bounds) (plan : Plan) (meter : Meter) : Type 0
+  where
+    pub latest : ℕ
+    pub runs : MakesRuns key table bounds plan.cyclers plan.translated meter.steps latest
+    pub most_cells : meter.most_cells ≡ span table latest

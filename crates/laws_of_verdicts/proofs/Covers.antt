@@ -1,0 +1,363 @@
+-- Why a list that covers a size settles every machine of that size.
+use Rattle.std.proofs.Common.{◌≡◌, ◌≢◌, ℕ, zero, suc, ◌+◌, ◌<◌, ◌≤◌, List, length, inl, inr, refl, ap₂, sym}
+use Rattle.std.proofs.Common.{subst, replicate, ◌∙◌, arith}
+use Rattle.std.specs.Prelude.{◌⊎◌}
+use Rattle.std.specs.List.{AllByRecursion}
+use Rattle.std.proofs.lemmas.List.{length-replicate}
+use Rattle.std.proofs.lemmas.Bool.{cases_eq}
+use Rattle.bb_machine.specs.declared.entry.Dir.{Dir}
+use Rattle.bb_machine.specs.declared.entry.Entry.{Entry}
+use Rattle.bb_machine.specs.declared.entry.Entry.TheVariants.{Undefined, Go}
+use Rattle.bb_machine.specs.declared.entry.Next.TheVariants as to
+use Rattle.bb_machine.specs.Entry.{IsEntryOf}
+use Rattle.bb_machine.specs.Machine.{Table, IsGroup, IsMachine, entry_of, symbols_of}
+use Rattle.bb_machine.proofs.Facts.{entry_named}
+use Rattle.bb_sim.specs.Run.{IsScore, Never}
+use Rattle.bb_cert.specs.declared.verdict.Verdict.{Verdict}
+use Rattle.bb_cert.specs.declared.verdict.Verdict.TheVariants.{Halt, Cycler, Translated, Backward, Undecided}
+use Rattle.bb_cert.specs.claims.Claim.{Claim, SaysNever}
+use Rattle.bb_cert.proofs.Facts.{claims_never_halt}
+use Rattle.laws_of_verdicts.specs.Change.{Change, IsChanged, changed_entry, turned}
+use Rattle.laws_of_verdicts.specs.Completion.{IsCompletion}
+use Rattle.laws_of_verdicts.specs.Closed.{CoversDecide, CoversSettle, FromGap, HaltsSoon, HasMachine}
+use Rattle.laws_of_verdicts.specs.Closed.{IsClosed, IsLeftOpen, IsSettled, Settles, VerdictLine}
+use Rattle.laws_of_verdicts.specs.Closed.{all_gaps, with_entry}
+use Rattle.laws_of_verdicts.specs.Gap.{HaltsOnGap, HasOtherGap}
+use Rattle.laws_of_verdicts.proofs.ChangedNotions.{score_image}
+use Rattle.laws_of_verdicts.proofs.ChangedRuns.{changed_back, conf_image, turned-twice}
+use Rattle.laws_of_verdicts.proofs.Completions.{completions_never_halt}
+use Rattle.laws_of_verdicts.proofs.Composed.{composed, filled_changed, gap_changed, is_composed}
+use Rattle.laws_of_verdicts.proofs.Composed.{never_changed, no_Z_before, other_gap_changed}
+use Rattle.laws_of_verdicts.proofs.Fillings.{HasNoZ, all_gaps-none, entry-other, entry-same, gaps}
+use Rattle.laws_of_verdicts.proofs.Fillings.{gaps-with_entry, length-with_entry, machine-with_entry}
+use Rattle.laws_of_verdicts.proofs.Fillings.{no_Z-with_entry, other_gap, some_gap, symbols_of-with_entry}
+use Rattle.laws_of_verdicts.proofs.GapHalts.{HaltsInTable, full_never_halts, halts_next, halts_on_gap}
+use Rattle.laws_of_verdicts.proofs.GapHalts.{still_halts}
+
+-- a machine of the list, changed, that the given one completes, and that has no entry into Z
+record Stage (lines : List VerdictLine) (machine table : Table) : Type 0 where
+  of_list : HasMachine lines table
+  is_machine : IsMachine table
+  states : length table ≡ length machine
+  symbols : symbols_of table ≡ symbols_of machine
+  completes : IsCompletion table machine
+  no_Z : HasNoZ table
+
+-- a completion has the entry that fills a gap
+still_completes : (table machine : Table) → IsMachine table → IsCompletion table machine → (q s : ℕ)
+    (entry : Entry) → q < length table → s < symbols_of table → entry_of machine q s ≡ entry
+    → IsCompletion (with_entry table q s entry) machine
+still_completes table machine is completes q s entry below inside e = record {
+  kept = λ i j some. elim (cases_eq i q) [
+    | inl same ↦ elim (cases_eq j s) [
+      | inl same_too ↦
+          ap₂ (entry_of machine) same same_too ∙ e ∙ sym (entry-same table is q s entry below inside)
+          ∙ ap₂ (entry_of (with_entry table q s entry)) (sym same) (sym same_too)
+      | inr apart ↦ elsewhere i j (λ _. apart) some
+    ]
+    | inr apart ↦ elsewhere i j (λ same. absurd (apart same)) some
+  ];
+} where
+  elsewhere : (i j : ℕ) → (i ≡ q → j ≢ s) → entry_of (with_entry table q s entry) i j ≢ Undefined
+      → entry_of machine i j ≡ entry_of (with_entry table q s entry) i j
+  elsewhere i j other some =
+      let same = entry-other table q s i j entry below other in
+      completes.kept i j (λ gap. some (same ∙ gap)) ∙ sym same
+
+-- what is found out at a stage: the machine is settled, or completes a later one with one gap less
+abbrev Found : List VerdictLine → Table → Table → Type 0
+Found lines machine table = IsSettled lines machine
+    ⊎ ((later : Table) × (suc (gaps later) ≡ gaps table) × Stage lines machine later)
+
+module _ (lines : List VerdictLine) (closed : IsClosed lines) (machine : Table) (is : IsMachine machine)
+    (table : Table) (stage : Stage lines machine table) where
+  abbrev line : VerdictLine
+  line = stage.of_list.line
+
+  abbrev change : Change
+  change = stage.of_list.change
+
+  is_changed : IsChanged change line.table table
+  is_changed = stage.of_list.is_changed
+
+  line_machine : IsMachine line.table
+  line_machine = closed.machines line stage.of_list.listed
+
+  claim : (verdict : Verdict) → line.verdict ≡ verdict → Claim line.table verdict
+  claim verdict e = subst (Claim line.table) e (closed.claims line stage.of_list.listed)
+
+  settled : (verdict : Verdict) → line.verdict ≡ verdict → Settles table verdict machine
+      → IsSettled lines machine
+  settled verdict e settles = record {
+    line = line;
+    listed = stage.of_list.listed;
+    change = change;
+    changed = table;
+    is_changed = is_changed;
+    completes = stage.completes;
+    settles = subst (λ v. Settles table v machine) (sym e) settles;
+  }
+
+  never_halts : (verdict : Verdict) → line.verdict ≡ verdict → SaysNever verdict → Never machine
+  never_halts verdict e says = completions_never_halt table machine stage.completes
+      (never_changed change line.table table is_changed
+      (claims_never_halt line.table verdict line_machine says (claim verdict e)))
+
+  module _ (n ones : ℕ) (says : line.verdict ≡ Halt n ones) (there : HaltsInTable line.table n) where
+    abbrev q : ℕ
+    q = change.states.new there.state
+
+    abbrev s : ℕ
+    s = change.symbols.new there.symbol
+
+    below : q < length table
+    below =
+        let h = (is_changed.states_named there.state).0 there.below in
+        let e = is_changed.states in
+        omega (arith, h, e)
+
+    inside : s < symbols_of table
+    inside =
+        let h = (is_changed.symbols_named there.symbol).0 there.inside in
+        let e = is_changed.symbols in
+        omega (arith, h, e)
+
+    gap : HaltsOnGap table n q s
+    gap = gap_changed change line.table table is_changed n there.state there.symbol there.gap
+
+    scored : IsScore table n ones
+    scored = score_image change line.table table n
+        (λ m h. conf_image change line.table table is_changed m) ones (claim (Halt n ones) says).1
+
+    found : (entry : Entry) → entry_of machine q s ≡ entry → FromGap machine n ones s entry
+        → IsSettled lines machine
+    found entry e does = settled (Halt n ones) says (record {
+      state = q;
+      symbol = s;
+      gap = gap;
+      does = subst (FromGap machine n ones s) (sym e) does;
+    })
+
+    module _ (write t : ℕ) (dir : Dir) (e : entry_of machine q s ≡ Go write dir (to.State t)) where
+      abbrev filled : Table
+      filled = with_entry table q s (Go write dir (to.State t))
+
+      named : (write < symbols_of table) × (t < length table)
+      named =
+          let states = stage.states in
+          let symbols = stage.symbols in
+          let h = below in
+          let i = inside in
+          let both : IsEntryOf (length machine) (symbols_of machine) (entry_of machine q s) =
+          entry_named _ _ machine q s is (omega (arith, h, states)) (omega (arith, i, symbols)) in
+          let named : (write < symbols_of machine) × (t < length machine) =
+          subst (IsEntryOf (length machine) (symbols_of machine)) e both in
+          let w = named.0 in
+          let l = named.1 in
+          (omega (arith, w, symbols), omega (arith, l, states))
+
+      filled_machine : IsMachine filled
+      filled_machine = machine-with_entry table stage.is_machine q s (Go write dir (to.State t)) below named
+
+      completes : IsCompletion filled machine
+      completes = still_completes table machine stage.is_machine stage.completes q s
+          (Go write dir (to.State t)) below inside e
+
+      no_Z : HasNoZ filled
+      no_Z = no_Z-with_entry table stage.is_machine q s write t dir below inside stage.no_Z
+
+      -- the entry in the names of the line's machine
+      abbrev entry_there : Entry
+      entry_there = Go (change.symbols.old write) (turned change.mirrored dir)
+          (to.State (change.states.old t))
+
+      same_entry : changed_entry change entry_there ≡ Go write dir (to.State t)
+      same_entry =
+          let w = change.symbols.new_of_old write in
+          let d = turned-twice change.mirrored dir in
+          let l = change.states.new_of_old t in
+          λ i. Go (w i) (d i) (to.State (l i))
+
+      filled_there : IsChanged change (with_entry line.table there.state there.symbol entry_there) filled
+      filled_there = subst
+          (λ x. IsChanged change (with_entry line.table there.state there.symbol entry_there)
+          (with_entry table q s x)) same_entry
+          (filled_changed change line.table table line_machine stage.is_machine is_changed there.state
+          there.symbol entry_there there.below there.inside)
+
+      listed_there : HasOtherGap line.table there.state there.symbol
+          → HasMachine lines (with_entry line.table there.state there.symbol entry_there)
+      listed_there other =
+          let undone = changed_back change line.table table is_changed in
+          let w = (undone.symbols_named write).0 named.0 in
+          let l = (undone.states_named t).0 named.1 in
+          let symbols = is_changed.symbols in
+          let states = is_changed.states in
+          closed.goes_on line n ones there.state there.symbol (change.symbols.old write)
+          (change.states.old t) (turned change.mirrored dir) stage.of_list.listed says there.gap other
+          (omega (arith, w, symbols)) (omega (arith, l, states))
+
+      later : HasOtherGap table q s → Stage lines machine filled
+      later other =
+          let has = listed_there (other_gap_changed change line.table table is_changed there.state
+          there.symbol other) in
+          record {
+            of_list = record {
+              line = has.line;
+              listed = has.listed;
+              change = composed has.change change;
+              is_changed = is_composed has.change change has.line.table
+                  (with_entry line.table there.state there.symbol entry_there) filled has.is_changed
+                  filled_there;
+            };
+            is_machine = filled_machine;
+            states = length-with_entry table q s (Go write dir (to.State t)) ∙ stage.states;
+            symbols = symbols_of-with_entry table q s (Go write dir (to.State t)) ∙ stage.symbols;
+            completes = completes;
+            no_Z = no_Z;
+          }
+
+      goes_on : Found lines machine table
+      goes_on = elim (cases_eq (gaps filled) 0) [
+        | inl none ↦ inl (found (Go write dir (to.State t)) e (completions_never_halt filled machine completes
+            (full_never_halts filled filled_machine no_Z none)))
+        | inr more ↦
+            let left : 0 < gaps filled = omega (arith, more) in
+            let other = other_gap table stage.is_machine q s write dir (to.State t) below inside
+            (some_gap filled filled_machine left) in
+            inr (
+              filled,
+              gaps-with_entry table stage.is_machine q s write dir (to.State t) below inside gap.gap,
+              later other,
+            )
+      ]
+
+    by_entry : (entry : Entry) → entry_of machine q s ≡ entry → Found lines machine table
+    by_entry Undefined e = inl (found Undefined e
+        (still_halts table machine stage.completes n q s gap e ones scored))
+    by_entry (Go write dir to.Halt) e = inl (found (Go write dir to.Halt) e
+        (halts_next table machine stage.completes n q s gap write dir e ones scored))
+    by_entry (Go write dir (to.State t)) e = goes_on write t dir e
+
+  by_verdict : (verdict : Verdict) → line.verdict ≡ verdict → Found lines machine table
+  by_verdict (Halt n ones) e =
+      let there = halts_on_gap line.table line_machine (no_Z_before change line.table table is_changed
+      stage.no_Z) n (claim (Halt n ones) e).0 in
+      by_entry n ones e there _ refl
+  by_verdict (Cycler a b) e = inl (settled (Cycler a b) e (never_halts (Cycler a b) e tt))
+  by_verdict (Translated side a b extent) e =
+      inl (settled (Translated side a b extent) e (never_halts (Translated side a b extent) e tt))
+  by_verdict (Backward levels nodes) e =
+      inl (settled (Backward levels nodes) e (never_halts (Backward levels nodes) e tt))
+  by_verdict (Undecided why) e = inl (settled (Undecided why) e tt)
+
+walk : (lines : List VerdictLine) → IsClosed lines → (machine : Table) → IsMachine machine → (count : ℕ)
+    (table : Table) → gaps table ≡ count → Stage lines machine table → IsSettled lines machine
+walk lines closed machine is zero table e stage =
+    elim (by_verdict lines closed machine is table stage _ refl) [
+      | inl done ↦ done
+      | inr more ↦ let fewer = more.1 in absurd (omega (arith, fewer, e))
+    ]
+walk lines closed machine is (suc count) table e stage =
+    elim (by_verdict lines closed machine is table stage _ refl) [
+      | inl done ↦ done
+      | inr more ↦ let fewer = more.1 in walk lines closed machine is count more.0
+          (omega (arith, fewer, e)) more.2
+    ]
+
+-- the machine with no entry
+
+all_of_replicate : {X : Type 0} (P : X → Type 0) (n : ℕ) (x : X) → P x → AllByRecursion P (replicate n x)
+all_of_replicate P zero x here = tt
+all_of_replicate P (suc n) x here = (here, all_of_replicate P n x here)
+
+symbols_of_gaps : (n k : ℕ) → 0 < n → symbols_of (all_gaps n k) ≡ k
+symbols_of_gaps zero k some = absurd (omega arith)
+symbols_of_gaps (suc n) k some = length-replicate k Undefined
+
+first_stage : (lines : List VerdictLine) (machine : Table) → IsMachine machine
+    → HasMachine lines (all_gaps (length machine) (symbols_of machine))
+    → Stage lines machine (all_gaps (length machine) (symbols_of machine))
+first_stage lines machine is has =
+    let states : length (all_gaps (length machine) (symbols_of machine)) ≡ length machine =
+    length-replicate (length machine) (replicate (symbols_of machine) Undefined) in
+    let symbols = symbols_of_gaps (length machine) (symbols_of machine) is.some_state in
+    record {
+      of_list = has;
+      is_machine = record {
+        some_state = rw states is.some_state;
+        states = rw states is.states;
+        two_symbols = rw symbols is.two_symbols;
+        symbols = rw symbols is.symbols;
+        groups = rw (states, symbols) (all_of_replicate (IsGroup (length machine) (symbols_of machine))
+            (length machine) (replicate (symbols_of machine) Undefined) (record {
+              full = length-replicate (symbols_of machine) Undefined;
+              entries = all_of_replicate (IsEntryOf (length machine) (symbols_of machine))
+                  (symbols_of machine) Undefined tt;
+            }));
+      };
+      states = states;
+      symbols = symbols;
+      completes = record {
+        kept = λ q s some. absurd (some (all_gaps-none (length machine) (symbols_of machine) q s));
+      };
+      no_Z = record {
+        none = λ q s write dir e.
+            let none = all_gaps-none (length machine) (symbols_of machine) q s in
+            cc (e, none);
+      };
+    }
+
+pub covers_settle : CoversSettle
+covers_settle lines machine is covers = walk lines covers.closed machine is
+    (gaps (all_gaps (length machine) (symbols_of machine))) (all_gaps (length machine) (symbols_of machine)) refl
+    (first_stage lines machine is covers.has_root)
+
+-- for short
+
+module _ (lines : List VerdictLine) (machine : Table) (is : IsSettled lines machine) where
+  halts_soon : (n ones : ℕ) → is.line.verdict ≡ Halt n ones → (m twos : ℕ) → Claim machine (Halt m twos)
+      → m ≤ n + 1 → twos ≤ ones + 1 → HaltsSoon lines machine
+  halts_soon n ones e m twos claim soon few = record {
+    line = is.line;
+    listed = is.listed;
+    steps = n;
+    score = ones;
+    says = e;
+    new_steps = m;
+    new_score = twos;
+    claim = claim;
+    soon = soon;
+    few = few;
+  }
+
+  from_gap : (n ones s : ℕ) → is.line.verdict ≡ Halt n ones → (entry : Entry) → FromGap machine n ones s entry
+      → HaltsSoon lines machine ⊎ (Never machine ⊎ IsLeftOpen lines machine)
+  from_gap n ones s e Undefined does = inl (halts_soon n ones e n ones does (omega arith) (omega arith))
+  from_gap n ones s e (Go write dir to.Halt) does =
+      let counted = does.counted in
+      inl (halts_soon n ones e (n + 1) does.new_score (does.halts, does.scores) (omega arith)
+      (omega (arith, counted)))
+  from_gap n ones s e (Go write dir (to.State t)) does = inr (inl does)
+
+  outcome : (verdict : Verdict) → is.line.verdict ≡ verdict → Settles is.changed verdict machine
+      → HaltsSoon lines machine ⊎ (Never machine ⊎ IsLeftOpen lines machine)
+  outcome (Halt n ones) e settles = from_gap n ones settles.symbol e _ settles.does
+  outcome (Cycler a b) e settles = inr (inl settles)
+  outcome (Translated side a b extent) e settles = inr (inl settles)
+  outcome (Backward levels nodes) e settles = inr (inl settles)
+  outcome (Undecided why) e settles = inr (inr (record {
+    line = is.line;
+    listed = is.listed;
+    why = why;
+    says = e;
+    change = is.change;
+    changed = is.changed;
+    is_changed = is.is_changed;
+    completes = is.completes;
+  }))
+
+pub covers_decide : CoversDecide
+covers_decide lines machine is covers =
+    let settled = covers_settle lines machine is covers in
+    outcome lines machine settled settled.line.verdict refl settled.settles

@@ -1,0 +1,244 @@
+-- What one entry more makes of a table, and of how many `---` it has.
+use Rattle.std.proofs.Common.{◌≡◌, ◌≢◌, ℕ, zero, suc, ◌+◌, ◌<◌, List, [], ◌∷◌, length, get_or, set, inl, inr}
+use Rattle.std.proofs.Common.{replicate, refl, ap, sym, ◌∙◌, arith}
+use Rattle.std.specs.List.{AllByRecursion}
+use Rattle.std.proofs.lemmas.Bool.{cases_eq}
+use Rattle.std.proofs.lemmas.List.{length-set, get_or-set_same, get_or-set_other}
+use Rattle.std.proofs.lemmas.List.Elements.{All-from_recursion}
+use Rattle.bb_machine.specs.declared.entry.Entry.{Entry}
+use Rattle.bb_machine.specs.declared.entry.Entry.TheVariants.{Undefined, Go}
+use Rattle.bb_machine.specs.declared.entry.Next.{Next}
+use Rattle.bb_machine.specs.declared.entry.Next.TheVariants.{State, Halt}
+use Rattle.bb_machine.specs.Entry.{IsEntryOf}
+use Rattle.bb_machine.specs.Machine.{Table, IsGroup, IsMachine, entry_of, symbols_of}
+use Rattle.laws_of_verdicts.specs.Closed.{all_gaps, with_entry}
+use Rattle.laws_of_verdicts.specs.Gap.{HasOtherGap}
+use Rattle.laws_of_verdicts.proofs.ChangedTrees.{groups_long}
+
+-- the filled table
+
+pub length-with_entry : (table : Table) (q s : ℕ) (e : Entry) → length (with_entry table q s e) ≡ length table
+length-with_entry table q s e = length-set table q _
+
+pub symbols_of-with_entry : (table : Table) (q s : ℕ) (e : Entry)
+    → symbols_of (with_entry table q s e) ≡ symbols_of table
+symbols_of-with_entry [] q s e = refl
+symbols_of-with_entry (g ∷ gs) zero s e = length-set g s e
+symbols_of-with_entry (g ∷ gs) (suc q) s e = refl
+
+pub entry-same : (table : Table) → IsMachine table → (q s : ℕ) (e : Entry) → q < length table
+    → s < symbols_of table → entry_of (with_entry table q s e) q s ≡ e
+entry-same table machine q s e below inside =
+    let long = groups_long table machine q below in
+    ap (λ g. get_or g s Undefined) (get_or-set_same table q (set (get_or table q []) s e) [] below)
+    ∙ get_or-set_same (get_or table q []) s e Undefined (omega (arith, long, inside))
+
+pub entry-other : (table : Table) (q s i j : ℕ) (e : Entry) → q < length table → (i ≡ q → j ≢ s)
+    → entry_of (with_entry table q s e) i j ≡ entry_of table i j
+entry-other table q s i j e below other = elim (cases_eq i q) [
+  | inl same ↦
+      ap (λ x. entry_of (with_entry table q s e) x j) same
+      ∙ ap (λ g. get_or g j Undefined) (get_or-set_same table q (set (get_or table q []) s e) [] below)
+      ∙ get_or-set_other (get_or table q []) s j e Undefined (other same)
+      ∙ ap (λ x. entry_of table x j) (sym same)
+  | inr apart ↦ ap (λ g. get_or g j Undefined) (get_or-set_other table q i _ [] apart)
+]
+
+all-set : {X : Type 0} (P : X → Type 0) (xs : List X) (i : ℕ) (y : X) → P y → AllByRecursion P xs
+    → AllByRecursion P (set xs i y)
+all-set P [] i y here all = all
+all-set P (x ∷ xs) zero y here all = (here, all.1)
+all-set P (x ∷ xs) (suc i) y here all = (all.0, all-set P xs i y here all.1)
+
+pub machine-with_entry : (table : Table) → IsMachine table → (q s : ℕ) (e : Entry) → q < length table
+    → IsEntryOf (length table) (symbols_of table) e → IsMachine (with_entry table q s e)
+machine-with_entry table machine q s e below named =
+    let long = length-with_entry table q s e in
+    let wide = symbols_of-with_entry table q s e in
+    let group : IsGroup (length table) (symbols_of table) (get_or table q []) =
+    All-from_recursion (IsGroup (length table) (symbols_of table)) table machine.groups q [] below in
+    record {
+      some_state = rw long machine.some_state;
+      states = rw long machine.states;
+      two_symbols = rw wide machine.two_symbols;
+      symbols = rw wide machine.symbols;
+      groups = rw (long, wide) (all-set (IsGroup (length table) (symbols_of table)) table q
+          (set (get_or table q []) s e)
+          (record {
+            full = length-set (get_or table q []) s e ∙ group.full;
+            entries = all-set (IsEntryOf (length table) (symbols_of table)) (get_or table q []) s e named
+                group.entries;
+          })
+          machine.groups);
+    }
+
+-- a machine of which no entry leads into Z
+pub record HasNoZ (table : Table) : Type 0 where
+  pub none : (q s write : ℕ) (dir : _) → entry_of table q s ≢ Go write dir Halt
+
+pub no_Z-with_entry : (table : Table) → IsMachine table → (q s write to : ℕ) (dir : _) → q < length table
+    → s < symbols_of table → HasNoZ table → HasNoZ (with_entry table q s (Go write dir (State to)))
+no_Z-with_entry table machine q s write to dir below inside no_Z = record {
+  none = λ i j w d e. elim (cases_eq i q) [
+    | inl same ↦ elim (cases_eq j s) [
+      | inl same_too ↦
+          let here = entry-same table machine q s (Go write dir (State to)) below inside in
+          let there : entry_of (with_entry table q s (Go write dir (State to))) q s ≡ Go w d Halt =
+          ap (λ x. entry_of (with_entry table q s (Go write dir (State to))) x s) (sym same)
+          ∙ ap (entry_of (with_entry table q s (Go write dir (State to))) i) (sym same_too) ∙ e in
+          cc (here, there)
+      | inr apart ↦ no_Z.none i j w d (sym (entry-other table q s i j (Go write dir (State to)) below
+          (λ _. apart)) ∙ e)
+    ]
+    | inr apart ↦ no_Z.none i j w d (sym (entry-other table q s i j (Go write dir (State to)) below
+        (λ same. absurd (apart same))) ∙ e)
+  ];
+}
+
+-- how many `---` there are
+
+abbrev gap_in : Entry → ℕ
+gap_in Undefined = 1
+gap_in (Go write dir to) = 0
+
+abbrev gaps_in : List Entry → ℕ
+gaps_in [] = 0
+gaps_in (e ∷ es) = gap_in e + gaps_in es
+
+abbrev pub gaps : Table → ℕ
+gaps [] = 0
+gaps (g ∷ gs) = gaps_in g + gaps gs
+
+gaps_in-set : (es : List Entry) (s : ℕ) (e : Entry) → s < length es → get_or es s Undefined ≡ Undefined
+    → gap_in e ≡ 0 → suc (gaps_in (set es s e)) ≡ gaps_in es
+gaps_in-set [] s e inside gap fills = absurd (omega arith)
+gaps_in-set (x ∷ es) zero e inside gap fills =
+    let was : gap_in x ≡ 1 = ap gap_in gap in
+    omega (arith, was, fills)
+gaps_in-set (x ∷ es) (suc s) e inside gap fills =
+    let rest = gaps_in-set es s e (omega (arith, inside)) gap fills in
+    omega (arith, rest)
+
+gaps-set : (gs : Table) (q s : ℕ) (e : Entry) → q < length gs → s < length (get_or gs q [])
+    → entry_of gs q s ≡ Undefined → gap_in e ≡ 0 → suc (gaps (with_entry gs q s e)) ≡ gaps gs
+gaps-set [] q s e below inside gap fills = absurd (omega arith)
+gaps-set (g ∷ gs) zero s e below inside gap fills =
+    let group = gaps_in-set g s e inside gap fills in
+    omega (arith, group)
+gaps-set (g ∷ gs) (suc q) s e below inside gap fills =
+    let rest = gaps-set gs q s e (omega (arith, below)) inside gap fills in
+    omega (arith, rest)
+
+pub gaps-with_entry : (table : Table) → IsMachine table → (q s write : ℕ) (dir : _) (to : Next)
+    → q < length table → s < symbols_of table → entry_of table q s ≡ Undefined
+    → suc (gaps (with_entry table q s (Go write dir to))) ≡ gaps table
+gaps-with_entry table machine q s write dir to below inside gap =
+    let long = groups_long table machine q below in
+    gaps-set table q s (Go write dir to) below (omega (arith, long, inside)) gap refl
+
+-- one of them
+record Gap (es : List Entry) : Type 0 where
+  symbol : ℕ
+  inside : symbol < length es
+  gap : get_or es symbol Undefined ≡ Undefined
+
+record GapOf (table : Table) : Type 0 where
+  state : ℕ
+  symbol : ℕ
+  below : state < length table
+  inside : symbol < length (get_or table state [])
+  gap : entry_of table state symbol ≡ Undefined
+
+pub record SomeGap (table : Table) : Type 0 where
+  pub state : ℕ
+  pub symbol : ℕ
+  pub below : state < length table
+  pub inside : symbol < symbols_of table
+  pub gap : entry_of table state symbol ≡ Undefined
+
+some_gap_in : (es : List Entry) → 0 < gaps_in es → Gap es
+some_gap_in [] some = absurd (omega arith)
+some_gap_in (Undefined ∷ es) some = record { symbol = 0; inside = omega arith; gap = refl }
+some_gap_in (Go write dir to ∷ es) some =
+    let rest = some_gap_in es (omega (arith, some)) in
+    record { symbol = suc rest.symbol; inside = let h = rest.inside in omega (arith, h); gap = rest.gap }
+
+some_gap_of : (table : Table) → 0 < gaps table → GapOf table
+some_gap_of [] some = absurd (omega arith)
+some_gap_of (g ∷ gs) some = elim (cases_eq (gaps_in g) 0) [
+  | inl none ↦
+      let rest = some_gap_of gs (omega (arith, some, none)) in
+      record {
+        state = suc rest.state;
+        symbol = rest.symbol;
+        below = let h = rest.below in omega (arith, h);
+        inside = rest.inside;
+        gap = rest.gap;
+      }
+  | inr more ↦
+      let here = some_gap_in g (omega (arith, more)) in
+      record { state = 0; symbol = here.symbol; below = omega arith; inside = here.inside; gap = here.gap }
+]
+
+pub some_gap : (table : Table) → IsMachine table → 0 < gaps table → SomeGap table
+some_gap table machine some =
+    let there = some_gap_of table some in
+    let long = groups_long table machine there.state there.below in
+    record {
+      state = there.state;
+      symbol = there.symbol;
+      below = there.below;
+      inside = let h = there.inside in omega (arith, long, h);
+      gap = there.gap;
+    }
+
+no_gap_in : (es : List Entry) (s : ℕ) → gaps_in es ≡ 0 → s < length es → get_or es s Undefined ≢ Undefined
+no_gap_in [] s none inside gap = absurd (omega arith)
+no_gap_in (x ∷ es) zero none inside gap =
+    let was : gap_in x ≡ 1 = ap gap_in gap in
+    omega (arith, was, none)
+no_gap_in (x ∷ es) (suc s) none inside gap =
+    no_gap_in es s (omega (arith, none)) (omega (arith, inside)) gap
+
+no_gap_of : (gs : Table) (q s : ℕ) → gaps gs ≡ 0 → q < length gs → s < length (get_or gs q [])
+    → entry_of gs q s ≢ Undefined
+no_gap_of [] q s none below inside gap = absurd (omega arith)
+no_gap_of (g ∷ gs) zero s none below inside gap = no_gap_in g s (omega (arith, none)) inside gap
+no_gap_of (g ∷ gs) (suc q) s none below inside gap =
+    no_gap_of gs q s (omega (arith, none)) (omega (arith, below)) inside gap
+
+pub no_gap : (table : Table) → IsMachine table → (q s : ℕ) → gaps table ≡ 0 → q < length table
+    → s < symbols_of table → entry_of table q s ≢ Undefined
+no_gap table machine q s none below inside gap =
+    let long = groups_long table machine q below in
+    no_gap_of table q s none below (omega (arith, long, inside)) gap
+
+-- a `---` that is left where one is filled is another one
+pub other_gap : (table : Table) → IsMachine table → (q s write : ℕ) (dir : _) (to : Next) → q < length table
+    → s < symbols_of table → SomeGap (with_entry table q s (Go write dir to)) → HasOtherGap table q s
+other_gap table machine q s write dir to below inside some =
+    let other : some.state ≡ q → some.symbol ≢ s = λ same same_too.
+    let here = entry-same table machine q s (Go write dir to) below inside in
+    let there : entry_of (with_entry table q s (Go write dir to)) q s ≡ Undefined =
+    ap (λ x. entry_of (with_entry table q s (Go write dir to)) x s) (sym same)
+    ∙ ap (entry_of (with_entry table q s (Go write dir to)) some.state) (sym same_too) ∙ some.gap in
+    cc (here, there) in
+    record {
+      other_state = some.state;
+      other_symbol = some.symbol;
+      state_named = rw (← length-with_entry table q s (Go write dir to)) some.below;
+      symbol_named = rw (← symbols_of-with_entry table q s (Go write dir to)) some.inside;
+      other = other;
+      gap = sym (entry-other table q s some.state some.symbol (Go write dir to) below other) ∙ some.gap;
+    }
+
+-- all `---`
+
+pub all_gaps-none : (n k q s : ℕ) → entry_of (all_gaps n k) q s ≡ Undefined
+all_gaps-none zero k q s = refl
+all_gaps-none (suc n) k zero s = none k s where
+  none : (k s : ℕ) → get_or (replicate k Undefined) s Undefined ≡ Undefined
+  none zero s = refl
+  none (suc k) zero = refl
+  none (suc k) (suc s) = none k s
+all_gaps-none (suc n) k (suc q) s = all_gaps-none n k q s

@@ -1,0 +1,74 @@
+//! The two engines that decide a list.
+ghost use Rattle.std.specs.Prelude.{◌≡◌, false};
+ghost use Rattle.bb_cert.specs.tree.Path.{depth_of};
+ghost use Rattle.bb_decide.specs.Bench.{BenchHasCells};
+ghost use Rattle.bb_lines.specs.Watched.{is_marked};
+
+use bb_decide::{Bench, Plan};
+use bb_lines::fault::Fault;
+use bb_lines::watched::Watched;
+use bb_machine::Limits;
+use bb_run::{
+    Summary, VerdictCounts, run_decide, run_decide_in_one_run, run_decide_in_one_run_with_counts,
+    run_decide_with_counts,
+};
+use bb_tape::Tape;
+use std::io::{Read, Write};
+
+/// How the machines of a list are decided.
+#[derive(Clone, Copy, Debug)]
+pub(crate) enum Engine {
+    /// By the definition of a verdict, one search after the other.
+    InTurn,
+    /// Each in one run.
+    InOneRun,
+}
+
+impl Engine {
+    pub(crate) const BOTH: [Engine; 2] = [Engine::InTurn, Engine::InOneRun];
+
+    /// Decides a list.
+    pub(crate) fn decide<R: Read, W: Write, T: Tape>(
+        self,
+        reader: &mut Watched<R>,
+        writer: &mut Watched<W>,
+        limits: &Limits,
+        plan: Plan,
+        bench: &mut Bench<T>,
+    ) -> Result<Summary, Fault>
+        requires reader { is_marked reader.old ≡ false }
+        requires writer { is_marked writer.old ≡ false }
+        requires tapes { BenchHasCells T.view limits.now.cells bench.old }
+        requires path { depth_of bench.old.path ≡ limits.now.depth }
+        ensures tapes { BenchHasCells T.view limits.now.cells bench.new }
+        ensures path { depth_of bench.new.path ≡ limits.now.depth }
+    {
+        match self {
+            Engine::InTurn => run_decide(reader, writer, limits, plan, bench),
+            Engine::InOneRun => run_decide_in_one_run(reader, writer, limits, plan, bench),
+        }
+    }
+
+    /// The same, and counts what the lines come to.
+    pub(crate) fn decide_with_counts<R: Read, W: Write, T: Tape>(
+        self,
+        reader: &mut Watched<R>,
+        writer: &mut Watched<W>,
+        limits: &Limits,
+        plan: Plan,
+        bench: &mut Bench<T>,
+        counts: &VerdictCounts,
+    ) -> Result<Summary, Fault>
+        requires reader { is_marked reader.old ≡ false }
+        requires writer { is_marked writer.old ≡ false }
+        requires tapes { BenchHasCells T.view limits.now.cells bench.old }
+        requires path { depth_of bench.old.path ≡ limits.now.depth }
+    {
+        match self {
+            Engine::InTurn => run_decide_with_counts(reader, writer, limits, plan, bench, counts),
+            Engine::InOneRun => {
+                run_decide_in_one_run_with_counts(reader, writer, limits, plan, bench, counts)
+            }
+        }
+    }
+}

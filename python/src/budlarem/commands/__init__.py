@@ -1,0 +1,97 @@
+"""The command `budlarem`: what people do with lists.
+
+Its statuses: 0, 1 where a line was refused or two lists contradict each other, 2 for a command line, limits
+or a line that can't be read, 3 for a fault of files, memory or what is installed, 130 after an interruption.
+"""
+
+from __future__ import annotations
+
+import argparse
+import contextlib
+import errno
+import io
+import os
+import sys
+from typing import List, NoReturn, Optional
+
+from .. import __version__
+from ..reports import ReportError
+from ..runner.command import add_command as add_run
+from .checking import add_check
+from .claims import add_claims
+from .judging import add_judge
+from .machines import add_machines
+from .publishing import add_publish
+from .runs import add_runs
+
+__all__ = ["main", "run", "words"]
+
+
+def words() -> argparse.ArgumentParser:
+    """The reader of the command line."""
+    parser = argparse.ArgumentParser(prog="budlarem", description="What people do with lists of machines.")
+    parser.add_argument("--version", action="version", version="budlarem " + __version__)
+    commands = parser.add_subparsers(required=True, metavar="COMMAND")
+    add_machines(commands)
+    add_check(commands)
+    add_claims(commands)
+    add_judge(commands)
+    add_runs(commands)
+    add_publish(commands)
+    add_run(commands)
+    asked = commands.add_parser("help", help="what a command does, as its --help")
+    asked.add_argument("command", nargs="?", metavar="COMMAND", choices=list(commands.choices))
+    asked.set_defaults(do=lambda given: do_help(parser, given.command))
+    return parser
+
+
+def do_help(parser: argparse.ArgumentParser, command: Optional[str]) -> int:
+    """Writes the help of a command, or of all."""
+    parser.parse_args(["--help"] if command is None else [command, "--help"])
+    return 0
+
+
+def main(arguments: Optional[List[str]] = None) -> int:
+    """Does what the words ask for; gives the status."""
+    asked = words().parse_args(arguments)
+    if isinstance(sys.stdout, io.TextIOWrapper):
+        sys.stdout.reconfigure(encoding="utf-8", errors="surrogateescape", newline="\n")
+    try:
+        status: int = asked.do(asked)
+        sys.stdout.flush()
+        return status
+    except BrokenPipeError:
+        raise
+    except (ValueError, TypeError) as error:
+        print("budlarem: %s" % error, file=sys.stderr)
+        return 2
+    except MemoryError as error:
+        print("budlarem: out of memory: %s" % error, file=sys.stderr)
+    except OSError as error:
+        # What is written to a file has its name in its errors; what is left is standard output.
+        is_output = error.filename is None and error.errno in (
+            errno.ENOSPC,
+            errno.EFBIG,
+            errno.EDQUOT,
+            errno.EIO,
+        )
+        print("budlarem: %s%s" % ("standard output: " if is_output else "", error), file=sys.stderr)
+    except ReportError as error:
+        print("budlarem: %s" % error, file=sys.stderr)
+    return 3
+
+
+def run() -> NoReturn:
+    """The command: ends the process. What a thread is at then ends with it."""
+    try:
+        status = main()
+    except BrokenPipeError:
+        status = 1
+    except KeyboardInterrupt:
+        status = 130
+    except SystemExit as end:
+        status = end.code if isinstance(end.code, int) else 2
+    for file in (sys.stdout, sys.stderr):
+        with contextlib.suppress(OSError, ValueError):
+            file.flush()
+    os._exit(status)

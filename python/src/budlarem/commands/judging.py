@@ -1,0 +1,94 @@
+"""The command `judge`."""
+
+from __future__ import annotations
+
+import argparse
+import collections
+import sys
+from typing import Counter, Optional
+
+from ..judging import GREATEST, Judgement, Judging, judge
+from ..limits import Limits, Plan
+from .shared import ListReader, add_command, add_limits, limits_of, source_of
+
+_HELP = """Judges a list of what others claim: verdict lines, or machines with a word in any field, such as halt,
+nonhalt, undecided or a decider's name, in whatever forms `budlarem help read` says. Each machine is decided;
+what our verdict doesn't settle is checked. Standard error gets the counts, and what of THEIRS was rewritten.
+Status 1 where a line is contradicted.
+
+confirmed: the checker confirms the claim, or our verdict says what the word does. contradicted: the checker
+refutes the claim, or our verdict says the other. not-judged: undecided here too, over the checker's limits, or
+no word says whether the machine halts. unreadable: no one machine, or two things said of it.
+
+Where each halt of theirs at a --- is true of the machine with 1RZ there, and there is one, they are taken to
+count a step for ---, and standard error says so. --undefined-steps says it beforehand.
+
+With --list come lines at the end: no-line, for a machine of LIST that has none; not-listed, for a machine of
+THEIRS that isn't in LIST. Machines are the same there up to the names of states and symbols, and left and
+right."""
+
+
+def do_judge(asked: argparse.Namespace) -> int:
+    """Judges a list of claims."""
+    if asked.theirs == "-" == asked.list:
+        raise ValueError("THEIRS and LIST can't both be standard input")
+    reader = ListReader(asked.theirs)
+    highest = asked.check_steps
+    checker = GREATEST if highest is None else Limits(highest, GREATEST.cells, GREATEST.depth, GREATEST.nodes)
+    judging = judge(
+        reader.source,
+        None if asked.list is None else source_of(asked.list),
+        limits=limits_of(asked),
+        plan=Plan(),
+        checker=checker,
+        undefined_steps=True if asked.undefined_steps else None,
+        threads=asked.threads,
+    )
+    counts: Counter[Judgement] = collections.Counter()
+    for judged in judging:
+        counts[judged.judgement] += 1
+        reader.tell_rewritten(judged.said.reading)
+        sys.stdout.write("%s\n" % judged)
+    _write_list(judging, asked.list)
+    sys.stdout.flush()
+    if judging.undefined_steps:
+        print("%s: a step is counted for each ---" % reader.name, file=sys.stderr)
+    told = ", ".join("%s %d" % (kind, counts[kind]) for kind in Judgement)
+    print("%s: %s" % (reader.name, told), file=sys.stderr)
+    return 1 if counts[Judgement.CONTRADICTED] else 0
+
+
+def _write_list(judging: Judging, path: Optional[str]) -> None:
+    """Writes which machines of the list have no line, and which lines aren't of it; counts them."""
+    if path is None:
+        return
+    missing, foreign = judging.missing(), judging.foreign()
+    for number, machine in missing:
+        sys.stdout.write("no-line\t%d\t%s\n" % (number, machine))
+    for number, machine in foreign:
+        sys.stdout.write("not-listed\t%d\t%s\n" % (number, machine))
+    print("%s: no-line %d, not-listed %d" % (path, len(missing), len(foreign)), file=sys.stderr)
+
+
+def add_judge(commands: "argparse._SubParsersAction[argparse.ArgumentParser]") -> None:
+    """Adds the command to a reader of command lines."""
+    columns = [
+        ("judgement", "confirmed, contradicted, not-judged or unreadable; no-line or not-listed"),
+        ("number", "of the line in THEIRS, for no-line in LIST"),
+        ("ours", "our verdict line; the line itself where it is unreadable"),
+        ("reason", "what was confirmed or contradicted, and by what"),
+    ]
+    judging = add_command(commands, "judge", "what others claim, beside our verdicts", _HELP, columns)
+    judging.set_defaults(do=do_judge)
+    judging.add_argument("theirs", metavar="THEIRS", help="a list; - is standard input")
+    judging.add_argument("--list", metavar="LIST", help="the machines that THEIRS should be of")
+    judging.add_argument("--undefined-steps", action="store_true", help="they count a step for ---")
+    add_limits(judging, Limits.RANGES)
+    highest = Limits.RANGES["steps"][1]
+    judging.add_argument(
+        "--check-steps",
+        type=int,
+        metavar="N",
+        help="the most steps that a claim may name (default: {:,})".format(highest),
+    )
+    judging.add_argument("--threads", type=int, default=1, metavar="N", help="cores used (default: 1)")

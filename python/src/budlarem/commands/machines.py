@@ -1,0 +1,110 @@
+"""The commands over lists of machines: `read`, `decide`, `normal`, `triage`."""
+
+from __future__ import annotations
+
+import argparse
+import sys
+
+from ..limits import Limits, Plan
+from ..lists import carried, distinct, triage
+from .shared import LIST_HELP, ListReader, add_command, add_file, add_limits, limits_of
+
+_READ = (
+    """Writes the machine of each line of a list, as bb reads it.
+
+%s Status 1 where a line was refused."""
+    % LIST_HELP
+)
+_DECIDE = (
+    """Decides the machine of each line of a list, and carries along what else stands there.
+
+%s A refused line is answered by `refused` and the column where bb refuses it; status 1 then."""
+    % LIST_HELP
+)
+_NORMAL = (
+    """Writes the normal form of each machine of a list: states in the order of their first use, and
+mirrored, so that the first move is to the right.
+
+%s Status 1 where a line was refused."""
+    % LIST_HELP
+)
+_TRIAGE = (
+    """Writes how the cells of each machine of a list grow.
+
+%s Status 1 where a line was refused."""
+    % LIST_HELP
+)
+
+
+def do_read(asked: argparse.Namespace) -> int:
+    """Writes the machines of a list."""
+    reader = ListReader(asked.file)
+    for machine in reader.machines():
+        sys.stdout.write("%s\n" % machine)
+    sys.stdout.flush()
+    told = (reader.name, reader.taken, reader.rewritten, reader.refused)
+    print("%s: machines %d, of these rewritten %d; refused %d" % told, file=sys.stderr)
+    return reader.status
+
+
+def do_decide(asked: argparse.Namespace) -> int:
+    """Decides the machine of each line, and carries along what else stands there."""
+    plan = Plan(not asked.no_cyclers, not asked.no_translated, not asked.no_backward)
+    reader = ListReader(asked.file)
+    for found in carried(reader.readings(), limits_of(asked), plan, threads=asked.threads):
+        sys.stdout.write("%s\n" % found)
+    return reader.status
+
+
+def do_normal(asked: argparse.Namespace) -> int:
+    """Writes the normal form of each machine."""
+    reader = ListReader(asked.file)
+    for form, before in distinct(reader.machines(), steps=asked.steps, cells=asked.cells):
+        if before is None or not asked.distinct:
+            sys.stdout.write("%s\n" % form)
+    return reader.status
+
+
+def do_triage(asked: argparse.Namespace) -> int:
+    """Writes how the cells of each machine grow."""
+    reader = ListReader(asked.file)
+    for machine in reader.machines():
+        sys.stdout.write("%s\n" % triage(machine, steps=asked.steps, cells=asked.cells))
+    return reader.status
+
+
+def add_machines(commands: "argparse._SubParsersAction[argparse.ArgumentParser]") -> None:
+    """Adds these commands to a reader of command lines."""
+    columns = [("machine", "as bb reads it")]
+    reading = add_command(commands, "read", "machines out of a list as people have them", _READ, columns)
+    reading.set_defaults(do=do_read)
+    add_file(reading)
+    columns = [("verdict", "the line of bb decide"), ("fields", "what stood before the machine")]
+    columns += [("fields", "what stood behind it; a field is left out where nothing stood there")]
+    decide = add_command(commands, "decide", "decide machines, other fields carried along", _DECIDE, columns)
+    decide.set_defaults(do=do_decide)
+    add_file(decide)
+    add_limits(decide, Limits.RANGES)
+    for name in ("cyclers", "translated", "backward"):
+        decide.add_argument("--no-" + name, action="store_true", help="leave this decider out")
+    decide.add_argument("--threads", type=int, default=1, metavar="N", help="cores used (default: 1)")
+    _add_forms(commands)
+
+
+def _add_forms(commands: "argparse._SubParsersAction[argparse.ArgumentParser]") -> None:
+    columns = [("normal form", "of the machine"), ("machine", "as it was read")]
+    columns += [("states", "for each state of the normal form, which state of the machine it is")]
+    columns += [("L or R", "L where left and right were exchanged")]
+    normal = add_command(commands, "normal", "machines in normal form", _NORMAL, columns)
+    normal.set_defaults(do=do_normal)
+    add_file(normal)
+    normal.add_argument("--distinct", action="store_true", help="only the first machine of each normal form")
+    normal.add_argument("--steps", type=int, default=10_000, metavar="N", help="of the run (default: 10,000)")
+    add_limits(normal, ["cells"])
+    columns = [("machine", "as it was read"), ("growth", "stays, logarithm, root, line or halts")]
+    columns += [("steps", "how many were made")]
+    columns += [("cells", "visited after a hundredth of the steps, a tenth and all; three numbers")]
+    growth = add_command(commands, "triage", "how the cells of machines grow", _TRIAGE, columns)
+    growth.set_defaults(do=do_triage)
+    add_file(growth)
+    add_limits(growth, ["steps", "cells"])

@@ -1,0 +1,122 @@
+"""The command `publish`."""
+
+from __future__ import annotations
+
+import argparse
+import os
+import signal
+import sys
+import time
+from types import FrameType
+from typing import Optional
+
+from ..limits import Limits
+from ..publishing import UnconfirmedError, publish
+from ..runner.errors import RunError
+from ..runner.folder import limits_of
+from ..runner.progress import count_of
+from .shared import add_command
+
+_HELP = """Writes one archive of a decided list, which whoever gets it can check again: the list, the verdicts,
+limits and versions, the sha256 of each, a page that says what the lines mean, and again.py, a checker in plain
+Python. The checker has to confirm each claim first, and each line of LIST to have its verdict at its place.
+Files may be compressed by gzip; in the archive they aren't.
+
+Status 1 where a verdict isn't confirmed, 2 where something can't be published; nothing is written then."""
+# Seconds between two counts on a terminal.
+_OFTEN = 0.5
+
+
+class _Counter:
+    """Shows on a terminal how many lines were checked."""
+
+    def __init__(self) -> None:
+        self._is_shown, self._next = False, time.monotonic() + _OFTEN
+
+    def tell(self, lines: int) -> None:
+        if sys.stderr.isatty() and time.monotonic() >= self._next:
+            self._is_shown, self._next = True, time.monotonic() + _OFTEN
+            sys.stderr.write("\r%s lines checked" % count_of(lines).rjust(5))
+            sys.stderr.flush()
+
+    def clear(self) -> None:
+        if self._is_shown:
+            sys.stderr.write("\r%s\r" % (" " * len("12345 lines checked")))
+
+
+class _Ended(BaseException):
+    """A signal that ends the process, by way of what takes away the half archive."""
+
+    def __init__(self, number: int) -> None:
+        super().__init__(number)
+        self.number = number
+
+
+def _end_by(number: int, frame: Optional[FrameType]) -> None:
+    raise _Ended(number)
+
+
+def do_publish(asked: argparse.Namespace) -> int:
+    """Writes an archive of a decided list."""
+    for number in (signal.SIGINT, signal.SIGTERM, signal.SIGHUP):
+        if signal.getsignal(number) is not signal.SIG_IGN:
+            signal.signal(number, _end_by)
+    counter = _Counter()
+    most = {name: highest for name, (_, highest) in Limits.RANGES.items()}
+    try:
+        written = publish(
+            asked.out,
+            asked.verdicts,
+            asked.list,
+            passes=[limits_of(words) for words in asked.passes or ()],
+            limits=Limits(**{**most, "steps": asked.steps}),
+            threads=len(os.sched_getaffinity(0)) if asked.threads is None else asked.threads,
+            tell=counter.tell,
+        )
+        print(written)
+        return 0
+    except UnconfirmedError as error:
+        told, status = str(error), 1
+    except RunError as error:
+        told, status = str(error), 3
+    except _Ended as end:
+        told, status = "%s: no archive is written" % signal.Signals(end.number).name, 128 + end.number
+    finally:
+        counter.clear()
+    print("budlarem: %s" % told, file=sys.stderr)
+    return status
+
+
+def add_publish(commands: "argparse._SubParsersAction[argparse.ArgumentParser]") -> None:
+    """Adds the command to a reader of command lines."""
+    columns = [
+        ("sha256", "of the archive"),
+        ("name", "of the archive; `sha256sum --check` reads such a line"),
+    ]
+    parser = add_command(
+        commands, "publish", "an archive that others can check", _HELP, columns, "two spaces"
+    )
+    parser.set_defaults(do=do_publish)
+    parser.add_argument("out", metavar="OUT.tar", help="the archive; one that is there stays as it is")
+    parser.add_argument(
+        "--verdicts", required=True, metavar="FILE", help="verdict lines, or the folder of `budlarem run`"
+    )
+    parser.add_argument(
+        "--list", metavar="LIST", help="the machines, one a line, in the order of the verdicts"
+    )
+    parser.add_argument(
+        "--pass",
+        action="append",
+        dest="passes",
+        metavar="steps=N,cells=N,depth=N,nodes=N",
+        help="limits that the verdicts were decided with, to be told; a run's folder tells them itself",
+    )
+    highest = Limits.RANGES["steps"][1]
+    parser.add_argument(
+        "--steps",
+        type=int,
+        default=highest,
+        metavar="N",
+        help="the most that a claim may name (default: {:,})".format(highest),
+    )
+    parser.add_argument("--threads", type=int, metavar="N", help="cores used (default: all)")

@@ -1,0 +1,135 @@
+"""What several commands take: lists, limits, and what they tell of lists on standard error."""
+
+from __future__ import annotations
+
+import argparse
+import sys
+import textwrap
+from typing import BinaryIO, Iterable, Iterator, Optional, Sequence, Tuple, Union
+
+from ..limits import Limits
+from ..reading import Reading, read
+
+# So wide are the lines of a help.
+WIDTH = 79
+# What a list of machines may be, for the help of the commands that read one.
+LIST_HELP = """FILE is a list as people have them: a machine a line, alone, beside other fields, in backticks or in
+a link, with other spellings. A machine is taken only where one reading of its line is possible. What was
+rewritten or refused goes to standard error with file and line; empty lines and comments, which begin with #
+or //, are passed over. Gzip is known by its first bytes."""
+
+
+def source_of(path: Optional[str]) -> Union[str, BinaryIO]:
+    """What a FILE names: a path, or standard input."""
+    return sys.stdin.buffer if path is None or path == "-" else path
+
+
+class ListReader:
+    """Reads a list, and tells on standard error what was rewritten or refused. Counts both."""
+
+    def __init__(self, path: Optional[str]) -> None:
+        self.name = "standard input" if path is None or path == "-" else path
+        self.source = source_of(path)
+        self.taken, self.rewritten, self.refused = 0, 0, 0
+
+    def readings(self) -> Iterator[Reading]:
+        """The reading of each line that isn't empty and no comment. Raises OSError."""
+        for reading in read(self.source):
+            if reading.machine is None:
+                self.refuse(reading.number, str(reading))
+            else:
+                self.taken += 1
+                self.tell_rewritten(reading)
+            yield reading
+
+    def machines(self) -> Iterator[str]:
+        """The machines alone."""
+        return (reading.machine for reading in self.readings() if reading.machine is not None)
+
+    def tell(self, number: int, text: str) -> None:
+        """Says something of a line."""
+        print("%s:%d: %s" % (self.name, number, text), file=sys.stderr)
+
+    def tell_rewritten(self, reading: Reading) -> None:
+        """Says what of a line was rewritten, where something was."""
+        if reading.rewritten:
+            self.rewritten += 1
+            self.tell(reading.number, str(reading))
+
+    def refuse(self, number: int, text: str) -> None:
+        """Says why a line was refused."""
+        self.refused += 1
+        self.tell(number, text)
+
+    @property
+    def status(self) -> int:
+        """1 where a line was refused."""
+        return 1 if self.refused else 0
+
+
+def limits_of(asked: argparse.Namespace) -> Limits:
+    return Limits(asked.steps, asked.cells, asked.depth, asked.nodes)
+
+
+def add_limits(parser: argparse.ArgumentParser, names: Iterable[str]) -> None:
+    defaults = Limits()
+    for name in names:
+        lowest, highest = Limits.RANGES[name]
+        default = getattr(defaults, name)
+        help = "{:,} to {:,} (default: {:,})".format(lowest, highest, default)
+        parser.add_argument("--" + name, type=int, default=default, metavar="N", help=help)
+
+
+def add_greatest_limits(parser: argparse.ArgumentParser) -> None:
+    """Options of limits that are the greatest where they aren't given."""
+    for name, (lowest, highest) in Limits.RANGES.items():
+        help = "{:,} to {:,} (default: the greatest)".format(lowest, highest)
+        parser.add_argument("--" + name, type=int, metavar="N", help=help)
+
+
+def greatest_limits(asked: argparse.Namespace) -> Limits:
+    """The limits that were given; the greatest, or the greatest that go with the cells, in place of others.
+    Raises LimitsError."""
+    given = {name: getattr(asked, name) for name in Limits.RANGES}
+    highest = {name: most for name, (_, most) in Limits.RANGES.items()}
+    cells = highest["cells"] if given["cells"] is None else given["cells"]
+    highest["depth"] = max(min(highest["depth"], (cells + 1) // 2), 0)
+    return Limits(**{name: highest[name] if given[name] is None else given[name] for name in given})
+
+
+def add_file(parser: argparse.ArgumentParser) -> None:
+    parser.add_argument("file", nargs="?", metavar="FILE", help="default: standard input")
+
+
+def add_command(
+    commands: "argparse._SubParsersAction[argparse.ArgumentParser]",
+    name: str,
+    help: str,
+    what: str,
+    columns: Iterable[Tuple[str, str]] = (),
+    between: str = "a tab",
+) -> argparse.ArgumentParser:
+    """Adds a command: a line of help, what it does, the columns of what it writes, and what is between
+    them."""
+    return commands.add_parser(
+        name,
+        help=help,
+        description=described(what, list(columns), between),
+        formatter_class=argparse.RawDescriptionHelpFormatter,
+    )
+
+
+def described(what: str, columns: Sequence[Tuple[str, str]], between: str) -> str:
+    """What a command does, and a line for each column that it writes, for a terminal of 80 characters."""
+    texts = [textwrap.fill(" ".join(part.split()), WIDTH) for part in what.split("\n\n")]
+    if columns:
+        width = max(len(name) for name, _ in columns) + 4
+        head = "Columns, with %s between them:" % between if len(columns) > 1 else "Column:"
+        rows = (_row(name, text, width) for name, text in columns)
+        texts.append("\n".join([head, *rows]))
+    return "\n\n".join(texts)
+
+
+def _row(name: str, text: str, width: int) -> str:
+    begin = "  %s" % name.ljust(width - 2)
+    return textwrap.fill(text, WIDTH, initial_indent=begin, subsequent_indent=" " * width)

@@ -1,0 +1,191 @@
+"""Judging what others publish: their claims and words beside the checker's answers and our verdicts."""
+
+from __future__ import annotations
+
+import collections
+import time
+from typing import Deque, Iterator, List, Optional, Tuple
+
+from ..claims import Said, Word, sayings
+from ..engine import decide
+from ..limits import Limits, Plan
+from ..lists import Agreement, agreement
+from ..reading import read
+from ..reading.files import Source
+from ..verdicts import Answer, Halt, Refused, Undecided, Verdict
+from .answers import answers_of
+from .lists import Lists
+from .sources import Twice
+from .undefined import as_steps, counts_undefined_steps
+from .values import Judged, Judgement
+
+__all__ = ["GREATEST", "Judged", "Judgement", "Judging", "judge"]
+
+# With these no claim is refused for a limit; each costs what it names.
+GREATEST = Limits(**{name: highest for name, (_, highest) in Limits.RANGES.items()})
+# So many lines are judged together at most, and so many seconds the first of them waits.
+_TOGETHER, _SECONDS = 4_096, 1.0
+# A line, our verdict, and what is said of them where no claim has to be checked.
+_Seen = Tuple[Said, Optional[Verdict], Optional[Judged]]
+
+
+def judge(
+    theirs: Source,
+    listed: Optional[Source] = None,
+    *,
+    limits: Limits = Limits(),
+    plan: Plan = Plan(),
+    checker: Limits = GREATEST,
+    undefined_steps: Optional[bool] = None,
+    threads: int = 1,
+) -> Judging:
+    """Judges what each line of a list says of its machine: a verdict, or a word of `WORDS`.
+
+    Each machine is decided within `limits` by `plan`, and each claim that our verdict doesn't settle is
+    checked within `checker`. `undefined_steps` says whether they count a step for an undefined entry. Where it
+    isn't said, their halts tell: it is so where each halt of theirs at such an entry is true of the machine
+    with `1RZ` there, and one is. With `listed`, a list of machines, `missing` and `foreign` tell which of
+    them have no line, and which lines are of none.
+
+    Both lists are what `read` takes. Their list is read twice, so what isn't a path to a file is copied to
+    the disk first. Raises what `read` and `decide` do.
+
+    >>> lines = ["1RB1LB_1LA1RZ halt 6 4", "1LB1RB_1RA1LZ nonhalt", "1RA1RA undecided"]
+    >>> for judged in judge(lines):
+    ...     print(judged.judgement, judged.ours)
+    confirmed 1RB1LB_1LA1RZ halt 6 4
+    contradicted 1LB1RB_1RA1LZ halt 6 4
+    not-judged 1RA1RA translated R 1 2 1 1
+    """
+    source = Twice(theirs)
+    if undefined_steps is None:
+        undefined_steps = counts_undefined_steps(sayings(source.lines()), limits, checker, threads)
+    lists = None if listed is None else Lists(read(listed))
+    decided = _decided(sayings(source.lines()), limits, plan, threads)
+    return Judging(decided, lists, checker, undefined_steps, threads)
+
+
+def _decided(
+    said: Iterator[Said], limits: Limits, plan: Plan, threads: int
+) -> Iterator[Tuple[Said, Optional[Verdict]]]:
+    """Each line with our verdict on its machine, where it has one."""
+    waiting: Deque[Said] = collections.deque()
+
+    def machines() -> Iterator[str]:
+        for one in said:
+            waiting.append(one)
+            if one.reading.machine is not None:
+                yield one.reading.machine
+
+    for verdict in decide(machines(), limits, plan, threads=threads):
+        while waiting[0].reading.machine is None:
+            yield waiting.popleft(), None
+        yield waiting.popleft(), verdict
+    while waiting:
+        yield waiting.popleft(), None
+
+
+class Judging(Iterator[Judged]):
+    """The lines, judged one after another. `undefined_steps` says whether a step was taken to be counted for
+    an undefined entry. Once all lines are judged, `missing` and `foreign` tell of the list that was given."""
+
+    def __init__(
+        self,
+        decided: Iterator[Tuple[Said, Optional[Verdict]]],
+        lists: Optional[Lists],
+        checker: Limits,
+        undefined_steps: bool,
+        threads: int,
+    ) -> None:
+        self.undefined_steps = undefined_steps
+        self._decided, self._lists = decided, lists
+        self._checker, self._threads = checker, threads
+        self._held: Iterator[Judged] = iter(())
+
+    def __iter__(self) -> Judging:
+        return self
+
+    def __next__(self) -> Judged:
+        judged = next(self._held, None)
+        if judged is None:
+            self._held = iter(self._judged_together())
+            judged = next(self._held)
+        return judged
+
+    def missing(self) -> List[Tuple[int, str]]:
+        """The machines of the list that have no line, each with the number of its line there."""
+        return [] if self._lists is None else self._lists.missing()
+
+    def foreign(self) -> List[Tuple[int, str]]:
+        """The lines whose machines aren't of the list, each number with its machine."""
+        return [] if self._lists is None else self._lists.foreign()
+
+    def _judged_together(self) -> List[Judged]:
+        """The next lines."""
+        began = time.monotonic()
+        seen: List[_Seen] = []
+        for said, ours in self._decided:
+            if self._lists is not None:
+                self._lists.add(said.reading)
+            seen.append((said, ours, self._settled(said, ours)))
+            if len(seen) == _TOGETHER or time.monotonic() - began > _SECONDS:
+                break
+        claims = [self._claim(said) for said, _, judged in seen if judged is None]
+        answers = iter(answers_of(claims, self._checker, self._threads) if claims else [])
+        return [judged or self._answered(said, ours, next(answers)) for said, ours, judged in seen]
+
+    def _claim(self, said: Said) -> Verdict:
+        """What of a line is checked."""
+        assert said.claim is not None
+        if self.undefined_steps and isinstance(said.claim, Halt):
+            return as_steps(said.claim)
+        return said.claim
+
+    def _settled(self, said: Said, ours: Optional[Verdict]) -> Optional[Judged]:
+        """What is said of a line without the checker; None where that has to be asked."""
+        if ours is None or (said.trouble is not None and said.word is None):
+            told = said.trouble or str(said.reading.reason or "a refusal names no machine")
+            return Judged(Judgement.UNREADABLE, said, ours, told)
+        if said.claim is None or isinstance(said.claim, (Undecided, Refused)):
+            return _by_word(said, ours)
+        if isinstance(ours, Undecided):
+            return None
+        claim = self._claim(said)
+        if claim == ours:
+            return Judged(Judgement.CONFIRMED, said, ours, "our verdict is the same")
+        is_halt = isinstance(claim, Halt) and isinstance(ours, Halt)
+        if agreement(claim, ours) is Agreement.CONTRADICT and not (is_halt and claim != said.claim):
+            return Judged(Judgement.CONTRADICTED, said, ours, _other(said, ours))
+        return None
+
+    def _answered(self, said: Said, ours: Optional[Verdict], answer: Answer) -> Judged:
+        """What is said of a line by the checker's answer to its claim."""
+        counted = " with 1RZ for ---" if self._claim(said) != said.claim else ""
+        claim = str(said.claim).partition(" ")[2]
+        if answer is Answer.OK:
+            return Judged(Judgement.CONFIRMED, said, ours, "the checker confirms %s%s" % (claim, counted))
+        if answer is Answer.BAD:
+            return Judged(Judgement.CONTRADICTED, said, ours, "the checker refutes %s%s" % (claim, counted))
+        return Judged(Judgement.NOT_JUDGED, said, ours, "%s: over the checker's limits" % claim)
+
+
+def _other(said: Said, ours: Verdict) -> str:
+    """What a line says, and that our verdict says another thing."""
+    told = str(said.word) if said.claim is None else str(said.claim).partition(" ")[2]
+    return "%s; ours is %s" % (told, str(ours).partition(" ")[2])
+
+
+def _by_word(said: Said, ours: Verdict) -> Judged:
+    """What is said of a line that has a word and no claim."""
+    word = Word.UNDECIDED if said.claim is not None else said.word
+    if word not in (Word.HALTS, Word.NEVER_HALTS):
+        told = "no word says whether it halts" if word is None else "%s says neither" % word
+        return Judged(Judgement.NOT_JUDGED, said, ours, told)
+    if isinstance(ours, Undecided):
+        return Judged(Judgement.NOT_JUDGED, said, ours, "%s; undecided here" % word)
+    halts = isinstance(ours, Halt)
+    if halts == (word is Word.HALTS):
+        if said.trouble is not None:
+            return Judged(Judgement.NOT_JUDGED, said, ours, said.trouble)
+        return Judged(Judgement.CONFIRMED, said, ours, "%s, as ours says" % word)
+    return Judged(Judgement.CONTRADICTED, said, ours, _other(said, ours))

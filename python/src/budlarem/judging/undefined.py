@@ -1,0 +1,65 @@
+"""Whether a list counts a step for an undefined entry."""
+
+from __future__ import annotations
+
+import dataclasses
+import itertools
+from typing import Iterable, List, Tuple
+
+from ..claims import Said
+from ..engine import decide
+from ..limits import Limits
+from ..verdicts import Answer, Halt, Undecided, Verdict
+from .answers import answers_of
+
+# So many claims are looked at together.
+_TOGETHER = 4_096
+
+
+def as_steps(claim: Halt) -> Halt:
+    """The claim as one of the machine whose undefined entries are steps that write a 1 and halt."""
+    return dataclasses.replace(claim, machine=claim.machine.replace("---", "1RZ"))
+
+
+def counts_undefined_steps(sayings: Iterable[Said], ours: Limits, checker: Limits, threads: int) -> bool:
+    """Whether a list counts a step for an undefined entry: each halt of its at such an entry is true of the
+    machine with `1RZ` there, and there is one. What the checker can't tell within its limits says nothing."""
+    claims = (said.claim for said in sayings)
+    halts = (claim for claim in claims if isinstance(claim, Halt) and "---" in claim.machine)
+    is_counted = False
+    while True:
+        together = list(itertools.islice(halts, _TOGETHER))
+        if not together:
+            return is_counted
+        for counted in _counted(together, ours, checker, threads):
+            if not counted:
+                return False
+            is_counted = True
+
+
+def _counted(claims: List[Halt], ours: Limits, checker: Limits, threads: int) -> List[bool]:
+    """For each of the claims that is a halt at an undefined entry: whether a step is counted there."""
+    verdicts = list(decide([claim.machine for claim in claims], ours, threads=threads))
+    pairs = [pair for pair in zip(claims, verdicts) if isinstance(pair[1], (Halt, Undecided))]
+    stepped = answers_of([as_steps(claim) for claim, _ in pairs], checker, threads)
+    plain = answers_of([_known(claim, verdict) for claim, verdict in pairs], checker, threads)
+    same = answers_of([as_steps(_known(claim, verdict)) for claim, verdict in pairs], checker, threads)
+    return [
+        answers[0] is Answer.OK
+        for (claim, verdict), answers in zip(pairs, zip(stepped, plain, same))
+        if _is_at_undefined(claim, verdict, answers)
+    ]
+
+
+def _known(claim: Halt, verdict: Verdict) -> Halt:
+    """What is known of the machine's halt: our verdict, else what is claimed."""
+    return verdict if isinstance(verdict, Halt) else claim
+
+
+def _is_at_undefined(claim: Halt, verdict: Verdict, answers: Tuple[Answer, Answer, Answer]) -> bool:
+    """Whether a claim is of a halt at an undefined entry, as far as is known: the halt is one of the machine,
+    but none of it with `1RZ` there; or the other way round."""
+    stepped, plain, same = answers
+    if plain is Answer.OK:
+        return same is Answer.BAD
+    return stepped is Answer.OK

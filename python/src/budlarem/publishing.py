@@ -1,0 +1,189 @@
+"""A decided list as one archive, which whoever gets it can check again in four ways."""
+
+from __future__ import annotations
+
+import dataclasses
+import itertools
+import json
+import os
+from typing import Callable, List, NoReturn, Optional, Sequence, Tuple, Union
+
+from ._archive import LINES, LIST, VERDICTS, Contents, Decided, Input, PublishError, Seen, write_new
+from ._crew import Pace, in_order
+from .checking import why
+from .engine import checking, decide_bytes
+from .limits import Limits, in_range
+from .runner.folder import RUN, SUMMARY
+from .runner.folder import VERDICTS as RUN_VERDICTS
+from .runner.tasks import Identity
+from .verdicts import Answer
+
+__all__ = ["PublishError", "Published", "UnconfirmedError", "publish"]
+
+# With these no claim is refused for a limit; each costs what it names.
+GREATEST = Limits(**{name: highest for name, (_, highest) in Limits.RANGES.items()})
+Path = Union[str, "os.PathLike[str]"]
+
+
+class UnconfirmedError(PublishError):
+    """The checker doesn't confirm a verdict. The text says which."""
+
+
+@dataclasses.dataclass(frozen=True)
+class Published:
+    """An archive that was written: its path, its sha256, how many lines claim something, which the checker
+    confirmed, and how many claim nothing. As a text: its line for `sha256sum --check`."""
+
+    path: str
+    sha256: str
+    confirmed: int
+    open: int
+
+    def __str__(self) -> str:
+        return "%s  %s" % (self.sha256, self.path)
+
+
+def _confirmed(verdicts: Input, limits: Limits, threads: int, tell: Callable[[int], None]) -> Tuple[int, int]:
+    """Has the checker confirm all verdicts; gives how many it confirmed, and how many claim nothing. Raises
+    UnconfirmedError."""
+    confirmed, free = 0, 0
+    # A call makes its tapes anew, which takes a tenth of a second where they are large: so the batches are, too.
+    for _, reply in in_order(checking(limits), verdicts.batches(), threads, Pace(1)):
+        answers = reply.text
+        lines, ok, open_ = (answers.count(word) for word in (b"\n", b"ok\n", b"open\n"))
+        if ok + open_ < lines:
+            _raise_unconfirmed(verdicts, confirmed + free, answers.decode().split("\n"), limits)
+        confirmed, free = confirmed + ok, free + open_
+        tell(confirmed + free)
+    return confirmed, free
+
+
+def _raise_unconfirmed(verdicts: Input, before: int, answers: Sequence[str], limits: Limits) -> NoReturn:
+    """Raises the error for the first of these answers that isn't as it has to be."""
+    place = next(place for place, answer in enumerate(answers) if answer not in ("ok", "open"))
+    number, answer = before + place, Answer(answers[place])
+    line = next(itertools.islice(verdicts.lines(), number, None), b"").decode("utf-8", "surrogateescape")
+    told = (verdicts.path, number + 1, answer, line, why(line, answer, limits))
+    raise UnconfirmedError("%s:%d: %s: %.200s: %s" % told)
+
+
+def _shown(line: bytes) -> str:
+    return repr(line[:200].decode("utf-8", "backslashreplace"))
+
+
+def _seen(verdicts: Input) -> Seen:
+    """What verdicts have."""
+    seen = Seen()
+    for line in verdicts.lines():
+        seen.take(line)
+    return seen
+
+
+def _seen_beside(machines: Input, verdicts: Input) -> Seen:
+    """What verdicts have, where each belongs to the line of the list at its place. Raises PublishError where
+    one doesn't."""
+    seen = Seen()
+    refused: List[Tuple[int, bytes, bytes]] = []
+    pairs = itertools.zip_longest(machines.lines(), verdicts.lines())
+    for number, (line, verdict) in enumerate(pairs, 1):
+        if line is None or verdict is None:
+            short, other = (machines, verdicts) if line is None else (verdicts, machines)
+            raise PublishError("%s has %d lines, and %s has more" % (short.path, number - 1, other.path))
+        machine = seen.take(verdict)
+        if not machine:
+            refused.append((number, line, verdict))
+        elif machine.encode() != line:
+            _raise_other(machines, verdicts, number, line)
+        if len(refused) == LINES:
+            _hold_refused(machines, verdicts, refused)
+            refused.clear()
+    _hold_refused(machines, verdicts, refused)
+    return seen
+
+
+def _raise_other(machines: Input, verdicts: Input, number: int, line: bytes) -> NoReturn:
+    """Raises the error for a line of the list to which its verdict doesn't belong."""
+    raise PublishError(
+        "%s:%d: line %d of %s isn't the verdict on %s; the list has one machine a line, as `budlarem read` writes"
+        " them, in the order of the verdicts" % (machines.path, number, number, verdicts.path, _shown(line))
+    )
+
+
+def _hold_refused(machines: Input, verdicts: Input, refused: Sequence[Tuple[int, bytes, bytes]]) -> None:
+    """Raises PublishError where a line of the list isn't refused as its verdict says."""
+    given = b"".join(line + b"\n" for _, line, _ in refused)
+    replies = b"".join(decide_bytes(given, Limits(0, 1, 0, 0))).split(b"\n")
+    for (number, line, verdict), reply in zip(refused, replies):
+        if reply != verdict:
+            _raise_other(machines, verdicts, number, line)
+
+
+def _of_run(folder: str) -> Tuple[str, Decided]:
+    """The verdicts of a run's folder, and how they were decided. Raises PublishError."""
+    path = os.path.join(folder, SUMMARY)
+    if not os.path.exists(os.path.join(folder, RUN)):
+        raise PublishError("%s is a folder, but not of `budlarem run`; give a file of verdict lines" % folder)
+    if not os.path.exists(path):
+        raise PublishError("%s has no %s: that run isn't at its end; its command goes on" % (folder, SUMMARY))
+    try:
+        with open(path, encoding="utf-8") as file:
+            told = json.load(file)
+        passes = tuple(Limits(**one["limits"]) for one in told["passes"])
+        by = Identity(told["version"], told["commit"], told["library"])
+    except (ValueError, KeyError, TypeError) as error:
+        raise PublishError(
+            "%s isn't as a run writes it: %s; its command writes it anew" % (path, error)
+        ) from None
+    return os.path.join(folder, RUN_VERDICTS), Decided(passes, by)
+
+
+def _hold_out(path: str) -> None:
+    """Raises PublishError where an archive can't have this name."""
+    if not path.endswith(".tar"):
+        raise PublishError(
+            "%s: what is written is a tar archive, so a name that ends in .tar is asked for" % path
+        )
+    if os.path.lexists(path):
+        raise PublishError("%s is there already; give another name, or take it away first" % path)
+
+
+def publish(
+    path: Path,
+    verdicts: Path,
+    machines: Optional[Path] = None,
+    *,
+    passes: Sequence[Limits] = (),
+    limits: Limits = GREATEST,
+    threads: int = 1,
+    tell: Callable[[int], None] = lambda lines: None,
+) -> Published:
+    """Writes one archive, which others can check, of verdict lines, or of a folder of `budlarem run`, and of
+    the list `machines`, where it is given. The files may be compressed by gzip; in the archive they aren't.
+
+    The checker has to confirm each claim within `limits`, on so many `threads`, and each line of the list to
+    have its verdict at its place. `passes` says with which limits the verdicts were decided; a run's folder
+    says it itself. `tell` is called with how many lines were checked. The same contents are the same bytes.
+
+    Raises PublishError, a ValueError, where `path` is there already or doesn't end in `.tar`, where list and
+    verdicts don't go together, or a file changes meanwhile; UnconfirmedError, one of them, for a verdict that
+    isn't confirmed; OSError where a file can't be read or written. Nothing is left at `path` then.
+    """
+    out, given, decided = os.fspath(path), os.fspath(verdicts), Decided(tuple(passes))
+    in_range("threads", threads, 1, 1_024)
+    _hold_out(out)
+    if os.path.isdir(given):
+        if passes:
+            raise PublishError("%s says itself with which limits it was decided" % given)
+        given, decided = _of_run(given)
+    lines = Input(given, VERDICTS)
+    listed = None if machines is None else Input(os.fspath(machines), LIST)
+    confirmed, free = _confirmed(lines, limits, threads, tell)
+    if confirmed + free == 0:
+        raise PublishError("%s has no line" % given)
+    seen = _seen(lines) if listed is None else _seen_beside(listed, lines)
+    contents = Contents(listed, lines, seen, decided, confirmed)
+    try:
+        digest = write_new(out, contents)
+    except FileExistsError:
+        raise PublishError("%s was made by another meanwhile, and stays as it is" % out) from None
+    return Published(out, digest, confirmed, free)

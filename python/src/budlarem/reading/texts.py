@@ -1,0 +1,198 @@
+"""A text of entries read as a machine: in one way, or with the reason why there is none."""
+
+from __future__ import annotations
+
+import dataclasses
+import re
+from typing import List, Sequence, Set, Tuple, Union
+
+from ..verdicts import MOST_SYMBOLS, STATES, is_machine
+from .values import Reason, Rewriting
+
+# Of so many states at most H is none, so it may be meant for the halting state.
+MOST_BEFORE_H = STATES.index("H")
+_ENTRY = re.compile(r"[0-9][LRlr][A-Za-z]|---|\.\.\.")
+_LOST = re.compile(r"[0-9][LRlr][-_]")
+_SHOWN = 60
+
+
+@dataclasses.dataclass(frozen=True)
+class Word:
+    """Characters of a line that stand together, and how many characters come before them."""
+
+    begin: int
+    text: str
+
+    @property
+    def end(self) -> int:
+        return self.begin + len(self.text)
+
+
+@dataclasses.dataclass(frozen=True)
+class Found:
+    """A machine as `bb` reads it, and what was rewritten."""
+
+    machine: str
+    rewritten: Tuple[Rewriting, ...] = ()
+
+
+Outcome = Union[Found, Reason]
+# The entries of a group, each with how many characters come before it.
+Group = List[Tuple[int, str]]
+
+
+def shown(text: str) -> str:
+    """A text as a sentence has it: cut where it is long."""
+    return text if len(text) <= _SHOWN else text[: _SHOWN - 2] + ".."
+
+
+def counted(count: int, word: str, words: str) -> str:
+    return "%d %s" % (count, word if count == 1 else words)
+
+
+def read_words(words: Sequence[Word]) -> Outcome:
+    """The machine whose groups are set apart by `_` in one word, or are these words; or that of one word
+    without `_`, where there is one division into groups that makes one."""
+    if len(words) == 1 and "_" in words[0].text and is_machine(words[0].text):
+        return Found(words[0].text)
+    groups = list(words) if len(words) > 1 else _split(words[0])
+    entries: List[Group] = []
+    for place, group in enumerate(groups):
+        found = _entries_of(group, sum(map(len, entries)), place, place + 1 < len(groups))
+        if isinstance(found, Reason):
+            return found
+        entries.append(found)
+    rewritten = _letters(groups)
+    if len(groups) == 1:
+        return _divided(entries[0], rewritten)
+    if len(words) > 1:
+        rewritten.add(Rewriting.SPACES)
+    return _machine(entries, rewritten)
+
+
+def _split(word: Word) -> List[Word]:
+    """What `_` sets apart in a word."""
+    parts, begin = [], word.begin
+    for part in word.text.split("_"):
+        parts.append(Word(begin, part))
+        begin += len(part) + 1
+    return parts
+
+
+def _entries_of(group: Word, before: int, place: int, is_followed: bool) -> Union[Group, Reason]:
+    """The entries of a group, before which there are so many entries and groups; `is_followed`: a `_` or a
+    space stands behind it."""
+    if not group.text:
+        return Reason("empty-group", "group %d is empty" % (place + 1), group.begin + 1)
+    entries: Group = []
+    for at in range(0, len(group.text), 3):
+        entry = group.text[at : at + 3]
+        if not _ENTRY.fullmatch(entry):
+            return _no_entry(entry, before + len(entries) + 1, group.begin + at + 1, is_followed)
+        entries.append((group.begin + at, entry))
+    return entries
+
+
+def _no_entry(text: str, number: int, place: int, is_followed: bool) -> Reason:
+    """Why a text of up to three characters is no entry."""
+    whole = text + "_" if len(text) == 2 and is_followed else text
+    if _LOST.fullmatch(whole):
+        told = "entry %d is %s: the %s that it writes would be lost" % (number, whole, whole[0])
+        return Reason("lost", told, place)
+    return Reason("entry", "entry %d is no entry: %s" % (number, text), place)
+
+
+def _letters(groups: Sequence[Word]) -> Set[Rewriting]:
+    """What is rewritten in the letters of these groups."""
+    text = "".join(group.text for group in groups)
+    found = set()
+    if text != text.upper():
+        found.add(Rewriting.SMALL_LETTERS)
+    if "..." in text:
+        found.add(Rewriting.UNDEFINED_ENTRIES)
+    return found
+
+
+def _divided(entries: Group, rewritten: Set[Rewriting]) -> Outcome:
+    """The machine that a text without `_` is, where there is one division into groups that makes one."""
+    count, begin = len(entries), entries[0][0]
+    states = [number for number in range(1, len(STATES) + 1) if count % number == 0]
+    sizes = [(number, count // number) for number in states if 2 <= count // number <= MOST_SYMBOLS]
+    if not sizes:
+        told = "%s can't be divided into 1 to 25 groups of 2 to 10" % counted(count, "entry", "entries")
+        return Reason("division", told, begin + 1)
+    outcomes: List[Outcome] = []
+    for number, size in sizes:
+        more = {Rewriting.UNDERSCORES} if number > 1 else set()
+        groups = [entries[k : k + size] for k in range(0, count, size)]
+        outcomes.append(_machine(groups, rewritten | more))
+    found = [outcome for outcome in outcomes if isinstance(outcome, Found)]
+    if len(found) == 1 or len(outcomes) == 1:
+        return found[0] if found else outcomes[0]
+    if not found:
+        told = "no way to divide %d entries into groups makes a machine" % count
+        return Reason("division", told, begin + 1)
+    told = "%d ways to divide %d entries into groups make a machine" % (len(found), count)
+    return Reason("divisions", told, begin + 1)
+
+
+def _machine(groups: Sequence[Group], rewritten: Set[Rewriting]) -> Outcome:
+    """The machine that has these groups."""
+    wrong = _wrong_size(groups)
+    if wrong is not None:
+        return wrong
+    letters = {entry[2].upper() for group in groups for _, entry in group}
+    halts_by_h = "H" in letters and "Z" not in letters and len(groups) <= MOST_BEFORE_H
+    number, texts = 0, []
+    for group in groups:
+        text = ""
+        for begin, entry in group:
+            number += 1
+            entry = _rewritten(entry, halts_by_h)
+            wrong = _wrong_entry(entry, number, begin, len(groups), len(group))
+            if wrong is not None:
+                return wrong
+            text += entry
+        texts.append(text)
+    if halts_by_h:
+        rewritten = rewritten | {Rewriting.HALTING_STATE}
+    return Found("_".join(texts), tuple(kind for kind in Rewriting if kind in rewritten))
+
+
+def _rewritten(entry: str, halts_by_h: bool) -> str:
+    """An entry as `bb` reads it."""
+    entry = entry.upper().replace("...", "---")
+    return entry[:2] + "Z" if halts_by_h and entry[2] == "H" else entry
+
+
+def _wrong_size(groups: Sequence[Group]) -> Union[Reason, None]:
+    """Why no machine has groups of these lengths."""
+    lengths = list(dict.fromkeys(map(len, groups)))
+    begin = groups[0][0][0]
+    if len(lengths) > 1:
+        other = next(group for group in groups if len(group) != lengths[0])
+        told = "%s and %d" % (", ".join(map(str, lengths[:-1])), lengths[-1])
+        return Reason("groups", "the groups have %s entries" % told, other[0][0] + 1)
+    if not 2 <= lengths[0] <= MOST_SYMBOLS:
+        told = "the groups have %s, not 2 to 10" % counted(lengths[0], "entry", "entries")
+        return Reason("symbols", told, begin + 1)
+    if len(groups) > len(STATES):
+        place = groups[len(STATES)][0][0] + 1
+        return Reason("states", "there are %d groups, not 1 to 25" % len(groups), place)
+    return None
+
+
+def _wrong_entry(entry: str, number: int, begin: int, states: int, symbols: int) -> Union[Reason, None]:
+    """Why no machine of so many states and symbols has this entry, the `number`th."""
+    if entry == "---":
+        return None
+    if int(entry[0]) >= symbols:
+        told = "entry %d writes %s, but there are %d symbols" % (number, entry[0], symbols)
+        return Reason("symbol", told, begin + 1)
+    if entry[2] in STATES[:states] + "Z":
+        return None
+    if entry[2] == "H" and states <= MOST_BEFORE_H:
+        return Reason("halting-state", "H: the halting state is Z here", begin + 3)
+    there_are = "there is 1 state" if states == 1 else "there are %d states" % states
+    told = "entry %d names state %s, but %s" % (number, entry[2], there_are)
+    return Reason("state", told, begin + 3)

@@ -1,0 +1,114 @@
+"""What a reader tells of a line: its one machine, or why there is none."""
+
+from __future__ import annotations
+
+import dataclasses
+import enum
+from typing import Optional, Tuple
+
+from ..engine import column_of
+
+
+class Rewriting(enum.Enum):
+    """What of a text was written otherwise than `bb` reads it, in the order in which it is told."""
+
+    SMALL_LETTERS = "small-letters"
+    HALTING_STATE = "halting-state"
+    UNDEFINED_ENTRIES = "undefined-entries"
+    SPACES = "spaces"
+    UNDERSCORES = "underscores"
+
+    def __str__(self) -> str:
+        return self.value
+
+    @property
+    def sentence(self) -> str:
+        """What was rewritten, for a person."""
+        return _SENTENCES[self.value]
+
+
+_SENTENCES = {
+    "small-letters": "small letters read as capital ones",
+    "halting-state": "H read as Z, the halting state",
+    "undefined-entries": "... read as ---, an undefined entry",
+    "spaces": "spaces between groups read as _",
+    "underscores": "_ put between the groups",
+}
+# What would do, for each kind of reason.
+ADVICE = {
+    "none": "a machine is written as 1RB1LB_1LA1RZ",
+    "rule": "write ------ alone on its line if it is meant as a machine",
+    "rule-or-group": "write _ between the groups, or leave the row out",
+    "entry": "an entry is a digit, L or R and a letter, or --- where it is undefined",
+    "lost": "write --- for an undefined entry, or Z for a step that halts",
+    "empty-group": "write one _ between two groups, none before or behind them",
+    "groups": "each group has an entry for each symbol, so all have as many",
+    "symbols": "a machine has 2 to 10 symbols, and a group has an entry for each",
+    "states": "a machine has 1 to 25 states, and a group for each",
+    "symbol": "write an entry for each symbol in each group",
+    "state": "write a group for each state; the halting state is Z",
+    "halting-state": "write Z for the halting state throughout",
+    "division": "write _ between the groups",
+    "divisions": "write _ between the groups",
+    "dots": "write --- for an undefined entry, or leave the dots out",
+    "words": "write one machine a line, or _ between the groups of one",
+    "mixed": "write one machine a line, with _ between all its groups",
+    "part": "write one machine a line, with _ between its groups",
+    "two": "write one machine a line",
+    "long": "write one machine a line",
+}
+
+
+@dataclasses.dataclass(frozen=True)
+class Reason:
+    """Why a line has no machine: the kind as a word, a sentence, and the character of the line where it is,
+    from 1 on. It may be one past the end."""
+
+    kind: str
+    text: str
+    place: int
+
+    def __str__(self) -> str:
+        return self.text
+
+    @property
+    def advice(self) -> str:
+        """What would do."""
+        return ADVICE[self.kind]
+
+
+@dataclasses.dataclass(frozen=True)
+class Reading:
+    """A line of a list, and its one machine or the reason why there is none.
+
+    `number` is the line's, from 1 on; `line` is its text, without a byte order mark and what ends a line.
+    `machine` is as `bb` reads it, None where there is none; `reason` is None where there is one. `rewritten`
+    has all that stood there otherwise. `before` and `behind` are what else stood on the line, without spaces,
+    commas and semicolons at their ends.
+    """
+
+    number: int
+    line: str
+    machine: Optional[str]
+    rewritten: Tuple[Rewriting, ...] = ()
+    before: str = ""
+    behind: str = ""
+    reason: Optional[Reason] = None
+
+    @property
+    def fields(self) -> str:
+        """What else stood on the line, with a tab between what stood before and what behind."""
+        return "\t".join(part for part in (self.before, self.behind) if part)
+
+    @property
+    def column(self) -> Optional[int]:
+        """The column with which `bb` refuses the line as it stands; None where there is a machine. Asks the
+        library. Raises LibraryError."""
+        return column_of(self.line) if self.machine is None else None
+
+    def __str__(self) -> str:
+        if self.reason is not None:
+            told = "refused: %s, at character %d (for bb column %s); %s"
+            return told % (self.reason, self.reason.place, self.column, self.reason.advice)
+        sentences = "; ".join(rewriting.sentence for rewriting in self.rewritten)
+        return "%s: %s" % (self.machine, sentences) if sentences else str(self.machine)

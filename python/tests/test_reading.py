@@ -1,0 +1,191 @@
+"""Reading lists as people have them."""
+
+from __future__ import annotations
+
+import gzip
+import io
+import json
+import os
+import pathlib
+import random
+import tempfile
+import unittest
+from typing import Any, Dict, Iterator, List
+
+import budlarem
+from budlarem import Reading, Rewriting
+from budlarem.reading.lines import LONGEST_LINE
+from budlarem.reading.values import ADVICE
+
+CHAMPION = "1RB1LB_1LA1RZ"
+FORMS = pathlib.Path(__file__).parents[2] / "scripts" / "tests" / "forms.json"
+
+
+def one(line: str) -> Reading:
+    (reading,) = budlarem.read([line])
+    return reading
+
+
+def told(form: Dict[str, Any]) -> List[Any]:
+    """What a form says that has to be read."""
+    if "nothing" in form:
+        return []
+    if "refusal" in form:
+        return [form["refusal"], form["reason"], form["place"]]
+    rewritten = form.get("rewritten", [])
+    return [form["machine"], rewritten, form.get("before", ""), form.get("behind", "")]
+
+
+def found(line: str) -> List[Any]:
+    """What is read of a line, in the same shape."""
+    readings = list(budlarem.read([line]))
+    if not readings:
+        return []
+    (reading,) = readings
+    if reading.reason is not None:
+        return [reading.reason.kind, reading.reason.text, reading.reason.place]
+    return [reading.machine, list(map(str, reading.rewritten)), reading.before, reading.behind]
+
+
+@unittest.skipUnless(FORMS.exists(), "the repository's forms aren't here")
+class FormsTest(unittest.TestCase):
+    def setUp(self) -> None:
+        self.forms = json.loads(FORMS.read_text(encoding="utf-8"))
+
+    def test_each_form(self) -> None:
+        self.assertGreaterEqual(len(self.forms["forms"]), 80)
+        for form in self.forms["forms"]:
+            with self.subTest(line=form["line"]):
+                self.assertEqual(found(form["line"]), told(form))
+
+    def test_sentences(self) -> None:
+        self.assertEqual(self.forms["advice"], ADVICE)
+        sentences = {rewriting.value: rewriting.sentence for rewriting in Rewriting}
+        self.assertEqual(self.forms["rewritings"], sentences)
+        kinds = {form["refusal"] for form in self.forms["forms"] if "refusal" in form}
+        self.assertEqual(kinds | {"long"}, set(ADVICE))
+
+    def test_a_refused_line_is_no_machine_of_the_library(self) -> None:
+        for form in self.forms["forms"]:
+            if "refusal" in form and "\n" not in form["line"]:
+                self.assertIsInstance(one(form["line"]).column, int, form["line"])
+
+
+class LinesTest(unittest.TestCase):
+    def test_a_long_line(self) -> None:
+        self.assertIsNotNone(one(CHAMPION + " " * (LONGEST_LINE - len(CHAMPION))).machine)
+        reading = one(CHAMPION + " " * LONGEST_LINE)
+        assert reading.reason is not None
+        self.assertEqual((reading.reason.kind, reading.reason.place), ("long", LONGEST_LINE + 1))
+
+    def test_what_else_stands_there(self) -> None:
+        reading = one("17. `1rb1lb 1la1rh`; halt\t6")
+        self.assertEqual((reading.machine, reading.before, reading.behind), (CHAMPION, "17.", "halt\t6"))
+        self.assertEqual(reading.fields, "17.\thalt\t6")
+        self.assertEqual((reading.column, reading.reason), (None, None))
+        self.assertIn("H read as Z", str(reading))
+
+    def test_a_refusal(self) -> None:
+        reading = one("12,1RB1LC_1LA1RZ")
+        assert reading.reason is not None
+        self.assertEqual((reading.machine, reading.column, reading.reason.place), (None, 2, 9))
+        self.assertIn("group for each state", reading.reason.advice)
+        self.assertIn("at character 9 (for bb column 2)", str(reading))
+
+
+class SourcesTest(unittest.TestCase):
+    def machines(self, source: Any) -> List[Any]:
+        return [(reading.number, reading.machine) for reading in budlarem.read(source)]
+
+    def test_paths_files_and_lines(self) -> None:
+        text = "\ufeff%s\r\n# c\r\n\r\n1ra1ra\r\nx" % CHAMPION
+        right = [(1, CHAMPION), (4, "1RA1RA"), (5, None)]
+        with tempfile.TemporaryDirectory() as folder:
+            path = os.path.join(folder, "list.txt")
+            for content in (text.encode(), gzip.compress(text.encode()), gzip.compress(text.encode()) * 1):
+                with open(path, "wb") as file:
+                    file.write(content)
+                self.assertEqual(self.machines(path), right)
+                self.assertEqual(self.machines(pathlib.Path(path)), right)
+                self.assertEqual(self.machines(io.BytesIO(content)), right)
+                with open(path, "rb", buffering=0) as raw:
+                    self.assertEqual(self.machines(raw), right)
+        self.assertEqual(self.machines(text.splitlines(keepends=True)), right)
+        self.assertEqual(self.machines(line.encode() for line in text.split("\n")), right)
+        self.assertEqual(self.machines(io.StringIO(text)), right)
+
+    def test_bytes_that_are_no_text(self) -> None:
+        self.assertEqual(
+            self.machines(io.BytesIO(b"\xff 1RA1RA \x80\n1RA\xff1RA\n")), [(1, "1RA1RA"), (2, None)]
+        )
+
+    def test_a_long_line_of_bytes(self) -> None:
+        self.assertEqual(
+            self.machines(io.BytesIO(b"x" * 1_000_000 + b"\n1RA1RA\n" + b"1RA1RA," * 100_000)),
+            [(1, None), (2, "1RA1RA"), (3, None)],
+        )
+
+    def test_a_line_is_read_when_it_is_needed(self) -> None:
+        def lines() -> Iterator[str]:
+            yield CHAMPION
+            raise AssertionError("read ahead")
+
+        self.assertEqual(next(budlarem.read(lines())).machine, CHAMPION)
+
+    def test_what_is_no_list(self) -> None:
+        for source, error, text in (
+            (b"1RA1RA\n", TypeError, "BytesIO"),
+            ("1RA1RA\n1RA1RA", ValueError, "splitlines"),
+            (["1RA1RA", 3], TypeError, r"lines\[1\] is of type int"),
+            (["1RA1RA", "1RA\n1RA"], ValueError, r"lines\[1\] has a newline"),
+            (3, TypeError, "int"),
+            ("/nowhere.txt", FileNotFoundError, "nowhere"),
+            (os.sep, IsADirectoryError, os.sep),
+        ):
+            with self.assertRaisesRegex(error, text):
+                list(budlarem.read(source))  # type: ignore[arg-type]
+
+    def test_a_gzip_that_is_cut(self) -> None:
+        whole = gzip.compress(b"1RA1RA\n" * 1_000)
+        for content in (whole[:30], whole[:-4], whole[:-8] + bytes(8)):
+            with self.assertRaisesRegex(OSError, "can't be read as gzip"):
+                list(budlarem.read(io.BytesIO(content)))
+
+
+class RandomTest(unittest.TestCase):
+    def test_a_machine_comes_back_as_it_was(self) -> None:
+        """Random machines of up to seven states in random forms: as they were, or refused."""
+        source = random.Random(11)
+        back = 0
+        for _ in range(5_000):
+            machine, line = self.drawn(source)
+            reading = one(line)
+            # The one form in which bb itself reads another machine.
+            bare = line.strip()
+            is_other = "_" not in line and budlarem.is_machine(bare)
+            self.assertIn(reading.machine, (bare if is_other else machine, None), line)
+            back += reading.machine == machine
+        self.assertGreater(back, 4_000)
+
+    def drawn(self, source: random.Random) -> "tuple[str, str]":
+        """A machine, and a line that has it in some form."""
+        states, symbols = source.randint(2, 7), source.choice((2, 2, 3, 4))
+        letters = "ABCDEFG"[:states] * 3 + "Z"
+        entries = [
+            "---"
+            if source.random() < 0.1
+            else source.choice("0123"[:symbols]) + source.choice("LR") + source.choice(letters)
+            for _ in range(states * symbols)
+        ]
+        groups = ["".join(entries[k : k + symbols]) for k in range(0, len(entries), symbols)]
+        text = source.choice(("_", "_", " ", "")).join(groups)
+        if source.random() < 0.3:
+            text = text.replace("---", "...")
+        if source.random() < 0.3:
+            text = text.replace("Z", "H")
+        if source.random() < 0.3:
+            text = text.lower()
+        form = source.choice(
+            ("%s", "17. %s", "%s halt 6 4", "a,%s,b", "`%s`", "[%s](https://x.org/y)", "%s\r")
+        )
+        return "_".join(groups), form % text

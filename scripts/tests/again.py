@@ -1,0 +1,203 @@
+#!/usr/bin/python3
+"""Holds `again.py`, the package's checker in plain Python, against the built program's checker.
+
+    scripts/tests/again.py crates/bb/out/bb [--quick] [--machines N] [--seed S]
+
+It says `true` to every verdict on the machines of four states, and to forged lines what `bb check` does: on
+random machines of all sizes, of which many have 3 and 4 symbols, with numbers, words and bytes changed. It
+imports `sys` alone, has 150 lines at most, and takes no more memory for more steps. It takes two minutes;
+`--quick`, with a tenth of the machines of four states and of the forged lines, a quarter of one. The last
+line is `N passed, M failed`, with `, K skipped` where something isn't installed; the status is 1 where any
+failed.
+"""
+
+import ast
+import collections
+import os
+import pathlib
+import random
+import subprocess
+import sys
+import tempfile
+from typing import Counter, Iterator, List, Tuple
+
+from machine_list import has_lister, listed
+from machines import mixed, seldom_halting
+from program import ended, options
+from tally import TOP, Tally, end_with, words
+
+AGAIN = os.path.join(TOP, "python", "src", "budlarem", "again.py")
+# What it may have of lines.
+MOST = 150
+FIRST = (200, 256, 20, 1_000)
+# Within these no claim of so many steps, or of a tree of so many nodes, needs more cells or levels.
+STEPS, NODES = 2_000, 1_000
+LIMITS = (STEPS, 2 * STEPS, NODES, NODES)
+WORDS = {"ok": "true", "bad": "false", "open": "no claim", "over": "too long", "unread": "not a verdict line"}
+
+
+def said(*more: str, given: bytes = b"") -> Tuple[int, List[bytes], bytes]:
+    """The status of again.py over these lines, its answers, and what it says on standard error."""
+    done = ended([sys.executable, "-I", "-S", AGAIN, *more], given)
+    return done.status, done.output.split(b"\n")[:-1], done.error
+
+
+def hold_form(tally: Tally) -> None:
+    """It is short, and imports `sys` alone."""
+    text = pathlib.Path(AGAIN).read_text(encoding="utf-8")
+    tally.hold("again.py has %d lines" % text.count("\n"), text.count("\n") <= MOST)
+    nodes = [node for node in ast.walk(ast.parse(text)) if isinstance(node, (ast.Import, ast.ImportFrom))]
+    names = [ast.unparse(node) for node in nodes]
+    tally.hold("again.py has %s" % names, names == ["import sys"])
+
+
+def hold_words(tally: Tally) -> None:
+    """Its words, bounds and statuses."""
+    halt = b"1RB1LB_1LA1RZ halt 6 4\n"
+    cases: List[Tuple[List[str], bytes, int, bytes]] = [
+        ([], halt, 0, b"true"),
+        (["--steps", "6"], halt, 0, b"true"),
+        (["--steps", "5"], halt, 1, b"too long"),
+        (["--nodes", "0"], b"0RA--- backward 1 1\n", 1, b"too long"),
+        ([], b"1RA1RA undecided cells\n", 0, b"no claim"),
+        ([], b"1RB1LB_1LA1RZ halt 6 5\n", 1, b"false"),
+        ([], b"1RB1LB_1LA1RZ halt 6 4\r\n", 1, b"not a verdict line"),
+    ]
+    for more, given, status, answer in cases:
+        found = said(*more, given=given)
+        tally.hold("%s, %r: %r" % (more, given, found), found[:2] == (status, [answer]))
+        tally.hold("the count: %s" % found[2].decode(), b"1 " + answer in found[2])
+    for more in (["--steps"], ["--steps", "x"], ["--help"], ["one", "two"]):
+        status, _, error = said(*more)
+        tally.hold("%s: status %d, %r" % (more, status, error), status == 2 and b"--steps N" in error)
+    status, _, error = said(os.path.join(TOP, "no such file"))
+    tally.hold("a file that isn't there: %d, %r" % (status, error), status == 3 and b"no such file" in error)
+    with open("/dev/full", "wb") as full:
+        command = [sys.executable, AGAIN]
+        done = subprocess.run(command, input=halt, stdout=full, stderr=subprocess.PIPE)
+    right = done.returncode == 3 and b"No space left" in done.stderr
+    tally.hold("a full disk: %d, %s" % (done.returncode, done.stderr.decode()), right)
+
+
+def memory_for(steps: int) -> int:
+    """The most memory that a run of so many steps in two cells takes, in KiB."""
+    line = "0RB---_0LA--- cycler 0 %d\n" % steps
+    command = [sys.executable, AGAIN, "--steps", str(steps)]
+    with tempfile.TemporaryFile() as file:
+        file.write(line.encode())
+        file.seek(0)
+        with subprocess.Popen(
+            command, stdin=file, stdout=subprocess.DEVNULL, stderr=subprocess.DEVNULL
+        ) as process:
+            _, status, used = os.wait4(process.pid, 0)
+            process.returncode = os.waitstatus_to_exitcode(status)
+    return int(used.ru_maxrss) if process.returncode == 0 else 0
+
+
+def hold_memory(tally: Tally) -> None:
+    """It keeps nothing for a step."""
+    few, many = memory_for(2), memory_for(2_000_000)
+    tally.hold(
+        "memory: %d KiB for 2 steps, %d for 2,000,000" % (few, many), 0 < few and 0 < many < few + 1_024
+    )
+
+
+def hold_four_states(tally: Tally, program: str, quick: bool) -> None:
+    """Every verdict on the machines of four states is true."""
+    if not has_lister(tally, "the machines of four states"):
+        return
+    machines = listed(4, *(["--every", "10"] if quick else []))
+    lines = ended([program, "decide", *options(FIRST)], machines).output
+    status, answers, error = said("--steps", str(FIRST[0]), "--nodes", str(FIRST[3]), given=lines)
+    tally.hold("again.py over four states: status %d, %r" % (status, error), status == 0)
+    expected = [b"no claim" if b" undecided " in line else b"true" for line in lines.split(b"\n")[:-1]]
+    tally.hold("verdicts on machines of four states", len(expected) > 80_000)
+    wrong = sum(answer != right for answer, right in zip(answers, expected))
+    tally.hold("%d of %d answers are others" % (wrong, len(expected)), answers == expected)
+
+
+def machines_of(count: int, source: random.Random) -> Iterator[str]:
+    """Random machines: of all sizes, and those of 3 and 4 symbols that halt seldom."""
+    yield from mixed(count // 2, source.randrange(1 << 30))
+    for _ in range(count - count // 2):
+        yield seldom_halting(source, source.randint(1, 4), source.randint(2, 4))
+
+
+def changed_number(source: random.Random, word: bytes) -> bytes:
+    """A number that is near another, of another form, or far."""
+    if not word.isdigit():
+        return word
+    number = int(word)
+    near = [number + 1, max(number - 1, 0), 2 * number, number // 2, 0, source.randrange(STEPS + 2)]
+    far = [STEPS, STEPS + 1, NODES + 1, 2**64 - 1, 2**64, 10**30]
+    forms = [b"0" + word, b"+" + word, word + b" ", b"", b"-1", b"\xb2", word + b".0", b"1_0", b"\xd9\xa1"]
+    drawn = source.random()
+    if drawn < 0.6:
+        return b"%d" % source.choice(near)
+    return b"%d" % source.choice(far) if drawn < 0.8 else source.choice(forms)
+
+
+def forged(source: random.Random, line: bytes) -> bytes:
+    """A line with something in it changed."""
+    fields = line.split(b" ")
+    drawn = source.random()
+    if drawn < 0.5:
+        place = source.randrange(len(fields))
+        fields[place] = changed_number(source, fields[place])
+    elif drawn < 0.6:
+        fields[-2:] = reversed(fields[-2:])
+    elif drawn < 0.7:
+        numbers = [b"%d" % source.randrange(60) for _ in range(source.choice([1, 2, 2, 2, 3, 4, 4]))]
+        word = source.choice([b"halt", b"cycler", b"translated L", b"translated R", b"backward"])
+        fields[1:] = [word, *numbers]
+    elif drawn < 0.75:
+        fields[1:] = [b"undecided", source.choice([b"steps", b"cells", b"nodes"])]
+    elif drawn < 0.8 and len(fields) > 4:
+        del fields[source.randrange(len(fields))]
+    else:
+        place = source.randrange(len(line) + 1)
+        byte = source.choice(
+            [b"", b" ", b"\r", b"\t", b"0", b"1", b"9", b"A", b"Z", b"L", b"_", b"-", b"\xff"]
+        )
+        return line[:place] + byte + line[place + source.randint(0, 1) :]
+    return b" ".join(fields)
+
+
+def is_right(line: bytes, told: bytes, answer: bytes) -> bool:
+    """Whether again.py answers a line as the program does. It has no bound on levels: a tree never has more of
+    them than nodes."""
+    if told == b"over" and b" backward " in line and int(line.split(b" ")[2]) > NODES:
+        return answer in (b"too long", b"false")
+    return answer.decode() == WORDS[told.decode()]
+
+
+def hold_forged(tally: Tally, program: str, count: int, seed: int) -> None:
+    """Verdicts on random machines, and what is forged of them, are answered as by the program."""
+    source = random.Random(seed)
+    machines = "".join(machine + "\n" for machine in machines_of(count, source)).encode()
+    verdicts = ended([program, "decide", *options(LIMITS)], machines).output.split(b"\n")[:-1]
+    lines = [*verdicts, *(forged(source, line) for line in verdicts), b"refused 775", b"refused 776", b""]
+    given = b"".join(line + b"\n" for line in lines) + b"1RA1RA undecided steps"
+    lines.append(b"1RA1RA undecided steps")
+    told = ended([program, "check", *options(LIMITS)], given).output.split(b"\n")[:-1]
+    _, answers, _ = said("--steps", str(STEPS), "--nodes", str(NODES), given=given)
+    tally.hold("an answer to each of %d lines" % len(lines), len(lines) == len(told) == len(answers))
+    counts: Counter[bytes] = collections.Counter(told)
+    tally.hold("each answer comes: %r" % counts, len(counts) == 5 and min(counts.values()) >= 20)
+    for line, word, answer in zip(lines, told, answers):
+        tally.hold("%r: bb says %r, again.py %r" % (line, word, answer), is_right(line, word, answer))
+
+
+def main() -> int:
+    asked = words(__doc__, quick="a tenth of the machines", machines=40_000, seed=1).parse_args()
+    tally = Tally()
+    hold_form(tally)
+    hold_words(tally)
+    hold_memory(tally)
+    hold_forged(tally, asked.program, asked.machines // 10 if asked.quick else asked.machines, asked.seed)
+    hold_four_states(tally, asked.program, asked.quick)
+    return tally.end()
+
+
+if __name__ == "__main__":
+    end_with(main)

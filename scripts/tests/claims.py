@@ -1,0 +1,182 @@
+"""Verdict lines, true and false, for the checks that hold two checkers against each other: what a list's
+verdicts become when something is changed, and claims of pairs and trees that are made here by plain runs."""
+
+import itertools
+import random
+from typing import Dict, Iterable, Iterator, List, NamedTuple, Optional, Sequence, Tuple
+
+from machines import LETTERS, table_of
+
+SWAPPED = str.maketrans("LR", "RL")
+KINDS = ("halt", "cycler", "translated L", "translated R", "backward", "undecided", "refused")
+# Numbers that no verdict has, or that are none.
+ODD_NUMBERS = (
+    "00",
+    "01",
+    "+1",
+    "-1",
+    "",
+    " ",
+    "1e3",
+    "18446744073709551615",
+    "18446744073709551616",
+    "9" * 40,
+)
+# What a text may get in place of a character.
+CHARACTERS = "0123456789LRABCDEYZ-_ \r\t\0\x7f\x80\xff"
+# A text longer than any line, so many bytes and more.
+LONG = 1_023
+
+
+class Now(NamedTuple):
+    """A machine's state, or None in Z, its head's position, and the outermost positions so far."""
+
+    state: Optional[int]
+    head: int
+    low: int
+    high: int
+
+
+def followed(text: str, steps: int) -> Iterator[Now]:
+    """Where a machine is at each step, up to so many."""
+    table = table_of(text)
+    tape: Dict[int, int] = {}
+    now = Now(0, 0, 0, 0)
+    yield now
+    for _ in range(steps):
+        entry = "---" if now.state is None else table[now.state][tape.get(now.head, 0)]
+        if entry == "---":
+            return
+        tape[now.head] = int(entry[0])
+        head = now.head + (1 if entry[1] == "R" else -1)
+        state = None if entry[2] == "Z" else LETTERS.index(entry[2])
+        now = Now(state, head, min(now.low, head), max(now.high, head))
+        yield now
+
+
+def pairs_of(text: str, steps: int) -> Iterator[str]:
+    """Claims of each pair of records of a side, and of each pair of steps at one position, whose states are
+    the same: the cells alone tell which hold."""
+    run = list(followed(text, steps))
+    for side, out in (("R", 1), ("L", -1)):
+        tops = [max(0, *(out * now.head for now in run[:n])) if n else 0 for n in range(len(run))]
+        made = [n for n, now in enumerate(run) if out * now.head > tops[n]]
+        for a, b in itertools.combinations(made, 2):
+            if run[a].state == run[b].state:
+                yield "%s translated %s %d %d" % (text, side, a, b)
+    for a, b in itertools.combinations(range(len(run)), 2):
+        if run[a].state == run[b].state and run[a].head == run[b].head:
+            yield "%s cycler %d %d" % (text, a, b)
+
+
+def trees_of(text: str, levels: int, nodes: int) -> Iterator[str]:
+    """Claims of all trees up to so many levels and nodes: where the machine's tree ends within them, one has
+    its numbers, and holds unless the start is inside."""
+    for h in range(levels + 1):
+        for k in range(h, nodes + 1):
+            yield "%s backward %d %d" % (text, h, k)
+
+
+def with_number(source: random.Random, fields: List[str]) -> List[str]:
+    """A number one up or down."""
+    places = [k for k, field in enumerate(fields) if k and field.isdecimal()]
+    if places:
+        at = source.choice(places)
+        fields[at] = str(abs(int(fields[at]) + source.choice((-1, 1))))
+    return fields
+
+
+def with_odd_number(source: random.Random, fields: List[str]) -> List[str]:
+    """A number that no verdict has, or what is none."""
+    fields[-1] = source.choice(ODD_NUMBERS)
+    return fields
+
+
+def with_side(_: random.Random, fields: List[str]) -> List[str]:
+    """The other side."""
+    return [fields[0], *(field.translate(SWAPPED) for field in fields[1:])]
+
+
+def with_pair(source: random.Random, fields: List[str]) -> List[str]:
+    """Another pair of the same machine: the next one, that of double the distance, one turned round, or one
+    without its extent."""
+    at = {"cycler": 2, "translated": 3}.get(fields[1], 0)
+    if not at:
+        return fields
+    a, b = int(fields[at]), int(fields[at + 1])
+    pairs = [(b, 2 * b - a), (a, 2 * b - a), (a + 1, b + 1), (max(a - 1, 0), b - 1), (b, a), (a, a), (a, b)]
+    return [*fields[:at], *map(str, source.choice(pairs)), *fields[at + 2 :][: source.choice((0, 1, 2))]]
+
+
+def with_kind(source: random.Random, fields: List[str]) -> List[str]:
+    """The same numbers as a claim of another kind."""
+    numbers = [field for field in fields[1:] if field.isdecimal()]
+    return [fields[0], *source.choice(KINDS).split(" "), *numbers[: source.choice((1, 2, 2, 2, 4))]]
+
+
+def with_text(source: random.Random, fields: List[str]) -> List[str]:
+    """A line of which a character is another, one more, or gone."""
+    text = " ".join(fields)
+    at = source.randrange(len(text))
+    return [text[:at] + source.choice(("", source.choice(CHARACTERS))) + text[at + source.choice((0, 1)) :]]
+
+
+def with_machine(source: random.Random, fields: List[str]) -> List[str]:
+    """A machine of which an entry is another one of it, or undefined."""
+    groups = table_of(fields[0])
+    entries = [entry for group in groups for entry in group]
+    group = source.choice(groups)
+    group[source.randrange(len(group))] = source.choice([*entries, "---"])
+    return ["_".join("".join(group) for group in groups), *fields[1:]]
+
+
+def lengthened(source: random.Random, fields: List[str]) -> List[str]:
+    """A line that is longer than any is, or just not."""
+    text = " ".join(fields)
+    return [text + source.choice(" 0") * (LONG - len(text) + source.choice((-1, 0, 1, 100)))]
+
+
+# The changes, and how often each is made beside the others.
+CHANGES = {
+    with_number: 6,
+    with_pair: 5,
+    with_side: 2,
+    with_kind: 2,
+    with_machine: 2,
+    with_text: 2,
+    with_odd_number: 1,
+    lengthened: 1,
+}
+
+
+def forged(source: random.Random, lines: Sequence[str], count: int) -> Iterator[str]:
+    """So many lines, each made of one of these by a change."""
+    for change in source.choices(list(CHANGES), list(CHANGES.values()), k=count):
+        yield " ".join(change(source, source.choice(lines).split(" ")))
+
+
+def refusals(numbers: Iterable[int]) -> Iterator[str]:
+    """Lines that refuse at these columns, and the same with a zero in front."""
+    for number in numbers:
+        yield "refused %d" % number
+        yield "refused 0%d" % number
+
+
+def last_step(line: str) -> int:
+    """The last step that a line of a halt, a cycler or a translated cycler names; -1 in others."""
+    fields = line.split(" ")
+    at = {"halt": 2, "cycler": 3, "translated": 4}.get(fields[1], 0)
+    return int(fields[at]) if at else -1
+
+
+def tight(line: str) -> Iterator[Tuple[Sequence[int], str]]:
+    """A line of a run, with limits that are just enough and just not: of steps, and of cells with and without
+    the one that a step into Z leads to."""
+    last = last_step(line)
+    if last < 0:
+        return
+    run = list(followed(line.split(" ")[0], last))
+    wide = run[-1].high - run[-1].low + 1
+    for steps, cells in ((last, wide), (last, wide - 1), (last, wide - 2), (last - 1, wide)):
+        if steps >= 0 and cells >= 1:
+            yield (steps, cells, 0, 0), line

@@ -1,0 +1,311 @@
+#!/usr/bin/python3
+"""Holds reading, checking and judging of the Python package against the built program.
+
+    scripts/tests/reading.py crates/bb/out/bb [--quick] [--seed S]
+
+The lines of `forms.json`; random machines in random forms, which come back as they were or are refused; what
+`budlarem read` writes, out of files and gzip; the bytes of `budlarem check` and `budlarem trace` beside those
+of the program; judging of true claims, of 10,000 forged ones, of swapped words and of halts that count a step
+more; the examples of docs/python.md. First it runs `scripts/library`, which builds the library. It takes some
+two minutes; `--quick`, with fewer lines, half a minute. The last line is `N passed, M failed`; the status is 1
+where any failed.
+"""
+
+import gzip
+import json
+import os
+import pathlib
+import random
+import re
+import sys
+import time
+from typing import Dict, Iterator, List, Sequence, Tuple
+
+from library_built import LIBRARY, has_library
+from machines import mixed, uniform
+from program import Ended, ended, joined, options
+from runs import SOURCE, environment, folder
+from tally import TOP, Tally, end_with, words
+
+sys.path.insert(0, SOURCE)
+
+import budlarem  # noqa: E402
+from budlarem import Halt, Judgement, Limits, Undecided, Verdict  # noqa: E402
+from budlarem.same import form_of  # noqa: E402
+
+FORMS = os.path.join(TOP, "scripts", "tests", "forms.json")
+DOCUMENT = os.path.join(TOP, "docs", "python.md")
+LIMITS = (2_000, 512, 30, 1_000)
+GREATEST = [highest for _, highest in Limits.RANGES.values()]
+# How a machine may stand on a line.
+AROUND = (
+    "%s",
+    "17. %s",
+    "%s halt 6 4",
+    "a,%s,b",
+    "`%s`",
+    "  %s\r",
+    "[%s](https://bbchallenge.org/%s)",
+    "https://bbchallenge.org/%s",
+    "x;%s;nonhalt",
+    "| %s | %s |",
+)
+
+
+def command(*asked: str, given: bytes = b"") -> Ended:
+    """How a command of the package ends."""
+    return ended([sys.executable, "-m", "budlarem", *asked], given, env=environment())
+
+
+def hold_forms(tally: Tally, program: str) -> None:
+    """Each form is read as it says; what is taken is a machine of the program, what is refused is none."""
+    with open(FORMS, encoding="utf-8") as file:
+        forms = json.load(file)["forms"]
+    tally.hold("there are forms: %d" % len(forms), len(forms) >= 80)
+    for form in forms:
+        line = form["line"]
+        found = list(budlarem.read([line]))
+        tally.hold("%r is nothing" % line, (not found) == ("nothing" in form))
+        for reading in found:
+            reason = reading.reason
+            told = (reason.kind, reason.text, reason.place) if reason is not None else None
+            right = (form["refusal"], form["reason"], form["place"]) if "refusal" in form else None
+            tally.hold("%r is %s" % (line, reading), told == right and reading.machine == form.get("machine"))
+            hold_column(tally, program, reading)
+
+
+def hold_column(tally: Tally, program: str, reading: budlarem.Reading) -> None:
+    """The program takes the machine, or refuses the line with its column."""
+    given = reading.line if reading.machine is None else reading.machine
+    told = ended([program, "decide", "--steps=0"], given.encode("utf-8", "surrogateescape") + b"\n").output
+    right = None if told.startswith(b"refused") is False else int(told.split()[1])
+    tally.hold("the column of %r: %r" % (given, told), reading.column == right)
+
+
+def in_some_form(source: random.Random, machine: str) -> str:
+    """A line that has the machine in some form."""
+    text = source.choice(("_", "_", " ", "")).join(machine.split("_"))
+    if source.random() < 0.2:
+        text = text.replace("---", "...")
+    if source.random() < 0.2 and machine.count("_") < 7:
+        text = text.replace("Z", "H")
+    if source.random() < 0.2:
+        text = text.lower()
+    around = source.choice(AROUND)
+    return around % ((text,) * around.count("%s"))
+
+
+def hold_random_forms(tally: Tally, count: int, seed: int) -> List[str]:
+    """Random machines in random forms come back as they were, or are refused; gives the lines."""
+    source = random.Random(seed)
+    back, lines = 0, []
+    for machine in mixed(count, seed):
+        line = in_some_form(source, machine)
+        lines.append(line)
+        (reading,) = budlarem.read([line])
+        # The one form in which the program itself reads another machine.
+        is_other = "_" not in line and budlarem.is_machine(line.strip())
+        right = (line.strip() if is_other else machine, None)
+        if reading.machine not in right:
+            tally.hold("%r comes back as %s" % (line, reading.machine), False)
+        back += reading.machine == machine
+    tally.hold("%d of %d machines came back" % (back, count), back > 0.6 * count)
+    return lines
+
+
+def hold_read(tally: Tally, program: str, lines: List[str]) -> None:
+    """`budlarem read` writes what `read` reads, out of a file, a gzip and standard input, and tells the
+    rest."""
+    readings = list(budlarem.read(lines))
+    right = joined([reading.machine for reading in readings if reading.machine is not None])
+    refused = [reading for reading in readings if reading.machine is None]
+    with folder() as top:
+        plain, packed = top / "list.txt", top / "list.txt.gz"
+        plain.write_bytes(joined(lines))
+        packed.write_bytes(gzip.compress(joined(lines)))
+        for name, given in ((str(plain), b""), (str(packed), b""), ("-", joined(lines))):
+            status, output, error = command("read", name, given=given)
+            tally.hold("budlarem read of %s" % name, (status, output) == (1, right))
+            shown = "standard input" if name == "-" else name
+            told = error.decode("utf-8", "surrogateescape").splitlines()
+            whole = all(
+                "%s:%d: refused: %s" % (shown, one.number, one.reason) in error.decode()
+                for one in refused[:50]
+            )
+            tally.hold("what budlarem read tells of %s" % name, whole and len(told) > len(refused))
+    decided = ended([program, "decide", *options(LIMITS)], right)
+    tally.hold("the program reads each of the machines", b"refused" not in decided.output)
+    found = command("decide", *options(LIMITS), given=right)
+    tally.hold("a list of machines alone is decided to the same bytes", found[:2] == (0, decided.output))
+
+
+def hold_check(tally: Tally, program: str, lines: List[str]) -> None:
+    """The answers are the program's, at small limits and at the greatest; counts and status tell of them."""
+    given = joined(lines)
+    for row in (LIMITS, GREATEST):
+        right = ended([program, "check", *options(row)], given)
+        with folder() as top:
+            (top / "claims.txt.gz").write_bytes(gzip.compress(given))
+            for asked, more in (([str(top / "claims.txt.gz")], b""), (["--threads", "3"], given)):
+                words = asked if row is GREATEST else [*asked, *options(row)]
+                status, output, error = command("check", *words, given=more)
+                tally.hold("budlarem check %s" % words, (status, output) == right[:2])
+                hold_told(tally, lines, right.output.decode().splitlines(), error.decode())
+
+
+def hold_told(tally: Tally, lines: List[str], answers: List[str], told: str) -> None:
+    """Standard error has the counts and the first line that isn't confirmed."""
+    counts = ", ".join(
+        "%s %d" % (word, answers.count(word)) for word in ("ok", "bad", "over", "open", "unread")
+    )
+    tally.hold("counts: %s" % told, counts in told)
+    place = next(place for place, answer in enumerate(answers) if answer not in ("ok", "open"))
+    named = ":%d: %s: %s" % (place + 1, answers[place], lines[place][:150])
+    tally.hold("the first that isn't confirmed, %s: %s" % (named, told), named in told)
+
+
+def hold_trace(tally: Tally, program: str, machines: Sequence[str]) -> None:
+    """A trace is the program's, to its status."""
+    for machine in machines:
+        for more in (["--upto", "50"], ["--upto", "2000", "--cells", "7"]):
+            right = ended([program, "trace", *more, "--", machine])
+            found = command("trace", *more, "--", machine)
+            tally.hold("trace %s %s" % (machine, more), found[:2] == right[:2])
+
+
+def forged(source: random.Random, verdict: Verdict) -> str:
+    """A claim in which a number or a side is another."""
+    words_of = str(verdict).split(" ")
+    place = source.randrange(2, len(words_of))
+    if words_of[place].isdigit():
+        change = source.choice((-2, -1, 1, 2, 7, 5_000))
+        words_of[place] = str(max(int(words_of[place]) + change, 0))
+    else:
+        words_of[place] = {"L": "R", "R": "L"}[words_of[place]]
+    return " ".join(words_of)
+
+
+def verdicts_of(count: int, seed: int) -> Sequence[Verdict]:
+    """So many verdicts that claim something, on machines that have an entry."""
+    machines = (machine for machine in mixed(3 * count, seed) if machine.strip("-_"))
+    verdicts = budlarem.decide(machines, Limits(*LIMITS), threads=2)
+    return [verdict for verdict in verdicts if not isinstance(verdict, Undecided)][:count]
+
+
+def hold_forged(tally: Tally, program: str, count: int, seed: int) -> List[str]:
+    """True claims are confirmed, and none is called contradicted; each forged one that the program refutes is
+    named, and none is confirmed that it doesn't confirm. Gives all of them."""
+    source = random.Random(seed)
+    verdicts = verdicts_of(count, seed)
+    limits = Limits(*LIMITS)
+    judged = budlarem.judge(map(str, verdicts), limits=limits, threads=2)
+    tally.hold("true claims", {one.judgement for one in judged} == {Judgement.CONFIRMED})
+    claims = list(map(str, verdicts))
+    places = source.sample(range(len(claims)), len(claims))
+    lines = [forged(source, verdicts[place]) for place in places] + claims
+    answers = ended([program, "check", *options(GREATEST)], joined(lines)).output.decode().splitlines()
+    wrong: Dict[str, str] = {"bad": "contradicted", "ok": "confirmed"}
+    judging = budlarem.judge(lines, limits=limits, undefined_steps=False, threads=2)
+    missed = [
+        (line, answer, str(one))
+        for line, answer, one in zip(lines, answers, judging)
+        if str(one.judgement) != wrong.get(answer, "contradicted")
+    ]
+    tally.hold("%d forged claims: %s" % (len(lines) - len(claims), missed[:3]), not missed)
+    named = sum(answer == "bad" for answer in answers[: len(places)])
+    tally.hold("%d forged claims are refuted" % named, named > 0.8 * len(places))
+    return lines
+
+
+def hold_words(tally: Tally, count: int, seed: int) -> None:
+    """True words are confirmed, swapped ones contradicted, in some fields."""
+    source = random.Random(seed)
+    halting = ("halt", "halts", "halting")
+    never = ("nonhalt", "infinite", "cycler", "Translated Cyclers", "bouncers", "FAR")
+    true, swapped = [], []
+    for verdict in verdicts_of(count, seed):
+        line = source.choice(("%s %s", "%s, %s", "17;%s;%s;x", "%s\t%s"))
+        told = (halting, never) if isinstance(verdict, Halt) else (never, halting)
+        true.append(line % (verdict.machine, source.choice(told[0])))
+        swapped.append(line % (verdict.machine, source.choice(told[1])))
+    for lines, right in ((true, Judgement.CONFIRMED), (swapped, Judgement.CONTRADICTED)):
+        judging = budlarem.judge(lines, limits=Limits(*LIMITS))
+        missed = [str(one) for one in judging if one.judgement is not right]
+        tally.hold("%d words, %s: %s" % (len(lines), right, missed[:3]), not missed and len(lines) == count)
+
+
+def hold_undefined_steps(tally: Tally, program: str, count: int, seed: int) -> None:
+    """Halts that count a step for an undefined entry are found out, and confirmed; told so in the command."""
+    verdicts = [verdict for verdict in verdicts_of(count, seed) if isinstance(verdict, Halt)]
+    machines = [verdict.machine.replace("---", "1RZ") for verdict in verdicts]
+    told = ended([program, "decide", *options((LIMITS[0] + 1, *LIMITS[1:]))], joined(machines)).output
+    more = [line.partition(" ")[2] for line in told.decode().splitlines()]
+    lines = ["%s %s" % (verdict.machine, one) for verdict, one in zip(verdicts, more)]
+    changed = sum(line != str(verdict) for line, verdict in zip(lines, verdicts))
+    status, output, error = command("judge", "-", given=joined(lines))
+    kinds = {line.split(b"\t")[0] for line in output.splitlines()}
+    held = (status, kinds) == (0, {b"confirmed"}) and b"a step is counted for each ---" in error
+    tally.hold("%d of %d halts count a step more: %s" % (changed, len(lines), kinds), held and changed > 9)
+    mixed_lines = [*lines, next(str(v) for line, v in zip(lines, verdicts) if line != str(v))]
+    status, output, error = command("judge", "-", given=joined(mixed_lines))
+    found = output.count(b"contradicted\t")
+    tally.hold("not where one halt is as ours: %d" % found, (status, found) == (1, changed))
+    status, output, _ = command("judge", "--undefined-steps", "-", given=joined(mixed_lines))
+    tally.hold("but where it is told", (status, output.count(b"contradicted\t")) == (1, 1))
+
+
+def hold_forms_of_machines(tally: Tally, machines: Sequence[str]) -> None:
+    """What has another form takes no longer to be told than is asked."""
+    began = time.process_time()
+    forms = {form_of(machine).text for machine in machines}
+    each = (time.process_time() - began) / len(machines)
+    tally.within("a form of a machine", each, 50e-6)
+    tally.hold("%d forms" % len(forms), len(forms) > len(machines) / 2)
+
+
+def examples() -> Iterator[Tuple[str, str]]:
+    """The commands of the document that are shown with what they write."""
+    text = pathlib.Path(DOCUMENT).read_text(encoding="utf-8")
+    for block in re.findall(r"(?:^    .*\n)+", text, re.MULTILINE):
+        lines = [line[4:] for line in block.splitlines()]
+        for part in re.split(r"^\$ ", "\n".join(lines), flags=re.MULTILINE)[1:]:
+            asked, _, written = part.partition("\n")
+            yield asked, written.rstrip("\n")
+
+
+def hold_examples(tally: Tally) -> None:
+    """The document's commands write what it shows."""
+    shown = list(examples())
+    tally.hold("there are examples: %d" % len(shown), len(shown) >= 4)
+    script = 'budlarem() { "%s" -m budlarem "$@"; }\n' % sys.executable
+    for asked, written in shown:
+        found = ended(["sh", "-c", script + asked], env=environment()).output.decode().rstrip("\n")
+        tally.hold("%s: %r" % (asked, found), found == written)
+    for name in ("read", "check", "trace", "judge", "decide"):
+        first, second = command("help", name), command(name, "--help")
+        held = first[:2] == second[:2] and first.status == 0 and b"Column" in first.output
+        tally.hold("help %s" % name, held and all(len(line) < 80 for line in first.output.splitlines()))
+    tally.hold("help", command("help")[:2] == command("--help")[:2])
+
+
+def main() -> int:
+    asked = words(__doc__, quick="fewer lines", seed=1).parse_args()
+    tally = Tally()
+    if not has_library(tally, "reading, checking and judging"):
+        return tally.end()
+    os.environ["BB_LIBRARY"] = LIBRARY
+    hold_forms(tally, asked.program)
+    lines = hold_random_forms(tally, 2_000 if asked.quick else 20_000, asked.seed)
+    hold_read(tally, asked.program, lines)
+    claims = hold_forged(tally, asked.program, 2_000 if asked.quick else 10_000, asked.seed)
+    hold_check(tally, asked.program, [*claims, "x", "refused 3", *lines[:100]])
+    hold_trace(tally, asked.program, [*list(mixed(5, asked.seed)), "1rB", ""])
+    hold_words(tally, 1_000, asked.seed)
+    hold_undefined_steps(tally, asked.program, 1_000, asked.seed)
+    hold_forms_of_machines(tally, [uniform(random.Random(k), 4) for k in range(5_000)])
+    hold_examples(tally)
+    return tally.end()
+
+
+if __name__ == "__main__":
+    end_with(main)
