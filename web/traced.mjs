@@ -17,6 +17,7 @@ const ZERO = 48;
 const LINE_ROOM = 64;
 // A trace with more bytes is taken with fewer rows.
 const MOST_BYTES = 100_000_000;
+const SYMBOLS = 10;
 const UNVISITED = 10;
 const HEAD = 11;
 
@@ -169,9 +170,14 @@ export function pictured(engine, asked) {
 function painted(sample, view, columns, palette) {
   const rows = sample.steps.length;
   const image = new Uint8ClampedArray(4 * columns * rows);
-  const paint = view.across > 1 ? paintMeans : paintCells;
+  const means = new Means(palette);
   for (let k = 0; k < rows; k += 1) {
-    paint(image.subarray(4 * columns * k, 4 * columns * (k + 1)), sample, k, view, palette);
+    const pixels = image.subarray(4 * columns * k, 4 * columns * (k + 1));
+    if (view.across > 1) {
+      means.paint(pixels, sample, k, view);
+    } else {
+      paintCells(pixels, sample, k, view, palette);
+    }
   }
   return image;
 }
@@ -198,32 +204,56 @@ function paintCells(pixels, { bytes, places, lows, heads, wide }, k, view, palet
   }
 }
 
-/**
- * A row of which a pixel stands for several cells: it has their mean colour.
- * @param {Uint8ClampedArray} pixels @param {Sample} sample @param {number} k
- * @param {import("./scale.mjs").View} view @param {number[][]} palette
- */
-function paintMeans(pixels, sample, k, { left, across }, palette) {
-  const [reds, greens, blues] = [0, 1, 2].map((part) => Int32Array.from(palette, (one) => one[part]));
-  const { bytes } = sample;
-  const [low, high] = [sample.lows[k], sample.lows[k] + sample.wide[k] - 1];
-  const place = sample.places[k] - low;
-  const first = Math.max(0, Math.floor((low - left) / across));
-  const last = Math.min(pixels.length / 4 - 1, Math.floor((high - left) / across));
-  for (let x = first; x <= last; x += 1) {
-    const begin = left + x * across;
-    const [from, to] = [Math.max(begin, low), Math.min(begin + across - 1, high)];
+/** Rows of which a pixel stands for several cells: it has their mean colour. */
+class Means {
+  constructor(/** @type {number[][]} */ palette) {
+    // By the byte of a symbol.
+    const part = (/** @type {number} */ which) =>
+      Int32Array.from({ length: ZERO + SYMBOLS }, (_, byte) => palette[Math.max(0, byte - ZERO)][which]);
+    this.reds = part(0);
+    this.greens = part(1);
+    this.blues = part(2);
+    this.unvisited = palette[UNVISITED];
+  }
+
+  /**
+   * @param {Uint8ClampedArray} pixels @param {Sample} sample @param {number} k
+   * @param {import("./scale.mjs").View} view
+   */
+  paint(pixels, sample, k, { left, across }) {
+    const low = sample.lows[k];
+    const high = low + sample.wide[k] - 1;
+    const place = sample.places[k] - low;
+    const first = Math.max(0, Math.floor((low - left) / across));
+    const last = Math.min(pixels.length / 4 - 1, Math.floor((high - left) / across));
+    for (let x = first; x <= last; x += 1) {
+      const begin = left + x * across;
+      const from = Math.max(begin, low);
+      const to = Math.min(begin + across - 1, high);
+      this.put(pixels, 4 * x, sample.bytes, place + from, place + to, across);
+    }
+  }
+
+  /**
+   * The mean of the cells from one place to another; of so many that a pixel has, the others aren't visited.
+   * @param {Uint8ClampedArray} pixels @param {number} at @param {Uint8Array} bytes @param {number} from
+   * @param {number} to @param {number} across
+   */
+  put(pixels, at, bytes, from, to, across) {
+    const { reds, greens, blues, unvisited } = this;
     const outside = across - (to - from + 1);
-    let [red, green, blue] = [reds, greens, blues].map((part) => part[UNVISITED] * outside);
-    for (let at = place + from; at <= place + to; at += 1) {
-      const symbol = bytes[at] - ZERO;
+    let red = unvisited[0] * outside;
+    let green = unvisited[1] * outside;
+    let blue = unvisited[2] * outside;
+    for (let place = from; place <= to; place += 1) {
+      const symbol = bytes[place];
       red += reds[symbol];
       green += greens[symbol];
       blue += blues[symbol];
     }
-    pixels[4 * x] = red / across;
-    pixels[4 * x + 1] = green / across;
-    pixels[4 * x + 2] = blue / across;
-    pixels[4 * x + 3] = 255;
+    pixels[at] = red / across;
+    pixels[at + 1] = green / across;
+    pixels[at + 2] = blue / across;
+    pixels[at + 3] = 255;
   }
 }
