@@ -6,15 +6,13 @@ let usage = "usage: checker [--steps T] [--cells S] [--depth D] [--nodes N] [FIL
 let help = usage ^ "
 
 Answers each verdict line of FILE or of standard input: ok, bad, over, open or unread, as bb check does.
-The checker is proved in Coq; Statements.v says what.
 
   --steps T  steps of one run, 0 to 1000000000000 (default: 1000000)
   --cells S  cells of one tape, 1 to 67108864 (default: 65536)
   --depth D  levels of a tree, 0 to 10000 (default: 300)
   --nodes N  nodes of a tree, 0 to 1000000000000 (default: 1000000)
 
-Status 0: every answer is ok or open; 1: one isn't; 2: the command line or the limits were refused;
-3: a fault.
+Status 0: every answer is ok or open; 1: one isn't; 2: words or limits were refused; 3: a fault.
 "
 
 let stop status text =
@@ -45,18 +43,21 @@ let set name text =
   | Some n when least <= n && n <= most -> given := Some n
   | _ -> stop 2 ("checker: " ^ name ^ " is out of range")
 
+let take file word = if file = None then Some word else refuse ("unexpected " ^ word)
+
 let rec read_words words file =
   match words with
   | [] -> file
   | ("--help" | "-h") :: _ -> print_string help; exit 0
+  | "--" :: rest -> List.fold_left take file rest
   | name :: text :: rest when List.mem_assoc name options -> set name text; read_words rest file
   | word :: rest ->
     match String.index_opt word '=' with
     | Some at when List.mem_assoc (String.sub word 0 at) options ->
       set (String.sub word 0 at) (String.sub word (at + 1) (String.length word - at - 1));
       read_words rest file
-    | _ when word <> "" && word.[0] = '-' -> refuse ("unexpected " ^ word)
-    | _ -> if file = None then read_words rest (Some word) else refuse ("unexpected " ^ word)
+    | _ when String.length word > 1 && word.[0] = '-' -> refuse ("unexpected " ^ word)
+    | _ -> read_words rest (take file word)
 
 let rec positive n =
   if n = 1 then Checker.XH

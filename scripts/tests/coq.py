@@ -1,7 +1,7 @@
 #!/usr/bin/env python3
 """Builds the checker that is proved in Coq, and holds it against the program: both answer each line alike.
 
-    scripts/tests/coq.py crates/bb/out/bb [--quick] [--seed S]
+    scripts/tests/coq.py crates/bb/out/bb [--quick] [--part PART] [--seed S]
 
 It builds `coq/`, holds that every statement there is proved from no assumption, and gives both checkers the
 worked lines of `coq/Rows.v`, verdicts of the list of four states, forged ones, pairs of which the cells alone
@@ -22,7 +22,7 @@ import re
 import shutil
 import subprocess
 import tempfile
-from typing import Dict, Iterable, Iterator, List, NamedTuple, Sequence, Tuple
+from typing import Callable, Dict, Iterable, Iterator, List, NamedTuple, Sequence, Tuple
 
 from claims import forged, pairs_of, refusals, tight, trees_of
 from machine_list import has_lister, listed
@@ -38,6 +38,8 @@ LARGE = (20_000, 4_096, 100, 10_000)
 # Limits at which the whole list of four states is decided and checked.
 WHOLE = ((200, 256, 20, 1_000), LIMITS, LARGE)
 CHAMPION = "1RB1LC_1RC1RB_1RD0LE_1LA1LD_1RZ0LA halt 47176870 4098"
+# How many lines become one theorem.
+THEOREMS = 1_000
 # An environment in which nothing but the system's programs is found.
 PLAIN = {"PATH": "/usr/bin:/bin"}
 DEFAULT = (1_000_000, 65_536, 300, 1_000_000)
@@ -69,6 +71,11 @@ WORDS: List[List[str]] = [
     ["-x"],
     ["/no/such/file"],
     ["/dev/null", "/dev/null"],
+    ["--", "/dev/null"],
+    ["--", "--steps"],
+    ["/"],
+    ["-"],
+    [""],
     ["/dev/null"],
     ["--help"],
 ]
@@ -295,7 +302,7 @@ def long_claims(both: Both, seed: int) -> Iterator[Tuple[str, Claims]]:
         yield "tight limits", claims
 
 
-def hold_elsewhere(tally: Tally) -> None:
+def hold_elsewhere(tally: Tally, _: Both, __: int) -> None:
     """A copy of the folder is built and checked by `coqchk` where nothing else of the repository is."""
     with copied() as folder:
         status, output, error = ended([os.path.join(folder, "build"), "--check"], cwd="/", env=PLAIN)
@@ -367,53 +374,67 @@ def hold_theorem(tally: Tally, words_given: Sequence[str], status: int, what: st
         tally.hold("%s: a file is kept: %s" % (words_given, kept), kept == (status == 0))
 
 
-def hold_theorems(tally: Tally, both: Both, seed: int, count: int) -> None:
-    """Theorems of lines: of one line each, true and false ones, and of many."""
-    claims = [
-        line for line in both.verdicts(LIMITS, list(mixed(4 * count, seed))) if " undecided " not in line
-    ]
-    claims = random.Random(seed).sample(claims, count)
+def hold_theorems(tally: Tally, both: Both, seed: int) -> None:
+    """Theorems of lines: of one line each, true and false ones, of the champion, and of many."""
+    lines = both.verdicts(LIMITS, list(mixed(4 * THEOREMS, seed)))
+    claims = random.Random(seed).sample([line for line in lines if " undecided " not in line], THEOREMS)
     for kind in ("halt", "cycler", "translated", "backward"):
         line = next(line for line in claims if " %s " % kind in line)
         hold_theorem(tally, [line], 0, "accepts that it holds")
-        number = line.rpartition(" ")
-        hold_theorem(tally, ["%s %d" % (number[0], int(number[2]) + 1)], 1, "accepts that it doesn't hold")
+        rest, _, number = line.rpartition(" ")
+        hold_theorem(tally, ["%s %d" % (rest, int(number) + 1)], 1, "accepts that it doesn't hold")
     hold_theorem(tally, [claims[0].split(" ")[0] + " undecided steps"], 2, "claims nothing")
     hold_theorem(tally, ["1RC1RA halt 0 0"], 2, "no line of a claim")
+    hold_theorem(tally, [CHAMPION], 0, "accepts that it holds")
     with tempfile.NamedTemporaryFile("w", suffix=".txt") as file:
         file.write("".join(line + "\n" for line in claims) + "refused 3\n")
         file.flush()
-        hold_theorem(tally, ["--list", file.name], 0, "%d lines: coqc accepts that all hold" % count)
+        hold_theorem(tally, ["--list", file.name], 0, "%d lines: coqc accepts that all hold" % THEOREMS)
         file.write("1RB1LB_1LA1RZ halt 6 5\n")
         file.flush()
         hold_theorem(tally, ["--list", file.name], 1, "1RB1LB_1LA1RZ halt 6 5: false")
 
 
-def hold_long(tally: Tally, both: Both, seed: int) -> None:
-    """All that takes more than a minute."""
-    hold_elsewhere(tally)
-    hold_theorems(tally, both, seed, 1_000)
-    hold_theorem(tally, [CHAMPION], 0, "accepts that it holds")
+def hold_quick(tally: Tally, both: Both, seed: int) -> None:
+    """All that takes less than a minute."""
+    hold_words(tally, both.program)
+    for told, claims in quick_claims(both, seed):
+        both.hold(told, claims)
+
+
+def hold_lines(_: Tally, both: Both, seed: int) -> None:
+    """Lines of whole lists and samples, and a million made ones."""
     for told, claims in long_claims(both, seed + 1):
         both.hold(told, claims)
+
+
+def hold_all_wrong(tally: Tally, both: Both, seed: int) -> None:
+    """The wrong checkers, each over the lines of the quick part."""
     program = [both.program, "check"]
     batches = [(claims, answers(program, claims).output) for _, claims in quick_claims(both, seed)]
     for edit in WRONG:
         hold_wrong(tally, edit, batches)
 
 
+PARTS: Dict[str, Callable[[Tally, Both, int], None]] = {
+    "quick": hold_quick,
+    "elsewhere": hold_elsewhere,
+    "theorems": hold_theorems,
+    "lines": hold_lines,
+    "wrong": hold_all_wrong,
+}
+
+
 def main() -> int:
-    asked = words(__doc__, quick="leave out what takes more than a minute", seed=1).parse_args()
+    quick = "leave out what takes more than a minute"
+    asked = words(__doc__, quick=quick, seed=1, parts=list(PARTS)).parse_args()
     tally = Tally()
     what = "the checker in Coq"
     if not tally.has(what, "coqc", "ocamlfind") or not has_lister(tally, what) or not hold_built(tally):
         return tally.end()
     both = Both(tally, asked.program)
-    hold_words(tally, asked.program)
-    for told, claims in quick_claims(both, asked.seed):
-        both.hold(told, claims)
-    if not asked.quick:
-        hold_long(tally, both, asked.seed)
+    for part in ["quick"] if asked.quick else asked.part or list(PARTS):
+        PARTS[part](tally, both, asked.seed)
     return tally.end()
 
 
