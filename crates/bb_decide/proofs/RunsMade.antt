@@ -1,5 +1,5 @@
 -- What the runs count that one decision makes, and that no machine has two such counts.
-use Rattle.std.proofs.Common.{◌≡◌, ℕ, ◌+◌, ◌<◌, ◌≤◌, max, Bool, true, false, IsTrue, inl, inr, Option, Some, None}
+use Rattle.std.proofs.Common.{◌≡◌, ℕ, ◌+◌, max, Bool, true, false, inl, inr, Option, Some, None}
 use Rattle.std.proofs.Common.{ℤ, refl, ap, sym, ◌∙◌, arith}
 use Rattle.std.proofs.lemmas.Bool.{cases_lt}
 use Rattle.bb_machine.specs.Limits.{Bounds}
@@ -8,16 +8,16 @@ use Rattle.bb_machine.specs.declared.plan.Plan.{Plan}
 use Rattle.bb_sim.specs.declared.meter.Meter.{Meter}
 use Rattle.bb_sim.specs.declared.simulation.Outcome.TheVariants as outcomes
 use Rattle.bb_sim.specs.Meter.{CountsRun, CountsTo, zero_meter}
-use Rattle.bb_sim.specs.Outcome.{HaltsNowhere, IsOutcome}
+use Rattle.bb_sim.specs.Outcome.{HaltsNowhere}
 use Rattle.bb_sim.specs.Span.{span}
 use Rattle.bb_sim.proofs.Facts.{last_step_is_unique, span_grows}
 use Rattle.bb_cert.specs.declared.verdict.Verdict.{Verdict}
 use Rattle.bb_cert.specs.declared.verdict.Verdict.TheVariants.{Cycler, Translated}
 use Rattle.bb_decide.specs.Backward.{CountsTree}
-use Rattle.bb_decide.specs.Cost.{CycleSteps, StepsIfMade, TranslationSteps}
+use Rattle.bb_decide.specs.Cost.{CycleSteps, TranslationSteps}
 use Rattle.bb_decide.specs.Cycle.{CountsSearch, FindsCycle, HasNoCycle}
 use Rattle.bb_decide.specs.Translation.{FindsTranslation}
-use Rattle.bb_decide.specs.OneRun.{CountsRuns, IsStoppedAt, MakesRuns, RunsAgain, RunsOnce}
+use Rattle.bb_decide.specs.OneRun.{CountsRuns, IsStoppedAt, MakesRuns}
 use Rattle.bb_decide.specs.declared.ending.Ending.{Ending}
 use Rattle.bb_decide.specs.declared.ending.Ending.TheVariants.{Found, Ran}
 use Rattle.bb_decide.specs.inside.Ending.{AddsRuns, RanAs, Watches, found_of, is_settled}

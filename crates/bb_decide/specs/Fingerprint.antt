@@ -1,6 +1,6 @@
 -- The fingerprint of a tape: a number that two equal tapes share, and two others hardly ever do
 -- (R. M. Karp and M. O. Rabin, "Efficient randomized pattern-matching algorithms", 1987).
-use Rattle.std.specs.Prelude.{◌≡◌, ℕ, zero, suc, ◌+◌, ◌*◌, ◌<◌, ◌≤◌, ◌%◌, ◌^◌, Some, ℤ, pos, ◌-ℤ◌}
+use Rattle.std.specs.Prelude.{◌≡◌, ℕ, zero, suc, ◌+◌, ◌*◌, ◌≤◌, ◌%◌, ◌^◌, Some, ℤ, pos, ◌-ℤ◌}
 use Rattle.bb_machine.specs.Limits.{Bounds}
 use Rattle.bb_machine.specs.Machine.{Table}
 use Rattle.bb_tape.specs.declared.tape.TheConstants.{MAX_CELLS}

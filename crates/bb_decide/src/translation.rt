@@ -111,7 +111,7 @@ fn run_to_records<T: Tape>(
         let Some(side) = widened_side(&runner, cells) else {
             continue;
         };
-        let Ok(found) = look_on(
+        let ended = match look_on(
             side,
             &mut right,
             &mut left,
@@ -119,17 +119,13 @@ fn run_to_records<T: Tape>(
             &bench.run,
             &mut bench.right,
             &mut bench.left,
-        ) else {
-            count_run(meter, runner);
-            return Err(Memory);
+        ) {
+            Ok(None) => continue,
+            Ok(Some(verdict)) => Ok(Ending::Found(verdict)),
+            Err(_) => Err(Memory),
         };
-        match found {
-            Some(verdict) => {
-                count_run(meter, runner);
-                return Ok(Ending::Found(verdict));
-            }
-            None => {}
-        }
+        count_run(meter, runner);
+        return ended;
     }
 }
 

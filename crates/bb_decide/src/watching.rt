@@ -116,11 +116,7 @@ fn run_watched<T: Tape, K: Keys>(
         let position = runner.position();
         let old = bench.run.read_inside(position);
         let mut uncounted = Meter::new();
-        let Ok(moved) = runner.advance(machine, &mut bench.run, limits, &mut uncounted) else {
-            count_run(meter, runner);
-            return Err(Memory);
-        };
-        match moved {
+        match runner.advance(machine, &mut bench.run, limits, &mut uncounted)? {
             Moved::Stepped => {}
             moved => {
                 count_run(meter, runner);
@@ -146,7 +142,7 @@ fn run_watched<T: Tape, K: Keys>(
         let Some(side) = widened_side(&runner, cells) else {
             continue;
         };
-        let Ok(found) = look_on(
+        match look_on(
             side,
             &mut right,
             &mut left,
@@ -154,11 +150,7 @@ fn run_watched<T: Tape, K: Keys>(
             &bench.run,
             &mut bench.right,
             &mut bench.left,
-        ) else {
-            count_run(meter, runner);
-            return Err(Memory);
-        };
-        match found {
+        )? {
             Some(verdict) => {
                 count_run(meter, runner);
                 return Ok(Some(Ending::Found(verdict)));

@@ -1,5 +1,5 @@
 -- How a search ends, as the functions of this crate tell one another; no public contract cites it.
-use Rattle.std.specs.Prelude.{◌≡◌, ℕ, ◌+◌, ◌*◌, ◌<◌, ◌≤◌, max, Bool, true, false, IfOk, IfSome, IsTrue, OnErr}
+use Rattle.std.specs.Prelude.{◌≡◌, ℕ, ◌+◌, ◌*◌, ◌≤◌, max, Bool, true, false, IfOk, IfSome, IsTrue, OnErr}
 use Rattle.std.specs.Prelude.{Option, Some, None}
 use Rattle.std.specs.Prelude.{Result, ℤ}
 use Rattle.bb_tape.specs.TapeView.{TapeView}
@@ -101,7 +101,6 @@ pub record WatchesRun {T : Type 0} (grows : Bool) (view : T → TapeView) (table
     (key : ℤ → ℕ) (bench_old bench_new : Bench T) (old new : Meter) (result : Result (Option Ending) Memory)
     : Type 0 where
   pub watched : IfOk result (Watches table bounds key old new)
-  pub cut : OnErr result (CountsPart table bounds old new)
   pub within : IsWithinRun bounds old new
   pub promised : WatchPromised table grows result
   pub tapes : BenchHasCells view bounds.cells bench_new

@@ -9,7 +9,7 @@ use Rattle.bb_decide.proofs.Translations.{searching_at_first}
 use Rattle.bb_decide.proofs.Translations.{none_in_Z, takes_in}
 use Rattle.bb_decide.proofs.translation.run_to_records.Given as given
 use Rattle.bb_decide.proofs.translation.run_to_records.Goals as goal
-use Rattle.bb_decide.proofs.translation.run_to_records.Goals.{After-widened_side}
+use Rattle.bb_decide.proofs.translation.run_to_records.Goals.{After-widened_side, in-Err, in-Ok-Some}
 
 pub loop-moved-init : goal.loop-moved-init
 loop-moved-init g c =
@@ -90,36 +90,34 @@ look_on-requires-clause-ready g c =
     let taken = taken_in g (goal.at.look_on-requires-clause-ready g c).After-widened_side in
     is_ready here taken _ c.in-Some-widened_side.is (g.met.T.Tape.sound c.advance.new.tape)
 
--- no memory to keep it
-pub returns-in_default-look_on : goal.returns-in_default-look_on
-returns-in_default-look_on g c =
+-- it agrees with its partner, or there is no memory to keep it
+pub returns-in-loop-moved : goal.returns-in-loop-moved
+returns-in-loop-moved g c =
     let here = c.loop-moved.invariant in
     let call = c.in-Ok.ensures in
-    let taken = taken_in g (goal.at.returns-in_default-look_on g c).After-widened_side in
-    seeks_until_cut
-    (lent_on call.limit c.look_on.ensures.right_limit c.look_on.ensures.left_limit here.lent)
-    (cut_after_step taken.step here.lent.meter c.count_run-in_default-look_on.ensures)
-    c.in_default-look_on.ensures.memory
-
-pub returns-in-Some-found : goal.returns-in-Some-found
-returns-in-Some-found g c =
-    let here = c.loop-moved.invariant in
-    let call = c.in-Ok.ensures in
-    let taken = taken_in g (goal.at.returns-in-Some-found g c).After-widened_side in
-    let looks = c.in-Ok-look_on.ensures in
-    seeks_and_finds (lent_on call.limit looks.right_limit looks.left_limit here.lent)
-    (is_found here.search taken _ _ _ _ c.in-Some-widened_side.is _ (rw c.in-Some-found.is at looks.looks)
-    (rw c.in-Some-found.is at looks.numbers)
-    (taken_over call.stands here.lent.meter c.count_run-in-Some-found.ensures))
+    let taken = taken_in g (goal.at.returns-in-loop-moved g c).After-widened_side in
+    let lent = lent_on call.limit c.look_on.ensures.right_limit c.look_on.ensures.left_limit here.lent in
+    elim c.match-look_on.branch [
+      | in-Ok-Some w ↦
+          let looks = rw w.in-Ok-Some.field-0-is at w.in-Ok-Some.ensures.looks in
+          let numbers = rw w.in-Ok-Some.field-0-is at w.in-Ok-Some.ensures.numbers in
+          rw w.ended-is (seeks_and_finds lent
+          (is_found here.search taken _ _ _ _ c.in-Some-widened_side.is _ looks numbers
+          (taken_over call.stands here.lent.meter c.count_run-in-loop-moved.ensures)))
+      | in-Err w ↦
+          let memory = w.in-Err.ensures.memory in
+          rw w.ended-is (seeks_until_cut lent
+          (cut_after_step taken.step here.lent.meter c.count_run-in-loop-moved.ensures) memory)
+    ]
 
 pub loop-moved-preserved : goal.loop-moved-preserved
 loop-moved-preserved g c =
     let here = c.loop-moved.invariant in
     let call = c.in-Ok.ensures in
     let taken = taken_in g (goal.at.loop-moved-preserved g c).After-widened_side in
-    let looks = c.in-Ok-look_on.ensures in
+    let looks = c.look_on.ensures in
     record {
       search = goes_on_from here.search taken _ _ _ _ c.in-Some-widened_side.side c.in-Some-widened_side.is
-          (rw c.in-None.is at looks.looks);
+          (rw c.in-Ok-None.field-0-is at c.in-Ok-None.ensures.looks);
       lent = lent_on call.limit looks.right_limit looks.left_limit here.lent;
     }
