@@ -283,6 +283,13 @@ class CommandTest(unittest.TestCase):
         status, lines, _ = self.run_with("decide", given="1RZ---, a b\r\n%s\n# c\nx;y\n" % CHAMPION)
         self.assertEqual((status, lines), (1, ["1RZ--- halt 1 1\ta b", CHAMPION + " halt 6 4", "refused 1"]))
 
+    def test_a_full_disk_is_told_with_what_was_written(self) -> None:
+        command = [sys.executable, "-m", "budlarem", "decide"]
+        with open("/dev/full", "wb") as full:
+            ended = subprocess.run(command, input=b"1RZ---\n", stdout=full, stderr=subprocess.PIPE)
+        self.assertEqual(ended.returncode, 3)
+        self.assertRegex(ended.stderr.decode(), "^budlarem: standard output: .*No space left on device\n$")
+
     def test_files_and_statuses(self) -> None:
         with tempfile.TemporaryDirectory() as folder:
             path = os.path.join(folder, "verdicts.txt")

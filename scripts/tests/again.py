@@ -29,7 +29,8 @@ from tally import TOP, Tally, end_with, words
 AGAIN = os.path.join(TOP, "python", "src", "budlarem", "again.py")
 # What it may have of lines.
 MOST = 150
-FIRST = (200, 256, 20, 1_000)
+# The limits by which the machines of four states are decided, and what the first ones leave.
+FIRST, LATER = (200, 256, 20, 1_000), (100_000, 4_096, 100, 10_000)
 # Within these no claim of so many steps, or of a tree of so many nodes, needs more cells or levels.
 STEPS, NODES = 2_000, 1_000
 LIMITS = (STEPS, 2 * STEPS, NODES, NODES)
@@ -107,8 +108,11 @@ def hold_four_states(tally: Tally, program: str, quick: bool) -> None:
     if not has_lister(tally, "the machines of four states"):
         return
     machines = listed(4, *(["--every", "10"] if quick else []))
-    lines = ended([program, "decide", *options(FIRST)], machines).output
-    status, answers, error = said("--steps", str(FIRST[0]), "--nodes", str(FIRST[3]), given=lines)
+    first = ended([program, "decide", *options(FIRST)], machines).output.splitlines(keepends=True)
+    left = b"".join(line.split(b" ")[0] + b"\n" for line in first if b" undecided " in line)
+    later = ended([program, "decide", *options(LATER)], left).output.splitlines(keepends=True)
+    lines = b"".join([line for line in first if b" undecided " not in line] + later)
+    status, answers, error = said("--steps", str(LATER[0]), "--nodes", str(LATER[3]), given=lines)
     tally.hold("again.py over four states: status %d, %r" % (status, error), status == 0)
     expected = [b"no claim" if b" undecided " in line else b"true" for line in lines.split(b"\n")[:-1]]
     tally.hold("verdicts on machines of four states", len(expected) > 80_000)

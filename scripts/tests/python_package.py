@@ -11,6 +11,7 @@ With `--quick` there is no wheel, and the unit tests run once, over the sources.
 failed`, with `, K skipped` where something isn't installed; the status is 1 where any failed.
 """
 
+import json
 import os
 import pathlib
 import re
@@ -52,6 +53,12 @@ FIRST_RUN = """
 import budlarem
 print(budlarem.__version__, budlarem.COMMIT)
 for verdict in budlarem.decide(["1RB1LB_1LA1RZ", "1RA1RA", "1rB1LB"]): print(verdict)
+"""
+METADATA = """
+import importlib.metadata, json
+found = importlib.metadata.metadata("budlarem")
+told = {name: found[name] for name in ("Summary", "Keywords", "Description-Content-Type")}
+print(json.dumps({**told, "page": found.get_payload()}))
 """
 EXPECTED = ["1RB1LB_1LA1RZ halt 6 4", "1RA1RA translated R 1 2 1 1", "refused 2"]
 # The champions of two to five states, a translated cycler, and a line that is no machine.
@@ -156,15 +163,15 @@ def hold_wheel(tally: Tally, program: str, wheel: pathlib.Path, python: str, fol
 
 
 def hold_metadata(tally: Tally, python: str) -> None:
-    """What the wheel says of itself: a long description, which names the call that tells the others, and words
-    by which it is found."""
-    asked = "from importlib.metadata import metadata; print(metadata('budlarem').as_string())"
-    status, told = run([python, "-I", "-c", asked])
+    """What the wheel says of itself: a long description, and words by which it is found."""
+    status, told = run([python, "-I", "-c", METADATA])
+    tally.hold("the wheel's metadata: %s" % told, status == 0)
+    facts = json.loads(told) if status == 0 else {}
     page = (PACKAGE / "README.md").read_text(encoding="utf-8")
-    for row in page.splitlines():
-        tally.hold("the long description has: %s" % row, status == 0 and row.strip() in told)
-    for field in ("Summary: ", "Keywords: busy beaver", "Description-Content-Type: text/markdown"):
-        tally.hold("the wheel's metadata have %s: %s" % (field, told), field in told)
+    tally.hold("the long description: %s" % facts, facts.get("page", "").strip() == page.strip())
+    tally.hold("its form: %s" % facts, facts.get("Description-Content-Type") == "text/markdown")
+    tally.hold("its words: %s" % facts, "busy beaver" in facts.get("Keywords", ""))
+    tally.hold("its summary: %s" % facts, "Turing machines" in facts.get("Summary", ""))
 
 
 def hold_runner(tally: Tally, program: str, command: str, folder: pathlib.Path) -> None:
