@@ -308,6 +308,17 @@ class CommandTest(unittest.TestCase):
             self.assertEqual(self.run_with(*words)[0], 2, words)
         self.assertIn("depth is 300", self.run_with("decide", "--cells", "4")[2])
 
+    def test_pictures_are_scaled_or_cut(self) -> None:
+        with tempfile.TemporaryDirectory() as folder:
+            path = os.path.join(folder, "picture.png")
+            words = ("picture", "1RA1RA", "--upto", "3000", "--out", path)
+            status, _, said = self.run_with(*words)
+            self.assertEqual((status, pathlib.Path(path).read_bytes()[:4]), (0, b"\x89PNG"))
+            self.assertIn("a pixel has the mean colour of 2 cells", said)
+            status, _, said = self.run_with(*words, "--left", "3", "--columns", "10")
+            self.assertIn("positions 3 to 12", said)
+            self.assertNotIn("mean colour", said)
+
     def test_normal_forms_and_growths(self) -> None:
         given = "%s\n1LB1RB_1RA1LZ\n" % CHAMPION
         self.assertEqual(

@@ -12,7 +12,8 @@ from .shared import add_command, add_limits
 _TRACE = """Writes a line for each step of a run up to N, the bytes of bb trace. Status 1 where the cells ended the
 run before, and where MACHINE is refused."""
 _PICTURE = """Writes a space-time picture of a run, as a PNG file: a row for each step, a column for each
-position; 0 is white, 1 black, the head red, what isn't visited yet grey."""
+position; 0 is white, 1 black, the head red, what isn't visited yet grey. A run of more than 2,000 positions is
+scaled down: a pixel has the mean colour of its cells, and the head isn't seen."""
 
 
 def do_trace(asked: argparse.Namespace) -> int:
@@ -29,10 +30,14 @@ def do_trace(asked: argparse.Namespace) -> int:
 
 def do_picture(asked: argparse.Namespace) -> int:
     """Writes a space-time picture of a run, as a PNG file."""
-    made = picture(asked.machine, asked.upto, cells=asked.cells, every=asked.every, scale=asked.scale)
+    positions = {"columns": asked.columns, "left": asked.left, "right": asked.right}
+    more = {"cells": asked.cells, "every": asked.every, "scale": asked.scale}
+    made = picture(asked.machine, asked.upto, **positions, **more)
     made.save(asked.out)
     if made.every > 1:
         print("budlarem: every %d steps" % made.every, file=sys.stderr)
+    if made.across > 1:
+        print("budlarem: a pixel has the mean colour of %d cells" % made.across, file=sys.stderr)
     if made.is_part:
         print("budlarem: positions %d to %d" % (made.left, made.right), file=sys.stderr)
     return 0
@@ -53,5 +58,8 @@ def add_runs(commands: "argparse._SubParsersAction[argparse.ArgumentParser]") ->
     image.add_argument("--upto", type=int, required=True, metavar="N", help="steps of the run")
     image.add_argument("--out", required=True, metavar="PICTURE.png")
     image.add_argument("--every", type=int, metavar="N", help="show each Nth step")
+    image.add_argument("--left", type=int, metavar="P", help="the first position (default: the lowest)")
+    image.add_argument("--right", type=int, metavar="P", help="the last position (default: the highest)")
+    image.add_argument("--columns", type=int, metavar="N", help="cut to N positions about the middle")
     image.add_argument("--scale", type=int, default=1, metavar="N", help="pixels of a place (default: 1)")
     add_limits(image, ["cells"])
