@@ -252,9 +252,10 @@ def made_claims(both: Both, source: random.Random, verdicts: Sequence[str], coun
 
 
 def tight_claims(source: random.Random, verdicts: Sequence[str], count: int) -> List[Claims]:
-    """Claims of runs, with limits that are just enough and just not."""
+    """Claims of runs, and as many of halts, with limits that are just enough and just not."""
     short = [line for line in verdicts if len(line) < 80]
-    lines = source.sample(short, min(count, len(short)))
+    halts = [line for line in short if " halt " in line]
+    lines = [line for kind in (short, halts) for line in source.sample(kind, min(count, len(kind)))]
     return by_limits(one for line in lines for one in tight(line))
 
 
