@@ -3,6 +3,7 @@
 from __future__ import annotations
 
 import contextlib
+import dataclasses
 import gzip
 import io
 import itertools
@@ -47,6 +48,11 @@ def expected(given: bytes, limits: Sequence[Limits] = PASSES) -> bytes:
         for place, line in zip(left, later):
             lines[place] = line
     return b"".join(lines)
+
+
+def resealed(reply: tasks.Reply, written: bytes) -> tasks.Reply:
+    """A reply with other bytes, and the digest of these."""
+    return (written, *reply[1:7], tasks.hash_of(written))
 
 
 class Answering(Executor):
@@ -108,6 +114,7 @@ class RunnerTest(unittest.TestCase):
         most: int = 7,
         check: bool = False,
         path: str = "",
+        here: bool = False,
     ) -> whole.Outcome:
         """A run, by an executor or by two threads."""
         place = workplace.threads(2) if executor is None else workplace.ExecutorPlace(executor, 2)
@@ -115,7 +122,9 @@ class RunnerTest(unittest.TestCase):
         try:
             opened = folders.Folder(str(self.out))
             try:
-                manner = passes.Manner(place, tasks.identity(), self.told, listed.name, most, check)
+                manner = passes.Manner(
+                    place, tasks.identity(), self.told, listed.name, most, check, here, listed.hold_unchanged
+                )
                 return whole.run(opened, listed, limits, manner)
             finally:
                 opened.close()
@@ -203,6 +212,15 @@ class JournalTest(RunnerTest):
         self.assertEqual(self.journal.gap(2, 20), (2, 20))
         self.assertEqual(self.journal.gap(2, 39), (3, 11))
         self.assertIsNone(self.journal.gap(6, 60))
+        self.assertEqual([self.journal.gap(2, 20), self.journal.gap(3, 30)], [(2, 20), (1, 10)])
+
+    def test_gaps_of_a_foreign_journal(self) -> None:
+        """Each line is read once, however often is asked what comes."""
+        foreign = journal.Journal(self.path, "other")
+        self.addCleanup(foreign.close)
+        with unittest.mock.patch.object(foreign, "read", wraps=foreign.read) as read:
+            self.assertEqual([foreign.gap(index, index) for index in range(6)], [None] * 6)
+        self.assertLessEqual(read.call_count, 6)
 
     def test_each_changed_byte_is_seen(self) -> None:
         data = pathlib.Path(self.path).read_bytes()
@@ -290,21 +308,28 @@ class LookTest(unittest.TestCase):
     def test_replies(self) -> None:
         ours = tasks.identity()
         reply = tasks.decide_piece(KINDS, SMALL.numbers())
-        self.assertEqual(look.opened(reply, ours)[0], expected(KINDS, [SMALL]))
+        asked = tasks.question(tasks.DECIDE, SMALL.numbers())
+        self.assertEqual(look.opened(reply, ours, asked, KINDS)[0], expected(KINDS, [SMALL]))
         wrong: List[Any] = [
             None,
             b"",
             [],
             reply[:4],
+            reply[:5],
+            (*reply[:7], tasks.hash_of(KINDS)),
+            (reply[0][:-1] + b" ", *reply[1:]),
+            tasks.decide_piece(KINDS[:-1], SMALL.numbers()),
+            tasks.decide_piece(KINDS, MIDDLE.numbers()),
+            tasks.check_piece(KINDS, SMALL.numbers()),
             (reply[0].decode(), *reply[1:]),
             (reply[0], "1", *reply[2:]),
             (reply[0], float("nan"), *reply[2:]),
             (*reply[:2], "0.0", *reply[3:]),
-            (*reply[:4], "0" * 64),
+            (*reply[:4], "0" * 64, *reply[5:]),
         ]
         for changed in wrong:
             with self.assertRaises(ReplyError):
-                look.opened(changed, ours)
+                look.opened(changed, ours, asked, KINDS)
 
 
 class PaceTest(unittest.TestCase):
@@ -406,13 +431,32 @@ class WholeTest(RunnerTest):
             with self.assertRaisesRegex(FolderError, "begun with other passes"):
                 self.run_over(limits=limits)
         path = self.out / "run.json"
-        told = json.loads(path.read_text())
-        path.write_text(json.dumps({**told, "library": "0" * 64}))
+        written = path.read_text()
+        begun = folders.Begun.read(written)
+        assert begun is not None
+        other = dataclasses.replace(begun.identity, library="0" * 64)
+        path.write_text(dataclasses.replace(begun, identity=other).text())
         with self.assertRaisesRegex(FolderError, "another library"):
             self.run_over()
-        path.write_text(json.dumps({**told, "format": 2}))
-        with self.assertRaisesRegex(FolderError, "format 2"):
-            self.run_over()
+        for text in (written.replace('"format": 2', '"format": 1'), '{"format": 1, "passes": []}\n'):
+            path.write_text(text)
+            with self.assertRaisesRegex(FolderError, "run.json: it has format 1, which another version"):
+                self.run_over()
+
+    def test_what_a_folder_was_begun_with(self) -> None:
+        begun = folders.Begun(list(PASSES), tasks.identity(), "\udcff list \u1234", 5, None)
+        text = begun.text()
+        self.assertEqual(folders.Begun.read(text), begun)
+        self.assertEqual(json.loads(text)["list"]["bytes"], 5)
+        for size in range(len(text)):
+            self.assertIsNone(folders.Begun.read(text[:size]))
+        for place, bit in itertools.product(range(len(text)), range(8)):
+            changed = text[:place] + chr(ord(text[place]) ^ 1 << bit) + text[place + 1 :]
+            with self.assertRaises(FolderError):
+                folders.Begun.read(changed)
+        for other in (text + " ", "hello", "[" * 10_000, "5\n", "{}\n"):
+            with self.assertRaises(FolderError):
+                folders.Begun.read(other)
 
     def test_two_runs_in_a_folder(self) -> None:
         first = folders.Folder(str(self.out))
@@ -423,9 +467,26 @@ class WholeTest(RunnerTest):
 
     def test_a_folder_of_something_else(self) -> None:
         self.out.mkdir()
-        (self.out / "letters").touch()
-        with self.assertRaisesRegex(FolderError, "letters"):
-            self.run_over()
+        for name in ("letters", "verdicts.txt", "summary.json"):
+            (self.out / name).write_text("kept")
+            with self.assertRaisesRegex(FolderError, name):
+                self.run_over()
+            self.assertEqual([path.name for path in self.out.iterdir()], [name])
+            (self.out / name).unlink()
+
+    def test_a_list_that_would_be_overwritten(self) -> None:
+        self.run_over()
+        for path in ("verdicts.txt", "summary.json", "run.json", "pass-2/journal"):
+            other = self.top / "another_name"
+            os.link(self.out / path, other)
+            for name in (self.out / path, other):
+                before = name.read_bytes()
+                listed = source.ListFile(str(name))
+                with self.assertRaisesRegex(FolderError, "the list is .*%s" % path):
+                    folders.Folder(str(self.out), listed.place)
+                listed.close()
+                self.assertEqual(name.read_bytes(), before)
+            other.unlink()
 
     def test_files_that_were_cut_or_changed(self) -> None:
         self.run_over(most=60)
@@ -489,7 +550,8 @@ class ExecutorTest(RunnerTest):
             lambda reply: (reply[0] + reply[0], *reply[1:]),
             lambda reply: (reply[0].replace(b"1", b"0"), *reply[1:]),
             lambda reply: (reply[0].replace(b"halt", b"stop"), *reply[1:]),
-            lambda reply: (*reply[:4], "0" * 64),
+            lambda reply: (*reply[:4], "0" * 64, *reply[5:]),
+            lambda reply: (*reply[:7], "0" * 64),
             lambda reply: 1 // 0,
         ]
         for place, answer in enumerate(answers):
@@ -510,10 +572,12 @@ class ExecutorTest(RunnerTest):
 
     def test_the_line_is_named(self) -> None:
         def change(reply: tasks.Reply, before: int) -> tasks.Reply:
-            changed = reply[0].replace(
-                b"0RB1LD_0RC1RD_0RD---_1LA0RB undecided", b"0RB1LD_0RC1RD_0RD---_1LA0RB unknown"
+            return resealed(
+                reply,
+                reply[0].replace(
+                    b"0RB1LD_0RC1RD_0RD---_1LA0RB undecided", b"0RB1LD_0RC1RD_0RD---_1LA0RB unknown"
+                ),
             )
-            return (changed, *reply[1:])
 
         with self.assertRaisesRegex(
             RunError, "pass 1, line [0-9]*9: '0RB1LD_0RC1RD_0RD---_1LA0RB unknown steps'"
@@ -559,7 +623,8 @@ class ExecutorTest(RunnerTest):
 
     def test_a_verdict_that_the_checker_refuses(self) -> None:
         def change(reply: tasks.Reply, before: int) -> tasks.Reply:
-            return (reply[0].replace(b"_1RZ0LA undecided steps", b"_1RZ0LA cycler 5 9"), *reply[1:])
+            wrong = reply[0].replace(b"_1RZ0LA undecided steps", b"_1RZ0LA cycler 5 9")
+            return resealed(reply, wrong)
 
         for limits, numbers in (([SMALL], (5,)), (PASSES, (5, 15))):
             self.out = self.top / str(len(limits))
@@ -567,6 +632,44 @@ class ExecutorTest(RunnerTest):
                 self.run_over(Answering(change), limits=limits, check=True)
             self.assertRegex(str(raised.exception), "^line (5|15|25): the checker answers bad: 1RB1LC_1RC1RB")
         self.goes_on()
+
+    def test_a_lying_worker_is_found_here(self) -> None:
+        """It says that its wrong verdict is right, and of all others that they are undecided."""
+
+        def lie(reply: tasks.Reply, before: int) -> tasks.Reply:
+            if reply[6].startswith(tasks.CHECK):
+                return resealed(reply, b"ok\n" * reply[0].count(b"\n"))
+            return resealed(reply, reply[0].replace(b"_1RZ0LA undecided steps", b"_1RZ0LA cycler 5 9"))
+
+        self.run_over(Answering(lie), limits=[SMALL], check=True)
+        self.assertIn(b"cycler 5 9", self.verdicts())
+        for is_begun in (False, True):
+            self.out = self.top / str(is_begun)
+            if is_begun:
+                self.run_over(Answering(lie), limits=[SMALL])
+            with self.assertRaisesRegex(CheckError, "^line (5|15|25): the checker answers bad: "):
+                self.run_over(Answering(lie), limits=[SMALL], check=True, here=True)
+
+    def test_answers_to_other_verdicts(self) -> None:
+        kept: List[tasks.Reply] = []
+
+        def swap(reply: tasks.Reply, before: int) -> tasks.Reply:
+            kept.append(reply)
+            is_check = reply[6].startswith(tasks.CHECK)
+            return next(one for one in kept if one[6] == reply[6]) if is_check else reply
+
+        with self.assertRaisesRegex(RunError, "answers other lines; so it was 3 times"):
+            self.run_over(Answering(swap), check=True)
+        self.goes_on()
+
+    def test_seconds_that_did_not_pass(self) -> None:
+        for seconds in (1e9, 1e308):
+            self.out = self.top / str(seconds)
+            self.run_over(Answering(lambda reply, before: (reply[0], seconds, *reply[2:])), most=1_000)
+            self.assertEqual(self.verdicts(), expected(LIST))
+            self.assertLess(len(self.pieces(1)), 20)
+            told = json.loads((self.out / "summary.json").read_text())
+            self.assertLess(told["passes"][0]["work_seconds"], 600)
 
 
 class CommandTest(RunnerTest):

@@ -50,10 +50,9 @@ WAITING_PROCESSES, WAITING_THREADS = 4, 250
 # Seconds that each piece waits, lines of a piece, and how many pieces there are.
 WAITING = ((0.5, 100, 10_000), (0.5, 1_000, 4_000))
 WAITS = """    time.sleep(%f)
-    ours = identity()
     replies = lines.replace(b"\\n", b" undecided steps\\n")
-    return replies, 1e-6, ours.version, ours.commit, ours.library
-    return _replied(deciding"""
+    return reply_of(question(DECIDE, limits), lines, replies, 1e-6)
+    return _replied(question(DECIDE"""
 CHAMPION = b"1RB1LC_1RC1RB_1RD0LE_1LA1LD_1RZ0LA\n"
 
 
@@ -176,7 +175,7 @@ def measure_waiting(tally: Tally, top: pathlib.Path, part: float) -> None:
     """A thousand workers that only wait, and say that nothing is decided; `part` of the pieces."""
     for seconds, lines, pieces in WAITING:
         with cluster(0) as found:
-            before = "    return _replied(deciding"
+            before = "    return _replied(question(DECIDE"
             waiting = changed_package(found.top, "runner/tasks.py", [(before, WAITS % seconds)])
             for _ in range(WAITING_PROCESSES):
                 found.start_worker(waiting, WAITING_THREADS)

@@ -43,7 +43,8 @@ class Pace:
 @dataclasses.dataclass
 class Piece:
     """Lines of a pass: the piece's number and how many lines come before it, both from 0 on; `record` is the
-    journal's, and `written` what was decided, each once there is one."""
+    journal's, and `written` what was decided, each once there is one; `handed_over` is when it was, by the
+    clock that never goes back, and `is_timed` says that the pace knows of it."""
 
     index: int
     first: int
@@ -52,6 +53,8 @@ class Piece:
     record: Optional[Record] = None
     written: Optional[bytes] = None
     seconds: float = 0.0
+    handed_over: float = 0.0
+    is_timed: bool = False
     tries: int = 0
     is_confirmed: bool = False
     counts: Counts = dataclasses.field(default_factory=dict)

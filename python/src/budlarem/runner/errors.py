@@ -7,6 +7,10 @@ class FolderError(ValueError):
     """The folder, the list or the words don't go together; nothing was changed. Status 2."""
 
 
+class WordsError(ValueError):
+    """The words of the command don't go together. Status 2."""
+
+
 class RunError(Exception):
     """A fault: what stands is kept, and the same command goes on after it. Status 3."""
 

@@ -9,19 +9,15 @@ piece is decided again.
 from __future__ import annotations
 
 import dataclasses
-import hashlib
 import os
 from typing import Optional, Tuple
+
+from .tasks import hash_of
 
 _TEXT = "%-7s %13d %9d %9d %s %9d %s %12d "
 _SEAL = 32
 WIDTH = len(_TEXT % ("", 0, 0, 0, "0" * 64, 0, "0" * 64, 0)) + _SEAL + 1
 DECIDED, CHECKED = "decided", "checked"
-
-
-def hash_of(data: bytes) -> str:
-    """The hash of some bytes, in 64 hexadecimal digits: BLAKE2b, the fastest one that is everywhere."""
-    return hashlib.blake2b(data, digest_size=32).hexdigest()
 
 
 @dataclasses.dataclass(frozen=True)
@@ -61,6 +57,8 @@ class Journal:
         self._number = os.open(path, os.O_RDWR | os.O_CREAT | os.O_CLOEXEC, 0o666)
         self._key = key
         self._length = os.fstat(self._number).st_size // WIDTH
+        # Between these two pieces none had a record that stands when the second one was looked for.
+        self._empty = (0, 0)
 
     def close(self) -> None:
         os.close(self._number)
@@ -104,7 +102,13 @@ class Journal:
     def gap(self, index: int, first: int) -> Optional[Tuple[int, int]]:
         """Where this piece has no record: how many pieces and how many lines there are from it on, `first`
         lines being before it, up to the next piece that has one; None where none has."""
-        for later in range(index + 1, self.length()):
+        begin, end = self._empty
+        if not begin <= index < end:
+            begin, end = index, index + 1
+        while end < self.length() and self.read(end) is None:
+            end += 1
+        self._empty = begin, end
+        for later in range(end, self.length()):
             record = self.read(later)
             if record is not None and record.first - first >= later - index:
                 return later - index, record.first - first

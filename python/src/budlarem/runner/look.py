@@ -14,7 +14,7 @@ from .._library import Room
 from ..engine import Call, checking, deciding
 from ..limits import Limits, Plan
 from .errors import ReplyError
-from .tasks import Identity
+from .tasks import Identity, hash_of
 
 # By these a line costs no step: they are for the form of lines alone.
 _LOWEST = Limits(steps=0, cells=1, depth=0, nodes=0)
@@ -106,15 +106,26 @@ def look_at_answers(verdicts: bytes, answers: bytes) -> None:
     raise ReplyError(lines[place].decode(), place)
 
 
-def opened(reply: object, ours: Identity) -> Tuple[bytes, float]:
-    """The bytes and seconds of a reply that has its form, from the same package and library as this one.
-    Raises ReplyError."""
-    if not (isinstance(reply, tuple) and len(reply) == 5 and isinstance(reply[0], bytes)):
+def opened(reply: object, ours: Identity, asked: str, lines: bytes) -> Tuple[bytes, float]:
+    """The bytes and seconds of a reply that has its form, from the same package and library as this one, to
+    what was asked of these lines. Raises ReplyError."""
+    if not (isinstance(reply, tuple) and len(reply) >= 5 and isinstance(reply[0], bytes)):
         raise ReplyError("what came back is no reply, but of type %s" % type(reply).__name__)
-    written, seconds, version, commit, library = reply
-    theirs = Identity(str(version), str(commit), str(library))
+    theirs = Identity(*(str(told) for told in reply[2:5]))
     if theirs != ours:
         raise ReplyError("it was decided by %s; here is %s" % (theirs, ours))
+    written, seconds = reply[:2]
     if not (isinstance(seconds, float) and math.isfinite(seconds) and seconds >= 0):
         raise ReplyError("%.50r came back as its seconds" % (seconds,))
+    _hold_digests(reply[5:], asked, lines, written)
     return written, seconds
+
+
+def _hold_digests(told: Tuple[object, ...], asked: str, lines: bytes, written: bytes) -> None:
+    """Raises ReplyError where a reply isn't that to what was asked of these lines, or was changed."""
+    if told[:1] != (hash_of(lines),):
+        raise ReplyError("what came back answers other lines")
+    if told[1:2] != (asked,):
+        raise ReplyError("what came back answers something else: %.200r, not %r" % (told[1:2], asked))
+    if told[2:] != (hash_of(written),):
+        raise ReplyError("what came back was changed on its way: its digest is another one's")

@@ -17,7 +17,7 @@ from .journal import Record
 from .look import look_at_answers, look_at_verdicts, opened, shown
 from .progress import Progress
 from .source import Lines
-from .tasks import Identity, check_piece, decide_piece
+from .tasks import CHECK, DECIDE, Identity, check_piece, decide_piece, question
 from .workplace import Workplace
 
 TRIES = 3
@@ -48,7 +48,9 @@ class PassResult:
 
 @dataclasses.dataclass(frozen=True)
 class Manner:
-    """How the pieces of each pass are decided. `list_name` is for sentences."""
+    """How the pieces of each pass are decided. `list_name` is for sentences; `hold_list` raises where the
+    list isn't as it was, and is called before a piece is put down; `is_checked_here` has the checker of this
+    process confirm each verdict."""
 
     place: Workplace
     identity: Identity
@@ -56,6 +58,8 @@ class Manner:
     list_name: str
     most_lines: int = MOST_LINES
     is_checked: bool = False
+    is_checked_here: bool = False
+    hold_list: Callable[[], None] = lambda: None
 
 
 class PassRun:
@@ -77,6 +81,9 @@ class PassRun:
         self._looked_at: Dict[Future[Any], Piece] = {}
         self._back: queue.SimpleQueue[Future[Any]] = queue.SimpleQueue()
         self._lookers = ThreadPoolExecutor(_LOOKERS, "budlarem look")
+        # The list may be slow: a thread of its own reads the next piece.
+        self._reader = ThreadPoolExecutor(1, "budlarem read")
+        self._next: Optional[Future[Optional[Piece]]] = None
         # Pieces that are written, and not yet put down as standing; since when there is one.
         self._finished: List[Piece] = []
         self._since = 0.0
@@ -93,6 +100,7 @@ class PassRun:
                 self._put_down()
         finally:
             self._lookers.shutdown()
+            self._reader.shutdown(wait=False)
         self._folder.pieces = self._result.pieces
         return self._result
 
@@ -100,14 +108,15 @@ class PassRun:
         pieces = self._cutter.pieces(lines)
         is_ended = False
         while self._under_way or self._looked_at or not is_ended:
-            if is_ended or not self._has_room():
-                self._receive(0.5)
-                continue
-            piece = next(pieces, None)
-            is_ended = piece is None
-            if piece is not None:
-                self._take_on(piece)
-            self._receive(0.0)
+            if self._next is None and not is_ended and self._has_room():
+                self._next = self._reader.submit(_next_of, pieces)
+                self._next.add_done_callback(self._back.put)
+            self._receive(0.5)
+            if self._next is not None and self._next.done():
+                piece, self._next = self._next.result(), None
+                is_ended = piece is None
+                if piece is not None:
+                    self._take_on(piece)
         if self._left_out:
             raise RunError(
                 "all but %d pieces stand; %s" % (len(self._left_out), "; ".join(self._left_out[:3]))
@@ -138,14 +147,18 @@ class PassRun:
             where = "piece %d of pass %d" % (piece.index + 1, self._folder.number)
             self._manner.progress.tell("%s is decided again: %s" % (where, error))
             return False
-        piece.written, piece.seconds = written, record.milliseconds / 1_000
+        piece.written, piece.seconds, piece.is_timed = written, record.milliseconds / 1_000, True
         return True
 
     def _start(self, piece: Piece) -> None:
         """Hands a piece over, to be decided or to be checked."""
         task, lines = (decide_piece, piece.given)
         if piece.written is not None:
+            if self._manner.is_checked_here:
+                self._look_later(piece, None)
+                return
             task, lines = (check_piece, piece.written)
+        piece.handed_over = time.monotonic()
         try:
             future = self._manner.place.submit(task, lines, self._limits.numbers())
         except Exception as error:
@@ -161,7 +174,7 @@ class PassRun:
         for future in self._returned(min(seconds, _SOON) if self._finished else seconds):
             piece = self._under_way.pop(future, None)
             if piece is not None:
-                self._look_later(piece, future)
+                self._take_back(piece, future)
                 continue
             piece = self._looked_at.pop(future, None)
             if piece is not None and self._is_finished(piece, future):
@@ -174,15 +187,15 @@ class PassRun:
 
     def _returned(self, seconds: float) -> Iterator[Future[Any]]:
         """What came back: at most as much as is under way."""
-        for _ in range(len(self._under_way) + len(self._looked_at)):
+        for _ in range(len(self._under_way) + len(self._looked_at) + 1):
             try:
                 yield self._back.get(timeout=seconds) if seconds else self._back.get_nowait()
             except queue.Empty:
                 return
             seconds = 0.0
 
-    def _look_later(self, piece: Piece, future: Future[Any]) -> None:
-        """Hands what came back of a piece to those who look at it."""
+    def _take_back(self, piece: Piece, future: Future[Any]) -> None:
+        """Takes what came back of a piece."""
         try:
             failed = future.exception()
         except CancelledError:
@@ -192,20 +205,28 @@ class PassRun:
             return
         if failed is not None:
             self._try_again(piece, failed)
-            return
-        looked = self._lookers.submit(self._look, piece, future.result())
+        else:
+            self._look_later(piece, future.result())
+
+    def _look_later(self, piece: Piece, reply: object) -> None:
+        """Hands what came back of a piece to those who look at it; None where it is to be checked here."""
+        looked = self._lookers.submit(self._look, piece, reply)
         self._looked_at[looked] = piece
         looked.add_done_callback(self._back.put)
 
     def _look(self, piece: Piece, reply: object) -> None:
         """Looks at a reply, keeps what is in it, and writes it once it needn't be checked. Raises ReplyError,
         CheckError, OSError."""
-        written, seconds = opened(reply, self._manner.identity)
+        limits, most = self._limits.numbers(), time.monotonic() - piece.handed_over
         if piece.written is None:
+            asked = question(DECIDE, limits)
+            written, seconds = opened(reply, self._manner.identity, asked, piece.given)
             piece.counts = look_at_verdicts(piece.given, written, piece.lines)
-            piece.written, piece.seconds = written, seconds
-        else:
-            self._look_at_check(piece, piece.written, written)
+            piece.written, piece.seconds = written, min(seconds, most)
+        elif not self._manner.is_checked_here:
+            self._look_at_check(piece, piece.written, reply)
+        if self._manner.is_checked_here and not piece.is_confirmed:
+            self._look_at_check(piece, piece.written, check_piece(piece.written, limits))
         if self._manner.is_checked and not piece.is_confirmed:
             return
         if piece.record is None:
@@ -214,8 +235,10 @@ class PassRun:
             piece.first, piece.lines, piece.given, piece.written, piece.seconds, piece.is_confirmed
         )
 
-    def _look_at_check(self, piece: Piece, verdicts: bytes, answers: bytes) -> None:
-        """Looks at the checker's answers. Raises ReplyError, CheckError."""
+    def _look_at_check(self, piece: Piece, verdicts: bytes, reply: object) -> None:
+        """Looks at the reply of who checked. Raises ReplyError, CheckError."""
+        asked = question(CHECK, self._limits.numbers())
+        answers, _ = opened(reply, self._manner.identity, asked, verdicts)
         try:
             look_at_answers(verdicts, answers)
         except ReplyError as error:
@@ -235,8 +258,9 @@ class PassRun:
             return False
         if error is not None:
             raise error
-        if not piece.is_confirmed:
+        if not piece.is_timed:
             self._cutter.pace.took(piece.lines, piece.seconds, self._manner.place.width())
+            piece.is_timed = True
         if self._manner.is_checked and not piece.is_confirmed:
             self._start(piece)
             return False
@@ -264,10 +288,12 @@ class PassRun:
         self._manner.progress.tell(self._left_out[-1])
 
     def _put_down(self) -> None:
-        """Puts the names of finished pieces onto the disk, and then that they stand."""
+        """Puts the names of finished pieces onto the disk, and then that they stand. Raises RunError where
+        the list changed: what was read of another one doesn't stand."""
         pieces, self._finished = self._finished, []
         if not pieces:
             return
+        self._manner.hold_list()
         self._folder.settle()
         for piece in pieces:
             if piece.record is not None:
@@ -277,6 +303,11 @@ class PassRun:
             if piece.record is not None:
                 self._result.add(piece, piece.record)
                 self._manner.progress.decided(piece.lines)
+
+
+def _next_of(pieces: Iterator[Piece]) -> Optional[Piece]:
+    """The next of some pieces; None where there are no more."""
+    return next(pieces, None)
 
 
 def told(error: BaseException) -> str:

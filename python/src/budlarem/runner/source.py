@@ -5,9 +5,10 @@ from __future__ import annotations
 import gzip
 import io
 import os
+import select
 import stat
 import zlib
-from typing import Iterator, Optional, Tuple
+from typing import Any, Iterator, Optional, Tuple
 
 from .._batches import LONG
 from .errors import RunError
@@ -107,23 +108,70 @@ def shortened(lines: bytes) -> bytes:
     return lines
 
 
+class _Waiting(io.RawIOBase):
+    """The bytes of an open file. A read waits until there are some, also where the file says that there are
+    none yet (O_NONBLOCK); so no bytes come at the end alone."""
+
+    def __init__(self, number: int) -> None:
+        super().__init__()
+        self._number, self._first = number, b""
+
+    def readable(self) -> bool:
+        return True
+
+    def first(self, size: int) -> bytes:
+        """So many bytes from the begin on, however they come, or all where there are fewer. They are read
+        again."""
+        while len(self._first) < size:
+            read = bytearray(size - len(self._first))
+            count = self._read(read)
+            if not count:
+                break
+            self._first += read[:count]
+        return self._first
+
+    def readinto(self, buffer: Any) -> int:
+        if not self._first:
+            return self._read(buffer)
+        size = min(len(buffer), len(self._first))
+        buffer[:size], self._first = self._first[:size], self._first[size:]
+        return size
+
+    def _read(self, buffer: Any) -> int:
+        while True:
+            try:
+                return os.readv(self._number, [buffer])
+            except BlockingIOError:
+                waiting = select.poll()
+                waiting.register(self._number, select.POLLIN)
+                waiting.poll()
+
+    def tell(self) -> int:
+        return os.lseek(self._number, 0, os.SEEK_CUR)
+
+
 class ListFile:
     """A list: a file, as it is or compressed by gzip, or standard input. Raises OSError where it can't be
     opened."""
 
     def __init__(self, path: str) -> None:
         self.name = "standard input" if path == "-" else path
-        number = 0 if path == "-" else os.open(path, os.O_RDONLY | os.O_CLOEXEC)
-        self._raw = io.FileIO(number, closefd=path != "-")
-        self._file = io.BufferedReader(self._raw, BLOCK)
-        self._begin = os.fstat(number)
+        self._number = 0 if path == "-" else os.open(path, os.O_RDONLY | os.O_CLOEXEC)
+        self._begin = os.fstat(self._number)
         self.is_regular = stat.S_ISREG(self._begin.st_mode)
-        self.is_compressed = self._file.peek(2)[:2] == _GZIP
+        self._raw = _Waiting(self._number)
+        self.is_compressed = self._raw.first(len(_GZIP)) == _GZIP
+        self._file = io.BufferedReader(self._raw, BLOCK)
 
     @property
     def size(self) -> Optional[int]:
         """How many bytes the file has on its disk; None where it is no regular file."""
         return self._begin.st_size if self.is_regular else None
+
+    @property
+    def place(self) -> Tuple[int, int]:
+        """Which file it is: the numbers of its device and of its inode."""
+        return self._begin.st_dev, self._begin.st_ino
 
     def part(self, taken: int) -> Optional[float]:
         """Which part of the file so many bytes of the list are, as far as can be told; None where it
@@ -142,11 +190,12 @@ class ListFile:
         except (OSError, EOFError, zlib.error) as error:
             kind = "as gzip" if self.is_compressed else "to its end"
             raise RunError("%s can't be read %s: %s" % (self.name, kind, error)) from error
-        self._hold_unchanged()
+        self.hold_unchanged()
 
-    def _hold_unchanged(self) -> None:
-        """Raises RunError where the file isn't the one that was opened."""
-        now, then = os.fstat(self._raw.fileno()), self._begin
+    def hold_unchanged(self) -> None:
+        """Raises RunError where the file isn't as it was when it was opened. What was read before this
+        returns was read of the file as it was."""
+        now, then = os.fstat(self._number), self._begin
         if self.is_regular and (now.st_size, now.st_mtime_ns) != (then.st_size, then.st_mtime_ns):
             sizes = "from %d to %d bytes" % (then.st_size, now.st_size)
             raise RunError(
@@ -156,6 +205,8 @@ class ListFile:
 
     def close(self) -> None:
         self._file.close()
+        if self._number:
+            os.close(self._number)
 
 
 def _read(file: io.BufferedIOBase) -> Iterator[bytes]:

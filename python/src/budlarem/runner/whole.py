@@ -41,7 +41,7 @@ class Outcome:
 def run(folder: Folder, source: ListFile, passes: Sequence[Limits], manner: Manner) -> Outcome:
     """Decides a list in a folder, and leaves verdicts and summary there. Raises FolderError, CheckError,
     RunError, OSError."""
-    began = time.time()
+    began = time.time(), time.monotonic()
     begun = begin(folder, source, passes, manner)
     folders: List[PassFolder] = []
     results: List[PassResult] = []
@@ -143,11 +143,19 @@ def _in_order(counts: Counter[str]) -> Dict[str, int]:
 
 
 def summary_of(
-    source: ListFile, results: Sequence[PassResult], outcome: Outcome, manner: Manner, began: float
+    source: ListFile,
+    results: Sequence[PassResult],
+    outcome: Outcome,
+    manner: Manner,
+    began: Tuple[float, float],
 ) -> Dict[str, Any]:
-    """What the summary says."""
-    ended = time.time()
-    times = [datetime.datetime.fromtimestamp(when, datetime.timezone.utc) for when in (began, ended)]
+    """What the summary says. The run began at this time, by the wall's clock and by one that never goes
+    back, by which it is told how long it took."""
+    seconds = time.monotonic() - began[1]
+    times = [
+        datetime.datetime.fromtimestamp(when, datetime.timezone.utc)
+        for when in (began[0], began[0] + seconds)
+    ]
     return {
         "list": source.name,
         "lines": outcome.lines,
@@ -165,6 +173,6 @@ def summary_of(
         ],
         "began": times[0].isoformat(timespec="seconds"),
         "ended": times[1].isoformat(timespec="seconds"),
-        "seconds": round(ended - began, 3),
+        "seconds": round(seconds, 3),
         **dataclasses.asdict(manner.identity),
     }
