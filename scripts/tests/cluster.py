@@ -341,7 +341,7 @@ def hold_told_seconds(tally: Tally, given: bytes, right: bytes) -> None:
             found.start_worker(changed_package(found.top, "runner/tasks.py", [change]))
             case = case_of(found, "seconds", given, PASSES[:1])
             hold_end(tally, "%s seconds" % seconds, case, case.run(), right)
-            most = given.count(b"\n") // 20
+            most = given.count(b"\n") // 10
             tally.hold("%s seconds: %d pieces" % (seconds, case.pieces()), case.pieces() < most)
 
 
