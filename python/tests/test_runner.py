@@ -21,7 +21,8 @@ import budlarem
 from budlarem import Limits, commands
 from budlarem.runner import cutting
 from budlarem.runner import folder as folders
-from budlarem.runner import joining, journal, look, passes, progress, source, tasks, whole, workplace
+from budlarem.runner import joining, journal, keeping, look, passes, pieces, progress, source, tasks, whole
+from budlarem.runner import workplace
 from budlarem.runner.errors import CheckError, FolderError, ReplyError, RunError
 
 # Two that halt, a cycler, two translated cyclers, three that small limits leave, one of which larger ones
@@ -115,15 +116,26 @@ class RunnerTest(unittest.TestCase):
         check: bool = False,
         path: str = "",
         here: bool = False,
+        keep: keeping.Keep = keeping.Keep(),
     ) -> whole.Outcome:
         """A run, by an executor or by two threads."""
-        place = workplace.threads(2) if executor is None else workplace.ExecutorPlace(executor, 2)
+        place: workplace.Workplace = workplace.Threads(2)
+        if executor is not None:
+            place = workplace.ExecutorPlace(executor, 2)
         listed = source.ListFile(path or str(self.list))
         try:
             opened = folders.Folder(str(self.out))
             try:
                 manner = passes.Manner(
-                    place, tasks.identity(), self.told, listed.name, most, check, here, listed.hold_unchanged
+                    place,
+                    tasks.identity(),
+                    self.told,
+                    listed.name,
+                    most,
+                    check,
+                    here,
+                    keep,
+                    listed.hold_unchanged,
                 )
                 return whole.run(opened, listed, limits, manner)
             finally:
@@ -134,8 +146,22 @@ class RunnerTest(unittest.TestCase):
     def verdicts(self) -> bytes:
         return (self.out / "verdicts.txt").read_bytes()
 
-    def pieces(self, number: int) -> List[pathlib.Path]:
-        return sorted((self.out / ("pass-%d" % number)).glob("*.txt"))
+    def opened(self, limits: Sequence[Limits], keep: keeping.Keep = keeping.Keep()) -> pieces.PassFolder:
+        """The last of these passes, which is whole."""
+        top = folders.Folder(str(self.out))
+        try:
+            found = top.open_pass(limits, keep, tasks.identity())
+        finally:
+            top.close()
+        self.addCleanup(found.close)
+        found.pieces = found.journal.length()
+        return found
+
+    def records(self, limits: Sequence[Limits]) -> List[journal.Record]:
+        """What the journal of the last of these passes has."""
+        found = self.opened(limits).journal
+        records = map(found.read, range(found.length()))
+        return [record for record in records if record is not None]
 
 
 class SourceTest(RunnerTest):
@@ -192,21 +218,27 @@ class JournalTest(RunnerTest):
     def setUp(self) -> None:
         super().setUp()
         self.path = str(self.top / "journal")
+        self.counts = look.counts_of(expected(KINDS), 10)
         self.journal = journal.Journal(self.path, "key")
         self.addCleanup(self.journal.close)
-        self.records = [
-            journal.Record.of(10 * place, 10, KINDS, b"x" * place, place / 3, place % 2 == 1)
+        self.known = [
+            dataclasses.replace(
+                journal.Record.of(10 * place, 10, KINDS, b"x" * place, place / 3, self.counts),
+                is_checked=place % 2 == 1,
+                place=1_000 * place,
+            )
             for place in range(6)
         ]
         for place in (0, 1, 4, 5):
-            self.journal.put(place, self.records[place])
+            self.journal.put(place, self.known[place])
 
     def test_records_come_back(self) -> None:
         self.assertEqual(os.path.getsize(self.path), 6 * journal.WIDTH)
         found = [self.journal.read(place) for place in range(8)]
-        self.assertEqual(found, [*self.records[:2], None, None, *self.records[4:], None, None])
-        self.assertTrue(self.records[3].fits(KINDS) and self.records[3].has(b"xxx"))
-        self.assertFalse(self.records[3].fits(KINDS[1:]) or self.records[3].has(b"xx"))
+        self.assertEqual(found, [*self.known[:2], None, None, *self.known[4:], None, None])
+        self.assertEqual((self.journal.end(), self.known[0].counts_by_kind()), (5_005, self.counts))
+        self.assertTrue(self.known[3].fits(KINDS) and self.known[3].has(b"xxx"))
+        self.assertFalse(self.known[3].fits(KINDS[1:]) or self.known[3].has(b"xx"))
 
     def test_a_gap(self) -> None:
         self.assertEqual(self.journal.gap(2, 20), (2, 20))
@@ -229,7 +261,7 @@ class JournalTest(RunnerTest):
             changed[place] ^= 1
             pathlib.Path(self.path).write_bytes(changed)
             self.assertIsNone(self.journal.read(0))
-            self.assertEqual(self.journal.read(1), self.records[1])
+            self.assertEqual(self.journal.read(1), self.known[1])
 
     def test_cut_moved_and_other_keys(self) -> None:
         data = pathlib.Path(self.path).read_bytes()
@@ -237,7 +269,7 @@ class JournalTest(RunnerTest):
         self.assertEqual([self.journal.read(place) for place in range(6)], [None] * 6)
         pathlib.Path(self.path).write_bytes(data[:-1])
         self.assertIsNone(self.journal.read(5))
-        self.assertEqual(self.journal.read(4), self.records[4])
+        self.assertEqual(self.journal.read(4), self.known[4])
         other = journal.Journal(self.path, "other")
         self.addCleanup(other.close)
         self.assertIsNone(other.read(4))
@@ -373,10 +405,7 @@ class WholeTest(RunnerTest):
 
     def test_lines_keep_their_numbers(self) -> None:
         self.run_over()
-        opened = folders.Folder(str(self.out))
-        self.addCleanup(opened.close)
-        first, second = (opened.open_pass(PASSES[:count], tasks.identity()) for count in (1, 2))
-        first.pieces, second.pieces = len(self.pieces(1)), len(self.pieces(2))
+        first, second = (self.opened(PASSES[:count]) for count in (1, 2))
         for limits, before in (([SMALL], [first]), (PASSES, [first, second])):
             left = [
                 place for place, line in enumerate(expected(LIST, limits).splitlines(), 1) if b" und" in line
@@ -387,12 +416,12 @@ class WholeTest(RunnerTest):
 
     def test_passes_are_added(self) -> None:
         self.run_over(limits=[SMALL])
-        count = len(self.pieces(1))
+        before = self.records([SMALL])
         executor = Answering(lambda reply, before: reply)
         self.run_over(executor)
         self.assertEqual(self.verdicts(), expected(LIST))
-        self.assertEqual(len(self.pieces(1)), count)
-        self.assertEqual(executor.count, len(self.pieces(2)))
+        self.assertEqual(self.records([SMALL]), before)
+        self.assertEqual(executor.count, len(self.records(PASSES)))
 
     def test_what_stands_is_not_decided_again(self) -> None:
         self.run_over()
@@ -400,10 +429,10 @@ class WholeTest(RunnerTest):
         (self.out / "verdicts.txt").write_bytes(b"changed")
         self.run_over(executor)
         self.assertEqual((executor.count, self.verdicts()), (0, expected(LIST)))
-        self.run_over(executor, check=True)
-        self.assertEqual(executor.count, len(self.pieces(1)) + len(self.pieces(2)))
-        self.run_over(executor, check=True)
-        self.assertEqual(executor.count, len(self.pieces(1)) + len(self.pieces(2)))
+        count = len(self.records([SMALL])) + len(self.records(PASSES))
+        for _ in range(2):
+            self.run_over(executor, check=True)
+            self.assertEqual(executor.count, count)
 
     def test_the_same_list_compressed(self) -> None:
         self.run_over(limits=[SMALL])
@@ -438,13 +467,14 @@ class WholeTest(RunnerTest):
         path.write_text(dataclasses.replace(begun, identity=other).text())
         with self.assertRaisesRegex(FolderError, "another library"):
             self.run_over()
-        for text in (written.replace('"format": 2', '"format": 1'), '{"format": 1, "passes": []}\n'):
+        for text in (written.replace('"format": 3', '"format": 1'), '{"format": 1, "passes": []}\n'):
             path.write_text(text)
             with self.assertRaisesRegex(FolderError, "run.json: it has format 1, which another version"):
                 self.run_over()
 
     def test_what_a_folder_was_begun_with(self) -> None:
-        begun = folders.Begun(list(PASSES), tasks.identity(), "\udcff list \u1234", 5, None)
+        keep = keeping.Keep(True, 7)
+        begun = folders.Begun(list(PASSES), keep, tasks.identity(), "\udcff list \u1234", 5, None)
         text = begun.text()
         self.assertEqual(folders.Begun.read(text), begun)
         self.assertEqual(json.loads(text)["list"]["bytes"], 5)
@@ -526,7 +556,7 @@ class WholeTest(RunnerTest):
 
     def test_a_changed_piece_while_passes_are_joined(self) -> None:
         def change(reply: tasks.Reply, before: int) -> tasks.Reply:
-            self.pieces(1)[2].write_bytes(b"")
+            os.truncate(self.out / "pass-1" / "pieces", 100)
             return reply
 
         self.run_over(limits=[SMALL])
@@ -590,7 +620,7 @@ class ExecutorTest(RunnerTest):
         self.list.write_bytes(given)
         self.run_over(Late(4), most=1, limits=[SMALL])
         self.assertEqual(self.verdicts(), expected(given, [SMALL]))
-        self.assertEqual(len(self.pieces(1)), 8)
+        self.assertEqual(len(self.records([SMALL])), 8)
 
     def test_one_answer_for_two_pieces(self) -> None:
         kept: List[Future[Any]] = []
@@ -667,7 +697,7 @@ class ExecutorTest(RunnerTest):
             self.out = self.top / str(seconds)
             self.run_over(Answering(lambda reply, before: (reply[0], seconds, *reply[2:])), most=1_000)
             self.assertEqual(self.verdicts(), expected(LIST))
-            self.assertLess(len(self.pieces(1)), 20)
+            self.assertLess(len(self.records([SMALL])), 20)
             told = json.loads((self.out / "summary.json").read_text())
             self.assertLess(told["passes"][0]["work_seconds"], 600)
 

@@ -254,12 +254,6 @@ def hold_slow_input(tally: Tally, program: str, top: pathlib.Path) -> None:
         tally.hold("%s, waiting %s: status %d: %s" % (what, is_waiting, status, case.said()), is_right)
 
 
-def standing(case: Case, number: int) -> int:
-    """How many pieces the journal of a pass has."""
-    lines = (case.out / ("pass-%d" % number) / "journal").read_bytes().split(b"\n")
-    return sum(line.startswith((b"decided", b"checked")) for line in lines)
-
-
 def hold_slow_kill(tally: Tally, program: str, top: pathlib.Path) -> None:
     """Standard input pauses, and the runner is killed a second later: what was decided stands."""
     given = b"1RB1LB_1LA1RZ\n" * 40
@@ -268,12 +262,11 @@ def hold_slow_kill(tally: Tally, program: str, top: pathlib.Path) -> None:
     with case.start("-", "--piece", "1", stdin=reading) as process:
         os.close(reading)
         os.write(writing, given[:-14])
-        seen(process, lambda: case.pieces() >= 39)
-        time.sleep(1.0)
+        time.sleep(2.0)
         process.kill()
         process.wait()
     os.close(writing)
-    tally.hold("after a pause %d of 39 pieces stand" % standing(case, 1), standing(case, 1) == 39)
+    tally.hold("after a pause %d of 39 pieces stand" % case.pieces(), case.pieces() == 39)
     with open(case.list, "rb") as file:
         status = case.run("-", stdin=file)
     right = expected(program, given, PASSES[:1])

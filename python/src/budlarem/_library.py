@@ -115,6 +115,11 @@ class Room:
         self._bytes = mmap.mmap(-1, size, mmap.MAP_PRIVATE | mmap.MAP_ANONYMOUS)
         self._address: Any = (ctypes.c_char * size).from_buffer(self._bytes)
 
+    @property
+    def status(self) -> int:
+        """The status of the last call."""
+        return self._status
+
     def reply(self) -> Reply:
         """What the last call told."""
         given_back = 0 if self._status == SHORT else self._length

@@ -18,12 +18,13 @@ from ..limits import Limits
 from .cutting import MOST_LINES
 from .errors import CheckError, FolderError, RunError, WordsError
 from .folder import VERDICTS, Folder, limits_of
+from .keeping import keep_of
 from .passes import Manner, told
 from .progress import Progress
 from .source import ListFile
 from .tasks import identity
 from .whole import run
-from .workplace import Workplace, threads
+from .workplace import Threads, Workplace
 
 _HELP = """Decides a list of any length in pieces, on all cores of this computer or by dask's workers. FOLDER
 gets verdicts.txt, with a line for each line of LIST in its order, and summary.json. Whatever ended it, the
@@ -60,6 +61,13 @@ def add_command(commands: "argparse._SubParsersAction[argparse.ArgumentParser]")
     parser.add_argument("--check", action="store_true", help="have the checker confirm each verdict")
     parser.add_argument(
         "--check-here", action="store_true", help="the same, in this process and not by a worker"
+    )
+    parser.add_argument(
+        "--keep",
+        action="append",
+        metavar="left|halts=N",
+        help="of each pass keep only the lines of what is left and of what was refused; with halts=N also"
+        " those of halts after more than N steps (default: all)",
     )
     parser.add_argument(
         "--piece",
@@ -112,7 +120,7 @@ def _workplace(asked: argparse.Namespace, progress: Progress) -> Workplace:
     count = len(os.sched_getaffinity(0)) if asked.threads is None else asked.threads
     if count < 1:
         raise WordsError("--threads is %d, but must be 1 or more" % count)
-    return threads(count)
+    return Threads(count)
 
 
 def passes_of(words: Optional[List[str]]) -> List[Limits]:
@@ -184,6 +192,7 @@ def _decided(asked: argparse.Namespace, passes: List[Limits], progress: Progress
                 asked.piece,
                 asked.check or asked.check_here,
                 asked.check_here,
+                keep_of(asked.keep),
                 source.hold_unchanged,
             )
             outcome = run(folder, source, passes, manner)

@@ -6,15 +6,14 @@ import dataclasses
 from typing import Iterator, Optional, Tuple
 
 from .errors import FolderError
-from .folder import PassFolder
 from .journal import Record
 from .look import Counts
+from .pieces import PassFolder
 from .source import Lines
 
-# How many lines a piece has at most where nothing is said, and how many bytes: a task of more than a mebibyte
-# is told of by some executors.
+# How many lines a piece has at most where nothing is said, and how many bytes: larger ones gain nothing.
 MOST_LINES = 20_000
-MOST_BYTES = 700_000
+MOST_BYTES = 560_000
 # A piece that was cut before is cut so again, whatever it has.
 _ANY_SIZE = 1 << 62
 
@@ -43,8 +42,9 @@ class Pace:
 @dataclasses.dataclass
 class Piece:
     """Lines of a pass: the piece's number and how many lines come before it, both from 0 on; `record` is the
-    journal's, and `written` what was decided, each once there is one; `handed_over` is when it was, by the
-    clock that never goes back, and `is_timed` says that the pace knows of it."""
+    journal's, `written` what was decided, and `kept` what of it is still to be written, each once there is
+    one; `stood` says that it was decided before this run; `handed_over` is when it was, by the clock that
+    never goes back, and `is_timed` says that the pace knows of it."""
 
     index: int
     first: int
@@ -52,12 +52,18 @@ class Piece:
     lines: int
     record: Optional[Record] = None
     written: Optional[bytes] = None
+    kept: Optional[bytes] = None
+    stood: bool = False
     seconds: float = 0.0
     handed_over: float = 0.0
     is_timed: bool = False
     tries: int = 0
     is_confirmed: bool = False
     counts: Counts = dataclasses.field(default_factory=dict)
+
+    def drop(self) -> None:
+        """Drops its bytes, once they are written."""
+        self.given, self.written, self.kept = b"", None, None
 
 
 class Cutter:

@@ -2,28 +2,27 @@
 
 from __future__ import annotations
 
-import collections
 import contextlib
 import dataclasses
 import fcntl
 import json
 import os
 import re
-from concurrent.futures import Future, ThreadPoolExecutor
-from typing import Any, Deque, Dict, Iterator, List, Optional, Sequence, Tuple
+from typing import Any, Callable, Dict, Iterator, List, Optional, Sequence, Tuple
 
 from ..limits import Limits
-from .errors import FolderError, RunError
-from .journal import Journal
+from .errors import FolderError
+from .keeping import Keep, keep_of
+from .pieces import PassFolder
 from .tasks import Identity, hash_of
 
-FORMAT = 2
+FORMAT = 3
 PART = ".part"
 LOCK, RUN, VERDICTS, SUMMARY = "lock", "run.json", "verdicts.txt", "summary.json"
-# How many threads read pieces ahead, and hold each against its hash.
-_READERS = 3
 _OURS = re.compile("lock|run.json|verdicts.txt|summary.json|pass-[0-9]+|.*[.]part")
 _PASS = re.compile("pass-[0-9]+")
+# A piece as earlier versions of this package wrote it.
+_OLD_PIECE = "000000001.txt"
 # How what a folder was begun with begins and ends, around its seal. It tells how many bytes it has, so that a
 # file that was cut is known.
 _HEAD = '{\n  "format": %d,\n  "bytes": "' % FORMAT
@@ -40,22 +39,31 @@ def settle_folder(path: str) -> None:
         os.close(number)
 
 
-def write_whole(path: str, blocks: Iterator[bytes], settle_name: bool = True) -> None:
-    """Writes a file whole or not at all, whatever ends the process. Raises OSError; nothing is left then."""
+def put_whole(path: str, make: Callable[[str], None]) -> None:
+    """Puts a file that is made under another name into its place: whole or not at all, whatever ends the
+    process. Raises what `make` does, OSError; nothing is left then."""
     part = path + PART
     try:
+        make(part)
+        os.replace(part, path)
+    finally:
+        # It is still there after an error, and where both were names of one file already.
+        with contextlib.suppress(OSError):
+            os.unlink(part)
+    settle_folder(os.path.dirname(path))
+
+
+def write_whole(path: str, blocks: Iterator[bytes]) -> None:
+    """Writes a file whole or not at all, whatever ends the process. Raises OSError; nothing is left then."""
+
+    def make(part: str) -> None:
         with open(part, "wb") as file:
             for block in blocks:
                 file.write(block)
             file.flush()
             os.fsync(file.fileno())
-        os.replace(part, path)
-    except BaseException:
-        with contextlib.suppress(OSError):
-            os.unlink(part)
-        raise
-    if settle_name:
-        settle_folder(os.path.dirname(path))
+
+    put_whole(path, make)
 
 
 def words_of(limits: Limits) -> str:
@@ -69,6 +77,7 @@ class Begun:
     uncompressed one, and when the first pass has seen its end how many lines it has."""
 
     passes: List[Limits]
+    keep: Keep
     identity: Identity
     list_name: str
     list_bytes: Optional[int] = None
@@ -78,6 +87,7 @@ class Begun:
         """The text of the file that says it."""
         told = {
             "passes": [words_of(limits) for limits in self.passes],
+            "keep": str(self.keep),
             "list": {"name": self.list_name, "bytes": self.list_bytes, "lines": self.list_lines},
             **dataclasses.asdict(self.identity),
         }
@@ -110,7 +120,8 @@ class Begun:
         passes = [limits_of(words) for words in told["passes"]]
         identity = Identity(*(str(told[name]) for name in ("version", "commit", "library")))
         listed = told["list"]
-        return cls(passes, identity, str(listed["name"]), listed["bytes"], listed["lines"])
+        keep = keep_of([told["keep"]])
+        return cls(passes, keep, identity, str(listed["name"]), listed["bytes"], listed["lines"])
 
 
 def _is_cut(text: str) -> bool:
@@ -180,6 +191,10 @@ class Folder:
             raise FolderError(
                 "%s has other files in it, as %s; give an empty folder" % (self.path, foreign[0])
             )
+        if os.path.exists(self.at("pass-1", _OLD_PIECE)):
+            raise FolderError(
+                "%s has pieces that another version of this package wrote; give another folder" % self.path
+            )
 
     def at(self, *names: str) -> str:
         """The path of a file in it."""
@@ -200,62 +215,14 @@ class Folder:
         """Writes down what it is begun with."""
         write_whole(self.at(RUN), iter([begun.text().encode()]))
 
-    def open_pass(self, passes: Sequence[Limits], identity: Identity) -> PassFolder:
+    def open_pass(self, passes: Sequence[Limits], keep: Keep, identity: Identity) -> PassFolder:
         """The folder of the last of these passes."""
         number = len(passes)
         path = self.at("pass-%d" % number)
         os.makedirs(path, exist_ok=True)
         settle_folder(self.path)
-        key = "%d %s %s" % (FORMAT, " ".join(map(words_of, passes)), identity.library)
-        return PassFolder(path, number, Journal(os.path.join(path, "journal"), hash_of(key.encode())))
+        key = "%d %s %s %s" % (FORMAT, " ".join(map(words_of, passes)), keep, identity.library)
+        return PassFolder(path, number, hash_of(key.encode()), self.at(VERDICTS))
 
     def close(self) -> None:
         os.close(self._lock)
-
-
-class PassFolder:
-    """The pieces of a pass, and their journal. `pieces` is how many there are, once that is known."""
-
-    def __init__(self, path: str, number: int, journal: Journal) -> None:
-        self.path, self.number, self.journal = path, number, journal
-        self.pieces = 0
-
-    def _at(self, index: int) -> str:
-        return os.path.join(self.path, "%09d.txt" % (index + 1))
-
-    def write(self, index: int, verdicts: bytes) -> None:
-        """Writes the verdicts of a piece; `settle` puts its name onto the disk."""
-        write_whole(self._at(index), iter([verdicts]), settle_name=False)
-
-    def settle(self) -> None:
-        settle_folder(self.path)
-
-    def read(self, index: int) -> Optional[bytes]:
-        """The verdicts of a piece; None where they aren't there."""
-        try:
-            with open(self._at(index), "rb") as file:
-                return file.read()
-        except FileNotFoundError:
-            return None
-
-    def pieces_written(self) -> Iterator[Tuple[int, bytes]]:
-        """Each piece of the whole pass, with how many lines came before it, as the journal has it. Raises
-        RunError where one isn't so."""
-        ahead: Deque[Future[Tuple[int, bytes]]] = collections.deque()
-        with ThreadPoolExecutor(_READERS, "budlarem read") as readers:
-            for index in range(self.pieces):
-                ahead.append(readers.submit(self._piece_written, index))
-                if len(ahead) > _READERS:
-                    yield ahead.popleft().result()
-            while ahead:
-                yield ahead.popleft().result()
-
-    def _piece_written(self, index: int) -> Tuple[int, bytes]:
-        """A piece, with how many lines came before it. Raises RunError where it isn't as the journal says."""
-        record, verdicts = self.journal.read(index), self.read(index)
-        if record is None or verdicts is None or not record.has(verdicts):
-            raise RunError(
-                "%s isn't what the journal says: it was cut or changed;"
-                " run again, and it is decided again" % self._at(index)
-            )
-        return record.first, verdicts

@@ -21,17 +21,28 @@ _LOWEST = Limits(steps=0, cells=1, depth=0, nodes=0)
 _DECIDE = deciding(_LOWEST, Plan(cyclers=False, translated=False, backward=False))
 _CHECK = checking(_LOWEST)
 
-# What each kind's lines have once, and no other line has.
-KINDS = {
-    "halt": b"halt",
-    "cycler": b"cycler",
-    "translated": b"translated",
-    "backward": b"backward",
-    "undecided steps": b"undecided steps",
-    "undecided cells": b"undecided cells",
-    "refused": b"refused",
-}
+KINDS = (
+    "halt",
+    "cycler",
+    "translated",
+    "backward",
+    "undecided steps",
+    "undecided cells",
+    "refused",
+)
 Counts = Dict[str, int]
+# A letter that each line of these has once, and no other line has: machines have no small ones. Both kinds of
+# undecided lines have one in common.
+_UNDECIDED = "undecided"
+_LETTERS = {
+    "halt": b"h",
+    "cycler": b"y",
+    "backward": b"k",
+    _UNDECIDED: b"i",
+    "undecided steps": b"p",
+    "refused": b"f",
+}
+_OTHERS = bytes(set(range(256)) - set(b"".join(_LETTERS.values())))
 _BEHIND_MACHINE = re.compile(b" .*")
 
 
@@ -43,10 +54,11 @@ def _replies(call: Call, lines: bytes) -> bytes:
 
 def counts_of(verdicts: bytes, lines: int) -> Counts:
     """How many there are of each kind, among so many verdict lines and refusals."""
-    counts = {}
-    for kind, word in KINDS.items():
-        counts[kind] = verdicts.count(word) if lines else 0
-        lines -= counts[kind]
+    letters = verdicts.translate(None, _OTHERS)
+    counts = {kind: letters.count(letter) for kind, letter in _LETTERS.items()}
+    undecided = counts.pop(_UNDECIDED)
+    counts["undecided cells"] = undecided - counts["undecided steps"]
+    counts["translated"] = lines - sum(counts.values())
     return counts
 
 

@@ -44,6 +44,12 @@ class Lines:
                 end, left = _end_of(self._held, seen, left)
         return self._cut(end, lines, size)
 
+    def peek(self) -> bytes:
+        """The next line, which isn't taken by this; no bytes at the end."""
+        if self._begin >= len(self._held):
+            self._held, self._begin = next(self._batches, b""), 0
+        return self._held[self._begin : self._held.find(b"\n", self._begin) + 1]
+
     def _cut(self, end: Optional[int], lines: int, size: int) -> bytes:
         """The next lines, of so many bytes together at most where these are more than one; as many as were
         asked for end at `end`, where there are so many."""
