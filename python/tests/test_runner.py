@@ -179,7 +179,14 @@ class SourceTest(RunnerTest):
                 blocks = (given[place : place + cut] for place in range(0, len(given), cut))
                 self.assertEqual(self.taken(blocks, lines, size), whole_list)
             self.assertEqual(b"".join(whole_list), b"".join(text[:1_024] + b"\n" for text in texts))
-            for piece in whole_list:
+            self.list.write_bytes(given)
+            listed = source.ListFile(str(self.list))
+            plain = listed.lines()
+            pieces_of_file = list(iter(lambda: plain.take(lines, size), b""))
+            listed.close()
+            self.assertEqual(b"".join(pieces_of_file), b"".join(whole_list))
+            self.assertEqual(plain.taken_lines, b"".join(whole_list).count(b"\n"))
+            for piece in [*whole_list, *pieces_of_file]:
                 self.assertLessEqual(piece.count(b"\n"), lines)
                 self.assertTrue(len(piece) <= size or piece.count(b"\n") == 1)
 

@@ -9,7 +9,7 @@ from .errors import FolderError
 from .journal import Record
 from .look import Counts
 from .pieces import PassFolder
-from .source import Lines
+from .source import Cuttable
 
 # How many lines a piece has at most where nothing is said, and how many bytes: larger ones gain nothing.
 MOST_LINES = 20_000
@@ -74,7 +74,7 @@ class Cutter:
         self._folder, self._list_name, self._known = folder, list_name, known
         self.pace = Pace(most_lines)
 
-    def pieces(self, lines: Lines) -> Iterator[Piece]:
+    def pieces(self, lines: Cuttable) -> Iterator[Piece]:
         """The pieces. Raises FolderError where they aren't those that the journal was written for, RunError,
         OSError."""
         index, first = 0, 0

@@ -13,7 +13,7 @@ from .errors import DeadlyError, ReplyError, RunError
 from .look import look_at_verdicts, opened, shown
 from .passes import Manner, PassRun, told
 from .pieces import PassFolder
-from .source import Lines
+from .source import Cuttable
 from .tasks import CHECK, DECIDE, check_piece, decide_piece, question
 from .workplace import Executing
 
@@ -45,7 +45,7 @@ class HandingRun(PassRun):
         self._read: Optional[Future[Optional[Piece]]] = None
         self._left_out: List[str] = []
 
-    def _decide(self, lines: Lines) -> None:
+    def _decide(self, lines: Cuttable) -> None:
         pieces = self._cutter.pieces(lines)
         is_ended = False
         while self._under_way or self._looked_at or not is_ended:

@@ -20,6 +20,8 @@ from .tasks import hash_of
 _TEXT = "%-7s %13d %9d %9d %s %15d %9d %08x %12d " + "%9d " * len(KINDS)
 _WORDS = len(_TEXT.split())
 _SEAL = 32
+# For so many pieces more room is made at once.
+_AHEAD = 64
 _NOTHING = ("", 0, 0, 0, "0" * 64, 0, 0, 0, 0, *(0 for _ in KINDS))
 WIDTH = len(_TEXT % _NOTHING) + _SEAL + 1
 DECIDED, CHECKED = "decided", "checked"
@@ -76,6 +78,7 @@ class Journal:
         self._number = os.open(path, os.O_RDWR | os.O_CREAT | os.O_CLOEXEC, 0o666)
         self._key = key
         self._length = os.fstat(self._number).st_size // WIDTH
+        self._room = 0
         # Between these two pieces none had a record that stands when the second one was looked for.
         self._empty = (0, 0)
 
@@ -90,6 +93,13 @@ class Journal:
         """Where what is kept of the pieces ends."""
         records = (self.read(index) for index in range(self.length()))
         return max((record.place + record.kept[0] for record in records if record is not None), default=0)
+
+    def make_room(self, index: int) -> None:
+        """Has the disk keep room for a piece's record, so that a full one doesn't lose what stands. Raises
+        OSError."""
+        if index >= self._room:
+            self._room = index + _AHEAD
+            os.posix_fallocate(self._number, 0, self._room * WIDTH)
 
     def read(self, index: int) -> Optional[Record]:
         """The record of a piece; None where there is none that stands."""

@@ -17,7 +17,7 @@ from .keeping import Keep
 from .look import look_at_answers, look_at_verdicts
 from .pieces import PassFolder
 from .progress import Progress
-from .source import Lines
+from .source import Cuttable
 from .tasks import Identity
 from .workplace import Workplace
 from .writing import Writer
@@ -81,19 +81,21 @@ class PassRun:
         self._result = PassResult(limits)
         self._next, self._took = 0.0, 0.0
 
-    def run(self, lines: Lines) -> PassResult:
+    def run(self, lines: Cuttable) -> PassResult:
         """Decides the lines, but for the pieces that stand. Raises FolderError where they aren't those that
         the journal was written for, CheckError, RunError, OSError."""
         try:
             self._decide(lines)
         finally:
-            self._end()
-            self._writer.end()
-            self._put_down()
+            try:
+                self._end()
+                self._writer.end()
+            finally:
+                self._put_down()
         self._folder.pieces = self._result.pieces
         return self._result
 
-    def _decide(self, lines: Lines) -> None:
+    def _decide(self, lines: Cuttable) -> None:
         """Has each piece taken on and kept."""
         raise NotImplementedError
 

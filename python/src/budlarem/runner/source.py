@@ -8,7 +8,7 @@ import os
 import select
 import stat
 import zlib
-from typing import Any, Iterator, Optional, Tuple
+from typing import Any, Callable, Iterator, Optional, Protocol, Tuple
 
 from .._batches import LONG
 from .errors import RunError
@@ -19,9 +19,20 @@ _GZIP = b"\x1f\x8b"
 _FEW = 16
 
 
+class Cuttable(Protocol):
+    """Lines that are taken some at a time. A line of more than LONG bytes is cut to so many, which changes no
+    reply; a last line without a newline gets one. How many bytes and lines were taken is counted."""
+
+    taken: int
+    taken_lines: int
+
+    def take(self, lines: int, size: int) -> bytes:
+        """The next lines: so many at most, of so many bytes together, but one at least; no bytes at the
+        end."""
+
+
 class Lines:
-    """The lines of a stream, taken some at a time. A line of more than LONG bytes is cut to so many, which
-    changes no reply; a last line without a newline gets one."""
+    """The lines of a stream."""
 
     def __init__(self, blocks: Iterator[bytes]) -> None:
         self._batches = _whole_lines(blocks)
@@ -65,6 +76,58 @@ class Lines:
             lines if is_whole else cut.count(b"\n")
         )
         return cut
+
+
+class PlainLines:
+    """The lines of a file, from a place on: each piece is read where it is cut. `hold` is called at the end.
+    Raises OSError."""
+
+    def __init__(self, number: int, place: int, hold: Callable[[], None]) -> None:
+        self._number, self._place, self._hold = number, place, hold
+        self.taken, self.taken_lines = 0, 0
+
+    def take(self, lines: int, size: int) -> bytes:
+        """The next lines: so many at most, of so many bytes together, but one at least; no bytes at the
+        end."""
+        read = min(size, BLOCK)
+        while True:
+            held = os.pread(self._number, read, self._place)
+            found, is_end = held.count(b"\n"), len(held) < read
+            if found >= lines or is_end or read == size:
+                break
+            read = min(2 * read, size)
+        if found >= lines:
+            end = len(held) if found == lines else 0
+            end = held.rfind(b"\n") + 1 if end else (_end_of(held, 0, lines)[0] or 0)
+            return self._taken(shortened(held[:end]), end, lines)
+        if is_end:
+            return self._rest(held, found)
+        end = held.rfind(b"\n") + 1
+        return self._taken(shortened(held[:end]), end, found) if end else self._long()
+
+    def _taken(self, given: bytes, size: int, lines: int) -> bytes:
+        self._place, self.taken = self._place + size, self.taken + size
+        self.taken_lines += lines
+        return given
+
+    def _rest(self, held: bytes, found: int) -> bytes:
+        """What is left of the file, where it is all that was asked for."""
+        if not held:
+            self._hold()
+            return b""
+        if held.endswith(b"\n"):
+            return self._taken(shortened(held), len(held), found)
+        return self._taken(shortened(held + b"\n"), len(held), found + 1)
+
+    def _long(self) -> bytes:
+        """A line that is longer than all that may be taken."""
+        begin, size = os.pread(self._number, LONG, self._place).partition(b"\n")[0], 0
+        while True:
+            held = os.pread(self._number, BLOCK, self._place + size)
+            end = held.find(b"\n") + 1
+            size += end or len(held)
+            if end or not held:
+                return self._taken(begin + b"\n", size, 1)
 
 
 def _end_of(held: bytes, begin: int, lines: int) -> Tuple[Optional[int], int]:
@@ -166,6 +229,8 @@ class ListFile:
         self._begin = os.fstat(self._number)
         self.is_regular = stat.S_ISREG(self._begin.st_mode)
         self._raw = _Waiting(self._number)
+        # Where it begins: standard input may be a file of which something was read.
+        self._start = self._raw.tell() if self.is_regular else 0
         self.is_compressed = self._raw.first(len(_GZIP)) == _GZIP
         self._file = io.BufferedReader(self._raw, BLOCK)
 
@@ -185,6 +250,12 @@ class ListFile:
         if not self.size:
             return None
         return min((self._raw.tell() if self.is_compressed else taken) / self.size, 1.0)
+
+    def lines(self) -> Cuttable:
+        """Its lines. Taking them raises RunError where it can't be read, or changed meanwhile; OSError."""
+        if self.is_regular and not self.is_compressed:
+            return PlainLines(self._number, self._start, self.hold_unchanged)
+        return Lines(self.blocks())
 
     def blocks(self) -> Iterator[bytes]:
         """Its bytes, cut anywhere. Raises RunError where it can't be read, or changed meanwhile."""

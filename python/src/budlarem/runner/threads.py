@@ -16,7 +16,7 @@ from .errors import RunError
 from .look import counts_of
 from .passes import Manner, PassRun
 from .pieces import PassFolder
-from .source import Lines
+from .source import Cuttable
 from .workplace import Threads
 
 
@@ -42,7 +42,7 @@ class ThreadsRun(PassRun):
         # What each thread ends by: an error, or None.
         self._ended: queue.SimpleQueue[Optional[BaseException]] = queue.SimpleQueue()
 
-    def _decide(self, lines: Lines) -> None:
+    def _decide(self, lines: Cuttable) -> None:
         pieces = self._cutter.pieces(lines)
         crew: List[threading.Thread] = []
         for _ in range(self._threads.count):

@@ -18,7 +18,7 @@ from .keeping import Keep
 from .look import KINDS
 from .passes import Manner, PassResult, PassRun
 from .pieces import PassFolder
-from .source import Lines, ListFile
+from .source import Cuttable, Lines, ListFile
 from .tasks import Identity
 from .threads import ThreadsRun
 from .workplace import Threads
@@ -83,15 +83,15 @@ def _pass_run(
 
 def _lines_for(
     source: ListFile, folders: Sequence[PassFolder], results: Sequence[PassResult], begun: Begun
-) -> Tuple[Lines, Optional[int]]:
+) -> Tuple[Cuttable, Optional[int]]:
     """The lines of the next pass, and how many they are where that is known."""
     if not folders:
-        return Lines(source.blocks()), begun.list_lines
+        return source.lines(), begun.list_lines
     counts = results[-1].counts
     return Lines(left_by(folders[-1])), counts["undecided steps"] + counts["undecided cells"]
 
 
-def _total_of(source: ListFile, lines: Lines, known: Optional[int]) -> Total:
+def _total_of(source: ListFile, lines: Cuttable, known: Optional[int]) -> Total:
     """Of how many lines some lines are a part, where that is known."""
 
     def total(done: int) -> Optional[float]:

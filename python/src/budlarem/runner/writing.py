@@ -89,6 +89,7 @@ class Writer:
     def _placed(self, piece: Piece) -> Piece:
         """A piece, with a place for what is kept of it where that isn't there yet."""
         if piece.kept is not None and piece.record is not None:
+            self._folder.journal.make_room(piece.index)
             place = self._folder.reserve(len(piece.kept))
             piece.record = dataclasses.replace(piece.record, place=place)
         return piece
