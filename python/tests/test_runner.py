@@ -22,8 +22,8 @@ from budlarem import Limits, commands
 from budlarem.runner import cutting
 from budlarem.runner import folder as folders
 from budlarem.runner import joining, journal, keeping, look, passes, pieces, progress, source, tasks, whole
-from budlarem.runner import workplace
-from budlarem.runner.errors import CheckError, FolderError, ReplyError, RunError
+from budlarem.runner import workplace, writing
+from budlarem.runner.errors import CheckError, FolderError, ReplyError, RunError, WordsError
 
 # Two that halt, a cycler, two translated cyclers, three that small limits leave, one of which larger ones
 # decide, and two that are no machines.
@@ -571,6 +571,151 @@ class WholeTest(RunnerTest):
             self.run_over(Answering(change))
         self.run_over()
         self.assertEqual(self.verdicts(), expected(LIST))
+
+    def test_a_folder_of_an_older_version(self) -> None:
+        (self.out / "pass-1").mkdir(parents=True)
+        (self.out / "pass-1" / "000000001.txt").write_text("kept")
+        with self.assertRaisesRegex(FolderError, "another version of this package wrote"):
+            self.run_over()
+
+    def test_one_pass_is_written_once(self) -> None:
+        """The verdicts are the pieces; what is decided later doesn't write over them."""
+        self.run_over(limits=[SMALL])
+        self.assertTrue((self.out / "verdicts.txt").samefile(self.out / "pass-1" / "pieces"))
+        for _ in range(2):
+            self.run_over(limits=[SMALL])
+            self.assertEqual(self.verdicts(), expected(LIST, [SMALL]))
+        self.assertEqual(sorted(self.out.glob("*.part")), [])
+        kept = self.top / "kept"
+        os.link(self.out / "verdicts.txt", kept)
+        self.run_over(limits=PASSES)
+        self.assertEqual((kept.read_bytes(), self.verdicts()), (expected(LIST, [SMALL]), expected(LIST)))
+
+    def test_verdicts_that_were_changed_in_place(self) -> None:
+        self.run_over(limits=[SMALL])
+        with open(self.out / "verdicts.txt", "r+b") as file:
+            file.write(b"x" * 100)
+        self.run_over(limits=[SMALL])
+        self.assertIn("is decided again: it was cut or changed", self.told.kept.getvalue())
+        self.assertEqual(self.verdicts(), expected(LIST, [SMALL]))
+        self.assertFalse((self.out / "verdicts.txt").samefile(self.out / "pass-1" / "pieces"))
+
+
+class WriterTest(RunnerTest):
+    """Pieces come in any order; none is lost, and the whole is in the list's order."""
+
+    def setUp(self) -> None:
+        super().setUp()
+        top = folders.Folder(str(self.out))
+        self.folder = top.open_pass([SMALL], keeping.Keep(), tasks.identity())
+        self.addCleanup(self.folder.close)
+        top.close()
+
+    def piece(self, index: int) -> cutting.Piece:
+        text = b"%d\n" % index * (index % 7 + 1)
+        counts = dict.fromkeys(look.KINDS, 0)
+        record = journal.Record.of(index, 1, b"", text, 0.0, counts)
+        return cutting.Piece(index, index, b"given", 1, record, kept=text)
+
+    def whole(self, order: Sequence[int], most: int) -> bool:
+        """Writes pieces in an order; whether the file of the pieces is the whole then."""
+        kept = [self.piece(index).kept or b"" for index in range(len(order))]
+        writer = writing.Writer(self.folder, most)
+        for index in order:
+            writer.add(self.piece(index))
+            writer.hurry()
+        writer.end()
+        writer.add(self.piece(len(order)))
+        written = writer.written()
+        self.assertEqual(sorted(piece.index for piece in written), list(range(len(order))))
+        for piece in written:
+            assert piece.record is not None
+            self.folder.journal.put(piece.index, piece.record)
+        self.folder.pieces = len(order)
+        path = self.out / "whole"
+        self.folder.put_whole(str(path))
+        self.assertEqual(path.read_bytes(), b"".join(kept))
+        return path.samefile(self.folder.kept)
+
+    def test_a_little_out_of_order(self) -> None:
+        self.assertTrue(self.whole([2, 0, 1, 5, 4, 3, 6, 8, 7, 9], 50))
+
+    def test_one_that_comes_last(self) -> None:
+        self.assertFalse(self.whole([*range(1, 30), 0], 20))
+
+    def test_one_that_comes_late(self) -> None:
+        with unittest.mock.patch.object(writing, "_SOON", 0.0):
+            self.assertFalse(self.whole([1, 0, 2, 3], 20))
+
+    def test_any_order_where_the_system_cannot_copy(self) -> None:
+        order = list(range(200))
+        random.Random(3).shuffle(order)
+        refused = unittest.mock.Mock(side_effect=OSError("it can't"))
+        with unittest.mock.patch.object(os, "copy_file_range", refused):
+            self.assertFalse(self.whole(order, 30))
+
+    def test_no_second_name(self) -> None:
+        refused = unittest.mock.Mock(side_effect=OSError("it can't"))
+        with unittest.mock.patch.object(os, "link", refused):
+            self.assertFalse(self.whole(list(range(20)), 20))
+
+    def test_nothing(self) -> None:
+        self.assertFalse(self.whole([], 20))
+
+
+class KeepTest(RunnerTest):
+    def kept(self, limits: Sequence[Limits], halts: int) -> bytes:
+        lines = expected(LIST, limits).splitlines(keepends=True)
+        long = [line for line in lines if b" halt " in line and int(line.split()[2]) > halts]
+        return b"".join(line for line in lines if b"undecided" in line or b"refused" in line or line in long)
+
+    def test_what_is_kept(self) -> None:
+        for place, (limits, halts) in enumerate(
+            itertools.product(([SMALL], PASSES), (None, 0, 5, 9, 10**9))
+        ):
+            self.out = self.top / str(place)
+            keep = keeping.Keep(True, halts)
+            for _ in range(2):
+                outcome = self.run_over(limits=limits, keep=keep)
+                self.assertEqual(self.verdicts(), self.kept(limits, 10**12 if halts is None else halts))
+                self.assertEqual(outcome.counts, look.counts_of(expected(LIST, limits), 370))
+            told = json.loads((self.out / "summary.json").read_text())
+            self.assertEqual((told["lines"], told["kept"]), (370, str(keep)))
+            with self.assertRaisesRegex(FolderError, "dropped before they were checked"):
+                self.run_over(limits=limits, keep=keep, check=True)
+            with self.assertRaisesRegex(FolderError, "begun with --keep left"):
+                self.run_over(limits=limits)
+
+    def test_passes_are_added(self) -> None:
+        keep = keeping.Keep(True)
+        self.run_over(limits=[SMALL], keep=keep, check=True)
+        self.run_over(keep=keep, check=True)
+        self.assertEqual(self.verdicts(), self.kept(PASSES, 10**12))
+        other = LIST.replace(b"------", b"1RZ---", 1)
+        self.list.write_bytes(other)
+        with self.assertRaisesRegex(FolderError, "isn't the list that"):
+            self.run_over(keep=keep)
+
+    def test_a_line_of_a_later_pass_is_named(self) -> None:
+        def change(reply: tasks.Reply, before: int) -> tasks.Reply:
+            return resealed(reply, reply[0].replace(b" undecided steps", b" unknown steps"))
+
+        keep = keeping.Keep(True)
+        self.run_over(limits=[SMALL], keep=keep)
+        with self.assertRaisesRegex(RunError, "pass 2, line [0-9]+ of those that pass 1 left: "):
+            self.run_over(Answering(change), keep=keep)
+
+    def test_words(self) -> None:
+        given = {"left": (True, None), "halts=9": (True, 9), "left,halts=0": (True, 0), "all": (False, None)}
+        for words, (only_left, halts) in given.items():
+            keep = keeping.Keep(only_left, halts)
+            self.assertEqual(keeping.keep_of([words]), keep)
+            self.assertEqual(keeping.keep_of([str(keep)]), keep)
+        self.assertEqual(keeping.keep_of(["left", "halts=7"]), keeping.Keep(True, 7))
+        self.assertEqual(keeping.keep_of(None), keeping.Keep())
+        for wrong in (["right"], [""], ["halts="], ["halts=-1"], ["all,left"], ["left", "all"]):
+            with self.assertRaises(WordsError):
+                keeping.keep_of(wrong)
 
 
 class ExecutorTest(RunnerTest):

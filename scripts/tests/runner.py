@@ -32,6 +32,8 @@ from tally import Tally, end_with, words
 
 # Limits at which a line costs nothing to speak of.
 QUICK_PASS = (50, 64, 3, 10)
+# Words by which a list takes a second or more.
+SLOWLY = ["--threads", "1", "--piece", "20"]
 LONG_PASS = "steps=1000000000000,cells=67108864"
 
 
@@ -109,6 +111,7 @@ def hold_growing_list(tally: Tally, program: str, top: pathlib.Path) -> None:
     given = random_list(60_000, 6)
     right = expected(program, given, [QUICK_PASS])
     case = Case(top / "growing", given, [QUICK_PASS])
+    case.words += SLOWLY
     with case.start() as process:
         was_seen = seen(process, lambda: case.pieces() > 0)
         process.send_signal(signal.SIGSTOP)
@@ -177,6 +180,7 @@ def hold_changing_list(tally: Tally, program: str, top: pathlib.Path) -> None:
     given = random_list(60_000, 8)
     right = expected(program, given, [QUICK_PASS])
     case = Case(top / "changing", given, [QUICK_PASS])
+    case.words += SLOWLY
     half = given.index(b"\n", len(given) // 2) + 1
     with case.start() as process:
         was_seen = seen(process, lambda: case.pieces() > 0)
@@ -254,6 +258,39 @@ def hold_slow_input(tally: Tally, program: str, top: pathlib.Path) -> None:
         tally.hold("%s, waiting %s: status %d: %s" % (what, is_waiting, status, case.said()), is_right)
 
 
+def hold_keep(tally: Tally, program: str, top: pathlib.Path, seed: int) -> None:
+    """Only what is left is kept: killed and run again, and pieces that were dropped can't be checked."""
+    case = Case(top / "keep", random_list(20_000, seed))
+    right = expected(program, case.list.read_bytes(), PASSES).splitlines(keepends=True)
+    kept = b"".join(line for line in right if b" undecided " in line or line.startswith(b"refused "))
+    case.words += ["--keep", "left"]
+    kills = kill_often(case, 5, random.Random(seed), "--threads", "2")
+    status = case.run()
+    tally.hold("--keep left, %d kills: status %d: %s" % (kills, status, case.said()), status == 1)
+    tally.hold("--keep left: the verdicts", case.verdicts() == kept)
+    size = sum(path.stat().st_size for path in case.out.rglob("pieces"))
+    tally.hold("--keep left: pieces of %d bytes" % size, size < len(b"".join(right)) // 2)
+    summary = json.loads((case.out / "summary.json").read_text())
+    tally.hold("its summary: %s" % summary, summary["lines"] == len(right) and summary["kept"] == "left")
+    hold_refused(
+        tally, "a check of what was dropped", case, "before they were checked", "--check", str(case.list)
+    )
+
+
+def hold_order(tally: Tally, program: str, top: pathlib.Path) -> None:
+    """A machine takes seconds, and those behind it don't: they stand meanwhile, and the verdicts are in the
+    list's order."""
+    passes = [(300_000_000, 200_000, 3, 10)]
+    given = b"1RB1LB_1LA1RZ\n" * 300 + LONG_MACHINE + b"1RB1LB_1LA1RZ\n" * 20_000
+    case = Case(top / "order", given, passes)
+    with case.start(str(case.list), "--threads", "2", "--piece", "100") as process:
+        stood = seen(process, lambda: case.pieces() > 100)
+        status = process.wait()
+    tally.hold("pieces stand behind one that takes long: %s" % case.said(), stood and status == 0)
+    right = expected(program, given, passes)
+    tally.hold("the order behind a long machine", case.verdicts() == right)
+
+
 def hold_slow_kill(tally: Tally, program: str, top: pathlib.Path) -> None:
     """Standard input pauses, and the runner is killed a second later: what was decided stands."""
     given = b"1RB1LB_1LA1RZ\n" * 40
@@ -262,6 +299,7 @@ def hold_slow_kill(tally: Tally, program: str, top: pathlib.Path) -> None:
     with case.start("-", "--piece", "1", stdin=reading) as process:
         os.close(reading)
         os.write(writing, given[:-14])
+        seen(process, lambda: case.pieces() > 0)
         time.sleep(2.0)
         process.kill()
         process.wait()
@@ -358,6 +396,8 @@ def main() -> int:
         hold_foreign_files(tally, top)
         hold_slow_input(tally, program, top)
         hold_slow_kill(tally, program, top)
+        hold_keep(tally, program, top, seed)
+        hold_order(tally, program, top)
         hold_no_memory(tally, top)
         hold_closed_files(tally, top)
         hold_changed_files(tally, program, top, seed)

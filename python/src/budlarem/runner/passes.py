@@ -77,7 +77,7 @@ class PassRun:
         self._folder, self._limits, self._manner = folder, limits, manner
         self._before = before
         self._cutter = Cutter(folder, manner.list_name, manner.most_lines, known)
-        self._writer = Writer(folder, manner.place.width())
+        self._writer = Writer(folder)
         self._result = PassResult(limits)
         self._next, self._took = 0.0, 0.0
 

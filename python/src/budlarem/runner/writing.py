@@ -10,18 +10,21 @@ from typing import Dict, List, Set
 from .cutting import Piece
 from .pieces import PassFolder
 
-# A piece waits for those before it for so many seconds at most.
-_SOON = 1.0
+# Pieces wait for those before them for so many seconds at most, and so many bytes of them.
+_SOON, MOST_BYTES = 1.0, 1 << 24
 
 
 class Writer:
     """Writes pieces one behind another in the list's order, as long as none comes much later than those
-    behind it: `most` of these wait at most, and no longer than a second. Else they are written ahead."""
+    behind it: `most` bytes of these wait at most, and no longer than a second. Else they are written
+    ahead."""
 
-    def __init__(self, folder: PassFolder, most: int) -> None:
+    def __init__(self, folder: PassFolder, most: int = MOST_BYTES) -> None:
         self._folder, self._most = folder, most
         self._changed = threading.Condition()
+        # Pieces that wait, and how many bytes of them are to be written.
         self._waiting: Dict[int, Piece] = {}
+        self._size = 0
         # The piece that is waited for, since when, and those behind it that were written ahead.
         self._next, self._since = 0, time.monotonic()
         self._ahead: Set[int] = set()
@@ -35,8 +38,9 @@ class Writer:
             if self._is_closed:
                 return
             self._waiting[piece.index] = piece
+            self._size += len(piece.kept or b"")
             due = self._in_turn()
-            if len(self._waiting) > self._most:
+            if self._size > self._most:
                 due += self._out_of_turn()
             self._writing += 1
         self._write(due)
@@ -88,6 +92,7 @@ class Writer:
 
     def _placed(self, piece: Piece) -> Piece:
         """A piece, with a place for what is kept of it where that isn't there yet."""
+        self._size -= len(piece.kept or b"")
         if piece.kept is not None and piece.record is not None:
             self._folder.journal.make_room(piece.index)
             place = self._folder.reserve(len(piece.kept))
