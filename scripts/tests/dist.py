@@ -15,7 +15,18 @@ import tempfile
 
 from tally import TOP, Tally, end_with, words
 
-ALWAYS = ["CONTENTS", "bb", "bb.1", "bb.h", "libbb.a", "libbb.so", "bb.wasm", "bb.html", "bb.mjs"]
+ALWAYS = [
+    "CONTENTS",
+    "bb",
+    "bb.1",
+    "bb.h",
+    "libbb.a",
+    "libbb.so",
+    "many_cores",
+    "bb.wasm",
+    "bb.html",
+    "bb.mjs",
+]
 
 
 def built(tally: Tally, commit: str, folder: pathlib.Path) -> pathlib.Path:
