@@ -36,8 +36,8 @@ class ThreadsRun(PassRun):
         super().__init__(folder, limits, manner, before, known)
         self._threads = threads
         self._decide_lines, self._check_lines = deciding(limits, Plan()), checking(limits)
-        # It guards the list and its cutting.
-        self._feed = threading.Lock()
+        # They guard the list and its cutting, and the pace: the list may be slow.
+        self._feed, self._pace = threading.Lock(), threading.Lock()
         self._is_stopped = False
         # What each thread ends by: an error, or None.
         self._ended: queue.SimpleQueue[Optional[BaseException]] = queue.SimpleQueue()
@@ -95,7 +95,7 @@ class ThreadsRun(PassRun):
             piece.seconds = time.monotonic() - began
             piece.written = room.reply().text
             piece.counts = counts_of(piece.written, piece.lines)
-            with self._feed:
+            with self._pace:
                 self._cutter.pace.took(piece.lines, piece.seconds, self._threads.width())
         if self._is_to_be_checked(piece) and piece.written is not None:
             self._check_lines(answers, piece.written)
