@@ -10,7 +10,8 @@ import math
 import re
 from typing import Dict, List, Tuple
 
-from .._library import Room
+from .._library import Room, has_call
+from .._library import look as looked
 from ..engine import Call, checking, deciding
 from ..limits import Limits, Plan
 from .errors import ReplyError
@@ -77,8 +78,30 @@ def _split(lines: bytes, count: int, what: str) -> List[bytes]:
     return parts
 
 
+def told_counts(given: bytes, verdicts: bytes, lines: int) -> Counts:
+    """How many there are of each kind, among the replies of this process to so many lines."""
+    if not has_call("bb_look"):
+        return counts_of(verdicts, lines)
+    found = looked(given, verdicts)
+    if not found.fits:
+        raise AssertionError("line %d of a piece has no reply of its form" % (found.lines + 1))
+    return dict(zip(KINDS, found.counts))
+
+
 def look_at_verdicts(given: bytes, verdicts: bytes, lines: int) -> Counts:
     """Looks at the verdict lines of a piece of so many lines; counts their kinds. Raises ReplyError."""
+    if not has_call("bb_look"):
+        return look_in_python(given, verdicts, lines)
+    found = looked(given, verdicts)
+    if found.fits:
+        return dict(zip(KINDS, found.counts))
+    look_in_python(given, verdicts, lines)
+    raise ReplyError("a line has no reply of its form", found.lines)
+
+
+def look_in_python(given: bytes, verdicts: bytes, lines: int) -> Counts:
+    """The same by an older library, which has no call for it; and what it says of what is wrong. Raises
+    ReplyError."""
     counts = counts_of(verdicts, lines)
     if b" " in given or counts["refused"] or _BEHIND_MACHINE.sub(b"", verdicts) != given:
         machines = given.split(b"\n")[:-1]

@@ -13,7 +13,7 @@ from ..engine import checking, deciding
 from ..limits import Limits, Plan
 from .cutting import Piece
 from .errors import RunError
-from .look import counts_of
+from .look import told_counts
 from .passes import Manner, PassRun
 from .pieces import PassFolder
 from .source import Cuttable
@@ -94,7 +94,7 @@ class ThreadsRun(PassRun):
             self._decide_lines(room, piece.given)
             piece.seconds = time.monotonic() - began
             piece.written = room.reply().text
-            piece.counts = counts_of(piece.written, piece.lines)
+            piece.counts = told_counts(piece.given, piece.written, piece.lines)
             with self._pace:
                 self._cutter.pace.took(piece.lines, piece.seconds, self._threads.width())
         if self._is_to_be_checked(piece) and piece.written is not None:
