@@ -287,13 +287,15 @@ class LookTest(unittest.TestCase):
         for limits in PASSES:
             verdicts = expected(LIST, [limits])
             counts = look.look_at_verdicts(LIST, verdicts, LIST.count(b"\n"))
+            self.assertEqual(look.look_in_python(LIST, verdicts, LIST.count(b"\n")), counts)
             self.assertEqual(sum(counts.values()), LIST.count(b"\n"))
             for kind in ("halt", "cycler", "translated", "refused"):
                 self.assertGreater(counts[kind], 0)
 
     def wrong(self, given: bytes, verdicts: bytes) -> None:
-        with self.assertRaises(ReplyError):
-            look.look_at_verdicts(given, verdicts, given.count(b"\n"))
+        for looks in (look.look_at_verdicts, look.look_in_python):
+            with self.assertRaises(ReplyError):
+                looks(given, verdicts, given.count(b"\n"))
 
     def test_what_is_wrong(self) -> None:
         good = expected(KINDS)
