@@ -270,7 +270,8 @@ def measure_dask(tally: Tally, program: str, case: Case, limits: Sequence[int], 
             },
         )
     single = times["dask, one worker"]
-    print("%s | dask, one worker / one process | %.2f" % (words_of(limits), single / times["one process"]))
+    bar = "at most %s" % ("1.2" if limits == ROWS[0] else "1.1")
+    told_bar("%s | dask, one worker / one process" % words_of(limits), single / times["one process"], bar)
     print("%s | dask, one / three workers | %.2f" % (words_of(limits), single / times["dask, three workers"]))
 
 
