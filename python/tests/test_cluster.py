@@ -22,7 +22,9 @@ LINES = b"1RZ---\n1RA1RA\n0RZ---\n1LA1LA\n1LZ---\n"
 
 def reply_to(lines: bytes, limits: tasks.Numbers) -> tasks.Reply:
     """A reply that tells which lines it belongs to."""
-    return lines.upper(), float(lines.count(b"\n")), "version", "commit", "library"
+    written, seconds = lines.upper(), float(lines.count(b"\n"))
+    told = (tasks.hash_of(lines), "asked", tasks.hash_of(written))
+    return (written, seconds, "version", "commit", "library", *told)
 
 
 class KilledWorker(Exception):
@@ -320,16 +322,20 @@ class ClusterTest(unittest.TestCase):
 class HalvesTest(unittest.TestCase):
     def test_replies_that_do_not_go_together(self) -> None:
         good = reply_to(LINES, LIMITS)
-        other = (*good[:4], "another library")
+        other = (*good[:4], "another library", *good[5:])
+        odd = reply_to(LINES[:-7], LIMITS)
         cases: List[Tuple[List[Any], Any]] = [
-            ([good, good], (good[0] * 2, 10.0, *good[2:])),
+            ([good, good], (good[0] * 2, *reply_to(LINES * 2, LIMITS)[1:])),
             ([good, None], None),
             ([b"x", good], b"x"),
+            ([good, good[:5]], good[:5]),
             ([good, other], other),
+            ([good, odd], odd),
+            ([good, (b"x", *good[1:])], (b"x", *good[1:])),
             ([good, ("x", *good[1:])], ("x", *good[1:])),
         ]
         for replies, joined in cases:
-            self.assertEqual(halves.joined(replies), joined)
+            self.assertEqual(halves.joined([LINES, LINES], replies), joined)
 
     def test_an_error_of_a_half_is_that_of_the_whole(self) -> None:
         for place in (0, 1):

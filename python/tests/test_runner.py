@@ -3,6 +3,7 @@
 from __future__ import annotations
 
 import contextlib
+import dataclasses
 import gzip
 import io
 import itertools
@@ -20,8 +21,9 @@ import budlarem
 from budlarem import Limits, commands
 from budlarem.runner import cutting
 from budlarem.runner import folder as folders
-from budlarem.runner import joining, journal, look, passes, progress, source, tasks, whole, workplace
-from budlarem.runner.errors import CheckError, FolderError, ReplyError, RunError
+from budlarem.runner import joining, journal, keeping, look, passes, pieces, progress, source, tasks, whole
+from budlarem.runner import workplace, writing
+from budlarem.runner.errors import CheckError, FolderError, ReplyError, RunError, WordsError
 
 # Two that halt, a cycler, two translated cyclers, three that small limits leave, one of which larger ones
 # decide, and two that are no machines.
@@ -47,6 +49,11 @@ def expected(given: bytes, limits: Sequence[Limits] = PASSES) -> bytes:
         for place, line in zip(left, later):
             lines[place] = line
     return b"".join(lines)
+
+
+def resealed(reply: tasks.Reply, written: bytes) -> tasks.Reply:
+    """A reply with other bytes, and the digest of these."""
+    return (written, *reply[1:7], tasks.hash_of(written))
 
 
 class Answering(Executor):
@@ -108,14 +115,28 @@ class RunnerTest(unittest.TestCase):
         most: int = 7,
         check: bool = False,
         path: str = "",
+        here: bool = False,
+        keep: keeping.Keep = keeping.Keep(),
     ) -> whole.Outcome:
         """A run, by an executor or by two threads."""
-        place = workplace.threads(2) if executor is None else workplace.ExecutorPlace(executor, 2)
+        place: workplace.Workplace = workplace.Threads(2)
+        if executor is not None:
+            place = workplace.ExecutorPlace(executor, 2)
         listed = source.ListFile(path or str(self.list))
         try:
             opened = folders.Folder(str(self.out))
             try:
-                manner = passes.Manner(place, tasks.identity(), self.told, listed.name, most, check)
+                manner = passes.Manner(
+                    place,
+                    tasks.identity(),
+                    self.told,
+                    listed.name,
+                    most,
+                    check,
+                    here,
+                    keep,
+                    listed.hold_unchanged,
+                )
                 return whole.run(opened, listed, limits, manner)
             finally:
                 opened.close()
@@ -125,8 +146,22 @@ class RunnerTest(unittest.TestCase):
     def verdicts(self) -> bytes:
         return (self.out / "verdicts.txt").read_bytes()
 
-    def pieces(self, number: int) -> List[pathlib.Path]:
-        return sorted((self.out / ("pass-%d" % number)).glob("*.txt"))
+    def opened(self, limits: Sequence[Limits], keep: keeping.Keep = keeping.Keep()) -> pieces.PassFolder:
+        """The last of these passes, which is whole."""
+        top = folders.Folder(str(self.out))
+        try:
+            found = top.open_pass(limits, keep, tasks.identity())
+        finally:
+            top.close()
+        self.addCleanup(found.close)
+        found.pieces = found.journal.length()
+        return found
+
+    def records(self, limits: Sequence[Limits]) -> List[journal.Record]:
+        """What the journal of the last of these passes has."""
+        found = self.opened(limits).journal
+        records = map(found.read, range(found.length()))
+        return [record for record in records if record is not None]
 
 
 class SourceTest(RunnerTest):
@@ -144,7 +179,14 @@ class SourceTest(RunnerTest):
                 blocks = (given[place : place + cut] for place in range(0, len(given), cut))
                 self.assertEqual(self.taken(blocks, lines, size), whole_list)
             self.assertEqual(b"".join(whole_list), b"".join(text[:1_024] + b"\n" for text in texts))
-            for piece in whole_list:
+            self.list.write_bytes(given)
+            listed = source.ListFile(str(self.list))
+            plain = listed.lines()
+            pieces_of_file = list(iter(lambda: plain.take(lines, size), b""))
+            listed.close()
+            self.assertEqual(b"".join(pieces_of_file), b"".join(whole_list))
+            self.assertEqual(plain.taken_lines, b"".join(whole_list).count(b"\n"))
+            for piece in [*whole_list, *pieces_of_file]:
                 self.assertLessEqual(piece.count(b"\n"), lines)
                 self.assertTrue(len(piece) <= size or piece.count(b"\n") == 1)
 
@@ -183,26 +225,41 @@ class JournalTest(RunnerTest):
     def setUp(self) -> None:
         super().setUp()
         self.path = str(self.top / "journal")
+        self.counts = look.counts_of(expected(KINDS), 10)
         self.journal = journal.Journal(self.path, "key")
         self.addCleanup(self.journal.close)
-        self.records = [
-            journal.Record.of(10 * place, 10, KINDS, b"x" * place, place / 3, place % 2 == 1)
+        self.known = [
+            dataclasses.replace(
+                journal.Record.of(10 * place, 10, KINDS, b"x" * place, place / 3, self.counts),
+                is_checked=place % 2 == 1,
+                place=1_000 * place,
+            )
             for place in range(6)
         ]
         for place in (0, 1, 4, 5):
-            self.journal.put(place, self.records[place])
+            self.journal.put(place, self.known[place])
 
     def test_records_come_back(self) -> None:
         self.assertEqual(os.path.getsize(self.path), 6 * journal.WIDTH)
         found = [self.journal.read(place) for place in range(8)]
-        self.assertEqual(found, [*self.records[:2], None, None, *self.records[4:], None, None])
-        self.assertTrue(self.records[3].fits(KINDS) and self.records[3].has(b"xxx"))
-        self.assertFalse(self.records[3].fits(KINDS[1:]) or self.records[3].has(b"xx"))
+        self.assertEqual(found, [*self.known[:2], None, None, *self.known[4:], None, None])
+        self.assertEqual((self.journal.end(), self.known[0].counts_by_kind()), (5_005, self.counts))
+        self.assertTrue(self.known[3].fits(KINDS) and self.known[3].has(b"xxx"))
+        self.assertFalse(self.known[3].fits(KINDS[1:]) or self.known[3].has(b"xx"))
 
     def test_a_gap(self) -> None:
         self.assertEqual(self.journal.gap(2, 20), (2, 20))
         self.assertEqual(self.journal.gap(2, 39), (3, 11))
         self.assertIsNone(self.journal.gap(6, 60))
+        self.assertEqual([self.journal.gap(2, 20), self.journal.gap(3, 30)], [(2, 20), (1, 10)])
+
+    def test_gaps_of_a_foreign_journal(self) -> None:
+        """Each line is read once, however often is asked what comes."""
+        foreign = journal.Journal(self.path, "other")
+        self.addCleanup(foreign.close)
+        with unittest.mock.patch.object(foreign, "read", wraps=foreign.read) as read:
+            self.assertEqual([foreign.gap(index, index) for index in range(6)], [None] * 6)
+        self.assertLessEqual(read.call_count, 6)
 
     def test_each_changed_byte_is_seen(self) -> None:
         data = pathlib.Path(self.path).read_bytes()
@@ -211,7 +268,7 @@ class JournalTest(RunnerTest):
             changed[place] ^= 1
             pathlib.Path(self.path).write_bytes(changed)
             self.assertIsNone(self.journal.read(0))
-            self.assertEqual(self.journal.read(1), self.records[1])
+            self.assertEqual(self.journal.read(1), self.known[1])
 
     def test_cut_moved_and_other_keys(self) -> None:
         data = pathlib.Path(self.path).read_bytes()
@@ -219,7 +276,7 @@ class JournalTest(RunnerTest):
         self.assertEqual([self.journal.read(place) for place in range(6)], [None] * 6)
         pathlib.Path(self.path).write_bytes(data[:-1])
         self.assertIsNone(self.journal.read(5))
-        self.assertEqual(self.journal.read(4), self.records[4])
+        self.assertEqual(self.journal.read(4), self.known[4])
         other = journal.Journal(self.path, "other")
         self.addCleanup(other.close)
         self.assertIsNone(other.read(4))
@@ -230,13 +287,15 @@ class LookTest(unittest.TestCase):
         for limits in PASSES:
             verdicts = expected(LIST, [limits])
             counts = look.look_at_verdicts(LIST, verdicts, LIST.count(b"\n"))
+            self.assertEqual(look.look_in_python(LIST, verdicts, LIST.count(b"\n")), counts)
             self.assertEqual(sum(counts.values()), LIST.count(b"\n"))
             for kind in ("halt", "cycler", "translated", "refused"):
                 self.assertGreater(counts[kind], 0)
 
     def wrong(self, given: bytes, verdicts: bytes) -> None:
-        with self.assertRaises(ReplyError):
-            look.look_at_verdicts(given, verdicts, given.count(b"\n"))
+        for looks in (look.look_at_verdicts, look.look_in_python):
+            with self.assertRaises(ReplyError):
+                looks(given, verdicts, given.count(b"\n"))
 
     def test_what_is_wrong(self) -> None:
         good = expected(KINDS)
@@ -290,21 +349,28 @@ class LookTest(unittest.TestCase):
     def test_replies(self) -> None:
         ours = tasks.identity()
         reply = tasks.decide_piece(KINDS, SMALL.numbers())
-        self.assertEqual(look.opened(reply, ours)[0], expected(KINDS, [SMALL]))
+        asked = tasks.question(tasks.DECIDE, SMALL.numbers())
+        self.assertEqual(look.opened(reply, ours, asked, KINDS)[0], expected(KINDS, [SMALL]))
         wrong: List[Any] = [
             None,
             b"",
             [],
             reply[:4],
+            reply[:5],
+            (*reply[:7], tasks.hash_of(KINDS)),
+            (reply[0][:-1] + b" ", *reply[1:]),
+            tasks.decide_piece(KINDS[:-1], SMALL.numbers()),
+            tasks.decide_piece(KINDS, MIDDLE.numbers()),
+            tasks.check_piece(KINDS, SMALL.numbers()),
             (reply[0].decode(), *reply[1:]),
             (reply[0], "1", *reply[2:]),
             (reply[0], float("nan"), *reply[2:]),
             (*reply[:2], "0.0", *reply[3:]),
-            (*reply[:4], "0" * 64),
+            (*reply[:4], "0" * 64, *reply[5:]),
         ]
         for changed in wrong:
             with self.assertRaises(ReplyError):
-                look.opened(changed, ours)
+                look.opened(changed, ours, asked, KINDS)
 
 
 class PaceTest(unittest.TestCase):
@@ -348,10 +414,7 @@ class WholeTest(RunnerTest):
 
     def test_lines_keep_their_numbers(self) -> None:
         self.run_over()
-        opened = folders.Folder(str(self.out))
-        self.addCleanup(opened.close)
-        first, second = (opened.open_pass(PASSES[:count], tasks.identity()) for count in (1, 2))
-        first.pieces, second.pieces = len(self.pieces(1)), len(self.pieces(2))
+        first, second = (self.opened(PASSES[:count]) for count in (1, 2))
         for limits, before in (([SMALL], [first]), (PASSES, [first, second])):
             left = [
                 place for place, line in enumerate(expected(LIST, limits).splitlines(), 1) if b" und" in line
@@ -362,12 +425,12 @@ class WholeTest(RunnerTest):
 
     def test_passes_are_added(self) -> None:
         self.run_over(limits=[SMALL])
-        count = len(self.pieces(1))
+        before = self.records([SMALL])
         executor = Answering(lambda reply, before: reply)
         self.run_over(executor)
         self.assertEqual(self.verdicts(), expected(LIST))
-        self.assertEqual(len(self.pieces(1)), count)
-        self.assertEqual(executor.count, len(self.pieces(2)))
+        self.assertEqual(self.records([SMALL]), before)
+        self.assertEqual(executor.count, len(self.records(PASSES)))
 
     def test_what_stands_is_not_decided_again(self) -> None:
         self.run_over()
@@ -375,10 +438,10 @@ class WholeTest(RunnerTest):
         (self.out / "verdicts.txt").write_bytes(b"changed")
         self.run_over(executor)
         self.assertEqual((executor.count, self.verdicts()), (0, expected(LIST)))
-        self.run_over(executor, check=True)
-        self.assertEqual(executor.count, len(self.pieces(1)) + len(self.pieces(2)))
-        self.run_over(executor, check=True)
-        self.assertEqual(executor.count, len(self.pieces(1)) + len(self.pieces(2)))
+        count = len(self.records([SMALL])) + len(self.records(PASSES))
+        for _ in range(2):
+            self.run_over(executor, check=True)
+            self.assertEqual(executor.count, count)
 
     def test_the_same_list_compressed(self) -> None:
         self.run_over(limits=[SMALL])
@@ -406,13 +469,33 @@ class WholeTest(RunnerTest):
             with self.assertRaisesRegex(FolderError, "begun with other passes"):
                 self.run_over(limits=limits)
         path = self.out / "run.json"
-        told = json.loads(path.read_text())
-        path.write_text(json.dumps({**told, "library": "0" * 64}))
+        written = path.read_text()
+        begun = folders.Begun.read(written)
+        assert begun is not None
+        other = dataclasses.replace(begun.identity, library="0" * 64)
+        path.write_text(dataclasses.replace(begun, identity=other).text())
         with self.assertRaisesRegex(FolderError, "another library"):
             self.run_over()
-        path.write_text(json.dumps({**told, "format": 2}))
-        with self.assertRaisesRegex(FolderError, "format 2"):
-            self.run_over()
+        for text in (written.replace('"format": 3', '"format": 1'), '{"format": 1, "passes": []}\n'):
+            path.write_text(text)
+            with self.assertRaisesRegex(FolderError, "run.json: it has format 1, which another version"):
+                self.run_over()
+
+    def test_what_a_folder_was_begun_with(self) -> None:
+        keep = keeping.Keep(True, 7)
+        begun = folders.Begun(list(PASSES), keep, tasks.identity(), "\udcff list \u1234", 5, None)
+        text = begun.text()
+        self.assertEqual(folders.Begun.read(text), begun)
+        self.assertEqual(json.loads(text)["list"]["bytes"], 5)
+        for size in range(len(text)):
+            self.assertIsNone(folders.Begun.read(text[:size]))
+        for place, bit in itertools.product(range(len(text)), range(8)):
+            changed = text[:place] + chr(ord(text[place]) ^ 1 << bit) + text[place + 1 :]
+            with self.assertRaises(FolderError):
+                folders.Begun.read(changed)
+        for other in (text + " ", "hello", "[" * 10_000, "5\n", "{}\n"):
+            with self.assertRaises(FolderError):
+                folders.Begun.read(other)
 
     def test_two_runs_in_a_folder(self) -> None:
         first = folders.Folder(str(self.out))
@@ -423,9 +506,26 @@ class WholeTest(RunnerTest):
 
     def test_a_folder_of_something_else(self) -> None:
         self.out.mkdir()
-        (self.out / "letters").touch()
-        with self.assertRaisesRegex(FolderError, "letters"):
-            self.run_over()
+        for name in ("letters", "verdicts.txt", "summary.json"):
+            (self.out / name).write_text("kept")
+            with self.assertRaisesRegex(FolderError, name):
+                self.run_over()
+            self.assertEqual([path.name for path in self.out.iterdir()], [name])
+            (self.out / name).unlink()
+
+    def test_a_list_that_would_be_overwritten(self) -> None:
+        self.run_over()
+        for path in ("verdicts.txt", "summary.json", "run.json", "pass-2/journal"):
+            other = self.top / "another_name"
+            os.link(self.out / path, other)
+            for name in (self.out / path, other):
+                before = name.read_bytes()
+                listed = source.ListFile(str(name))
+                with self.assertRaisesRegex(FolderError, "the list is .*%s" % path):
+                    folders.Folder(str(self.out), listed.place)
+                listed.close()
+                self.assertEqual(name.read_bytes(), before)
+            other.unlink()
 
     def test_files_that_were_cut_or_changed(self) -> None:
         self.run_over(most=60)
@@ -465,7 +565,7 @@ class WholeTest(RunnerTest):
 
     def test_a_changed_piece_while_passes_are_joined(self) -> None:
         def change(reply: tasks.Reply, before: int) -> tasks.Reply:
-            self.pieces(1)[2].write_bytes(b"")
+            os.truncate(self.out / "pass-1" / "pieces", 100)
             return reply
 
         self.run_over(limits=[SMALL])
@@ -473,6 +573,151 @@ class WholeTest(RunnerTest):
             self.run_over(Answering(change))
         self.run_over()
         self.assertEqual(self.verdicts(), expected(LIST))
+
+    def test_a_folder_of_an_older_version(self) -> None:
+        (self.out / "pass-1").mkdir(parents=True)
+        (self.out / "pass-1" / "000000001.txt").write_text("kept")
+        with self.assertRaisesRegex(FolderError, "another version of this package wrote"):
+            self.run_over()
+
+    def test_one_pass_is_written_once(self) -> None:
+        """The verdicts are the pieces; what is decided later doesn't write over them."""
+        self.run_over(limits=[SMALL])
+        self.assertTrue((self.out / "verdicts.txt").samefile(self.out / "pass-1" / "pieces"))
+        for _ in range(2):
+            self.run_over(limits=[SMALL])
+            self.assertEqual(self.verdicts(), expected(LIST, [SMALL]))
+        self.assertEqual(sorted(self.out.glob("*.part")), [])
+        kept = self.top / "kept"
+        os.link(self.out / "verdicts.txt", kept)
+        self.run_over(limits=PASSES)
+        self.assertEqual((kept.read_bytes(), self.verdicts()), (expected(LIST, [SMALL]), expected(LIST)))
+
+    def test_verdicts_that_were_changed_in_place(self) -> None:
+        self.run_over(limits=[SMALL])
+        with open(self.out / "verdicts.txt", "r+b") as file:
+            file.write(b"x" * 100)
+        self.run_over(limits=[SMALL])
+        self.assertIn("is decided again: it was cut or changed", self.told.kept.getvalue())
+        self.assertEqual(self.verdicts(), expected(LIST, [SMALL]))
+        self.assertFalse((self.out / "verdicts.txt").samefile(self.out / "pass-1" / "pieces"))
+
+
+class WriterTest(RunnerTest):
+    """Pieces come in any order; none is lost, and the whole is in the list's order."""
+
+    def setUp(self) -> None:
+        super().setUp()
+        top = folders.Folder(str(self.out))
+        self.folder = top.open_pass([SMALL], keeping.Keep(), tasks.identity())
+        self.addCleanup(self.folder.close)
+        top.close()
+
+    def piece(self, index: int) -> cutting.Piece:
+        text = b"%d\n" % index * (index % 7 + 1)
+        counts = dict.fromkeys(look.KINDS, 0)
+        record = journal.Record.of(index, 1, b"", text, 0.0, counts)
+        return cutting.Piece(index, index, b"given", 1, record, kept=text)
+
+    def whole(self, order: Sequence[int], most: int) -> bool:
+        """Writes pieces in an order; whether the file of the pieces is the whole then."""
+        kept = [self.piece(index).kept or b"" for index in range(len(order))]
+        writer = writing.Writer(self.folder, most)
+        for index in order:
+            writer.add(self.piece(index))
+            writer.hurry()
+        writer.end()
+        writer.add(self.piece(len(order)))
+        written = writer.written()
+        self.assertEqual(sorted(piece.index for piece in written), list(range(len(order))))
+        for piece in written:
+            assert piece.record is not None
+            self.folder.journal.put(piece.index, piece.record)
+        self.folder.pieces = len(order)
+        path = self.out / "whole"
+        self.folder.put_whole(str(path))
+        self.assertEqual(path.read_bytes(), b"".join(kept))
+        return path.samefile(self.folder.kept)
+
+    def test_a_little_out_of_order(self) -> None:
+        self.assertTrue(self.whole([2, 0, 1, 5, 4, 3, 6, 8, 7, 9], 50))
+
+    def test_one_that_comes_last(self) -> None:
+        self.assertFalse(self.whole([*range(1, 30), 0], 20))
+
+    def test_one_that_comes_late(self) -> None:
+        with unittest.mock.patch.object(writing, "_SOON", 0.0):
+            self.assertFalse(self.whole([1, 0, 2, 3], 20))
+
+    def test_any_order_where_the_system_cannot_copy(self) -> None:
+        order = list(range(200))
+        random.Random(3).shuffle(order)
+        refused = unittest.mock.Mock(side_effect=OSError("it can't"))
+        with unittest.mock.patch.object(os, "copy_file_range", refused):
+            self.assertFalse(self.whole(order, 30))
+
+    def test_no_second_name(self) -> None:
+        refused = unittest.mock.Mock(side_effect=OSError("it can't"))
+        with unittest.mock.patch.object(os, "link", refused):
+            self.assertFalse(self.whole(list(range(20)), 20))
+
+    def test_nothing(self) -> None:
+        self.assertFalse(self.whole([], 20))
+
+
+class KeepTest(RunnerTest):
+    def kept(self, limits: Sequence[Limits], halts: int) -> bytes:
+        lines = expected(LIST, limits).splitlines(keepends=True)
+        long = [line for line in lines if b" halt " in line and int(line.split()[2]) > halts]
+        return b"".join(line for line in lines if b"undecided" in line or b"refused" in line or line in long)
+
+    def test_what_is_kept(self) -> None:
+        for place, (limits, halts) in enumerate(
+            itertools.product(([SMALL], PASSES), (None, 0, 5, 9, 10**9))
+        ):
+            self.out = self.top / str(place)
+            keep = keeping.Keep(True, halts)
+            for _ in range(2):
+                outcome = self.run_over(limits=limits, keep=keep)
+                self.assertEqual(self.verdicts(), self.kept(limits, 10**12 if halts is None else halts))
+                self.assertEqual(outcome.counts, look.counts_of(expected(LIST, limits), 370))
+            told = json.loads((self.out / "summary.json").read_text())
+            self.assertEqual((told["lines"], told["kept"]), (370, str(keep)))
+            with self.assertRaisesRegex(FolderError, "dropped before they were checked"):
+                self.run_over(limits=limits, keep=keep, check=True)
+            with self.assertRaisesRegex(FolderError, "begun with --keep left"):
+                self.run_over(limits=limits)
+
+    def test_passes_are_added(self) -> None:
+        keep = keeping.Keep(True)
+        self.run_over(limits=[SMALL], keep=keep, check=True)
+        self.run_over(keep=keep, check=True)
+        self.assertEqual(self.verdicts(), self.kept(PASSES, 10**12))
+        other = LIST.replace(b"------", b"1RZ---", 1)
+        self.list.write_bytes(other)
+        with self.assertRaisesRegex(FolderError, "isn't the list that"):
+            self.run_over(keep=keep)
+
+    def test_a_line_of_a_later_pass_is_named(self) -> None:
+        def change(reply: tasks.Reply, before: int) -> tasks.Reply:
+            return resealed(reply, reply[0].replace(b" undecided steps", b" unknown steps"))
+
+        keep = keeping.Keep(True)
+        self.run_over(limits=[SMALL], keep=keep)
+        with self.assertRaisesRegex(RunError, "pass 2, line [0-9]+ of those that pass 1 left: "):
+            self.run_over(Answering(change), keep=keep)
+
+    def test_words(self) -> None:
+        given = {"left": (True, None), "halts=9": (True, 9), "left,halts=0": (True, 0), "all": (False, None)}
+        for words, (only_left, halts) in given.items():
+            keep = keeping.Keep(only_left, halts)
+            self.assertEqual(keeping.keep_of([words]), keep)
+            self.assertEqual(keeping.keep_of([str(keep)]), keep)
+        self.assertEqual(keeping.keep_of(["left", "halts=7"]), keeping.Keep(True, 7))
+        self.assertEqual(keeping.keep_of(None), keeping.Keep())
+        for wrong in (["right"], [""], ["halts="], ["halts=-1"], ["all,left"], ["left", "all"]):
+            with self.assertRaises(WordsError):
+                keeping.keep_of(wrong)
 
 
 class ExecutorTest(RunnerTest):
@@ -489,7 +734,8 @@ class ExecutorTest(RunnerTest):
             lambda reply: (reply[0] + reply[0], *reply[1:]),
             lambda reply: (reply[0].replace(b"1", b"0"), *reply[1:]),
             lambda reply: (reply[0].replace(b"halt", b"stop"), *reply[1:]),
-            lambda reply: (*reply[:4], "0" * 64),
+            lambda reply: (*reply[:4], "0" * 64, *reply[5:]),
+            lambda reply: (*reply[:7], "0" * 64),
             lambda reply: 1 // 0,
         ]
         for place, answer in enumerate(answers):
@@ -510,10 +756,12 @@ class ExecutorTest(RunnerTest):
 
     def test_the_line_is_named(self) -> None:
         def change(reply: tasks.Reply, before: int) -> tasks.Reply:
-            changed = reply[0].replace(
-                b"0RB1LD_0RC1RD_0RD---_1LA0RB undecided", b"0RB1LD_0RC1RD_0RD---_1LA0RB unknown"
+            return resealed(
+                reply,
+                reply[0].replace(
+                    b"0RB1LD_0RC1RD_0RD---_1LA0RB undecided", b"0RB1LD_0RC1RD_0RD---_1LA0RB unknown"
+                ),
             )
-            return (changed, *reply[1:])
 
         with self.assertRaisesRegex(
             RunError, "pass 1, line [0-9]*9: '0RB1LD_0RC1RD_0RD---_1LA0RB unknown steps'"
@@ -526,7 +774,7 @@ class ExecutorTest(RunnerTest):
         self.list.write_bytes(given)
         self.run_over(Late(4), most=1, limits=[SMALL])
         self.assertEqual(self.verdicts(), expected(given, [SMALL]))
-        self.assertEqual(len(self.pieces(1)), 8)
+        self.assertEqual(len(self.records([SMALL])), 8)
 
     def test_one_answer_for_two_pieces(self) -> None:
         kept: List[Future[Any]] = []
@@ -559,7 +807,8 @@ class ExecutorTest(RunnerTest):
 
     def test_a_verdict_that_the_checker_refuses(self) -> None:
         def change(reply: tasks.Reply, before: int) -> tasks.Reply:
-            return (reply[0].replace(b"_1RZ0LA undecided steps", b"_1RZ0LA cycler 5 9"), *reply[1:])
+            wrong = reply[0].replace(b"_1RZ0LA undecided steps", b"_1RZ0LA cycler 5 9")
+            return resealed(reply, wrong)
 
         for limits, numbers in (([SMALL], (5,)), (PASSES, (5, 15))):
             self.out = self.top / str(len(limits))
@@ -567,6 +816,44 @@ class ExecutorTest(RunnerTest):
                 self.run_over(Answering(change), limits=limits, check=True)
             self.assertRegex(str(raised.exception), "^line (5|15|25): the checker answers bad: 1RB1LC_1RC1RB")
         self.goes_on()
+
+    def test_a_lying_worker_is_found_here(self) -> None:
+        """It says that its wrong verdict is right, and of all others that they are undecided."""
+
+        def lie(reply: tasks.Reply, before: int) -> tasks.Reply:
+            if reply[6].startswith(tasks.CHECK):
+                return resealed(reply, b"ok\n" * reply[0].count(b"\n"))
+            return resealed(reply, reply[0].replace(b"_1RZ0LA undecided steps", b"_1RZ0LA cycler 5 9"))
+
+        self.run_over(Answering(lie), limits=[SMALL], check=True)
+        self.assertIn(b"cycler 5 9", self.verdicts())
+        for is_begun in (False, True):
+            self.out = self.top / str(is_begun)
+            if is_begun:
+                self.run_over(Answering(lie), limits=[SMALL])
+            with self.assertRaisesRegex(CheckError, "^line (5|15|25): the checker answers bad: "):
+                self.run_over(Answering(lie), limits=[SMALL], check=True, here=True)
+
+    def test_answers_to_other_verdicts(self) -> None:
+        kept: List[tasks.Reply] = []
+
+        def swap(reply: tasks.Reply, before: int) -> tasks.Reply:
+            kept.append(reply)
+            is_check = reply[6].startswith(tasks.CHECK)
+            return next(one for one in kept if one[6] == reply[6]) if is_check else reply
+
+        with self.assertRaisesRegex(RunError, "answers other lines; so it was 3 times"):
+            self.run_over(Answering(swap), check=True)
+        self.goes_on()
+
+    def test_seconds_that_did_not_pass(self) -> None:
+        for seconds in (1e9, 1e308):
+            self.out = self.top / str(seconds)
+            self.run_over(Answering(lambda reply, before: (reply[0], seconds, *reply[2:])), most=1_000)
+            self.assertEqual(self.verdicts(), expected(LIST))
+            self.assertLess(len(self.records([SMALL])), 20)
+            told = json.loads((self.out / "summary.json").read_text())
+            self.assertLess(told["passes"][0]["work_seconds"], 600)
 
 
 class CommandTest(RunnerTest):

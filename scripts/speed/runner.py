@@ -8,6 +8,9 @@ writes the same bytes, which is held; the time is the least of the runs, by the 
 quiet. It takes some minutes. The last line is `N passed, M failed`. The parts, all of which are run where
 none is named:
 
+- `bars`: what is asked of the runner over the machines of four states twenty times, decided and checked, and
+  decided alone, beside the program, four processes of it, and GNU parallel; each bar with its figure. What
+  Python needs to start is left out: it is that of a run over no line.
 - `threads`: one process of the program, one thread of the runner, several, and GNU parallel; whole commands.
 - `dask`: one process, and dask with one worker and with three. Of dask the time is that of the summary, so
   without the start of Python and of dask.
@@ -16,6 +19,7 @@ none is named:
 - `memory`: of the runner over a list, and over one of ten times as many lines.
 """
 
+import dataclasses
 import functools
 import json
 import os
@@ -35,7 +39,7 @@ from library_built import has_library  # noqa: E402
 from machine_list import has_lister, listed  # noqa: E402
 from machines import uniform  # noqa: E402
 from program import joined, options  # noqa: E402
-from runs import Case, most_memory, words_of  # noqa: E402
+from runs import Case, environment, most_memory, words_of  # noqa: E402
 from tally import Tally, end_with, from_one, words  # noqa: E402
 
 RANDOM = 200_000
@@ -50,10 +54,9 @@ WAITING_PROCESSES, WAITING_THREADS = 4, 250
 # Seconds that each piece waits, lines of a piece, and how many pieces there are.
 WAITING = ((0.5, 100, 10_000), (0.5, 1_000, 4_000))
 WAITS = """    time.sleep(%f)
-    ours = identity()
     replies = lines.replace(b"\\n", b" undecided steps\\n")
-    return replies, 1e-6, ours.version, ours.commit, ours.library
-    return _replied(deciding"""
+    return reply_of(question(DECIDE, limits), lines, replies, 1e-6)
+    return _replied(question(DECIDE"""
 CHAMPION = b"1RB1LC_1RC1RB_1RD0LE_1LA1LD_1RZ0LA\n"
 
 
@@ -144,6 +147,105 @@ def measure_threads(
     print("%s | one thread / several | %.2f" % (words_of(limits), times["one thread"] / times[several]))
 
 
+@dataclasses.dataclass(frozen=True)
+class Cost:
+    """What commands took, in seconds: by the clock, and of processors."""
+
+    clock: float
+    processor: float
+
+    def without(self, other: "Cost") -> "Cost":
+        return Cost(self.clock - other.clock, self.processor - other.processor)
+
+    def least(self, other: "Cost") -> "Cost":
+        return Cost(min(self.clock, other.clock), min(self.processor, other.processor))
+
+
+def cost_of(tally: Tally, commands: Sequence[Tuple[List[str], pathlib.Path, pathlib.Path]]) -> Cost:
+    """What commands cost that run side by side, each from a file to a file."""
+    began, used = time.monotonic(), 0.0
+    processes = []
+    for command, given, written in commands:
+        with open(given, "rb") as stdin, open(written, "wb") as stdout:
+            processes.append(subprocess.Popen(command, stdin=stdin, stdout=stdout, env=environment()))
+    for process in processes:
+        _, status, usage = os.wait4(process.pid, 0)
+        process.returncode = os.waitstatus_to_exitcode(status)
+        tally.hold("%r: status %d" % (process.args, process.returncode), process.returncode == 0)
+        used += usage.ru_utime + usage.ru_stime
+    return Cost(time.monotonic() - began, used)
+
+
+def quarters(given: pathlib.Path, parts: int) -> List[pathlib.Path]:
+    """A list in so many parts of the same length, cut between lines."""
+    data, begin, paths = given.read_bytes(), 0, []
+    for part in range(1, parts + 1):
+        end = data.find(b"\n", len(data) * part // parts - 1) + 1
+        paths.append(given.with_name("part-%d" % part))
+        paths[-1].write_bytes(data[begin:end])
+        begin = end
+    return paths
+
+
+def ways_of_bars(tally: Tally, program: str, case: Case, threads: int) -> Dict[str, Callable[[], Cost]]:
+    """All that the bars compare."""
+    limits, top, nothing = options(ROWS[0]), case.list.parent, pathlib.Path(os.devnull)
+    verdicts, empty = top / "verdicts", top / "empty"
+    empty.write_bytes(b"")
+    decide, check = [program, "decide", *limits], [program, "check", *limits]
+    parts = quarters(case.list, threads)
+
+    def ours(given: pathlib.Path, *words: str) -> Cost:
+        case.clear()
+        command = [sys.executable, "-m", "budlarem", "run", str(given), "--out", str(case.out), *words]
+        return cost_of(tally, [([*command, "--pass", words_of(ROWS[0])], nothing, nothing)])
+
+    many = str(threads)
+    ways: Dict[str, Callable[[], Cost]] = {
+        "start": lambda: ours(empty),
+        "program decides": lambda: cost_of(tally, [(decide, case.list, verdicts)]),
+        "program checks": lambda: cost_of(tally, [(check, verdicts, nothing)]),
+        "processes": lambda: cost_of(tally, [(decide, part, part.with_suffix(".out")) for part in parts]),
+        "one, checked": lambda: ours(case.list, "--threads", "1", "--check"),
+        "several, checked": lambda: ours(case.list, "--threads", many, "--check"),
+        "several": lambda: ours(case.list, "--threads", many),
+    }
+    for block in (*BLOCKS, "10M"):
+        parallel = ["parallel", "-j", many, "--pipe", "-k", "--block", block, *decide]
+        ways["GNU parallel, %s" % block] = functools.partial(
+            cost_of, tally, [(parallel, case.list, verdicts)]
+        )
+    return ways
+
+
+def told_bar(what: str, figure: float, bar: str) -> None:
+    print("%s | %.2f | %s" % (what, figure, bar), flush=True)
+
+
+def measure_bars(tally: Tally, program: str, case: Case, threads: int, runs: int) -> None:
+    """Each bar with its figure; all ways take turns, and the least of each counts."""
+    costs: Dict[str, Cost] = {}
+    for _ in range(runs):
+        for name, way in ways_of_bars(tally, program, case, threads).items():
+            cost = way()
+            costs[name] = cost.least(costs.get(name, cost))
+    start = costs.pop("start")
+    for name, cost in costs.items():
+        costs[name] = cost = (
+            cost.without(start) if name in ("one, checked", "several, checked", "several") else cost
+        )
+        print("%s | %.2f s by the clock, %.2f s of processors" % (name, cost.clock, cost.processor))
+    program_clock = costs["program decides"].clock + costs["program checks"].clock
+    program_work = costs["program decides"].processor + costs["program checks"].processor
+    parallel = min(cost.clock for name, cost in costs.items() if name.startswith("GNU"))
+    one, several, alone = (costs[name] for name in ("one, checked", "several, checked", "several"))
+    told_bar("one worker's processor time / the program's", one.processor / program_work, "at most 1.3")
+    told_bar("one / %d workers by the clock" % threads, one.clock / several.clock, "at least 3.0")
+    told_bar("%d workers / the program" % threads, several.clock / program_clock, "at most 0.40")
+    told_bar("deciding / %d processes" % threads, alone.clock / costs["processes"].clock, "at most 1.7")
+    told_bar("deciding / GNU parallel", alone.clock / parallel, "less than 1")
+
+
 def wait_for_workers(found: Cluster, count: int) -> None:
     """Returns when a scheduler has so many workers."""
     import distributed
@@ -168,7 +270,8 @@ def measure_dask(tally: Tally, program: str, case: Case, limits: Sequence[int], 
             },
         )
     single = times["dask, one worker"]
-    print("%s | dask, one worker / one process | %.2f" % (words_of(limits), single / times["one process"]))
+    bar = "at most %s" % ("1.2" if limits == ROWS[0] else "1.1")
+    told_bar("%s | dask, one worker / one process" % words_of(limits), single / times["one process"], bar)
     print("%s | dask, one / three workers | %.2f" % (words_of(limits), single / times["dask, three workers"]))
 
 
@@ -176,7 +279,7 @@ def measure_waiting(tally: Tally, top: pathlib.Path, part: float) -> None:
     """A thousand workers that only wait, and say that nothing is decided; `part` of the pieces."""
     for seconds, lines, pieces in WAITING:
         with cluster(0) as found:
-            before = "    return _replied(deciding"
+            before = "    return _replied(question(DECIDE"
             waiting = changed_package(found.top, "runner/tasks.py", [(before, WAITS % seconds)])
             for _ in range(WAITING_PROCESSES):
                 found.start_worker(waiting, WAITING_THREADS)
@@ -206,7 +309,8 @@ def measure_memory(top: pathlib.Path) -> None:
         print("%d lines | most memory | %d KiB" % (count, most_memory(case, count, QUICK_PASS)), flush=True)
 
 
-PARTS = ("memory", "threads", "dask", "waiting")
+PARTS = ("memory", "bars", "threads", "dask", "waiting")
+TIMES = 20
 
 
 def main() -> int:
@@ -225,6 +329,12 @@ def main() -> int:
         top = pathlib.Path(name)
         if "memory" in parts:
             measure_memory(top)
+        if "bars" in parts:
+            four = b"".join(listed(4).splitlines(keepends=True)[: asked.lines])
+            case = Case(top / "bars", four * TIMES, ROWS[:1])
+            measure_bars(tally, asked.program, case, asked.threads, asked.runs)
+            case.clear()
+            case.list.unlink()
         case = Case(top / "list", whole_list(asked.lines), ROWS)
         for limits in ROWS:
             if "threads" in parts:

@@ -5,10 +5,10 @@
 
 A worker is killed; the only worker is killed five times on one piece; a line ends each worker that decides
 it; all workers are killed and new ones come; the scheduler is killed and started again, before and after the
-runner's timeout; workers lack the package, have another version, or answer garbage; the runner is killed by
-SIGKILL at ten random moments, and interrupted; connections are encrypted. After each the verdicts are byte
-for byte those of one process for each pass, or the run ended with status 3 and a sentence and goes on when it
-is run again. It needs Debian's `python3-distributed`, and runs `scripts/library` where the library isn't
+runner's timeout; workers lack the package, have another version, answer garbage or what belongs elsewhere,
+tell seconds that didn't pass, or lie of a verdict; the runner is killed by SIGKILL at ten random moments, and
+interrupted; connections are encrypted. After each the verdicts are byte for byte those of one process for
+each pass, or the run ended with status 3 and a sentence and goes on when it is run again. It needs Debian's `python3-distributed`, and runs `scripts/library` where the library isn't
 there. It takes some minutes; `--quick`, with one killed worker, half of one. The last line is `N passed, M
 failed`, with `, K skipped` where something isn't installed; the status is 1 where any failed.
 """
@@ -38,6 +38,26 @@ ENDLESS_PASS = (1_000_000_000_000, 67_108_864, 3, 10)
 QUICK_PASS = (300, 64, 3, 10)
 # How a worker ends itself at LONG_MACHINE.
 DEADLY = "    if %r in lines: import os; os._exit(9)\n" % LONG_MACHINE
+# How a worker answers the same to all verdicts, and how it says of a wrong one that it is right.
+KEEPS_ANSWERS = """
+def _kept_answer(limits: Numbers) -> Reply:
+    return _replied(question(CHECK, limits), checking(Limits(*limits)), b"1RZ--- halt 1 1\\n")
+
+
+"""
+LIES = [
+    ("room.reply().text", "_lie(asked, room.reply().text)"),
+    (
+        "def _replied(",
+        """def _lie(asked: str, written: bytes) -> bytes:
+    if asked.startswith(CHECK):
+        return b"ok\\n" * written.count(b"\\n")
+    return written.replace(b" halt 1 1\\n", b" halt 1 0\\n")
+
+
+def _replied(""",
+    ),
+]
 # What makes a process collect garbage all the time.
 COLLECTS = """import gc, threading, time
 def collect():
@@ -49,10 +69,26 @@ threading.Thread(target=collect, daemon=True).start()
 # What is changed in the package of workers that can't decide anything rightly, and what the run says of them.
 WRONG_WORKERS: Dict[str, Tuple[str, List[Tuple[str, str]], str]] = {
     "another version": ("_version.py", [('VERSION = "', 'VERSION = "9.')], "it was decided by version 9."),
-    "garbage": ("runner/tasks.py", [("return written,", 'return b"x\\n",')], "came back for"),
+    "garbage": ("runner/tasks.py", [("room.reply().text", 'b"x\\n"')], "came back for"),
+    "a byte that changes on its way": (
+        "runner/tasks.py",
+        [("return (written,", 'return (written[:-2] + b"7\\n",')],
+        "what came back was changed on its way",
+    ),
+    "answers to other verdicts": (
+        "runner/tasks.py",
+        [
+            (
+                "    return _replied(question(CHECK",
+                "    return _kept_answer(limits) or _replied(question(CHECK",
+            ),
+            ("def check_piece", KEEPS_ANSWERS + "def check_piece"),
+        ],
+        "what came back answers other lines",
+    ),
     "a reply that can't be read": (
         "runner/tasks.py",
-        [("_kept = ", "class Odd: pass\n_kept = "), ("return written,", "return Odd(),")],
+        [("_kept = ", "class Odd: pass\n_kept = "), ("return (written,", "return (Odd(),")],
         "AttributeError: ",
     ),
 }
@@ -209,7 +245,7 @@ def hold_deadly_line(tally: Tally, program: str) -> None:
         deadly = changed_package(
             found.top,
             "runner/tasks.py",
-            [("    return _replied(deciding", DEADLY + "    return _replied(deciding")],
+            [("    return _replied(question(DECIDE", DEADLY + "    return _replied(question(DECIDE")],
         )
         case = case_of(found, "deadly", quick + LONG_MACHINE + quick, (QUICK_PASS,))
         with case.start(str(case.list), "--piece", "8") as process:
@@ -287,13 +323,48 @@ def hold_wrong_worker(tally: Tally, what: str, given: bytes, right: bytes) -> No
             wrong, said = {**environment(), "PYTHONPATH": str(found.top)}, "No module named 'budlarem'"
         found.start_worker(wrong)
         case = case_of(found, "wrong", given)
-        status = case.run(more_environment=collecting(found.top))
+        more = ["--check"] if what == "answers to other verdicts" else []
+        status = case.run(str(case.list), *more, more_environment=collecting(found.top))
         held = status == 3 and said in case.said() and "goes on" in case.said()
         tally.hold("a worker with %s: status %d: %s" % (what, status, case.said()), held)
         tally.hold("dask's own lines aren't told: %s" % case.said(), "Traceback" not in case.said())
         found.kill_workers()
         found.start_worker()
         hold_end(tally, "after a worker with %s" % what, case, case.run(), right)
+
+
+def hold_told_seconds(tally: Tally, given: bytes, right: bytes) -> None:
+    """Workers that tell seconds that didn't pass: pieces don't become small by it, nor does the run fail."""
+    for seconds in ("1e9", "1e308"):
+        with cluster(0) as found:
+            change = ("return (written, seconds,", "return (written, %s," % seconds)
+            found.start_worker(changed_package(found.top, "runner/tasks.py", [change]))
+            case = case_of(found, "seconds", given, PASSES[:1])
+            hold_end(tally, "%s seconds" % seconds, case, case.run(), right)
+            most = given.count(b"\n") // 10
+            tally.hold("%s seconds: %d pieces" % (seconds, case.pieces()), case.pieces() < most)
+
+
+def hold_lies(tally: Tally, program: str) -> None:
+    """A worker that gives a wrong verdict, and says that it is right: the checker of the runner's process
+    finds it, and names the line; those of the workers don't."""
+    given = b"1RZ---\n" + b"1RA1RA\n" * 50
+    with cluster(0) as found:
+        found.start_worker(changed_package(found.top, "runner/tasks.py", LIES))
+        case = case_of(found, "lies", given, (QUICK_PASS,))
+        status = case.run(str(case.list), "--check")
+        is_taken = b" halt 1 0\n" in case.verdicts()
+        tally.hold("a lying checker: status %d: %s" % (status, case.said()), status == 0 and is_taken)
+        case.clear()
+        status = case.run(str(case.list), "--check-here")
+        is_named = "line 1: the checker answers bad: 1RZ--- halt 1 0" in case.said()
+        tally.hold("--check-here: status %d: %s" % (status, case.said()), status == 1 and is_named)
+        found.kill_workers()
+        found.start_worker()
+        status = case.run(str(case.list), "--check-here")
+        tally.hold("after lies: status %d: %s" % (status, case.said()), status == 0)
+        right = expected(program, given, (QUICK_PASS,))
+        tally.hold("after lies: the verdicts", case.verdicts() == right)
 
 
 def hold_runner(tally: Tally, program: str, lines: int, seed: int) -> None:
@@ -373,6 +444,8 @@ def main() -> int:
         hold_scheduler(tally, given, right, is_late)
     for what in ("nothing", *WRONG_WORKERS):
         hold_wrong_worker(tally, what, few, right_few)
+    hold_told_seconds(tally, few, expected(program, few, PASSES[:1]))
+    hold_lies(tally, program)
     hold_runner(tally, program, 20_000, seed)
     hold_encryption(tally, few, right_few)
     hold_large_pieces(tally, program)

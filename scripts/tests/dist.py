@@ -23,6 +23,7 @@ ALWAYS = [
     "bb.h",
     "libbb.a",
     "libbb.so",
+    "many_cores",
     "bb.wasm",
     "bb.html",
     "bb.mjs",

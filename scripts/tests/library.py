@@ -96,6 +96,32 @@ def hold_rust(tally: Tally, program: str, archive: str, folder: str) -> None:
     source = os.path.join(TOP, "examples", "rust", "decide.rs")
     compiled(tally, ["rustc", "-O", source, "-L", os.path.dirname(archive), "-l", "static=bb", "-o", made])
     hold_words(tally, program, made)
+    made = os.path.join(folder, "many_cores")
+    source = os.path.join(TOP, "examples", "rust", "many_cores.rs")
+    compiled(tally, ["rustc", "-O", source, "-L", os.path.dirname(archive), "-l", "static=bb", "-o", made])
+    hold_many_cores(tally, program, made)
+
+
+def hold_many_cores(tally: Tally, program: str, made: str) -> None:
+    """The example that decides a list on many cores writes what the program does, and ends as it does."""
+    long = b"1RB1LB_1LA1RZ" * 100_000
+    lists = [
+        b"",
+        b"1RZ---",
+        b"\n",
+        joined(MACHINES),
+        long + b"\n1RZ---\n" + long,
+        b"1RB1LB_1LA1RZ\n" * 99_999,
+    ]
+    if has_lister(tally, "machines of four states on many cores"):
+        lists.append(b"".join(listed(4).splitlines(keepends=True)[:100_000]))
+    for given in lists:
+        wanted = output([program, "decide", *LIMITS], given)
+        for threads in ("1", "4", "9"):
+            told = "%d bytes on %s cores" % (len(given), threads)
+            tally.hold(told, output([made, *LIMITS, "--threads", threads], given) == wanted)
+    for words_given in (["--steps"], ["--cells", "0"], ["--levels", "3"], ["--steps", "many"]):
+        tally.hold("%s is refused" % words_given, output([made, *words_given]) == (2, b""))
 
 
 def hold_python(tally: Tally, program: str, shared: str) -> None:

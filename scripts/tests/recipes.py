@@ -471,6 +471,19 @@ def any_length(folder: Folder, blocks: List[str], tally: Tally) -> Held:
         yield "the runner over %s: %r" % (name, error), held
 
 
+def without_python(folder: Folder, blocks: List[str], tally: Tally) -> Held:
+    """The tool over the library, beside the program."""
+    if not has_library(tally, "the recipe of many cores without Python"):
+        return
+    if not tally.has("the recipe of many cores without Python", "rustc"):
+        return
+    for name, content in LISTS.items():
+        folder.write("machines.txt", content)
+        status, _, error = folder.run(blocks[0])
+        held = status == 0 and folder.read("verdicts.txt") == folder.decided(content, "--steps", "100000")
+        yield "many cores over %s: %r" % (name, error), held
+
+
 def elsewhere(folder: Folder, blocks: List[str]) -> Held:
     """What needs another computer isn't run; it names a file that is there."""
     named = re.fullmatch(r"scp (\S+) host:bin/", blocks[0])
@@ -495,6 +508,7 @@ def main() -> int:
         "More than one core": (2, lambda folder, blocks: all_cores(folder, blocks, look, tally)),
         "Is the list whole": (1, whole),
         "Lists of any length": (1, lambda folder, blocks: any_length(folder, blocks, tally)),
+        "Many cores without Python": (1, lambda folder, blocks: without_python(folder, blocks, tally)),
         "A picture": (2, pictures),
         "Running it elsewhere": (1, elsewhere),
         "After an interruption": (1, going_on),

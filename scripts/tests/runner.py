@@ -5,14 +5,16 @@
 
 The runner is killed by SIGKILL at twenty random moments, and run again after each; interrupted in the middle
 of 1,000,000,000,000 steps; its disk is full, by a limit of a file's size and by a small file system (which
-takes root); its list grows while it is read; its files are cut and changed; another run is in its folder.
-Lists come as a file, compressed, and by standard input; ten times the list takes the same memory. Executors
-that answer wrongly are in the unit tests. It uses `crates/bb_c/out/libbb.so`, and runs `scripts/library`
+takes root); there is no memory, and there are no threads; its list grows or changes while it is read, or is
+one of the files that it writes; its files are cut and changed, and each is somebody else's; another run is in
+its folder; standard output or error is closed. Lists come as a file, compressed, and by standard input, fast
+and slowly; ten times the list takes the same memory. Executors that answer wrongly are in the unit tests. It uses `crates/bb_c/out/libbb.so`, and runs `scripts/library`
 where that isn't there. It takes a minute; `--quick`, with one kill, some seconds. The last line is `N passed,
 M failed`, with `, K skipped` where something can't be tried here; the status is 1 where any failed.
 """
 
 import gzip
+import itertools
 import json
 import os
 import pathlib
@@ -22,6 +24,8 @@ import shlex
 import signal
 import subprocess
 import sys
+import time
+from typing import Callable, Dict, List, Tuple
 
 from library_built import has_library
 from runs import LONG_MACHINE, PASSES, Case, environment, expected, folder, hold_interrupted, is_at_work
@@ -30,6 +34,8 @@ from tally import Tally, end_with, words
 
 # Limits at which a line costs nothing to speak of.
 QUICK_PASS = (50, 64, 3, 10)
+# Words by which a list takes a second or more.
+SLOWLY = ["--threads", "1", "--piece", "20"]
 LONG_PASS = "steps=1000000000000,cells=67108864"
 
 
@@ -107,6 +113,7 @@ def hold_growing_list(tally: Tally, program: str, top: pathlib.Path) -> None:
     given = random_list(60_000, 6)
     right = expected(program, given, [QUICK_PASS])
     case = Case(top / "growing", given, [QUICK_PASS])
+    case.words += SLOWLY
     with case.start() as process:
         was_seen = seen(process, lambda: case.pieces() > 0)
         process.send_signal(signal.SIGSTOP)
@@ -217,6 +224,202 @@ def hold_signals(tally: Tally, top: pathlib.Path) -> None:
         tally.hold("%s: status %d: %s" % (number.name, status, said), status == 128 + number and told in said)
 
 
+def hold_changing_list(tally: Tally, program: str, top: pathlib.Path) -> None:
+    """Other machines stand in the list's later half while it is read; then the old ones again. The process is
+    stopped meanwhile."""
+    given = random_list(60_000, 8)
+    right = expected(program, given, [QUICK_PASS])
+    case = Case(top / "changing", given, [QUICK_PASS])
+    case.words += SLOWLY
+    half = given.index(b"\n", len(given) // 2) + 1
+    with case.start() as process:
+        was_seen = seen(process, lambda: case.pieces() > 0)
+        process.send_signal(signal.SIGSTOP)
+        with open(case.list, "r+b") as file:
+            file.seek(half)
+            file.write((b"1RZ---\n" * len(given))[: len(given) - half - 1] + b"\n")
+        process.send_signal(signal.SIGCONT)
+        status = process.wait()
+    tally.hold("the list changed before the run's end", was_seen)
+    said = case.said()
+    case.list.write_bytes(given)
+    case.errors.write_text(said)
+    hold_after_fault(tally, "a changing list", case, status, "changed while it was read", right)
+
+
+def hold_refused(tally: Tally, what: str, case: Case, sentence: str, *more: str) -> None:
+    """A run is refused by a sentence, and all files of its folder are as they were."""
+
+    def kept() -> Dict[pathlib.Path, bytes]:
+        return {path: path.read_bytes() for path in case.out.rglob("*") if path.is_file()}
+
+    before = kept()
+    status = case.run(*more)
+    said = case.said()
+    tally.hold("%s: status %d: %s" % (what, status, said), status == 2 and sentence in said)
+    tally.hold("%s: a file was touched" % what, kept() == before)
+
+
+def hold_foreign_files(tally: Tally, top: pathlib.Path) -> None:
+    """The list is one of the files that the run writes; a folder has somebody else's files; what a folder was
+    begun with has one bit changed."""
+    case = Case(top / "foreign", random_list(300, 9))
+    case.out.mkdir()
+    for name in ("verdicts.txt", "summary.json", "letters"):
+        (case.out / name).write_text("kept\n")
+        hold_refused(tally, "somebody else's " + name, case, "other files in it, as %s" % name)
+        (case.out / name).unlink()
+    case.run()
+    for path in ("verdicts.txt", "run.json", "pass-1/journal"):
+        listed = str(case.out / path)
+        hold_refused(tally, "the list is " + path, case, "which a run in that folder writes", listed)
+    begun = case.out / "run.json"
+    data = begun.read_bytes()
+    for place in range(0, len(data), 29):
+        begun.write_bytes(data[:place] + bytes([data[place] ^ 1 << place % 8]) + data[place + 1 :])
+        hold_refused(tally, "bit %d of byte %d of run.json" % (place % 8, place), case, "run.json: it")
+    begun.write_bytes(data[: len(data) // 2])
+    status = case.run()
+    tally.hold("a cut run.json, status %d: %s" % (status, case.said()), status == 1)
+
+
+def hold_slow_input(tally: Tally, program: str, top: pathlib.Path) -> None:
+    """Standard input that is empty for a while, and says so (O_NONBLOCK); a compressed list by a pipe, whose
+    first bytes come one by one."""
+    given = random_list(400, 10)
+    right = expected(program, given, PASSES)
+    packed = gzip.compress(given)
+    parts = {
+        "a slow pipe": [given[:1_000], given[1_000:1_001], given[1_001:]],
+        "a slow compressed pipe": [packed[:1], packed[1:2], packed[2:500], packed[500:]],
+    }
+    for (what, sent), is_waiting in itertools.product(parts.items(), (True, False)):
+        case = Case(top / ("%s-%s" % (what.replace(" ", "-"), is_waiting)), b"")
+        reading, writing = os.pipe()
+        os.set_blocking(reading, is_waiting)
+        with case.start("-", stdin=reading) as process:
+            os.close(reading)
+            for part in sent:
+                time.sleep(0.5)
+                os.write(writing, part)
+            os.close(writing)
+            status = process.wait()
+        is_right = status == 1 and case.verdicts() == right
+        tally.hold("%s, waiting %s: status %d: %s" % (what, is_waiting, status, case.said()), is_right)
+
+
+def hold_keep(tally: Tally, program: str, top: pathlib.Path, seed: int) -> None:
+    """Only what is left is kept: killed and run again, and pieces that were dropped can't be checked."""
+    case = Case(top / "keep", random_list(20_000, seed))
+    right = expected(program, case.list.read_bytes(), PASSES).splitlines(keepends=True)
+    kept = b"".join(line for line in right if b" undecided " in line or line.startswith(b"refused "))
+    case.words += ["--keep", "left"]
+    kills = kill_often(case, 5, random.Random(seed), "--threads", "2")
+    status = case.run()
+    tally.hold("--keep left, %d kills: status %d: %s" % (kills, status, case.said()), status == 1)
+    tally.hold("--keep left: the verdicts", case.verdicts() == kept)
+    size = sum(path.stat().st_size for path in case.out.rglob("pieces"))
+    tally.hold("--keep left: pieces of %d bytes" % size, size < len(b"".join(right)) // 2)
+    summary = json.loads((case.out / "summary.json").read_text())
+    tally.hold("its summary: %s" % summary, summary["lines"] == len(right) and summary["kept"] == "left")
+    hold_refused(
+        tally, "a check of what was dropped", case, "before they were checked", "--check", str(case.list)
+    )
+
+
+def hold_order(tally: Tally, program: str, top: pathlib.Path) -> None:
+    """A machine takes seconds, and those behind it don't: they stand meanwhile, and the verdicts are in the
+    list's order."""
+    passes = [(300_000_000, 200_000, 3, 10)]
+    given = b"1RB1LB_1LA1RZ\n" * 300 + LONG_MACHINE + b"1RB1LB_1LA1RZ\n" * 20_000
+    case = Case(top / "order", given, passes)
+    with case.start(str(case.list), "--threads", "2", "--piece", "100") as process:
+        stood = seen(process, lambda: case.pieces() > 100)
+        status = process.wait()
+    tally.hold("pieces stand behind one that takes long: %s" % case.said(), stood and status == 0)
+    right = expected(program, given, passes)
+    tally.hold("the order behind a long machine", case.verdicts() == right)
+
+
+def hold_slow_kill(tally: Tally, program: str, top: pathlib.Path) -> None:
+    """Standard input pauses, and the runner is killed a second later: what was decided stands."""
+    given = b"1RB1LB_1LA1RZ\n" * 40
+    case = Case(top / "pause", given, PASSES[:1])
+    reading, writing = os.pipe()
+    with case.start("-", "--piece", "1", stdin=reading) as process:
+        os.close(reading)
+        os.write(writing, given[:-14])
+        seen(process, lambda: case.pieces() > 0)
+        time.sleep(2.0)
+        process.kill()
+        process.wait()
+    os.close(writing)
+    tally.hold("after a pause %d of 39 pieces stand" % case.pieces(), case.pieces() == 39)
+    with open(case.list, "rb") as file:
+        status = case.run("-", stdin=file)
+    right = expected(program, given, PASSES[:1])
+    tally.hold("after the pause, status %d" % status, status == 0 and case.verdicts() == right)
+
+
+def limited(*limits: Tuple[int, int]) -> Callable[[], None]:
+    """What sets these limits of the system for a process, which isn't root's, for whom there are none."""
+
+    def limit() -> None:
+        if os.getuid() == 0:
+            os.setgroups([])
+            os.setgid(65_534)
+            os.setuid(65_534)
+        for what, most in limits:
+            resource.setrlimit(what, (most, most))
+
+    return limit
+
+
+def hold_no_memory(tally: Tally, top: pathlib.Path) -> None:
+    """No memory, and no threads, also while a long machine is under way: the run ends at once, with status 3
+    and a sentence, or the limit is enough and it is at work."""
+    faults: List[Tuple[str, Tuple[int, int]]] = [
+        ("%d MB" % size, (resource.RLIMIT_AS, size << 20)) for size in (56, 80, 120, 160, 200, 280, 400)
+    ]
+    faults += [("%d threads" % count, (resource.RLIMIT_NPROC, count)) for count in range(1, 9)]
+    os.chmod(top, 0o755)
+    for what, limit in faults:
+        case = Case(top / what.replace(" ", "-"), b"1RZ---\n" * 30 + LONG_MACHINE)
+        case.out.mkdir()
+        os.chmod(case.out, 0o777)
+        case.words = ["--pass", LONG_PASS, "--threads", "4"]
+        with case.start(preexec_fn=limited(limit)) as process:
+            until = time.monotonic() + 20
+            while process.poll() is None and time.monotonic() < until and not is_at_work(process.pid):
+                time.sleep(0.05)
+            time.sleep(0.5)
+            is_ended, status = process.poll() is not None, process.poll()
+            at_work = not is_ended and is_at_work(process.pid)
+            process.kill()
+        said = case.said()
+        is_told = status == 3 and said.startswith("budlarem: ") and "Traceback" not in said
+        tally.hold("%s: status %s: %s" % (what, status, said), at_work or is_told)
+
+
+def hold_closed_files(tally: Tally, top: pathlib.Path) -> None:
+    """Standard input, output and error are closed."""
+    lines = b"1RB1LB_1LA1RZ halt 6 4\n1RA1RA translated R 1 2 1 1\n"
+    for closed in ((0,), (1,), (2,), (1, 2), (0, 1, 2)):
+        case = Case(top / ("closed-%s" % "".join(map(str, closed))), b"1RB1LB_1LA1RZ\n1RA1RA\n")
+
+        def close(numbers: Tuple[int, ...] = closed) -> None:
+            for number in numbers:
+                os.close(number)
+
+        status = case.run(words=[], preexec_fn=close)
+        is_right = status == 0 and case.verdicts() == lines
+        tally.hold("%s closed: status %d: %s" % (closed, status, case.said()), is_right)
+    case = Case(top / "closed-list", b"")
+    status = case.run("-", preexec_fn=lambda: os.close(0))
+    is_told = status == 3 and "standard input is closed" in case.said()
+    tally.hold("a closed list: status %d: %s" % (status, case.said()), is_told)
+
+
 def hold_memory(tally: Tally, top: pathlib.Path) -> None:
     """Ten times the list takes the same memory; the longer list alone has 72 MB, and its verdicts 100."""
     case = Case(top / "memory", b"")
@@ -241,6 +444,14 @@ def main() -> int:
         hold_interruption(tally, top)
         hold_full_disk(tally, program, top)
         hold_growing_list(tally, program, top)
+        hold_changing_list(tally, program, top)
+        hold_foreign_files(tally, top)
+        hold_slow_input(tally, program, top)
+        hold_slow_kill(tally, program, top)
+        hold_keep(tally, program, top, seed)
+        hold_order(tally, program, top)
+        hold_no_memory(tally, top)
+        hold_closed_files(tally, top)
         hold_changed_files(tally, program, top, seed)
         hold_lists(tally, program, top)
         hold_memory(tally, top)

@@ -100,7 +100,8 @@ class Case:
 
     def pieces(self) -> int:
         """How many pieces stand."""
-        return sum(1 for _ in self.out.glob("pass-*/*.txt"))
+        lines = (line for path in self.out.glob("pass-*/journal") for line in path.read_bytes().split(b"\n"))
+        return sum(line.startswith((b"decided", b"checked")) for line in lines)
 
     def verdicts(self) -> bytes:
         path = self.out / "verdicts.txt"

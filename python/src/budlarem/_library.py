@@ -8,7 +8,7 @@ import mmap
 import os
 import pathlib
 import threading
-from typing import Any, Callable, List, NamedTuple, Sequence
+from typing import Any, Callable, List, NamedTuple, Sequence, Tuple
 
 VARIABLE = "BB_LIBRARY"
 CLEAN, NOT_CLEAN, LIMITS, MEMORY, SHORT = range(5)
@@ -16,10 +16,17 @@ CLEAN, NOT_CLEAN, LIMITS, MEMORY, SHORT = range(5)
 _HERE = pathlib.Path(__file__).resolve().parent
 _NUMBER, _SIZE, _SWITCH = ctypes.c_uint64, ctypes.c_size_t, ctypes.c_bool
 _BUFFERS = (ctypes.c_char_p, _SIZE, ctypes.c_void_p, _SIZE, ctypes.POINTER(_SIZE))
+# How many kinds of replies a look counts.
+_KINDS = 7
 _CALLS = {
     "bb_decide": (_NUMBER,) * 4 + (_SWITCH,) * 3 + _BUFFERS,
     "bb_check": (_NUMBER,) * 4 + _BUFFERS,
     "bb_trace": (_NUMBER,) * 4 + _BUFFERS,
+    "bb_look": (
+        *(ctypes.c_char_p, _SIZE) * 2,
+        ctypes.POINTER(_NUMBER * _KINDS),
+        ctypes.POINTER(_NUMBER),
+    ),
 }
 
 
@@ -65,6 +72,29 @@ def call_named(name: str) -> Callable[..., int]:
     call.argtypes, call.restype = _CALLS[name], ctypes.c_uint32
     made: Callable[..., int] = call
     return made
+
+
+@functools.lru_cache(maxsize=None)
+def has_call(name: str) -> bool:
+    """Whether the library has a call: an older one may not. Raises LibraryError."""
+    return hasattr(loaded(), name)
+
+
+class Looked(NamedTuple):
+    """What a look at the replies to some lines came to: whether they are those to all lines, else how many
+    are before the first that isn't; and then how many there are of each kind."""
+
+    fits: bool
+    lines: int
+    counts: Tuple[int, ...]
+
+
+def look(lines: bytes, replies: bytes) -> Looked:
+    """Looks at the replies to some lines. Raises LibraryError where the library has no such call."""
+    counts, count = (_NUMBER * _KINDS)(), _NUMBER()
+    call = call_named("bb_look")
+    status = call(lines, len(lines), replies, len(replies), ctypes.byref(counts), ctypes.byref(count))
+    return Looked(status == CLEAN, count.value, tuple(counts))
 
 
 class Fork:
@@ -114,6 +144,11 @@ class Room:
     def _make(self, size: int) -> None:
         self._bytes = mmap.mmap(-1, size, mmap.MAP_PRIVATE | mmap.MAP_ANONYMOUS)
         self._address: Any = (ctypes.c_char * size).from_buffer(self._bytes)
+
+    @property
+    def status(self) -> int:
+        """The status of the last call."""
+        return self._status
 
     def reply(self) -> Reply:
         """What the last call told."""

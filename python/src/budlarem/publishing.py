@@ -15,6 +15,7 @@ from .engine import checking, decide_bytes
 from .limits import Limits, in_range
 from .runner.folder import RUN, SUMMARY
 from .runner.folder import VERDICTS as RUN_VERDICTS
+from .runner.keeping import Keep
 from .runner.tasks import Identity
 from .verdicts import Answer
 
@@ -123,17 +124,27 @@ def _of_run(folder: str) -> Tuple[str, Decided]:
     path = os.path.join(folder, SUMMARY)
     if not os.path.exists(os.path.join(folder, RUN)):
         raise PublishError("%s is a folder, but not of `budlarem run`; give a file of verdict lines" % folder)
-    if not os.path.exists(path):
-        raise PublishError("%s has no %s: that run isn't at its end; its command goes on" % (folder, SUMMARY))
+    for name in (SUMMARY, RUN_VERDICTS):
+        # A piece that is decided again takes the verdicts away until the run's end.
+        if not os.path.exists(os.path.join(folder, name)):
+            raise PublishError(
+                "%s has no %s: that run isn't at its end; its command goes on" % (folder, name)
+            )
     try:
         with open(path, encoding="utf-8") as file:
             told = json.load(file)
         passes = tuple(Limits(**one["limits"]) for one in told["passes"])
         by = Identity(told["version"], told["commit"], told["library"])
+        kept = str(told["kept"])
     except (ValueError, KeyError, TypeError) as error:
         raise PublishError(
             "%s isn't as a run writes it: %s; its command writes it anew" % (path, error)
         ) from None
+    if kept != str(Keep()):
+        raise PublishError(
+            "%s has only the verdicts that --keep %s kept, and all are published; decide the list without --keep,"
+            " in another folder" % (folder, kept)
+        )
     return os.path.join(folder, RUN_VERDICTS), Decided(passes, by)
 
 

@@ -11,20 +11,22 @@ import argparse
 import contextlib
 import os
 import signal
+import sys
 from types import FrameType
 from typing import List, Optional
 
 from ..limits import Limits
 from .cutting import MOST_LINES
-from .errors import CheckError, FolderError, ListError, RunError
-from .folder import VERDICTS, Folder, limits_of
+from .errors import CheckError, FolderError, ListError, RunError, WordsError
+from .folder import VERDICTS, Folder, hold_apart, limits_of
 from .forms import hold_form
-from .passes import Manner
+from .keeping import keep_of
+from .passes import Manner, told
 from .progress import Progress
 from .source import ListFile
 from .tasks import identity
 from .whole import run
-from .workplace import Workplace, threads
+from .workplace import Threads, Workplace
 
 _HELP = """Decides a list of any length in pieces, on all cores of this computer or by dask's workers. FOLDER
 gets verdicts.txt, with a line for each line of LIST in its order, and summary.json. Whatever ended it, the
@@ -62,6 +64,16 @@ def add_command(commands: "argparse._SubParsersAction[argparse.ArgumentParser]")
         parser.add_argument("--" + name, metavar="FILE", help="dask's option: %s" % what)
     parser.add_argument("--check", action="store_true", help="have the checker confirm each verdict")
     parser.add_argument(
+        "--check-here", action="store_true", help="the same, in this process and not by a worker"
+    )
+    parser.add_argument(
+        "--keep",
+        action="append",
+        metavar="left|halts=N",
+        help="of each pass keep only the lines of what is left and of what was refused; with halts=N also"
+        " those of halts after more than N steps (default: all)",
+    )
+    parser.add_argument(
         "--piece",
         type=int,
         default=MOST_LINES,
@@ -91,21 +103,21 @@ def end_at_interruption(progress: Progress, folder: str) -> None:
 
 
 def _hold_readable(option: str, path: str) -> None:
-    """Raises ValueError where the file that an option names can't be read."""
+    """Raises WordsError where the file that an option names can't be read."""
     try:
         with open(path, "rb"):
             pass
     except OSError as error:
-        raise ValueError("--%s %s can't be read: %s" % (option, path, error.strerror)) from None
+        raise WordsError("--%s %s can't be read: %s" % (option, path, error.strerror)) from None
 
 
 def _workplace(asked: argparse.Namespace, progress: Progress) -> Workplace:
-    """Where the pieces are decided. Raises ValueError, RunError."""
+    """Where the pieces are decided. Raises WordsError, RunError."""
     named = ((name, getattr(asked, name.replace("-", "_"))) for name in TLS)
     files = {name: path for name, path in named if path is not None}
     if asked.scheduler is not None:
         if asked.threads is not None:
-            raise ValueError("--threads is for this computer, --scheduler for others; give one of them")
+            raise WordsError("--threads is for this computer, --scheduler for others; give one of them")
         for name, path in files.items():
             _hold_readable(name, path)
         # Its imports take a while.
@@ -114,11 +126,11 @@ def _workplace(asked: argparse.Namespace, progress: Progress) -> Workplace:
         security = {_SECURITY[name]: path for name, path in files.items()}
         return ClusterPlace(asked.scheduler, security, progress.tell)
     if files:
-        raise ValueError("--tls-ca-file, --tls-cert and --tls-key are for --scheduler, which isn't given")
+        raise WordsError("--tls-ca-file, --tls-cert and --tls-key are for --scheduler, which isn't given")
     count = len(os.sched_getaffinity(0)) if asked.threads is None else asked.threads
     if count < 1:
-        raise ValueError("--threads is %d, but must be 1 or more" % count)
-    return threads(count)
+        raise WordsError("--threads is %d, but must be 1 or more" % count)
+    return Threads(count)
 
 
 def passes_of(words: Optional[List[str]]) -> List[Limits]:
@@ -134,24 +146,41 @@ def _opened(path: str) -> ListFile:
         raise ListError("the list %s can't be read: %s" % (path, error.strerror or error)) from None
 
 
+def fill_closed(is_input_read: bool) -> None:
+    """Puts a file of nothing where standard output or error is closed, so that none that is opened later is
+    taken for it. Raises OSError where standard input is closed and is to be read."""
+    for number in range(3):
+        try:
+            os.fstat(number)
+        except OSError as error:
+            if number == 0 and is_input_read:
+                raise OSError(error.errno, "standard input is closed") from None
+            _open_nothing(number)
+    # What Python says where they were closed when it began.
+    for name in ("stdout", "stderr"):
+        if getattr(sys, name) is None:
+            setattr(sys, name, open(os.devnull, "w"))
+
+
+def _open_nothing(number: int) -> None:
+    """Opens a file of nothing under a number."""
+    opened = os.open(os.devnull, os.O_RDWR | os.O_CLOEXEC)
+    if opened != number:
+        os.dup2(opened, number)
+        os.close(opened)
+
+
 def do_run(asked: argparse.Namespace) -> int:
     """Decides a list; gives the status."""
+    fill_closed(asked.list == "-")
     progress = Progress()
     passes = passes_of(asked.passes)
     if asked.piece < 1:
-        raise ValueError("--piece is %d, but must be 1 or more" % asked.piece)
+        raise WordsError("--piece is %d, but must be 1 or more" % asked.piece)
     end_at_interruption(progress, asked.out)
     try:
-        place = _workplace(asked, progress)
-        with contextlib.ExitStack() as opened:
-            source = opened.enter_context(contextlib.closing(_opened(asked.list)))
-            hold_form(source)
-            folder = opened.enter_context(contextlib.closing(Folder(asked.out)))
-            manner = Manner(place, identity(), progress, source.name, asked.piece, asked.check)
-            outcome = run(folder, source, passes, manner)
-        progress.tell("%s; %s" % (outcome, os.path.join(asked.out, VERDICTS)))
-        return 1 if outcome.counts["refused"] else 0
-    except FolderError as error:
+        return _decided(asked, passes, progress)
+    except (FolderError, WordsError) as error:
         progress.tell(str(error))
         return 2
     except CheckError as error:
@@ -163,4 +192,32 @@ def do_run(asked: argparse.Namespace) -> int:
         progress.tell("%s; the same command goes on after what stands" % error)
     except OSError as error:
         progress.tell("%s; the same command goes on after what stands, once that is mended" % error)
+    except Exception as error:
+        # Whatever it is, it is no status that a list comes to.
+        progress.tell("%s; the same command goes on after what stands, once that is mended" % told(error))
     return 3
+
+
+def _decided(asked: argparse.Namespace, passes: List[Limits], progress: Progress) -> int:
+    """Decides a list; gives the status where it is 0 or 1. Raises what else there is."""
+    place = _workplace(asked, progress)
+    with contextlib.ExitStack() as opened:
+        source = opened.enter_context(contextlib.closing(_opened(asked.list)))
+        list_place = source.place if source.is_regular else None
+        hold_apart(asked.out, list_place)
+        hold_form(source)
+        folder = opened.enter_context(contextlib.closing(Folder(asked.out, list_place)))
+        manner = Manner(
+            place,
+            identity(),
+            progress,
+            source.name,
+            asked.piece,
+            asked.check or asked.check_here,
+            asked.check_here,
+            keep_of(asked.keep),
+            source.hold_unchanged,
+        )
+        outcome = run(folder, source, passes, manner)
+    progress.tell("%s; %s" % (outcome, os.path.join(asked.out, VERDICTS)))
+    return 1 if outcome.counts["refused"] else 0

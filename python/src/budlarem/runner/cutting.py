@@ -6,15 +6,14 @@ import dataclasses
 from typing import Iterator, Optional, Tuple
 
 from .errors import FolderError
-from .folder import PassFolder
 from .journal import Record
 from .look import Counts
-from .source import Lines
+from .pieces import PassFolder
+from .source import Cuttable
 
-# How many lines a piece has at most where nothing is said, and how many bytes: a task of more than a mebibyte
-# is told of by some executors.
+# How many lines a piece has at most where nothing is said, and how many bytes: larger ones gain nothing.
 MOST_LINES = 20_000
-MOST_BYTES = 700_000
+MOST_BYTES = 560_000
 # A piece that was cut before is cut so again, whatever it has.
 _ANY_SIZE = 1 << 62
 
@@ -43,7 +42,9 @@ class Pace:
 @dataclasses.dataclass
 class Piece:
     """Lines of a pass: the piece's number and how many lines come before it, both from 0 on; `record` is the
-    journal's, and `written` what was decided, each once there is one."""
+    journal's, `written` what was decided, and `kept` what of it is still to be written, each once there is
+    one; `stood` says that it was decided before this run; `handed_over` is when it was, by the clock that
+    never goes back, and `is_timed` says that the pace knows of it."""
 
     index: int
     first: int
@@ -51,10 +52,18 @@ class Piece:
     lines: int
     record: Optional[Record] = None
     written: Optional[bytes] = None
+    kept: Optional[bytes] = None
+    stood: bool = False
     seconds: float = 0.0
+    handed_over: float = 0.0
+    is_timed: bool = False
     tries: int = 0
     is_confirmed: bool = False
     counts: Counts = dataclasses.field(default_factory=dict)
+
+    def drop(self) -> None:
+        """Drops its bytes, once they are written."""
+        self.given, self.written, self.kept = b"", None, None
 
 
 class Cutter:
@@ -65,7 +74,7 @@ class Cutter:
         self._folder, self._list_name, self._known = folder, list_name, known
         self.pace = Pace(most_lines)
 
-    def pieces(self, lines: Lines) -> Iterator[Piece]:
+    def pieces(self, lines: Cuttable) -> Iterator[Piece]:
         """The pieces. Raises FolderError where they aren't those that the journal was written for, RunError,
         OSError."""
         index, first = 0, 0

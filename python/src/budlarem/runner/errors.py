@@ -11,6 +11,10 @@ class ListError(Exception):
     """The list can't be opened, so nothing was begun. Status 3."""
 
 
+class WordsError(ValueError):
+    """The words of the command don't go together. Status 2."""
+
+
 class RunError(Exception):
     """A fault: what stands is kept, and the same command goes on after it. Status 3."""
 

@@ -2,7 +2,6 @@
 
 from __future__ import annotations
 
-import collections
 import contextlib
 import dataclasses
 import fcntl
@@ -11,30 +10,41 @@ import os
 import re
 import shlex
 import string
-from concurrent.futures import Future, ThreadPoolExecutor
-from typing import Any, Deque, Dict, Iterator, List, Optional, Sequence, Tuple
+from typing import Any, Callable, Dict, Iterator, List, Optional, Sequence, Tuple
 
 from .._errors import naming
 from ..limits import Limits
-from .errors import FolderError, RunError
-from .journal import Journal, hash_of
+from .errors import FolderError
+from .keeping import Keep, keep_of
+from .pieces import PassFolder
 from .source import STANDARD_INPUT
-from .tasks import Identity
+from .tasks import Identity, hash_of
 
-FORMAT = 1
+FORMAT = 3
 PART = ".part"
 LOCK, RUN, README, VERDICTS, SUMMARY = "lock", "run.json", "README.txt", "verdicts.txt", "summary.json"
+_OURS = re.compile("lock|run.json|README.txt|verdicts.txt|summary.json|pass-[0-9]+|.*[.]part")
+_PASS = re.compile("pass-[0-9]+")
+# A piece as earlier versions of this package wrote it.
+_OLD_PIECE = "000000001.txt"
+# How what a folder was begun with begins and ends, around its seal. It tells how many bytes it has, so that a
+# file that was cut is known.
+_HEAD = '{\n  "format": %d,\n  "bytes": "' % FORMAT
+_SIZE = 8
+_SEALED = ',\n  "seal": "%s"\n}\n'
 _PAGE = string.Template(
     """Verdicts on the machines of $list
 
 `budlarem run` made this folder (version $version, commit $commit).
 
-  verdicts.txt  a verdict for each line of the list, in its order, once the run is
-                at its end
+  verdicts.txt  $verdicts,
+                once the run is at its end
   summary.json  counts, limits and times, from then on
-  run.json      what the run was begun with
-  pass-1, ..    what each pass decided so far, piece by piece; these folders may
-                be removed when no pass will be added
+  run.json      what the run was begun with, and a seal over it
+  pass-1, ..    of each pass `pieces`, the verdict lines so far, and `journal`,
+                which says where each piece of them stands. verdicts.txt may be a
+                second name of pass-1/pieces, so change it in a copy. These
+                folders may be removed when no pass will be added
   lock          held while a run works here
   README.txt    this page
 
@@ -43,15 +53,9 @@ More passes may be added at its end; they decide what is left.
 
     $go_on
 
-The verdicts are checked again, and published, by
-
-    $check
-    $publish
+$again
 """
 )
-# How many threads read pieces ahead, and hold each against its hash.
-_READERS = 3
-_OURS = re.compile("lock|run.json|README.txt|verdicts.txt|summary.json|pass-[0-9]+|.*[.]part")
 
 
 def settle_folder(path: str) -> None:
@@ -63,22 +67,31 @@ def settle_folder(path: str) -> None:
         os.close(number)
 
 
-def write_whole(path: str, blocks: Iterator[bytes], settle_name: bool = True) -> None:
-    """Writes a file whole or not at all, whatever ends the process. Raises OSError; nothing is left then."""
+def put_whole(path: str, make: Callable[[str], None]) -> None:
+    """Puts a file that is made under another name into its place: whole or not at all, whatever ends the
+    process. Raises what `make` does, OSError; nothing is left then."""
     part = path + PART
     try:
+        make(part)
+        os.replace(part, path)
+    finally:
+        # It is still there after an error, and where both were names of one file already.
+        with contextlib.suppress(OSError):
+            os.unlink(part)
+    settle_folder(os.path.dirname(path))
+
+
+def write_whole(path: str, blocks: Iterator[bytes]) -> None:
+    """Writes a file whole or not at all, whatever ends the process. Raises OSError; nothing is left then."""
+
+    def make(part: str) -> None:
         with naming(part), open(part, "wb") as file:
             for block in blocks:
                 file.write(block)
             file.flush()
             os.fsync(file.fileno())
-        os.replace(part, path)
-    except BaseException:
-        with contextlib.suppress(OSError):
-            os.unlink(part)
-        raise
-    if settle_name:
-        settle_folder(os.path.dirname(path))
+
+    put_whole(path, make)
 
 
 def words_of(limits: Limits) -> str:
@@ -92,6 +105,7 @@ class Begun:
     uncompressed one, and when the first pass has seen its end how many lines it has."""
 
     passes: List[Limits]
+    keep: Keep
     identity: Identity
     list_name: str
     list_bytes: Optional[int] = None
@@ -100,50 +114,83 @@ class Begun:
     def text(self) -> str:
         """The text of the file that says it."""
         told = {
-            "format": FORMAT,
             "passes": [words_of(limits) for limits in self.passes],
+            "keep": str(self.keep),
             "list": {"name": self.list_name, "bytes": self.list_bytes, "lines": self.list_lines},
             **dataclasses.asdict(self.identity),
         }
-        return json.dumps(told, indent=2) + "\n"
+        body = json.dumps(told, indent=2)[1:-2]
+        size = len(_HEAD) + _SIZE + len('",') + len(body) + len(_SEALED % ("0" * 64))
+        text = '%s%0*d",%s' % (_HEAD, _SIZE, size, body)
+        return text + _SEALED % hash_of(text.encode())
 
     def page(self, folder: str) -> str:
         """What the files of the folder are, and with which commands it goes on."""
         is_piped = self.list_name == STANDARD_INPUT
         listed = "-" if is_piped else self.list_name
-        named = [word for limits in self.passes for word in ("--pass", words_of(limits))]
+        words = ["budlarem", "run", listed, "--out", folder]
+        for limits in self.passes:
+            words += ["--pass", words_of(limits)]
+        if self.keep.only_left:
+            words += ["--keep", str(self.keep)]
         told = {
             "list": self.list_name,
             "same": ", with the same list on standard input" if is_piped else "",
-            "go_on": shlex.join(["budlarem", "run", listed, "--out", folder, *named]),
-            "check": shlex.join(["budlarem", "check", os.path.join(folder, VERDICTS)]),
-            "publish": shlex.join(
-                [
-                    "budlarem",
-                    "publish",
-                    os.path.basename(os.path.abspath(folder)) + ".tar",
-                    "--verdicts",
-                    folder,
-                ]
-                + ([] if is_piped else ["--list", listed])
-            ),
+            "verdicts": "a verdict for each line of the list, in its order",
+            "go_on": shlex.join(words),
+            "again": self._again(folder, [] if is_piped else ["--list", listed]),
             "version": self.identity.version,
             "commit": self.identity.commit,
         }
+        if self.keep.only_left:
+            told["verdicts"] = "the verdicts that are kept (%s), in the list's order" % self.keep
         return _PAGE.substitute(told)
 
+    def _again(self, folder: str, listed: Sequence[str]) -> str:
+        """With which commands the verdicts are checked again, and published where all are kept."""
+        check = "    " + shlex.join(["budlarem", "check", os.path.join(folder, VERDICTS)])
+        if self.keep.only_left:
+            return "The verdicts that are kept are checked again by\n\n%s" % check
+        archive = os.path.basename(os.path.abspath(folder)) + ".tar"
+        publish = shlex.join(["budlarem", "publish", archive, "--verdicts", folder, *listed])
+        return "The verdicts are checked again, and published, by\n\n%s\n    %s" % (check, publish)
+
     @classmethod
-    def read(cls, text: str) -> Begun:
-        """What a text says. Raises ValueError, TypeError, KeyError where it can't be."""
-        told: Dict[str, Any] = json.loads(text)
-        if told["format"] != FORMAT:
-            raise FolderError(
-                "it has format %s, which another version of this package writes" % told["format"]
-            )
+    def read(cls, text: str) -> Optional[Begun]:
+        """What a text says; None where it is the begin of one that was cut. Raises FolderError where it is
+        anything else than what `text` gives."""
+        if _is_cut(text):
+            return None
+        told: Any = None
+        try:
+            told = json.loads(text)
+            begun = cls._of(told)
+            if begun.text() == text:
+                return begun
+        except (ValueError, TypeError, KeyError, AttributeError, RecursionError):
+            pass
+        other = told.get("format", FORMAT) if isinstance(told, dict) else FORMAT
+        if other != FORMAT:
+            raise FolderError("it has format %.20s, which another version of this package writes" % other)
+        raise FolderError("it was changed: its seal doesn't fit; put it back as it was, or remove it")
+
+    @classmethod
+    def _of(cls, told: Dict[str, Any]) -> Begun:
         passes = [limits_of(words) for words in told["passes"]]
         identity = Identity(*(str(told[name]) for name in ("version", "commit", "library")))
         listed = told["list"]
-        return cls(passes, identity, str(listed["name"]), listed["bytes"], listed["lines"])
+        keep = keep_of([told["keep"]])
+        return cls(passes, keep, identity, str(listed["name"]), listed["bytes"], listed["lines"])
+
+
+def _is_cut(text: str) -> bool:
+    """Whether a text is the begin of what a folder was begun with, and no more."""
+    if len(text) < len(_HEAD) + _SIZE:
+        begin, digits = text[: len(_HEAD)], text[len(_HEAD) :]
+        return begin == _HEAD[: len(begin)] and (not digits or digits.isdecimal())
+    size = text[len(_HEAD) : len(_HEAD) + _SIZE]
+    is_short = text.startswith(_HEAD) and size.isdecimal() and len(text) < int(size)
+    return is_short and not text.endswith('"\n}\n')
 
 
 def limits_of(words: str) -> Limits:
@@ -161,40 +208,70 @@ def limits_of(words: str) -> Limits:
     return Limits(**found)
 
 
-class Folder:
-    """A folder that this process alone works in. Raises FolderError where another does, or where it holds
-    something else; OSError."""
+def hold_apart(path: str, list_place: Optional[Tuple[int, int]]) -> None:
+    """Raises FolderError where a file that a run in this folder writes is the list itself, whose device and
+    inode these are, where it is a file."""
+    if list_place is None or not os.path.isdir(path):
+        return
+    ours = [os.path.join(path, name) for name in sorted(os.listdir(path)) if _OURS.fullmatch(name)]
+    for folder in [name for name in ours if os.path.isdir(name)]:
+        ours.extend(entry.path for entry in os.scandir(folder))
+    for name in ours:
+        with contextlib.suppress(FileNotFoundError):
+            found = os.stat(name)
+            if (found.st_dev, found.st_ino) == list_place:
+                raise FolderError("the list is %s, which a run in that folder writes; give another" % name)
 
-    def __init__(self, path: str) -> None:
+
+class Folder:
+    """A folder that this process alone works in. `list_place` is the device and the inode of the list, where
+    that is a file. Raises FolderError where another process works in it, where it holds something else, or
+    where the list is one of the files that are written; OSError."""
+
+    def __init__(self, path: str, list_place: Optional[Tuple[int, int]] = None) -> None:
         self.path = path
         if os.path.exists(path) and not os.path.isdir(path):
             raise FolderError("%s is a file; give a folder, which may be one that isn't there yet" % path)
         os.makedirs(path, exist_ok=True)
-        foreign = [name for name in sorted(os.listdir(path)) if not _OURS.fullmatch(name)]
-        if foreign and not os.path.exists(self.at(RUN)):
-            raise FolderError("%s has other files in it, as %s; give an empty folder" % (path, foreign[0]))
+        hold_apart(path, list_place)
+        names = sorted(os.listdir(path))
+        if RUN not in names:
+            self._hold_ours(names)
         self._lock = os.open(self.at(LOCK), os.O_RDWR | os.O_CREAT | os.O_CLOEXEC, 0o666)
         try:
             fcntl.flock(self._lock, fcntl.LOCK_EX | fcntl.LOCK_NB)
         except BlockingIOError:
             raise FolderError("another run works in %s; wait for its end, or end it" % path) from None
 
+    def _hold_ours(self, names: Sequence[str]) -> None:
+        """Raises FolderError where a folder without what it was begun with has files that no run left there:
+        others, or verdicts without the pieces that they came of."""
+        foreign = [name for name in names if not _OURS.fullmatch(name)]
+        if not any(_PASS.fullmatch(name) for name in names):
+            foreign += [name for name in names if name in (README, VERDICTS, SUMMARY)]
+        if foreign:
+            raise FolderError(
+                "%s has other files in it, as %s; give an empty folder" % (self.path, foreign[0])
+            )
+        if os.path.exists(self.at("pass-1", _OLD_PIECE)):
+            raise FolderError(
+                "%s has pieces that another version of this package wrote; give another folder" % self.path
+            )
+
     def at(self, *names: str) -> str:
         """The path of a file in it."""
         return os.path.join(self.path, *names)
 
     def begun(self) -> Optional[Begun]:
-        """What it was begun with; None where it is new, or what says so was cut or changed. Raises
-        FolderError."""
+        """What it was begun with; None where it is new, or what says so was cut. Raises FolderError where
+        that was changed, or another version of this package wrote it."""
         try:
-            with open(self.at(RUN), encoding="utf-8") as file:
+            with open(self.at(RUN), encoding="latin-1", newline="") as file:
                 return Begun.read(file.read())
         except FileNotFoundError:
             return None
         except FolderError as error:
             raise FolderError("%s: %s" % (self.at(RUN), error)) from None
-        except (ValueError, TypeError, KeyError, AttributeError):
-            return None
 
     def begin(self, begun: Begun) -> None:
         """Writes down what it is begun with."""
@@ -205,62 +282,14 @@ class Folder:
         page = begun.page(self.path).encode("utf-8", "surrogateescape")
         write_whole(self.at(README), iter([page]))
 
-    def open_pass(self, passes: Sequence[Limits], identity: Identity) -> PassFolder:
+    def open_pass(self, passes: Sequence[Limits], keep: Keep, identity: Identity) -> PassFolder:
         """The folder of the last of these passes."""
         number = len(passes)
         path = self.at("pass-%d" % number)
         os.makedirs(path, exist_ok=True)
         settle_folder(self.path)
-        key = "%d %s %s" % (FORMAT, " ".join(map(words_of, passes)), identity.library)
-        return PassFolder(path, number, Journal(os.path.join(path, "journal"), hash_of(key.encode())))
+        key = "%d %s %s %s" % (FORMAT, " ".join(map(words_of, passes)), keep, identity.library)
+        return PassFolder(path, number, hash_of(key.encode()), self.at(VERDICTS))
 
     def close(self) -> None:
         os.close(self._lock)
-
-
-class PassFolder:
-    """The pieces of a pass, and their journal. `pieces` is how many there are, once that is known."""
-
-    def __init__(self, path: str, number: int, journal: Journal) -> None:
-        self.path, self.number, self.journal = path, number, journal
-        self.pieces = 0
-
-    def _at(self, index: int) -> str:
-        return os.path.join(self.path, "%09d.txt" % (index + 1))
-
-    def write(self, index: int, verdicts: bytes) -> None:
-        """Writes the verdicts of a piece; `settle` puts its name onto the disk."""
-        write_whole(self._at(index), iter([verdicts]), settle_name=False)
-
-    def settle(self) -> None:
-        settle_folder(self.path)
-
-    def read(self, index: int) -> Optional[bytes]:
-        """The verdicts of a piece; None where they aren't there."""
-        try:
-            with open(self._at(index), "rb") as file:
-                return file.read()
-        except FileNotFoundError:
-            return None
-
-    def pieces_written(self) -> Iterator[Tuple[int, bytes]]:
-        """Each piece of the whole pass, with how many lines came before it, as the journal has it. Raises
-        RunError where one isn't so."""
-        ahead: Deque[Future[Tuple[int, bytes]]] = collections.deque()
-        with ThreadPoolExecutor(_READERS, "budlarem read") as readers:
-            for index in range(self.pieces):
-                ahead.append(readers.submit(self._piece_written, index))
-                if len(ahead) > _READERS:
-                    yield ahead.popleft().result()
-            while ahead:
-                yield ahead.popleft().result()
-
-    def _piece_written(self, index: int) -> Tuple[int, bytes]:
-        """A piece, with how many lines came before it. Raises RunError where it isn't as the journal says."""
-        record, verdicts = self.journal.read(index), self.read(index)
-        if record is None or verdicts is None or not record.has(verdicts):
-            raise RunError(
-                "%s isn't what the journal says: it was cut or changed;"
-                " run again, and it is decided again" % self._at(index)
-            )
-        return record.first, verdicts

@@ -8,7 +8,7 @@ from concurrent.futures import Future
 from typing import Any, List, Tuple
 
 from .errors import DeadlyError
-from .tasks import Numbers, Task
+from .tasks import Numbers, Task, hash_of
 
 
 @dataclasses.dataclass(eq=False)
@@ -57,23 +57,32 @@ def _end_both(job: Job, halves: List[Job]) -> None:
     if error is not None:
         job.future.set_exception(error)
     else:
-        job.future.set_result(joined([half.future.result() for half in halves]))
+        replies = [half.future.result() for half in halves]
+        job.future.set_result(joined([half.lines for half in halves], replies))
 
 
-def joined(replies: List[Any]) -> Any:
-    """The reply to lines whose parts had these replies. One that hasn't a reply's form, or is of another
-    library than the others, is given as it is; whoever looks at it sees that."""
-    for reply in replies:
-        if not _has_form(reply) or reply[2:] != replies[0][2:]:
+def joined(parts: List[bytes], replies: List[Any]) -> Any:
+    """The reply to lines whose parts had these replies. One that hasn't a reply's form, isn't that of its
+    part, or is of another library than the others, is given as it is; whoever looks at it sees that."""
+    for lines, reply in zip(parts, replies):
+        if not _has_form(reply, lines) or _told(reply) != _told(replies[0]):
             return reply
-    written: Tuple[bytes, ...] = tuple(reply[0] for reply in replies)
-    return (b"".join(written), sum(reply[1] for reply in replies), *replies[0][2:])
+    written: bytes = b"".join(reply[0] for reply in replies)
+    seconds: float = sum(reply[1] for reply in replies)
+    *identity, asked = _told(replies[0])
+    return (written, seconds, *identity, hash_of(b"".join(parts)), asked, hash_of(written))
 
 
-def _has_form(reply: Any) -> bool:
+def _told(reply: Any) -> Tuple[Any, ...]:
+    """By what a reply was made, and what it answers."""
+    return (*reply[2:5], reply[6])
+
+
+def _has_form(reply: Any, lines: bytes) -> bool:
     return (
         isinstance(reply, tuple)
-        and len(reply) == 5
+        and len(reply) == 8
         and isinstance(reply[0], bytes)
         and isinstance(reply[1], float)
+        and (reply[5], reply[7]) == (hash_of(lines), hash_of(reply[0]))
     )

@@ -4,7 +4,7 @@ from __future__ import annotations
 
 from typing import Iterator, List, Sequence, Tuple
 
-from .folder import PassFolder
+from .pieces import PassFolder
 from .source import Lines
 
 _UNDECIDED = b" undecided "
@@ -28,13 +28,14 @@ def left_by(folder: PassFolder) -> Iterator[bytes]:
             yield left
 
 
-def joined(passes: Sequence[PassFolder]) -> Iterator[bytes]:
+def joined(passes: Sequence[PassFolder], is_all_kept: bool = True) -> Iterator[bytes]:
     """The verdict lines of all passes: each undecided line of a pass gives way to the next pass's line on its
-    machine. Raises RunError, OSError."""
+    machine, or to nothing where that isn't kept. Raises RunError, OSError."""
     first, later = passes[0], passes[1:]
-    lines = Lines(joined(later)) if later else None
+    replaced = _replaced if is_all_kept else _replaced_where_kept
+    lines = Lines(joined(later, is_all_kept)) if later else None
     for _, verdicts in first.pieces_written():
-        yield verdicts if lines is None else _replaced(verdicts, lines)
+        yield verdicts if lines is None else replaced(verdicts, lines)
 
 
 def _replaced(verdicts: bytes, lines: Lines) -> bytes:
@@ -47,6 +48,19 @@ def _replaced(verdicts: bytes, lines: Lines) -> bytes:
     kept = 0
     for (begin, _, end), line in zip(_spans(verdicts), later):
         parts += (verdicts[kept:begin], line)
+        kept = end
+    return b"".join(parts) + verdicts[kept:]
+
+
+def _replaced_where_kept(verdicts: bytes, lines: Lines) -> bytes:
+    """Verdict lines, the undecided among them replaced by the next of these lines where that is one on the
+    same machine, or else left out. A machine has the same verdict wherever it stands in a list."""
+    parts: List[bytes] = []
+    kept = 0
+    for begin, place, end in _spans(verdicts):
+        parts.append(verdicts[kept:begin])
+        if lines.peek().startswith(verdicts[begin : place + 1]):
+            parts.append(lines.take(1, _ANY_SIZE))
         kept = end
     return b"".join(parts) + verdicts[kept:]
 

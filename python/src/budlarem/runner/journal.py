@@ -1,4 +1,5 @@
-"""The journal of a pass: for each piece the length and hash of what it was given and of what came of it.
+"""The journal of a pass: for each piece the length and hash of what it was given, where what is kept of it
+stands, how many lines of each kind it came to, and what it took.
 
 It is a file of lines of one width, so that the line of a piece is found by its number, and no more than one
 is held. A line ends in a seal, over what it says, the piece's number, and the pass with its limits and
@@ -9,51 +10,66 @@ piece is decided again.
 from __future__ import annotations
 
 import dataclasses
-import hashlib
 import os
+import zlib
 from typing import Optional, Tuple
 
 from .._errors import naming
+from .look import KINDS, Counts
+from .tasks import hash_of
 
-_TEXT = "%-7s %13d %9d %9d %s %9d %s %12d "
+_TEXT = "%-7s %13d %9d %9d %s %15d %9d %08x %12d " + "%9d " * len(KINDS)
+_WORDS = len(_TEXT.split())
 _SEAL = 32
-WIDTH = len(_TEXT % ("", 0, 0, 0, "0" * 64, 0, "0" * 64, 0)) + _SEAL + 1
+# For so many pieces more room is made at once.
+_AHEAD = 64
+_NOTHING = ("", 0, 0, 0, "0" * 64, 0, 0, 0, 0, *(0 for _ in KINDS))
+WIDTH = len(_TEXT % _NOTHING) + _SEAL + 1
 DECIDED, CHECKED = "decided", "checked"
-
-
-def hash_of(data: bytes) -> str:
-    """The hash of some bytes, in 64 hexadecimal digits: BLAKE2b, the fastest one that is everywhere."""
-    return hashlib.blake2b(data, digest_size=32).hexdigest()
 
 
 @dataclasses.dataclass(frozen=True)
 class Record:
-    """What is known of a piece that stands. `first` is how many lines of the pass came before it,
-    `is_checked` whether the checker confirmed it, `milliseconds` what deciding it took."""
+    """What is known of a piece that stands. `first` is how many lines of the pass came before it; `given` is
+    the length and the hash of what it was given; what is kept of it stands at `place`, with the length and
+    the checksum `kept`; `counts` are its lines of each kind; `is_checked` says whether the checker confirmed
+    it, `milliseconds` what deciding it took."""
 
     first: int
     lines: int
     given: Tuple[int, str]
-    written: Tuple[int, str]
+    place: int
+    kept: Tuple[int, int]
     milliseconds: int
     is_checked: bool
+    counts: Tuple[int, ...]
 
     @classmethod
-    def of(
-        cls, first: int, lines: int, given: bytes, written: bytes, seconds: float, is_checked: bool
-    ) -> Record:
-        """The record of a piece of so many lines that was decided."""
-        hashes = (hash_of(given), hash_of(written))
+    def of(cls, first: int, lines: int, given: bytes, kept: bytes, seconds: float, counts: Counts) -> Record:
+        """The record of a piece of so many lines that was decided, and has no place yet."""
         milliseconds = min(int(seconds * 1_000), 10**12 - 1)
-        return cls(first, lines, (len(given), hashes[0]), (len(written), hashes[1]), milliseconds, is_checked)
+        return cls(
+            first,
+            lines,
+            (len(given), hash_of(given)),
+            0,
+            (len(kept), zlib.crc32(kept)),
+            milliseconds,
+            False,
+            tuple(counts[kind] for kind in KINDS),
+        )
 
     def fits(self, given: bytes) -> bool:
         """Whether these are the lines that it was given."""
         return self.given == (len(given), hash_of(given))
 
-    def has(self, written: bytes) -> bool:
-        """Whether this is what came of them."""
-        return self.written == (len(written), hash_of(written))
+    def has(self, kept: bytes) -> bool:
+        """Whether this is what is kept of it."""
+        return self.kept == (len(kept), zlib.crc32(kept))
+
+    def counts_by_kind(self) -> Counts:
+        """How many of its lines there are of each kind."""
+        return dict(zip(KINDS, self.counts))
 
 
 class Journal:
@@ -64,6 +80,9 @@ class Journal:
         self._number = os.open(path, os.O_RDWR | os.O_CREAT | os.O_CLOEXEC, 0o666)
         self._key = key
         self._length = os.fstat(self._number).st_size // WIDTH
+        self._room = 0
+        # Between these two pieces none had a record that stands when the second one was looked for.
+        self._empty = (0, 0)
 
     def close(self) -> None:
         os.close(self._number)
@@ -72,17 +91,31 @@ class Journal:
         """How many pieces it may have lines of."""
         return self._length
 
+    def end(self) -> int:
+        """Where what is kept of the pieces ends."""
+        records = (self.read(index) for index in range(self.length()))
+        return max((record.place + record.kept[0] for record in records if record is not None), default=0)
+
+    def make_room(self, index: int) -> None:
+        """Has the disk keep room for a piece's record, so that a full one doesn't lose what stands. Raises
+        OSError."""
+        if index >= self._room:
+            self._room = index + _AHEAD
+            with naming(self._path):
+                os.posix_fallocate(self._number, 0, self._room * WIDTH)
+
     def read(self, index: int) -> Optional[Record]:
         """The record of a piece; None where there is none that stands."""
         if index >= self._length:
             return None
         line = os.pread(self._number, WIDTH, index * WIDTH).decode("ascii", "replace")
         words = line.split()
-        if len(words) != 9 or line != self._sealed(index, line[: -_SEAL - 1]):
+        if len(words) != _WORDS + 1 or line != self._sealed(index, line[: -_SEAL - 1]):
             return None
-        first, lines, given, written, milliseconds = (int(words[place]) for place in (1, 2, 3, 5, 7))
-        hashes, is_checked = (words[4], words[6]), words[0] == CHECKED
-        return Record(first, lines, (given, hashes[0]), (written, hashes[1]), milliseconds, is_checked)
+        first, lines, size, place, length, took = (int(words[at]) for at in (1, 2, 3, 5, 6, 8))
+        counts = tuple(map(int, words[9:-1]))
+        is_checked, checksum = words[0] == CHECKED, int(words[7], 16)
+        return Record(first, lines, (size, words[4]), place, (length, checksum), took, is_checked, counts)
 
     def put(self, index: int, record: Record) -> None:
         """Writes a piece's record; `settle` puts it onto the disk."""
@@ -91,8 +124,10 @@ class Journal:
             record.first,
             record.lines,
             *record.given,
-            *record.written,
+            record.place,
+            *record.kept,
             record.milliseconds,
+            *record.counts,
         )
         line, place = self._sealed(index, text).encode(), index * WIDTH
         with naming(self._path):
@@ -103,12 +138,19 @@ class Journal:
 
     def settle(self) -> None:
         """Returns when what was put is on the disk."""
-        os.fsync(self._number)
+        with naming(self._path):
+            os.fsync(self._number)
 
     def gap(self, index: int, first: int) -> Optional[Tuple[int, int]]:
         """Where this piece has no record: how many pieces and how many lines there are from it on, `first`
         lines being before it, up to the next piece that has one; None where none has."""
-        for later in range(index + 1, self.length()):
+        begin, end = self._empty
+        if not begin <= index < end:
+            begin, end = index, index + 1
+        while end < self.length() and self.read(end) is None:
+            end += 1
+        self._empty = begin, end
+        for later in range(end, self.length()):
             record = self.read(later)
             if record is not None and record.first - first >= later - index:
                 return later - index, record.first - first

@@ -10,28 +10,40 @@ import math
 import re
 from typing import Dict, List, Tuple
 
-from .._library import Room
+from .._library import Room, has_call
+from .._library import look as looked
 from ..engine import Call, checking, deciding
 from ..limits import Limits, Plan
 from .errors import ReplyError
-from .tasks import Identity
+from .tasks import Identity, hash_of
 
 # By these a line costs no step: they are for the form of lines alone.
 _LOWEST = Limits(steps=0, cells=1, depth=0, nodes=0)
 _DECIDE = deciding(_LOWEST, Plan(cyclers=False, translated=False, backward=False))
 _CHECK = checking(_LOWEST)
 
-# What each kind's lines have once, and no other line has.
-KINDS = {
-    "halt": b"halt",
-    "cycler": b"cycler",
-    "translated": b"translated",
-    "backward": b"backward",
-    "undecided steps": b"undecided steps",
-    "undecided cells": b"undecided cells",
-    "refused": b"refused",
-}
+KINDS = (
+    "halt",
+    "cycler",
+    "translated",
+    "backward",
+    "undecided steps",
+    "undecided cells",
+    "refused",
+)
 Counts = Dict[str, int]
+# A letter that each line of these has once, and no other line has: machines have no small ones. Both kinds of
+# undecided lines have one in common.
+_UNDECIDED = "undecided"
+_LETTERS = {
+    "halt": b"h",
+    "cycler": b"y",
+    "backward": b"k",
+    _UNDECIDED: b"i",
+    "undecided steps": b"p",
+    "refused": b"f",
+}
+_OTHERS = bytes(set(range(256)) - set(b"".join(_LETTERS.values())))
 _BEHIND_MACHINE = re.compile(b" .*")
 
 
@@ -43,10 +55,11 @@ def _replies(call: Call, lines: bytes) -> bytes:
 
 def counts_of(verdicts: bytes, lines: int) -> Counts:
     """How many there are of each kind, among so many verdict lines and refusals."""
-    counts = {}
-    for kind, word in KINDS.items():
-        counts[kind] = verdicts.count(word) if lines else 0
-        lines -= counts[kind]
+    letters = verdicts.translate(None, _OTHERS)
+    counts = {kind: letters.count(letter) for kind, letter in _LETTERS.items()}
+    undecided = counts.pop(_UNDECIDED)
+    counts["undecided cells"] = undecided - counts["undecided steps"]
+    counts["translated"] = lines - sum(counts.values())
     return counts
 
 
@@ -65,8 +78,30 @@ def _split(lines: bytes, count: int, what: str) -> List[bytes]:
     return parts
 
 
+def told_counts(given: bytes, verdicts: bytes, lines: int) -> Counts:
+    """How many there are of each kind, among the replies of this process to so many lines."""
+    if not has_call("bb_look"):
+        return counts_of(verdicts, lines)
+    found = looked(given, verdicts)
+    if not found.fits:
+        raise AssertionError("line %d of a piece has no reply of its form" % (found.lines + 1))
+    return dict(zip(KINDS, found.counts))
+
+
 def look_at_verdicts(given: bytes, verdicts: bytes, lines: int) -> Counts:
     """Looks at the verdict lines of a piece of so many lines; counts their kinds. Raises ReplyError."""
+    if not has_call("bb_look"):
+        return look_in_python(given, verdicts, lines)
+    found = looked(given, verdicts)
+    if found.fits:
+        return dict(zip(KINDS, found.counts))
+    look_in_python(given, verdicts, lines)
+    raise ReplyError("a line has no reply of its form", found.lines)
+
+
+def look_in_python(given: bytes, verdicts: bytes, lines: int) -> Counts:
+    """The same by an older library, which has no call for it; and what it says of what is wrong. Raises
+    ReplyError."""
     counts = counts_of(verdicts, lines)
     if b" " in given or counts["refused"] or _BEHIND_MACHINE.sub(b"", verdicts) != given:
         machines = given.split(b"\n")[:-1]
@@ -106,15 +141,26 @@ def look_at_answers(verdicts: bytes, answers: bytes) -> None:
     raise ReplyError(lines[place].decode(), place)
 
 
-def opened(reply: object, ours: Identity) -> Tuple[bytes, float]:
-    """The bytes and seconds of a reply that has its form, from the same package and library as this one.
-    Raises ReplyError."""
-    if not (isinstance(reply, tuple) and len(reply) == 5 and isinstance(reply[0], bytes)):
+def opened(reply: object, ours: Identity, asked: str, lines: bytes) -> Tuple[bytes, float]:
+    """The bytes and seconds of a reply that has its form, from the same package and library as this one, to
+    what was asked of these lines. Raises ReplyError."""
+    if not (isinstance(reply, tuple) and len(reply) >= 5 and isinstance(reply[0], bytes)):
         raise ReplyError("what came back is no reply, but of type %s" % type(reply).__name__)
-    written, seconds, version, commit, library = reply
-    theirs = Identity(str(version), str(commit), str(library))
+    theirs = Identity(*(str(told) for told in reply[2:5]))
     if theirs != ours:
         raise ReplyError("it was decided by %s; here is %s" % (theirs, ours))
+    written, seconds = reply[:2]
     if not (isinstance(seconds, float) and math.isfinite(seconds) and seconds >= 0):
         raise ReplyError("%.50r came back as its seconds" % (seconds,))
+    _hold_digests(reply[5:], asked, lines, written)
     return written, seconds
+
+
+def _hold_digests(told: Tuple[object, ...], asked: str, lines: bytes, written: bytes) -> None:
+    """Raises ReplyError where a reply isn't that to what was asked of these lines, or was changed."""
+    if told[:1] != (hash_of(lines),):
+        raise ReplyError("what came back answers other lines")
+    if told[1:2] != (asked,):
+        raise ReplyError("what came back answers something else: %.200r, not %r" % (told[1:2], asked))
+    if told[2:] != (hash_of(written),):
+        raise ReplyError("what came back was changed on its way: its digest is another one's")

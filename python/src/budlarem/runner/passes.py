@@ -1,30 +1,29 @@
-"""One pass: its pieces are handed over, looked at, and written as they come."""
+"""One pass: what all ways to decide its pieces share. Each piece is looked at, kept, and put down as it
+comes."""
 
 from __future__ import annotations
 
 import collections
 import dataclasses
-import queue
 import time
-from concurrent.futures import CancelledError, Future, ThreadPoolExecutor
-from typing import Any, Callable, Counter, Dict, Iterator, List, Optional
+from typing import Callable, Counter, Optional, Sequence
 
 from ..limits import Limits
 from .cutting import MOST_LINES, Cutter, Piece
-from .errors import CheckError, DeadlyError, ReplyError, RunError
-from .folder import PassFolder
+from .errors import CheckError, FolderError, ReplyError
+from .joining import number_in_list
 from .journal import Record
-from .look import look_at_answers, look_at_verdicts, opened, shown
+from .keeping import Keep
+from .look import look_at_answers, look_at_verdicts
+from .pieces import PassFolder
 from .progress import Progress
-from .source import Lines
-from .tasks import Identity, check_piece, decide_piece
+from .source import Cuttable
+from .tasks import Identity
 from .workplace import Workplace
+from .writing import Writer
 
-TRIES = 3
-# How many threads look at what comes back and write it, and how many pieces are with them at most.
-_LOOKERS, _MOST_LOOKED_AT = 4, 8
-# How many pieces are put down as standing together at most, and after how many seconds fewer are.
-_TOGETHER, _SOON = 16, 0.1
+# Pieces are put down as standing within a second; sooner where that takes a tenth of the time or less.
+_SOONEST, _LATEST, _SHARE = 0.1, 1.0, 10.0
 
 
 @dataclasses.dataclass
@@ -38,17 +37,19 @@ class PassResult:
     is_checked: bool = True
     counts: Counter[str] = dataclasses.field(default_factory=collections.Counter)
 
-    def add(self, piece: Piece, record: Record) -> None:
+    def add(self, record: Record) -> None:
         self.lines += record.lines
         self.pieces += 1
         self.milliseconds += record.milliseconds
         self.is_checked = self.is_checked and record.is_checked
-        self.counts.update(piece.counts)
+        self.counts.update(record.counts_by_kind())
 
 
 @dataclasses.dataclass(frozen=True)
 class Manner:
-    """How the pieces of each pass are decided. `list_name` is for sentences."""
+    """How the pieces of each pass are decided. `list_name` is for sentences; `hold_list` raises where the
+    list isn't as it was, and is called before a piece is put down; `is_checked_here` has the checker of this
+    process confirm each verdict; `keep` says which verdict lines are kept."""
 
     place: Workplace
     identity: Identity
@@ -56,227 +57,148 @@ class Manner:
     list_name: str
     most_lines: int = MOST_LINES
     is_checked: bool = False
+    is_checked_here: bool = False
+    keep: Keep = Keep()
+    hold_list: Callable[[], None] = lambda: None
 
 
 class PassRun:
-    """Decides a pass. `number_of` gives the number in the list, from 1 on, of a line of this pass; `known` is
-    how many lines there are, where that is known."""
+    """Decides a pass. `before` are the passes before it; `known` is how many lines there are, where that is
+    known."""
 
     def __init__(
         self,
         folder: PassFolder,
         limits: Limits,
         manner: Manner,
-        number_of: Callable[[int], int],
+        before: Sequence[PassFolder],
         known: Optional[int],
     ) -> None:
         self._folder, self._limits, self._manner = folder, limits, manner
-        self._number_of = number_of
+        self._before = before
         self._cutter = Cutter(folder, manner.list_name, manner.most_lines, known)
-        self._under_way: Dict[Future[Any], Piece] = {}
-        self._looked_at: Dict[Future[Any], Piece] = {}
-        self._back: queue.SimpleQueue[Future[Any]] = queue.SimpleQueue()
-        self._lookers = ThreadPoolExecutor(_LOOKERS, "budlarem look")
-        # Pieces that are written, and not yet put down as standing; since when there is one.
-        self._finished: List[Piece] = []
-        self._since = 0.0
+        self._writer = Writer(folder)
         self._result = PassResult(limits)
-        self._left_out: List[str] = []
+        self._next, self._took = 0.0, 0.0
 
-    def run(self, lines: Lines) -> PassResult:
+    def run(self, lines: Cuttable) -> PassResult:
         """Decides the lines, but for the pieces that stand. Raises FolderError where they aren't those that
         the journal was written for, CheckError, RunError, OSError."""
         try:
+            self._decide(lines)
+        finally:
             try:
-                self._decide(lines)
+                self._end()
+                self._writer.end()
             finally:
                 self._put_down()
-        finally:
-            self._lookers.shutdown()
         self._folder.pieces = self._result.pieces
         return self._result
 
-    def _decide(self, lines: Lines) -> None:
-        pieces = self._cutter.pieces(lines)
-        is_ended = False
-        while self._under_way or self._looked_at or not is_ended:
-            if is_ended or not self._has_room():
-                self._receive(0.5)
-                continue
-            piece = next(pieces, None)
-            is_ended = piece is None
-            if piece is not None:
-                self._take_on(piece)
-            self._receive(0.0)
-        if self._left_out:
-            raise RunError(
-                "all but %d pieces stand; %s" % (len(self._left_out), "; ".join(self._left_out[:3]))
-            )
+    def _decide(self, lines: Cuttable) -> None:
+        """Has each piece taken on and kept."""
+        raise NotImplementedError
 
-    def _has_room(self) -> bool:
-        return len(self._under_way) < self._manner.place.width() and len(self._looked_at) < _MOST_LOOKED_AT
+    def _end(self) -> None:
+        """Has nothing more begun."""
 
-    def _take_on(self, piece: Piece) -> None:
-        """Hands over a piece; one that stands is only looked at."""
+    def _stands(self, piece: Piece) -> bool:
+        """Whether what is kept of a piece is there, as the journal says and as it must look. It is read then
+        where it is still to be checked. Raises FolderError where it can't be checked any more."""
         record = piece.record
-        if record is not None and not self._is_there(piece, record):
-            piece.record = record = None
-        if record is None or (self._manner.is_checked and not record.is_checked):
-            self._start(piece)
-        else:
-            self._result.add(piece, record)
-            self._manner.progress.stood(record.lines)
-
-    def _is_there(self, piece: Piece, record: Record) -> bool:
-        """Whether what came of a piece is there, as the journal says and as it must look."""
-        written = self._folder.read(piece.index)
+        if record is None:
+            return False
+        kept = self._folder.read(record)
         try:
-            if written is None or not record.has(written):
+            if kept is None:
                 raise ReplyError("it was cut or changed")
-            piece.counts = look_at_verdicts(piece.given, written, piece.lines)
+            if not self._manner.keep.only_left:
+                look_at_verdicts(piece.given, kept, piece.lines)
         except ReplyError as error:
             where = "piece %d of pass %d" % (piece.index + 1, self._folder.number)
             self._manner.progress.tell("%s is decided again: %s" % (where, error))
+            piece.record = None
             return False
-        piece.written, piece.seconds = written, record.milliseconds / 1_000
+        piece.counts = record.counts_by_kind()
+        piece.is_confirmed, piece.stood, piece.is_timed = record.is_checked, True, True
+        piece.seconds = record.milliseconds / 1_000
+        if self._is_to_be_checked(piece):
+            if self._manner.keep.only_left:
+                raise FolderError(
+                    "%s: verdicts were dropped before they were checked; go on without --check, or check from"
+                    " the begin, in another folder" % self._folder.path
+                )
+            piece.written = kept
         return True
 
-    def _start(self, piece: Piece) -> None:
-        """Hands a piece over, to be decided or to be checked."""
-        task, lines = (decide_piece, piece.given)
-        if piece.written is not None:
-            task, lines = (check_piece, piece.written)
-        try:
-            future = self._manner.place.submit(task, lines, self._limits.numbers())
-        except Exception as error:
-            raise RunError("no piece can be handed over: %s" % told(error)) from error
-        if future in self._under_way:
-            raise RunError("two pieces got one future: the executor mixes them up")
-        self._under_way[future] = piece
-        future.add_done_callback(self._back.put)
+    def _is_to_be_checked(self, piece: Piece) -> bool:
+        return self._manner.is_checked and not piece.is_confirmed
 
-    def _receive(self, seconds: float) -> None:
-        """Takes what came back, of which there may be nothing within so many seconds, and puts down what is
-        finished, if that is much or since a while."""
-        for future in self._returned(min(seconds, _SOON) if self._finished else seconds):
-            piece = self._under_way.pop(future, None)
-            if piece is not None:
-                self._look_later(piece, future)
-                continue
-            piece = self._looked_at.pop(future, None)
-            if piece is not None and self._is_finished(piece, future):
-                self._since = self._since if self._finished else time.monotonic()
-                self._finished.append(piece)
-        if len(self._finished) >= _TOGETHER or time.monotonic() - self._since > _SOON:
-            self._put_down()
-        self._manner.place.tend()
-        self._manner.progress.tick(self._manner.place.status())
-
-    def _returned(self, seconds: float) -> Iterator[Future[Any]]:
-        """What came back: at most as much as is under way."""
-        for _ in range(len(self._under_way) + len(self._looked_at)):
-            try:
-                yield self._back.get(timeout=seconds) if seconds else self._back.get_nowait()
-            except queue.Empty:
-                return
-            seconds = 0.0
-
-    def _look_later(self, piece: Piece, future: Future[Any]) -> None:
-        """Hands what came back of a piece to those who look at it."""
-        try:
-            failed = future.exception()
-        except CancelledError:
-            failed = ReplyError("it was cancelled")
-        if isinstance(failed, DeadlyError):
-            self._leave_out(piece, failed)
-            return
-        if failed is not None:
-            self._try_again(piece, failed)
-            return
-        looked = self._lookers.submit(self._look, piece, future.result())
-        self._looked_at[looked] = piece
-        looked.add_done_callback(self._back.put)
-
-    def _look(self, piece: Piece, reply: object) -> None:
-        """Looks at a reply, keeps what is in it, and writes it once it needn't be checked. Raises ReplyError,
-        CheckError, OSError."""
-        written, seconds = opened(reply, self._manner.identity)
-        if piece.written is None:
-            piece.counts = look_at_verdicts(piece.given, written, piece.lines)
-            piece.written, piece.seconds = written, seconds
-        else:
-            self._look_at_check(piece, piece.written, written)
-        if self._manner.is_checked and not piece.is_confirmed:
-            return
-        if piece.record is None:
-            self._folder.write(piece.index, piece.written)
-        piece.record = Record.of(
-            piece.first, piece.lines, piece.given, piece.written, piece.seconds, piece.is_confirmed
-        )
+    def _keep(self, piece: Piece) -> None:
+        """Keeps what a piece came to, or that it is confirmed now."""
+        if piece.record is None and piece.written is not None:
+            piece.kept = self._manner.keep.kept_of(piece.written)
+            piece.record = Record.of(
+                piece.first, piece.lines, piece.given, piece.kept, piece.seconds, piece.counts
+            )
+        if piece.record is not None:
+            piece.record = dataclasses.replace(piece.record, is_checked=piece.is_confirmed)
+        self._writer.add(piece)
 
     def _look_at_check(self, piece: Piece, verdicts: bytes, answers: bytes) -> None:
-        """Looks at the checker's answers. Raises ReplyError, CheckError."""
+        """Looks at the answers to a piece's verdicts. Raises ReplyError, CheckError."""
         try:
             look_at_answers(verdicts, answers)
         except ReplyError as error:
             if error.line is None:
                 raise
             line = verdicts.split(b"\n")[error.line].decode()
-            number = self._number_of(piece.first + error.line)
-            raise CheckError("line %d: the checker answers %s: %s" % (number, error, line)) from None
+            place = piece.first + error.line
+            raise CheckError("%s: the checker answers %s: %s" % (self._where(place), error, line)) from None
         piece.is_confirmed = True
 
-    def _is_finished(self, piece: Piece, looked: Future[Any]) -> bool:
-        """Whether a piece that was looked at is written; else it is handed over again. Raises what the look
-        raised."""
-        error = looked.exception()
-        if isinstance(error, ReplyError):
-            self._try_again(piece, error)
-            return False
-        if error is not None:
-            raise error
-        if not piece.is_confirmed:
-            self._cutter.pace.took(piece.lines, piece.seconds, self._manner.place.width())
-        if self._manner.is_checked and not piece.is_confirmed:
-            self._start(piece)
-            return False
-        return True
+    def _where(self, first: int, last: Optional[int] = None) -> str:
+        """Which lines of the list these lines of the pass are, both ends included, in words."""
+        ends, behind = [first, first if last is None else last], ""
+        if self._before and self._manner.keep.only_left:
+            ends, behind = [end + 1 for end in ends], " of those that pass %d left" % len(self._before)
+        else:
+            ends = [number_in_list(self._before, end) for end in ends]
+        told = "line %d" % ends[0] if ends[0] == ends[1] else "lines %d to %d" % (ends[0], ends[1])
+        return told + behind
 
-    def _try_again(self, piece: Piece, error: BaseException) -> None:
-        """Hands a piece over again; raises RunError where that was done often enough."""
-        piece.tries += 1
-        first, last = piece.first, piece.first + piece.lines - 1
-        if isinstance(error, ReplyError) and error.line is not None:
-            first = last = piece.first + error.line
-        first, last = self._number_of(first), self._number_of(last)
-        where = "line %d" % first if first == last else "lines %d to %d" % (first, last)
-        text = "pass %d, %s: %s" % (self._folder.number, where, told(error))
-        if piece.tries >= TRIES:
-            raise RunError("%s; so it was %d times" % (text, TRIES)) from error
-        self._manner.progress.tell("%s; it is tried again" % text)
-        self._start(piece)
-
-    def _leave_out(self, piece: Piece, error: DeadlyError) -> None:
-        """Goes on without a piece that can't be decided; the run ends by it when all others are."""
-        number = self._number_of(piece.first + error.line)
-        line = piece.given.split(b"\n")[error.line]
-        self._left_out.append("pass %d, line %d: %s: %s" % (self._folder.number, number, error, shown(line)))
-        self._manner.progress.tell(self._left_out[-1])
+    def _put_down_if_due(self) -> None:
+        """Puts down what is written, where it is time for it."""
+        self._writer.hurry()
+        now = time.monotonic()
+        if now >= self._next:
+            self._put_down()
+            took = time.monotonic() - now
+            self._next = now + min(max(_SOONEST, _SHARE * took), _LATEST)
 
     def _put_down(self) -> None:
-        """Puts the names of finished pieces onto the disk, and then that they stand."""
-        pieces, self._finished = self._finished, []
-        if not pieces:
-            return
-        self._folder.settle()
-        for piece in pieces:
+        """Puts what is written onto the disk, and then that it stands. Raises RunError where the list
+        changed: what was read of another one doesn't stand."""
+        pieces = self._writer.written()
+        changed = [piece for piece in pieces if not piece.stood or self._is_newly_checked(piece)]
+        if changed:
+            self._manner.hold_list()
+            self._folder.settle()
+        for piece in changed:
             if piece.record is not None:
                 self._folder.journal.put(piece.index, piece.record)
-        self._folder.journal.settle()
+        if changed:
+            self._folder.journal.settle()
         for piece in pieces:
             if piece.record is not None:
-                self._result.add(piece, piece.record)
-                self._manner.progress.decided(piece.lines)
+                self._result.add(piece.record)
+            tell = self._manner.progress.stood if piece.stood else self._manner.progress.decided
+            tell(piece.lines)
+
+    def _is_newly_checked(self, piece: Piece) -> bool:
+        """Whether the journal doesn't say yet that a piece is confirmed."""
+        record = self._folder.journal.read(piece.index)
+        return piece.is_confirmed and (record is None or not record.is_checked)
 
 
 def told(error: BaseException) -> str:

@@ -7,9 +7,10 @@ import gzip
 import io
 import itertools
 import os
+import select
 import stat
 import zlib
-from typing import Iterator, List, Optional, Tuple
+from typing import Any, Callable, Iterator, List, Optional, Protocol, Tuple
 
 from .._batches import LONG
 from .errors import RunError
@@ -17,13 +18,26 @@ from .errors import RunError
 STANDARD_INPUT = "standard input"
 BLOCK = 1 << 19
 _GZIP = b"\x1f\x8b"
+# How many seconds without a byte are a pause.
+_PAUSE = 1.0
 # So few lines are found one by one.
 _FEW = 16
 
 
+class Cuttable(Protocol):
+    """Lines that are taken some at a time. A line of more than LONG bytes is cut to so many, which changes no
+    reply; a last line without a newline gets one. How many bytes and lines were taken is counted."""
+
+    taken: int
+    taken_lines: int
+
+    def take(self, lines: int, size: int) -> bytes:
+        """The next lines: so many at most, of so many bytes together, but one at least; no bytes at the
+        end."""
+
+
 class Lines:
-    """The lines of a stream, taken some at a time. A line of more than LONG bytes is cut to so many, which
-    changes no reply; a last line without a newline gets one."""
+    """The lines of a stream."""
 
     def __init__(self, blocks: Iterator[bytes]) -> None:
         self._batches = _whole_lines(blocks)
@@ -46,6 +60,12 @@ class Lines:
                 end, left = _end_of(self._held, seen, left)
         return self._cut(end, lines, size)
 
+    def peek(self) -> bytes:
+        """The next line, which isn't taken by this; no bytes at the end."""
+        if self._begin >= len(self._held):
+            self._held, self._begin = next(self._batches, b""), 0
+        return self._held[self._begin : self._held.find(b"\n", self._begin) + 1]
+
     def _cut(self, end: Optional[int], lines: int, size: int) -> bytes:
         """The next lines, of so many bytes together at most where these are more than one; as many as were
         asked for end at `end`, where there are so many."""
@@ -61,6 +81,58 @@ class Lines:
             lines if is_whole else cut.count(b"\n")
         )
         return cut
+
+
+class PlainLines:
+    """The lines of a file, from a place on: each piece is read where it is cut. `hold` is called at the end.
+    Raises OSError."""
+
+    def __init__(self, number: int, place: int, hold: Callable[[], None]) -> None:
+        self._number, self._place, self._hold = number, place, hold
+        self.taken, self.taken_lines = 0, 0
+
+    def take(self, lines: int, size: int) -> bytes:
+        """The next lines: so many at most, of so many bytes together, but one at least; no bytes at the
+        end."""
+        read = min(size, BLOCK)
+        while True:
+            held = os.pread(self._number, read, self._place)
+            found, is_end = held.count(b"\n"), len(held) < read
+            if found >= lines or is_end or read == size:
+                break
+            read = min(2 * read, size)
+        if found >= lines:
+            end = len(held) if found == lines else 0
+            end = held.rfind(b"\n") + 1 if end else (_end_of(held, 0, lines)[0] or 0)
+            return self._taken(shortened(held[:end]), end, lines)
+        if is_end:
+            return self._rest(held, found)
+        end = held.rfind(b"\n") + 1
+        return self._taken(shortened(held[:end]), end, found) if end else self._long()
+
+    def _taken(self, given: bytes, size: int, lines: int) -> bytes:
+        self._place, self.taken = self._place + size, self.taken + size
+        self.taken_lines += lines
+        return given
+
+    def _rest(self, held: bytes, found: int) -> bytes:
+        """What is left of the file, where it is all that was asked for."""
+        if not held:
+            self._hold()
+            return b""
+        if held.endswith(b"\n"):
+            return self._taken(shortened(held), len(held), found)
+        return self._taken(shortened(held + b"\n"), len(held), found + 1)
+
+    def _long(self) -> bytes:
+        """A line that is longer than all that may be taken."""
+        begin, size = os.pread(self._number, LONG, self._place).partition(b"\n")[0], 0
+        while True:
+            held = os.pread(self._number, BLOCK, self._place + size)
+            end = held.find(b"\n") + 1
+            size += end or len(held)
+            if end or not held:
+                return self._taken(begin + b"\n", size, 1)
 
 
 def _end_of(held: bytes, begin: int, lines: int) -> Tuple[Optional[int], int]:
@@ -110,6 +182,54 @@ def shortened(lines: bytes) -> bytes:
     return lines
 
 
+class _Waiting(io.RawIOBase):
+    """The bytes of an open file. A read waits until there are some, also where the file says that there are
+    none yet (O_NONBLOCK); so no bytes come at the end alone."""
+
+    def __init__(self, number: int) -> None:
+        super().__init__()
+        self._number, self._first = number, b""
+
+    def readable(self) -> bool:
+        return True
+
+    def first(self, size: int) -> bytes:
+        """So many bytes from the begin on, however they come, or all where there are fewer. They are read
+        again."""
+        while len(self._first) < size:
+            read = bytearray(size - len(self._first))
+            count = self._read(read)
+            if not count:
+                break
+            self._first += read[:count]
+        return self._first
+
+    def readinto(self, buffer: Any) -> int:
+        if not self._first:
+            return self._read(buffer)
+        size = min(len(buffer), len(self._first))
+        buffer[:size], self._first = self._first[:size], self._first[size:]
+        return size
+
+    def _read(self, buffer: Any) -> int:
+        while True:
+            try:
+                return os.readv(self._number, [buffer])
+            except BlockingIOError:
+                waiting = select.poll()
+                waiting.register(self._number, select.POLLIN)
+                waiting.poll()
+
+    def pauses(self, seconds: float) -> bool:
+        """Whether so long nothing comes, and no end."""
+        waiting = select.poll()
+        waiting.register(self._number, select.POLLIN)
+        return not self._first and not waiting.poll(1_000 * seconds)
+
+    def tell(self) -> int:
+        return os.lseek(self._number, 0, os.SEEK_CUR)
+
+
 class ListFile:
     """A list: a file, as it is or compressed by gzip, or standard input. Raises OSError where it can't be
     opened."""
@@ -118,18 +238,25 @@ class ListFile:
         self.name = STANDARD_INPUT if path == "-" else path
         if os.path.isdir(path) and path != "-":
             raise IsADirectoryError(errno.EISDIR, "it is a folder, and a file is asked for", path)
-        number = 0 if path == "-" else os.open(path, os.O_RDONLY | os.O_CLOEXEC)
-        self._raw = io.FileIO(number, closefd=path != "-")
-        self._file = io.BufferedReader(self._raw, BLOCK)
-        self._begin = os.fstat(number)
+        self._number = 0 if path == "-" else os.open(path, os.O_RDONLY | os.O_CLOEXEC)
+        self._begin = os.fstat(self._number)
         self.is_regular = stat.S_ISREG(self._begin.st_mode)
-        self.is_compressed = self._file.peek(2)[:2] == _GZIP
+        self._raw = _Waiting(self._number)
+        # Where it begins: standard input may be a file of which something was read.
+        self._start = self._raw.tell() if self.is_regular else 0
+        self.is_compressed = self._raw.first(len(_GZIP)) == _GZIP
+        self._file = io.BufferedReader(self._raw, BLOCK)
         self._blocks = self._read_blocks()
 
     @property
     def size(self) -> Optional[int]:
         """How many bytes the file has on its disk; None where it is no regular file."""
         return self._begin.st_size if self.is_regular else None
+
+    @property
+    def place(self) -> Tuple[int, int]:
+        """Which file it is: the numbers of its device and of its inode."""
+        return self._begin.st_dev, self._begin.st_ino
 
     def part(self, taken: int) -> Optional[float]:
         """Which part of the file so many bytes of the list are, as far as can be told; None where it
@@ -139,19 +266,27 @@ class ListFile:
         return min((self._raw.tell() if self.is_compressed else taken) / self.size, 1.0)
 
     def first_lines(self, most: int) -> List[bytes]:
-        """Its first lines, so many at most, none longer than LONG bytes; `blocks` gives them again. Raises
-        what that does."""
+        """Its first lines, so many at most, none longer than LONG bytes; `lines` and `blocks` give them again.
+        No lines where it pauses before so many came: what came is to be decided then. Raises what `blocks`
+        does."""
         held: List[bytes] = []
-        count = 0
-        while count < most:
+        count, size, is_paused = 0, 0, False
+        while count < most and size < most * LONG and not is_paused:
             block = next(self._blocks, b"")
             if not block:
                 break
             held.append(block)
-            count += block.count(b"\n")
+            count, size = count + block.count(b"\n"), size + len(block)
+            is_paused = count < most and self._raw.pauses(_PAUSE)
         self._blocks = itertools.chain(held, self._blocks)
-        lines = b"".join(held).split(b"\n")
-        return [line[:LONG] for line in (lines if lines[-1] else lines[:-1])[:most]]
+        lines = [] if is_paused else b"".join(held).split(b"\n")
+        return [line[:LONG] for line in (lines if lines and lines[-1] else lines[:-1])[:most]]
+
+    def lines(self) -> Cuttable:
+        """Its lines. Taking them raises RunError where it can't be read, or changed meanwhile; OSError."""
+        if self.is_regular and not self.is_compressed:
+            return PlainLines(self._number, self._start, self.hold_unchanged)
+        return Lines(self.blocks())
 
     def blocks(self) -> Iterator[bytes]:
         """Its bytes, cut anywhere. Raises RunError where it can't be read, or changed meanwhile."""
@@ -166,11 +301,12 @@ class ListFile:
         except (OSError, EOFError, zlib.error) as error:
             kind = "as gzip" if self.is_compressed else "to its end"
             raise RunError("%s can't be read %s: %s" % (self.name, kind, error)) from error
-        self._hold_unchanged()
+        self.hold_unchanged()
 
-    def _hold_unchanged(self) -> None:
-        """Raises RunError where the file isn't the one that was opened."""
-        now, then = os.fstat(self._raw.fileno()), self._begin
+    def hold_unchanged(self) -> None:
+        """Raises RunError where the file isn't as it was when it was opened. What was read before this
+        returns was read of the file as it was."""
+        now, then = os.fstat(self._number), self._begin
         if self.is_regular and (now.st_size, now.st_mtime_ns) != (then.st_size, then.st_mtime_ns):
             sizes = "from %d to %d bytes" % (then.st_size, now.st_size)
             raise RunError(
@@ -180,6 +316,8 @@ class ListFile:
 
     def close(self) -> None:
         self._file.close()
+        if self._number:
+            os.close(self._number)
 
 
 def _read(file: io.BufferedIOBase) -> Iterator[bytes]:

@@ -1,7 +1,8 @@
 """What is done with a piece, wherever that is: functions that an executor is given, and what they answer.
 
 They take and give plain values, so that a process with another version of the package can be told apart by
-what it answers, and stand in a module, so that they are sent by their names.
+what it answers, and stand in a module, so that they are sent by their names. A reply tells what it belongs
+to, by digests, so that one that was changed on its way, or is another piece's, can be told apart too.
 """
 
 from __future__ import annotations
@@ -19,11 +20,12 @@ from ..engine import Call, checking, deciding
 from ..limits import Limits, Plan
 
 Numbers = Tuple[int, int, int, int]
-# What was written for the lines, the seconds that it took, and the version, the commit and the library's
-# sha256.
-Reply = Tuple[bytes, float, str, str, str]
+# What was written for the lines, the seconds that it took, the version, the commit and the library's sha256;
+# and then the digest of the lines, what was done within which limits, and the digest of what was written.
+Reply = Tuple[bytes, float, str, str, str, str, str, str]
 Task = Callable[[bytes, Numbers], Reply]
 
+DECIDE, CHECK = "decide", "check"
 _kept = threading.local()
 
 
@@ -49,6 +51,16 @@ def identity() -> Identity:
     return Identity(VERSION, COMMIT, digest.hexdigest())
 
 
+def hash_of(data: bytes) -> str:
+    """The hash of some bytes, in 64 hexadecimal digits: BLAKE2b, the fastest one that is everywhere."""
+    return hashlib.blake2b(data, digest_size=32).hexdigest()
+
+
+def question(what: str, limits: Numbers) -> str:
+    """What is asked of some lines, as a reply tells it."""
+    return "%s steps=%d,cells=%d,depth=%d,nodes=%d" % (what, *limits)
+
+
 def _room() -> Room:
     """The buffer of this thread, used again by each of its pieces."""
     room = getattr(_kept, "room", None)
@@ -57,18 +69,24 @@ def _room() -> Room:
     return room
 
 
-def _replied(call: Call, lines: bytes) -> Reply:
+def reply_of(asked: str, lines: bytes, written: bytes, seconds: float) -> Reply:
+    """The reply to some lines, of which this was asked and for which this was written."""
+    ours = identity()
+    told = (ours.version, ours.commit, ours.library, hash_of(lines), asked, hash_of(written))
+    return (written, seconds, *told)
+
+
+def _replied(asked: str, call: Call, lines: bytes) -> Reply:
     began, room = time.monotonic(), _room()
     call(room, lines)
-    written, ours = room.reply().text, identity()
-    return written, time.monotonic() - began, ours.version, ours.commit, ours.library
+    return reply_of(asked, lines, room.reply().text, time.monotonic() - began)
 
 
 def decide_piece(lines: bytes, limits: Numbers) -> Reply:
     """The verdict lines of these lines. Raises what `budlarem.decide` does."""
-    return _replied(deciding(Limits(*limits), Plan()), lines)
+    return _replied(question(DECIDE, limits), deciding(Limits(*limits), Plan()), lines)
 
 
 def check_piece(lines: bytes, limits: Numbers) -> Reply:
     """The checker's answers to these verdict lines. Raises what `budlarem.check` does."""
-    return _replied(checking(Limits(*limits)), lines)
+    return _replied(question(CHECK, limits), checking(Limits(*limits)), lines)

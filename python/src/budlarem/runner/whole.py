@@ -11,12 +11,17 @@ from typing import Any, Callable, Counter, Dict, List, Optional, Sequence, Tuple
 
 from ..limits import Limits
 from .errors import FolderError
-from .folder import SUMMARY, VERDICTS, Begun, Folder, PassFolder, words_of, write_whole
-from .joining import joined, left_by, number_in_list
+from .folder import SUMMARY, VERDICTS, Begun, Folder, put_whole, words_of, write_whole
+from .handing import HandingRun
+from .joining import joined, left_by
+from .keeping import Keep
 from .look import KINDS
 from .passes import Manner, PassResult, PassRun
-from .source import Lines, ListFile
+from .pieces import PassFolder
+from .source import Cuttable, Lines, ListFile
 from .tasks import Identity
+from .threads import ThreadsRun
+from .workplace import Threads
 
 
 Total = Callable[[int], Optional[float]]
@@ -41,23 +46,26 @@ class Outcome:
 def run(folder: Folder, source: ListFile, passes: Sequence[Limits], manner: Manner) -> Outcome:
     """Decides a list in a folder, and leaves verdicts and summary there. Raises FolderError, CheckError,
     RunError, OSError."""
-    began = time.time()
+    began = time.time(), time.monotonic()
     begun = begin(folder, source, passes, manner)
     folder.explain(begun)
     folders: List[PassFolder] = []
     results: List[PassResult] = []
     for number, limits in enumerate(passes, 1):
-        opened = folder.open_pass(passes[:number], manner.identity)
+        opened = folder.open_pass(passes[:number], manner.keep, manner.identity)
         lines, known = _lines_for(source, folders, results, begun)
         manner.progress.begin(number, len(passes), _total_of(source, lines, known))
-        before = tuple(folders)
-        pass_run = PassRun(opened, limits, manner, lambda line: number_in_list(before, line), known)
-        results.append(pass_run.run(lines))
+        results.append(_pass_run(opened, limits, manner, tuple(folders), known).run(lines))
         folders.append(opened)
         if begun.list_lines is None:
             begun.list_lines = results[0].lines
             folder.begin(begun)
-    write_whole(folder.at(VERDICTS), joined(folders))
+    if len(folders) == 1:
+        put_whole(folder.at(VERDICTS), folders[0].put_whole)
+    else:
+        write_whole(folder.at(VERDICTS), joined(folders, not manner.keep.only_left))
+    for opened in folders:
+        opened.close()
     outcome = outcome_of(results)
     summary = summary_of(source, results, outcome, manner, began)
     write_whole(folder.at(SUMMARY), iter([(json.dumps(summary, indent=2) + "\n").encode()]))
@@ -65,17 +73,26 @@ def run(folder: Folder, source: ListFile, passes: Sequence[Limits], manner: Mann
     return outcome
 
 
+def _pass_run(
+    opened: PassFolder, limits: Limits, manner: Manner, before: Sequence[PassFolder], known: Optional[int]
+) -> PassRun:
+    """What decides a pass, by whom the manner says."""
+    if isinstance(manner.place, Threads):
+        return ThreadsRun(opened, limits, manner, before, known, manner.place)
+    return HandingRun(opened, limits, manner, before, known, manner.place)
+
+
 def _lines_for(
     source: ListFile, folders: Sequence[PassFolder], results: Sequence[PassResult], begun: Begun
-) -> Tuple[Lines, Optional[int]]:
+) -> Tuple[Cuttable, Optional[int]]:
     """The lines of the next pass, and how many they are where that is known."""
     if not folders:
-        return Lines(source.blocks()), begun.list_lines
+        return source.lines(), begun.list_lines
     counts = results[-1].counts
     return Lines(left_by(folders[-1])), counts["undecided steps"] + counts["undecided cells"]
 
 
-def _total_of(source: ListFile, lines: Lines, known: Optional[int]) -> Total:
+def _total_of(source: ListFile, lines: Cuttable, known: Optional[int]) -> Total:
     """Of how many lines some lines are a part, where that is known."""
 
     def total(done: int) -> Optional[float]:
@@ -93,11 +110,12 @@ def begin(folder: Folder, source: ListFile, passes: Sequence[Limits], manner: Ma
     size = None if source.is_compressed else source.size
     begun = folder.begun()
     if begun is None:
-        begun = Begun(list(passes), manner.identity, source.name, size)
+        begun = Begun(list(passes), manner.keep, manner.identity, source.name, size)
         folder.begin(begun)
         return begun
     _hold_library(folder, begun.identity, manner.identity)
     _hold_passes(folder, begun.passes, passes)
+    _hold_keep(folder, begun.keep, manner.keep)
     if size is not None and begun.list_bytes is not None and size != begun.list_bytes:
         raise FolderError(
             "%s isn't the list that %s was begun with; give that list, or another folder:"
@@ -113,6 +131,14 @@ def _hold_library(folder: Folder, theirs: Identity, ours: Identity) -> None:
     if theirs.library != ours.library:
         raise FolderError(
             "%s was begun with another library: %s; here is %s; install that one, or give another folder"
+            % (folder.path, theirs, ours)
+        )
+
+
+def _hold_keep(folder: Folder, theirs: Keep, ours: Keep) -> None:
+    if theirs != ours:
+        raise FolderError(
+            "%s was begun with --keep %s; here is --keep %s; give the same, or another folder"
             % (folder.path, theirs, ours)
         )
 
@@ -144,15 +170,24 @@ def _in_order(counts: Counter[str]) -> Dict[str, int]:
 
 
 def summary_of(
-    source: ListFile, results: Sequence[PassResult], outcome: Outcome, manner: Manner, began: float
+    source: ListFile,
+    results: Sequence[PassResult],
+    outcome: Outcome,
+    manner: Manner,
+    began: Tuple[float, float],
 ) -> Dict[str, Any]:
-    """What the summary says."""
-    ended = time.time()
-    times = [datetime.datetime.fromtimestamp(when, datetime.timezone.utc) for when in (began, ended)]
+    """What the summary says. The run began at this time, by the wall's clock and by one that never goes
+    back, by which it is told how long it took."""
+    seconds = time.monotonic() - began[1]
+    times = [
+        datetime.datetime.fromtimestamp(when, datetime.timezone.utc)
+        for when in (began[0], began[0] + seconds)
+    ]
     return {
         "list": source.name,
         "lines": outcome.lines,
         "counts": _in_order(outcome.counts),
+        "kept": str(manner.keep),
         "passes": [
             {
                 "limits": dict(zip(Limits.RANGES, result.limits.numbers())),
@@ -166,6 +201,6 @@ def summary_of(
         ],
         "began": times[0].isoformat(timespec="seconds"),
         "ended": times[1].isoformat(timespec="seconds"),
-        "seconds": round(ended - began, 3),
+        "seconds": round(seconds, 3),
         **dataclasses.asdict(manner.identity),
     }

@@ -1,15 +1,28 @@
-"""Where pieces are decided: anything over an executor of `concurrent.futures`."""
+"""Where pieces are decided: by threads of this process, or anything over an executor of
+`concurrent.futures`."""
 
 from __future__ import annotations
 
-from concurrent.futures import Executor, Future, ThreadPoolExecutor
-from typing import Any, Protocol
+import dataclasses
+from concurrent.futures import Executor, Future
+from typing import Any, Protocol, Union
 
 from .tasks import Numbers, Task
 
 
-class Workplace(Protocol):
-    """What the runner asks of it."""
+@dataclasses.dataclass(frozen=True)
+class Threads:
+    """So many threads of this process."""
+
+    count: int
+
+    def width(self) -> int:
+        """How many pieces are under way at most."""
+        return 2 * self.count
+
+
+class Executing(Protocol):
+    """What the runner asks of others who decide pieces."""
 
     def width(self) -> int:
         """How many pieces are under way at most."""
@@ -22,6 +35,9 @@ class Workplace(Protocol):
 
     def status(self) -> str:
         """What a person may want to know of it besides; empty where that is nothing."""
+
+
+Workplace = Union[Threads, Executing]
 
 
 class ExecutorPlace:
@@ -41,8 +57,3 @@ class ExecutorPlace:
 
     def status(self) -> str:
         return ""
-
-
-def threads(count: int) -> ExecutorPlace:
-    """Threads of this process; a call of the library leaves Python's lock."""
-    return ExecutorPlace(ThreadPoolExecutor(count, "budlarem"), count)
