@@ -506,7 +506,7 @@ class WholeTest(RunnerTest):
 
     def test_a_folder_of_something_else(self) -> None:
         self.out.mkdir()
-        for name in ("letters", "verdicts.txt", "summary.json"):
+        for name in ("letters", "verdicts.txt", "summary.json", "README.txt"):
             (self.out / name).write_text("kept")
             with self.assertRaisesRegex(FolderError, name):
                 self.run_over()

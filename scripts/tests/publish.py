@@ -259,7 +259,7 @@ def hold_names(tally: Tally, place: Place) -> None:
 
 
 def hold_run(tally: Tally, program: str, top: pathlib.Path) -> None:
-    """A run's folder tells its limits; one that isn't at its end is refused."""
+    """A run's folder tells its limits; one that isn't at its end, or kept only some verdicts, is refused."""
     place = Place(program, top / "of_run", 400, 5)
     case = Case(top / "run", place.list.read_bytes())
     case.run()
@@ -271,8 +271,13 @@ def hold_run(tally: Tally, program: str, top: pathlib.Path) -> None:
         about = json.load(file) if file else {}
     tally.hold("its limits: %s" % about, about["passes"] == case.words[1::2])
     tally.hold("its version", about["decided_by"] == about["checked_by"])
-    os.unlink(case.out / "summary.json")
     os.unlink(place.out)
+    kept = Case(top / "kept", place.list.read_bytes())
+    kept.run(str(kept.list), "--keep", "left")
+    done = place.publish("--verdicts", str(kept.out))
+    right = done.returncode == 2 and "only the verdicts that --keep left kept" in done.stderr
+    tally.hold("a run that kept some: %d, %s" % (done.returncode, done.stderr), right and not place.left())
+    os.unlink(case.out / "summary.json")
     done = place.publish("--verdicts", str(case.out))
     right = done.returncode == 2 and "isn't at its end" in done.stderr
     tally.hold("a run that goes on: %d, %s" % (done.returncode, done.stderr), right and not place.left())

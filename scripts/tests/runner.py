@@ -265,7 +265,7 @@ def hold_foreign_files(tally: Tally, top: pathlib.Path) -> None:
     begun with has one bit changed."""
     case = Case(top / "foreign", random_list(300, 9))
     case.out.mkdir()
-    for name in ("verdicts.txt", "summary.json", "letters"):
+    for name in ("verdicts.txt", "summary.json", "README.txt", "letters"):
         (case.out / name).write_text("kept\n")
         hold_refused(tally, "somebody else's " + name, case, "other files in it, as %s" % name)
         (case.out / name).unlink()

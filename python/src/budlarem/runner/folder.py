@@ -42,8 +42,8 @@ _PAGE = string.Template(
   summary.json  counts, limits and times, from then on
   run.json      what the run was begun with, and a seal over it
   pass-1, ..    of each pass `pieces`, the verdict lines so far, and `journal`,
-                which says where each piece of them stands. verdicts.txt may be a
-                second name of pass-1/pieces, so change it in a copy. These
+                which says where each piece of them stands. verdicts.txt may be
+                a second name of pass-1/pieces, so change it in a copy. These
                 folders may be removed when no pass will be added
   lock          held while a run works here
   README.txt    this page
@@ -143,7 +143,7 @@ class Begun:
             "commit": self.identity.commit,
         }
         if self.keep.only_left:
-            told["verdicts"] = "the verdicts that are kept (%s), in the list's order" % self.keep
+            told["verdicts"] = "the verdicts that are kept (%s), in order" % self.keep
         return _PAGE.substitute(told)
 
     def _again(self, folder: str, listed: Sequence[str]) -> str:
