@@ -1,0 +1,6 @@
+mod Asks
+mod Halting
+mod Judging
+mod Lefts
+mod Tables
+mod Useds

@@ -64,7 +64,7 @@ no_counts = record {
 
 -- one more where the test holds
 abbrev pub more_if : Bool → ℕ → ℕ
-more_if b n = saturated (n + cond b 1 0)
+more_if b n = cond b (saturated (n + 1)) n
 
 -- the counts with one line more
 abbrev pub counted : Counts → VerdictLine → Counts

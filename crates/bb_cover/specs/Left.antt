@@ -1,5 +1,6 @@
 -- The machines that a walk has still to visit.
 use Rattle.std.specs.Prelude.{◌≡◌, ℕ, zero, suc, ◌+◌, ◌<◌, ◌≤◌, List, [], ◌∷◌, ◌++◌, drop, length, map, Option, Some, None}
+use Rattle.bb_machine.specs.declared.machine.TheConstants.{MAX_STATES, MAX_SYMBOLS}
 use Rattle.bb_machine.specs.Machine.{Table, IsMachine, symbols_of}
 use Rattle.laws_of_verdicts.specs.Closed.{with_entry}
 use Rattle.laws_of_verdicts.specs.Walk.{FillsGapBy}
@@ -24,6 +25,8 @@ left (frame ∷ frames) = left frames ++ left_of frame
 pub record IsFrame (before : ℕ) (frame : Frame) : Type 0 where
   pub machine : IsMachine frame.machine
   pub gap : IsGapOf frame.machine frame.gap
+  pub few : frame.asked.states ≤ MAX_STATES
+  pub few_symbols : frame.asked.symbols ≤ MAX_SYMBOLS
   pub some : frame.next < length (entries frame.asked)
   pub room : gaps_of frame.machine + before ≤ MAX_FRAMES
 

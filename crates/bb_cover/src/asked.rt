@@ -31,6 +31,7 @@ impl Asked {
 
     /// How many write one symbol.
     fn width(&self) -> usize
+        requires { self.now.states ≤ MAX_STATES }
         ensures { result ≡ width_of self.now }
     {
         if self.is_root {
@@ -42,6 +43,7 @@ impl Asked {
 
     /// How many there are.
     pub(crate) fn count(&self) -> usize
+        requires { self.now.states ≤ MAX_STATES }
         ensures { result ≡ length (entries self.now) }
     {
         self.symbols as usize * self.width()
@@ -49,7 +51,9 @@ impl Asked {
 
     /// The one with so many before it.
     pub(crate) fn entry(&self, index: usize) -> Entry
-        requires { index < length (entries self.now) }
+        requires states { self.now.states ≤ MAX_STATES }
+        requires symbols { self.now.symbols ≤ MAX_SYMBOLS }
+        requires index { index < length (entries self.now) }
         ensures { result ≡ slice_index_or (entries self.now) index Entry.Undefined }
     {
         let width = self.width();

@@ -1,8 +1,9 @@
 //! Whether a verdict on a machine may stand in a list, and on which `---` its machine halts.
 ghost use Rattle.std.specs.Prelude.{◌≡◌, ◌≤◌, IfOk, IsTrue, OnErr};
 ghost use Rattle.bb_cert.specs.checker.Pair.{PairHasCells};
+ghost use Rattle.bb_cert.specs.checker.Answer.{IsAnswer};
 ghost use Rattle.bb_cert.specs.tree.Path.{depth_of};
-ghost use Rattle.bb_cover.specs.Claims.{IsJudged};
+ghost use Rattle.bb_cover.specs.Claims.{IsHalt, IsJudged, IsOneOf};
 
 use crate::gap::{Gap, has_other_gap};
 use crate::halt::{Halted, halt_at};
@@ -71,6 +72,7 @@ fn judge_halt<T: Tape>(
 
 /// The `---` on which a machine halted, where that is one of several.
 fn gap_to_fill(machine: &Machine, halted: Halted) -> Option<Gap>
+    ensures { IsOneOf machine.now halted.gap result }
 {
     let gap = halted.gap?;
     if has_other_gap(machine, gap) {
@@ -88,6 +90,13 @@ fn refuse_halt<T: Tape>(
     pair: &mut Pair<T>,
     path: &mut Path,
 ) -> Result<Judged, Memory>
+    requires not_so { IsAnswer machine.now limits.now (Verdict.Halt steps score) Answer.Ok → ⊥ }
+    requires tapes { PairHasCells T.view limits.now.cells pair.old }
+    requires path { limits.now.depth ≤ depth_of path.old }
+    ensures judged { IfOk result (IsJudged machine.now limits.now (Verdict.Halt steps score)) }
+    ensures tapes { PairHasCells T.view limits.now.cells pair.new }
+    ensures path { depth_of path.new ≡ depth_of path.old }
+    ensures memory { OnErr result (IsTrue T.GROWS) }
 {
     let verdict = Verdict::Halt { steps, score };
     let mut meter = Meter::new();
@@ -103,6 +112,13 @@ fn judge_answer<T: Tape>(
     pair: &mut Pair<T>,
     path: &mut Path,
 ) -> Result<Judged, Memory>
+    requires no_halt { IsHalt verdict.now → ⊥ }
+    requires tapes { PairHasCells T.view limits.now.cells pair.old }
+    requires path { limits.now.depth ≤ depth_of path.old }
+    ensures judged { IfOk result (IsJudged machine.now limits.now verdict.now) }
+    ensures tapes { PairHasCells T.view limits.now.cells pair.new }
+    ensures path { depth_of path.new ≡ depth_of path.old }
+    ensures memory { OnErr result (IsTrue T.GROWS) }
 {
     let mut meter = Meter::new();
     let answer = check(machine, verdict, limits, pair, path, &mut meter)?;

@@ -1,7 +1,7 @@
 //! How many lines of each kind a list has.
-ghost use Rattle.std.specs.Prelude.{◌≡◌, ◌+◌, min};
-ghost use Rattle.bb_cover.specs.Counts.{counted, no_counts, saturated};
-ghost use Rattle.laws_of_verdicts.specs.Closed.{VerdictLine};
+ghost use Rattle.std.specs.Prelude.{◌≡◌, ◌+◌, nat_lt};
+ghost use Rattle.bb_cover.specs.Counts.{counted, more_if, no_counts, saturated};
+ghost use Rattle.bb_cover.specs.Gaps.{gaps_of};
 
 use crate::table::count_gaps;
 use bb_cert::Verdict;
@@ -58,6 +58,10 @@ impl Counts {
 
     /// Counts an undecided line, as such alone.
     fn add_undecided(&mut self, machine: &Machine)
+        ensures { self.new ≡ record self.old {
+            undecided = saturated (self.old.undecided + 1);
+            wide = more_if (nat_lt 1 (gaps_of machine.now)) self.old.wide;
+        } }
     {
         self.undecided = self.undecided.saturating_add(1);
         if count_gaps(machine) > 1 {

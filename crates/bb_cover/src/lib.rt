@@ -10,9 +10,11 @@ mod gap;
 mod halt;
 mod list;
 mod table;
+mod text;
 mod used;
 mod walk;
 
 pub use counts::Counts;
 pub use found::{Found, Stop, Why};
 pub use list::{Cover, run_cover};
+pub use text::Text;

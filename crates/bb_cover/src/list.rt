@@ -16,6 +16,7 @@ use crate::counts::Counts;
 use crate::found::{Found, Stop, Why};
 use crate::gap::Gap;
 use crate::table::is_empty;
+use crate::text::{Text, next_text, text_of};
 use crate::walk::Walk;
 use bb_cert::{LINE_BUFFER, LineContent, Pair, Path, Verdict, read_line_in_place};
 use bb_lines::fault::Fault;
@@ -52,6 +53,11 @@ pub struct Cover {
     pub found: Found,
     /// What was visited up to the line where it stops, or to its end.
     pub counts: Counts,
+    /// The machine that was still to be visited first, for whoever looks at it; empty where there is none. No
+    /// clause speaks of it.
+    pub asked: Text,
+    /// The machine of the last line that has one and wasn't passed on, likewise.
+    pub given: Text,
 }
 
 /// What takes the lines of a list.
@@ -277,5 +283,7 @@ pub fn run_cover<R: Read, T: Tape>(
     Ok(Cover {
         found: checker.course.found(),
         counts: checker.course.counts,
+        asked: next_text(&checker.course.walk),
+        given: text_of(&checker.machine),
     })
 }

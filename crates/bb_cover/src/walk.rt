@@ -4,7 +4,7 @@ ghost use Rattle.std.specs.Prelude.{IfOk, IfSome, IsTrue, length, vec_capacity};
 ghost use Rattle.bb_machine.specs.Machine.{Table};
 ghost use Rattle.laws_of_verdicts.specs.Walk.{FillsGapBy};
 ghost use Rattle.bb_cover.specs.Gaps.{IsGapOf, gaps_of};
-ghost use Rattle.bb_cover.specs.Left.{FillsAt, IsFirst, IsStack, VisitsNext, left};
+ghost use Rattle.bb_cover.specs.Left.{FillsAt, IsFirst, IsFrame, IsStack, VisitsNext, left};
 
 use crate::asked::Asked;
 use crate::gap::Gap;
@@ -88,6 +88,7 @@ impl Walk {
         requires gap { IfSome gap (IsGapOf machine.old) }
         ensures { FillsAt machine.old gap self.new }
     {
+        machine.show_machine();
         if let Some(gap) = gap {
             go_on(&mut self.frames, machine, gap);
         }
@@ -107,8 +108,13 @@ impl Walk {
     }
 
     /// The frame of the next machine, if there is one.
-    pub(crate) fn top(&self) -> Option<&Frame> {
-        self.frames.last()
+    pub(crate) fn top(&self) -> Option<&Frame>
+        ensures { IfSome result (λ frame. IsFrame 0 frame.now) }
+    {
+        if self.frames.is_empty() {
+            return None;
+        }
+        Some(&self.frames[self.frames.len() - 1])
     }
 }
 
@@ -141,6 +147,7 @@ fn go_on(frames: &mut Vec<Frame>, machine: &mut Machine, gap: Gap)
     ensures stack { IsStack frames.new.items }
     ensures capacity { MAX_FRAMES ≤ vec_capacity frames.new }
 {
+    machine.show_machine();
     let asked = Asked::of(machine, is_empty(machine));
     let taken = mem::replace(machine, Machine::blank());
     let _pushed = frames.push(Frame {
