@@ -2,5 +2,8 @@ mod Asks
 mod Halting
 mod Judging
 mod Lefts
+mod Steps
 mod Tables
+mod Tallies
 mod Useds
+mod Wholes

@@ -1,9 +1,12 @@
 //! Whether a list covers a size, from its bytes.
 ghost use Rattle.std.specs.Prelude.{◌≡◌, ◌≢◌, ◌↔◌, ◌+◌, ◌≤◌, [], List, false, true};
-ghost use Rattle.std.specs.Prelude.{IfOk, IfSome, IsTrue, None};
+ghost use Rattle.std.specs.Prelude.{IfNone, IfOk, IfSome, IsTrue, None};
 ghost use Rattle.bb_machine.specs.Machine.{Table};
+ghost use Rattle.bb_cert.specs.declared.verdict.Verdict.{Verdict};
+ghost use Rattle.bb_cert.specs.declared.verdict.reader.Line.{Line};
 ghost use Rattle.bb_cert.specs.checker.Pair.{PairHasCells};
 ghost use Rattle.bb_cert.specs.tree.Path.{depth_of};
+ghost use Rattle.bb_cert.specs.verdict.Line.{IsLineOf};
 ghost use Rattle.bb_lines.specs.Watched.{is_marked, watched_inner};
 ghost use Rattle.laws_of_verdicts.specs.Closed.{VerdictLine};
 ghost use Rattle.bb_cover.specs.Counts.{counted, saturated};
@@ -205,12 +208,9 @@ impl<T: Tape> Taker for Checker<'_, T> {
             self.course.stop_for(Why::Beyond);
             return Ok(());
         }
-        let verdict = match read_line_in_place(line, &mut self.machine) {
-            Some(LineContent::Claim(verdict)) => verdict,
-            _ => {
-                self.course.stop_for(Why::Unread);
-                return Ok(());
-            }
+        let Some(verdict) = read_verdict(line, &mut self.machine) else {
+            self.course.stop_for(Why::Unread);
+            return Ok(());
         };
         if !self.course.asks(&self.machine) {
             self.course.stop_for(Why::NotNext);
@@ -234,6 +234,19 @@ impl<T: Tape> Taker for Checker<'_, T> {
             }
             Err(_) => Err(AllocError),
         }
+    }
+}
+
+/// The verdict on a machine that a line says, if it says one. The machine is read in place of another.
+fn read_verdict(line: &[u8], machine: &mut Machine) -> Option<Verdict>
+    ensures found { IfSome result (λ verdict. IsLineOf (Line.Claim machine.new verdict) line.now) }
+    ensures none { IfNone result ((table : Table) (verdict : Verdict)
+        → IsLineOf (Line.Claim table verdict) line.now → ⊥) }
+{
+    match read_line_in_place(line, machine) {
+        Some(LineContent::Claim(verdict)) => Some(verdict),
+        Some(LineContent::Refusal(_)) => None,
+        None => None,
     }
 }
 
