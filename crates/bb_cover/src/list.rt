@@ -1,5 +1,5 @@
 //! Whether a list covers a size, from its bytes.
-ghost use Rattle.std.specs.Prelude.{◌≡◌, ◌≢◌, ◌↔◌, ◌+◌, ◌≤◌, [], List, false, true};
+ghost use Rattle.std.specs.Prelude.{◌≡◌, ◌≢◌, ◌↔◌, ◌⊎◌, ◌+◌, ◌≤◌, [], List, false, true};
 ghost use Rattle.std.specs.Prelude.{IfNone, IfOk, IfSome, IsTrue, None};
 ghost use Rattle.bb_machine.specs.Machine.{Table};
 ghost use Rattle.bb_cert.specs.declared.verdict.Verdict.{Verdict};
@@ -272,7 +272,8 @@ pub fn run_cover<R: Read, T: Tape>(
     ensures ends { CoverEnds limits.now
         (R.remaining (watched_inner reader.old)) (R.remaining (watched_inner reader.new)) result }
 
-    // When each fault comes: but for want of memory before the first line, only as the tapes take some.
+    // When each fault comes. Memory runs out where the tapes take some, or before anything is read.
+    ensures memory { result ≡ Err Fault.Memory → IsTrue T.GROWS ⊎ (reader.new ≡ reader.old) }
     ensures read { (result ≡ Err Fault.Read) ↔ (is_marked reader.new ≡ true) }
     ensures no_write { result ≢ Err Fault.Write }
 {

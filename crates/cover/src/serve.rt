@@ -27,6 +27,7 @@ pub fn cover_list<R: Read>(
     requires { is_marked reader.old ≡ false }
     ensures ends { CoverEnds limits.now
         (R.remaining (watched_inner reader.old)) (R.remaining (watched_inner reader.new)) result }
+    ensures memory { result ≡ Err Fault.Memory → reader.new ≡ reader.old }
     ensures read { (result ≡ Err Fault.Read) ↔ (is_marked reader.new ≡ true) }
     ensures no_write { result ≢ Err Fault.Write }
 {
