@@ -29,7 +29,7 @@ from tally import TOP, Tally, end_with, words
 COVER = os.path.join(TOP, "crates", "cover", "out", "cover")
 # States and symbols of the lists that are small.
 SMALL = [(1, 2), (2, 2), (3, 2), (1, 3), (2, 3), (1, 4), (1, 10)]
-LARGE = [(4, 2)]
+LARGE = [(2, 4), (4, 2)]
 # Within so many steps each machine of these lists halts that leads to others.
 LIST_STEPS = 200
 LIMITS = options((LIST_STEPS, 512, 40, 1_000))
@@ -181,7 +181,8 @@ def main() -> int:
     hold_changes(tally, lists[3, 2], count, random.Random(asked.seed))
     if not asked.quick:
         for size in LARGE:
-            hold_time(tally, asked.program, hold_whole(tally, asked.program, *size))
+            lines = hold_whole(tally, asked.program, *size)
+        hold_time(tally, asked.program, lines)
     return tally.end()
 
 

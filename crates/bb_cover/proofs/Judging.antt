@@ -52,7 +52,7 @@ pub record OkHalt (table : Table) (bounds : Bounds) (steps score : ℕ) : Type 0
   pub few_cells : span table steps ≤ bounds.cells
 
 not_more : (n k : ℕ) → (k < n → ⊥) → n ≤ k
-not_more n k not = elim (cases_lt k n) [ | inl more ↦ absurd (not more) | inr few ↦ few ]
+not_more n k not = elim (cases_lt k n) [ inl more ↦ absurd (not more) | inr few ↦ few ]
 
 by_rule : (table : Table) (bounds : Bounds) (steps score : ℕ) (rule : Rule) → answer.Ok ≡ answer_by rule
     → Applies table bounds (Halt steps score) rule
@@ -188,8 +188,7 @@ to_fill table steps score (Some gap) None on one = λ state symbol halts.
     one (subst (HasOtherGap table gap.state) (sym here.1)
     (subst (λ q. HasOtherGap table q symbol) (sym here.0) halts.other))
 to_fill table steps score (Some gap) (Some found) on one =
-    subst (λ g. IsToFill (record { table = table; verdict = Halt steps score }) (Some g)) (sym one.0)
-    (
+    subst (λ g. IsToFill (record { table = table; verdict = Halt steps score }) (Some g)) (sym one.0) (
       record { steps = steps; score = score; says = refl; gap = on.0; other = one.1 },
       on.1,
     )

@@ -120,7 +120,8 @@ pub passes_within : (frames : List Frame) (d : Frame) → IsStack frames → 0 <
     < length (entries (get_or frames (length frames - 1) d).asked)
     → (new : List Frame)
     → new ≡ set frames (length frames - 1) (record (get_or frames (length frames - 1) d) {
-      next = (get_or frames (length frames - 1) d).next + 1 })
+      next = (get_or frames (length frames - 1) d).next + 1;
+    })
     → Passes frames new
 passes_within frames d stack some fits new is = by (get_or frames (length frames - 1) d) refl where
   by : (last : Frame) → get_or frames (length frames - 1) d ≡ last → Passes frames new

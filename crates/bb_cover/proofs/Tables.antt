@@ -121,7 +121,6 @@ gaps_of_more gs i inside =
     let last = gaps_of-append (take i gs) (get_or gs i [] ∷ []) in
     ap gaps_of (take_more gs i [] inside) ∙ omega (arith, last)
 
-
 -- at most as many as there are entries
 few_gaps : (n : ℕ) (gs : Table) → ((q : ℕ) → q < length gs → length (get_or gs q []) ≤ n)
     → gaps_of gs ≤ length gs * n

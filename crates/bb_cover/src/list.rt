@@ -103,7 +103,8 @@ impl Course {
     /// Stops at the line after those that were visited.
     fn stop_for(&mut self, why: Why)
         ensures { self.new ≡ record self.old {
-            stop = Some (record { line = saturated (self.old.counts.lines + 1); why = why }) } }
+          stop = Some (record { line = saturated (self.old.counts.lines + 1); why = why });
+        } }
     {
         self.stop = Some(Stop {
             line: self.counts.lines.saturating_add(1),
@@ -216,13 +217,7 @@ impl<T: Tape> Taker for Checker<'_, T> {
             self.course.stop_for(Why::NotNext);
             return Ok(());
         }
-        match judge(
-            &self.machine,
-            &verdict,
-            &self.limits,
-            self.pair,
-            self.path,
-        ) {
+        match judge(&self.machine, &verdict, &self.limits, self.pair, self.path) {
             Ok(Judged::Fine(gap)) => {
                 self.course.visit(&mut self.machine, &verdict, gap);
                 self.seen.set(self.course.counts.lines);

@@ -39,11 +39,17 @@ impl Report<'_> {
             Why::Unread => write!(f, "line {line}: it is no verdict line"),
             Why::NotNext => write!(f, "line {line}: {asked} expected, found {given}"),
             Why::Refused(Answer::Over) => {
-                write!(f, "line {line}: the claim on {given} needs more than the limits")
+                write!(
+                    f,
+                    "line {line}: the claim on {given} needs more than the limits"
+                )
             }
             Why::Refused(_) => write!(f, "line {line}: the claim on {given} doesn't hold"),
             Why::TooSoon => write!(f, "line {line}: {asked} expected, the list ends"),
-            Why::Beyond => write!(f, "line {line}: no line expected, all machines were visited"),
+            Why::Beyond => write!(
+                f,
+                "line {line}: no line expected, all machines were visited"
+            ),
         }
     }
 }

@@ -5,8 +5,7 @@ use Rattle.bb_cover.proofs.claim.judge_halt.Goals as goal
 
 pub returns-clause-judged : goal.returns-clause-judged
 returns-clause-judged g c =
-    let ends = rw c.in-Some.is at c.in_ok-halted.ensures.ends in
-    (
+    let ends = rw c.in-Some.is at c.in_ok-halted.ensures.ends in (
       record {
         given = Ok;
         is_answer = halt_is_ok c.args.machine.now c.args.limits.now c.args.steps c.args.score c.in-Some.halted ends
