@@ -93,7 +93,9 @@ def summary(states: int, symbols: int, lines: Sequence[str]) -> str:
     return "covers %s: %s" % (size, counts)
 
 
-def hold_output(tally: Tally, what: str, command: Sequence[str], given: bytes, status: int, line: str) -> None:
+def hold_output(
+    tally: Tally, what: str, command: Sequence[str], given: bytes, status: int, line: str
+) -> None:
     """Holds that `cover` ends with this status and prints this line alone."""
     done = ended(command, given)
     told = "%s: status %d, %r, %r" % (what, done.status, done.output, done.error)
@@ -133,7 +135,7 @@ def hold_time(tally: Tally, program: str, lines: Sequence[str]) -> None:
 def hold_sentences(tally: Tally, lines: List[str]) -> None:
     """Holds what `cover` says of a list of two states that isn't as it should be, and of wrong words."""
     root, first = lines[0].split(" ")[0], lines[1].split(" ")[0]
-    rows = [
+    rows: List[Tuple[List[str], str]] = [
         ([], "line 1: a machine with no entry expected, the list ends"),
         (lines[1:], "line 1: a machine with no entry expected, found %s" % first),
         ([lines[0], ""], "line 2: it is no verdict line"),

@@ -1,5 +1,5 @@
 -- Which verdicts may stand in a list, and on which `---` their machines halt.
-use Rattle.std.proofs.Common.{◌≡◌, ℕ, ◌<◌, ◌≤◌, Bool, true, false, Option, Some, None, inl, inr, refl, sym, subst}
+use Rattle.std.proofs.Common.{◌≡◌, ℕ, ◌<◌, ◌≤◌, true, false, Option, Some, None, inl, inr, refl, sym, subst}
 use Rattle.std.proofs.Common.{ap, ◌∙◌, arith}
 use Rattle.std.proofs.lemmas.Bool.{cases_lt}
 use Rattle.bb_machine.specs.Limits.{Bounds}
@@ -18,9 +18,7 @@ use Rattle.bb_cert.specs.declared.verdict.Verdict.TheVariants.{Halt, Cycler, Tra
 use Rattle.bb_cert.specs.claims.Claim.{Claim}
 use Rattle.bb_cert.specs.checker.Answer.{Applies, IsAnswer, IsUndecided, Rule, answer_by, is_fine, rank}
 use Rattle.bb_cert.specs.checker.Answer.{undecided, too_much_named, out_of_order, too_much_needed, claim_holds, all_else}
-use Rattle.laws_of_verdicts.specs.Closed.{VerdictLine}
 use Rattle.laws_of_verdicts.specs.Gap.{HaltsOnGap, HasOtherGap}
-use Rattle.laws_of_verdicts.specs.Walk.{HaltsOnOneOf}
 use Rattle.bb_cover.specs.declared.gap.Gap.{Gap}
 use Rattle.bb_cover.specs.declared.halt.Halted.{Halted}
 use Rattle.bb_cover.specs.Claims.{IsFineClaim, IsHalt, IsOneOf}

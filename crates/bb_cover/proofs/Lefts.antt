@@ -1,14 +1,12 @@
 -- What is left of a walk, frame by frame.
 use Rattle.std.proofs.Common.{◌≡◌, ℕ, zero, suc, ◌+◌, ◌-◌, ◌<◌, ◌≤◌, Bool, List, [], ◌∷◌, ◌++◌, length, get_or, set}
-use Rattle.std.proofs.Common.{drop, map, min, take, Option, Some, None, refl, ap, sym, subst, ◌∙◌, append_assoc, arith}
+use Rattle.std.proofs.Common.{drop, map, min, take, refl, ap, sym, subst, ◌∙◌, append_assoc, arith}
 use Rattle.std.proofs.Common.{length-append, add-one, ◌↔◌, IsTrue}
 use Rattle.std.proofs.Math.Seq.{drop-cons}
-use Rattle.std.proofs.lemmas.List.{append-nil, drop_all, get_or_default, length-map, length-take-le, set_at, take_all, take_more}
-use Rattle.bb_machine.specs.declared.entry.Entry.{Entry}
-use Rattle.bb_machine.specs.declared.entry.Entry.TheVariants.{Undefined, Go}
+use Rattle.std.proofs.lemmas.List.{append-nil, drop_all, get_or_default, length-take-le, set_at, take_all, take_more}
+use Rattle.bb_machine.specs.declared.entry.Entry.TheVariants.{Undefined}
 use Rattle.bb_machine.specs.declared.entry.Next.TheVariants.{State}
-use Rattle.bb_machine.specs.declared.machine.TheConstants.{MAX_STATES, MAX_SYMBOLS}
-use Rattle.bb_machine.specs.Machine.{Table, IsMachine, symbols_of}
+use Rattle.bb_machine.specs.Machine.{Table, IsMachine}
 use Rattle.laws_of_verdicts.specs.Closed.{with_entry}
 use Rattle.laws_of_verdicts.specs.NormalForm.{IsEmpty}
 use Rattle.laws_of_verdicts.specs.Walk.{FillsGapBy, entries_of}
@@ -20,7 +18,7 @@ use Rattle.bb_cover.specs.Asked.{IsAsking, entries}
 use Rattle.bb_cover.specs.Gaps.{IsGapOf, gaps_of}
 use Rattle.bb_cover.specs.Left.{AreFrames, IsFirst, IsFrame, IsStack, left, left_of}
 use Rattle.bb_cover.proofs.Asks.{few_entries, leads_on, some_entries}
-use Rattle.bb_cover.proofs.Tables.{filled_gaps, some_gaps}
+use Rattle.bb_cover.proofs.Tables.{filled_gaps}
 
 pub left-push : (frames : List Frame) (frame : Frame) → left (frames ++ frame ∷ []) ≡ left_of frame ++ left frames
 left-push [] frame = sym (append-nil (left_of frame))

@@ -1,7 +1,7 @@
 -- What the lines of a list come to, from what each line did.
-use Rattle.std.proofs.Common.{◌≡◌, ◌≢◌, ◌↔◌, ℕ, zero, suc, ◌+◌, ◌<◌, ◌⊎◌, Bool, true, false, List, [], ◌∷◌, ◌++◌}
+use Rattle.std.proofs.Common.{◌≡◌, ℕ, zero, suc, ◌+◌, ◌<◌, List, [], ◌∷◌, ◌++◌}
 use Rattle.std.proofs.Common.{Option, Some, None, length, replicate, inl, inr, refl, ap, sym, subst, ◌∙◌, arith}
-use Rattle.std.proofs.Common.{append_assoc, length-append}
+use Rattle.std.proofs.Common.{append_assoc}
 use Rattle.std.specs.Prelude.{Contains}
 use Rattle.std.specs.List.{FoldsTo}
 use Rattle.std.proofs.lemmas.Fn.{chained_keeps}
@@ -29,7 +29,7 @@ use Rattle.bb_cover.specs.declared.list.Size.{Size}
 use Rattle.bb_cover.specs.Claims.{AreTrueLines, IsTrueLine}
 use Rattle.bb_cover.specs.Counts.{AreCounts, no_counts, saturated}
 use Rattle.bb_cover.specs.Course.{EndsTooSoon, IsAsked, IsFoundBy, IsWrong, Stopped, TookBy, Visited, size_after}
-use Rattle.bb_cover.specs.Covering.{CoversSize, DecidesSize, HasLeft, IsCover, IsFound, IsWholeWalk, IsWrongAt, StopsAt}
+use Rattle.bb_cover.specs.Covering.{CoversSize, DecidesSize, HasLeft, IsCover, IsFound, IsWholeWalk, StopsAt}
 use Rattle.bb_cover.proofs.Judging.{fine_claim, fine_or_not}
 use Rattle.bb_cover.proofs.Steps.{goes_on, one_line}
 use Rattle.bb_cover.proofs.Tables.{empty_is}

@@ -1,5 +1,5 @@
-use Rattle.std.proofs.Common.{◌<◌, refl}
-use Rattle.bb_cover.proofs.Judging.{halt_is_ok, not_there, other_score, over_halt, to_fill}
+use Rattle.std.proofs.Common.{refl}
+use Rattle.bb_cover.proofs.Judging.{halt_is_ok, not_there, to_fill}
 use Rattle.bb_cert.specs.declared.checker.answer.Answer.TheVariants.{Ok}
 use Rattle.bb_cover.proofs.claim.judge_halt.Goals as goal
 

@@ -1,4 +1,4 @@
-use Rattle.std.proofs.Common.{◌≡◌, ◌<◌, [], arith, length, get_or, ap, ◌∙◌, sym, take}
+use Rattle.std.proofs.Common.{[], arith, get_or, ap, ◌∙◌}
 use Rattle.std.proofs.lemmas.List.{take_all}
 use Rattle.bb_cover.specs.Gaps.{gap_in, gaps_in}
 use Rattle.bb_cover.proofs.Tables.{gap_in_few, gaps_in_more, group_long}

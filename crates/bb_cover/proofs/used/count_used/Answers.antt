@@ -1,4 +1,4 @@
-use Rattle.std.proofs.Common.{arith, below_more, ◌<◌, ◌+◌}
+use Rattle.std.proofs.Common.{arith, below_more}
 use Rattle.bb_cover.proofs.Useds.{needs_more, uses}
 use Rattle.bb_cover.proofs.used.count_used.Goals as goal
 

@@ -1,7 +1,6 @@
 use Rattle.std.proofs.Common.{◌≡◌, ◌<◌, ◌+◌, ◌++◌, ◌∷◌, [], length, arith, ap, ◌∙◌, sym, subst, map, vec_len}
 use Rattle.std.specs.Prelude.{vec_capacity}
 use Rattle.std.proofs.lemmas.Grind.{common_steps}
-use Rattle.bb_machine.specs.declared.machine.Machine.{Machine}
 use Rattle.laws_of_verdicts.specs.Closed.{with_entry}
 use Rattle.bb_cover.specs.declared.walk.Frame.{Frame}
 use Rattle.bb_cover.specs.Asked.{entries}

@@ -1,6 +1,5 @@
-use Rattle.std.proofs.Common.{◌≡◌, ◌<◌, ◌-◌, length, arith, take, ap, ◌∙◌}
+use Rattle.std.proofs.Common.{◌≡◌, ◌-◌, length, arith, take}
 use Rattle.std.proofs.lemmas.Grind.{common_steps}
-use Rattle.bb_cover.specs.Left.{IsFrame}
 use Rattle.bb_cover.proofs.Lefts.{Passes, few_left, passes_by, passes_end, read_frame}
 use Rattle.bb_cover.proofs.walk.pass.Goals as goal
 use Rattle.bb_cover.proofs.walk.pass.Goals.{After-index, After-pop-passed}

@@ -1,6 +1,5 @@
 use Rattle.std.proofs.Common.{◌≡◌, ◌<◌, ◌-◌, ap, sym, subst, ◌∙◌, length, arith}
 use Rattle.std.proofs.lemmas.Grind.{common_steps}
-use Rattle.bb_machine.specs.Machine.{Table}
 use Rattle.laws_of_verdicts.specs.Closed.{with_entry}
 use Rattle.bb_cover.specs.Left.{IsFirst, IsFrame, left}
 use Rattle.bb_cover.proofs.Lefts.{first_is_one, head_of, next_of, read_frame}
