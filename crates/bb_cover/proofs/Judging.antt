@@ -17,7 +17,8 @@ use Rattle.bb_cert.specs.declared.verdict.Verdict.{Verdict}
 use Rattle.bb_cert.specs.declared.verdict.Verdict.TheVariants.{Halt, Cycler, Translated, Backward, Undecided}
 use Rattle.bb_cert.specs.claims.Claim.{Claim}
 use Rattle.bb_cert.specs.checker.Answer.{Applies, IsAnswer, IsUndecided, Rule, answer_by, is_fine, rank}
-use Rattle.bb_cert.specs.checker.Answer.{undecided, too_much_named, out_of_order, too_much_needed, claim_holds, all_else}
+use Rattle.bb_cert.specs.checker.Answer.{undecided, too_much_named, out_of_order, too_much_needed}
+use Rattle.bb_cert.specs.checker.Answer.{claim_holds, all_else}
 use Rattle.laws_of_verdicts.specs.Gap.{HaltsOnGap, HasOtherGap}
 use Rattle.bb_cover.specs.declared.gap.Gap.{Gap}
 use Rattle.bb_cover.specs.declared.halt.Halted.{Halted}
@@ -120,7 +121,8 @@ not_fine table bounds steps score answer.Bad is not = refl
 not_fine table bounds steps score answer.Over is not = refl
 not_fine table bounds steps score answer.Open is not = absurd (never_open is.rule is.is is.applies)
   where
-    never_open : (rule : Rule) → answer.Open ≡ answer_by rule → Applies table bounds (Halt steps score) rule → ⊥
+    never_open : (rule : Rule) → answer.Open ≡ answer_by rule
+        → Applies table bounds (Halt steps score) rule → ⊥
     never_open undecided e applies = applies
     never_open too_much_named e applies = cc
     never_open out_of_order e applies = cc

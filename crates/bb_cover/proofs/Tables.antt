@@ -2,7 +2,8 @@
 use Rattle.std.proofs.Common.{◌≡◌, ℕ, suc, ◌+◌, ◌*◌, ◌<◌, ◌≤◌, List, [], ◌∷◌, ◌++◌, length, get_or, set, take}
 use Rattle.std.proofs.Common.{replicate, inl, inr, refl, ap, sym, ◌∙◌, arith}
 use Rattle.std.proofs.lemmas.Bool.{cases_eq, cases_lt}
-use Rattle.std.proofs.lemmas.List.{ext_get_or, length-set, get_or-set_same, get_or-set_other, get_or-replicate}
+use Rattle.std.proofs.lemmas.List.{ext_get_or, length-set, get_or-set_same, get_or-set_other}
+use Rattle.std.proofs.lemmas.List.{get_or-replicate}
 use Rattle.std.proofs.lemmas.List.{get_or_past, length-replicate, take_more}
 use Rattle.std.proofs.lemmas.List.Elements.{All-from_recursion}
 use Rattle.bb_machine.specs.declared.entry.Dir.TheVariants as dir
@@ -73,7 +74,8 @@ pub everywhere_empty : (table : Table) → IsMachine table
     → ((q : ℕ) → q < length table → (s : ℕ) → s < symbols_of table → entry_of table q s ≡ Undefined)
     → IsEmpty table
 everywhere_empty table machine none q s =
-    ap (λ t. entry_of t q s) (all_empty table machine none) ∙ all_gaps-none (length table) (symbols_of table) q s
+    ap (λ t. entry_of t q s) (all_empty table machine none)
+    ∙ all_gaps-none (length table) (symbols_of table) q s
 
 pub empty_is : (table : Table) → IsMachine table → IsEmpty table
     → table ≡ all_gaps (length table) (symbols_of table)

@@ -112,8 +112,8 @@ impl Course {
         });
     }
 
-    /// Visits the next machine, which has this verdict, and halts on this one of several `---`, if on any. The
-    /// machine is taken where it does.
+    /// Visits the next machine, which has this verdict, and halts on this one of several `---`, if on any.
+    /// The machine is taken where it does.
     fn visit(&mut self, machine: &mut Machine, verdict: &Verdict, gap: Option<Gap>)
         requires asked { (rest : List Table) × IsAsked self.old.size self.old.walk machine.old rest }
         requires unbegun { self.old.size ≡ None → self.old.walk ≡ [] }

@@ -8,8 +8,8 @@ returns-clause-judged g c =
     let ends = rw c.in-Some.is at c.in_ok-halted.ensures.ends in (
       record {
         given = Ok;
-        is_answer = halt_is_ok c.args.machine.now c.args.limits.now c.args.steps c.args.score c.in-Some.halted ends
-            c.if-halted-score.false;
+        is_answer = halt_is_ok c.args.machine.now c.args.limits.now c.args.steps c.args.score
+            c.in-Some.halted ends c.if-halted-score.false;
         fine = refl;
       },
       to_fill c.args.machine.now c.args.steps c.args.score c.in-Some.halted.gap c.gap_to_fill.result ends.on

@@ -14,7 +14,8 @@ loop-symbol-preserved c =
     let this = c.count_gap-count.ensures in
     let was = here.count in
     let few = gap_in_few c.entry.result in
-    record { count = omega (arith, more, one, this, was); few = let f = here.few in omega (arith, few, this, f) }
+    let f = here.few in
+    record { count = omega (arith, more, one, this, was); few = omega (arith, few, this, f) }
 
 pub returns-clause-count : goal.returns-clause-count
 returns-clause-count c =

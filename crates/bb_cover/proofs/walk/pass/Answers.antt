@@ -41,7 +41,8 @@ returns-then-next-count-clause-stack c =
 ended : (c : After-pop-passed) → Passes c.args.frames.now.items c.pop-passed.new.self.items
 ended c =
     let at : c.len-last.result - 1 ≡ length c.args.frames.now.items - 1 = grind (arith, common_steps) in
-    let front : c.pop-passed.new.self.items ≡ take (length c.args.frames.now.items - 1) c.args.frames.now.items =
+    let front : c.pop-passed.new.self.items
+    ≡ take (length c.args.frames.now.items - 1) c.args.frames.now.items =
     grind (arith, common_steps) in
     passes_end c.args.frames.now.items (c.len-last.result - 1) at c.requires.stack c.requires.some
     c.index.result.now c.index-2.result.now c.index.ensures c.index-2.ensures
