@@ -1,5 +1,7 @@
 pub mod Facts
 pub mod Lengths
+pub mod Looks
+pub mod Newlines
 pub mod CheckReplies
 pub mod CheckSummaries
 pub mod FewCells
