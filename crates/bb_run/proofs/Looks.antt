@@ -11,6 +11,8 @@ use Rattle.bb_machine.specs.declared.entry.Entry.{Entry}
 use Rattle.bb_machine.specs.declared.entry.Entry.TheVariants.{Undefined, Go}
 use Rattle.bb_machine.specs.Column.{IsColumn}
 use Rattle.bb_machine.specs.Entry.{entry_text}
+use Rattle.bb_machine.specs.declared.plan.Plan.{Plan}
+use Rattle.bb_machine.specs.Limits.{Bounds}
 use Rattle.bb_machine.specs.Machine.{Table, IsGroup, IsMachine, group_text, symbols_of, text}
 use Rattle.bb_machine.proofs.Facts.{tail_text}
 use Rattle.bb_cert.specs.declared.verdict.reader.Line.{Line}
@@ -23,8 +25,8 @@ use Rattle.bb_run.specs.declared.looking.KindCounts.{KindCounts}
 use Rattle.bb_run.specs.declared.looking.ReplyKind.{ReplyKind}
 use Rattle.bb_run.specs.declared.looking.ReplyKind.TheVariants as kind
 use Rattle.bb_run.specs.Look.{AreOfKinds, CountsReplies, HasForm, HasNoReply, IsFirstWithout, IsOfKind, count_of}
-use Rattle.bb_run.specs.Look.{counts_of, number_of, sum_of}
-use Rattle.bb_run.specs.Reply.{IsRefusal}
+use Rattle.bb_run.specs.Look.{counts_of, kind_of, number_of, sum_of}
+use Rattle.bb_run.specs.Reply.{IsRefusal, IsReply}
 use Rattle.bb_run.specs.inside.Looking.{HasNoNewline, IsRefusedAt}
 use Rattle.bb_run.proofs.Lengths.{column_small}
 use Rattle.bb_run.proofs.Newlines.{none_within, refusal_none, same_cut, verdict_none}
@@ -185,6 +187,32 @@ one_more (first ∷ lines) (other ∷ kinds) bytes line reply k are is = (
   ap (λ b. b ++ (reply ++ 10 ∷ [])) are.4 ∙ append_assoc (are.0 ++ 10 ∷ []) are.1 (reply ++ 10 ∷ []),
 )
 
+-- a reply is of one kind
+pub has_one_kind : (line reply : List ℕ) (a b : ReplyKind) → IsOfKind a line reply → IsOfKind b line reply
+    → a ≡ b
+has_one_kind line reply a b (inl p) (inl q) =
+    let same = line_unique (Claim p.table p.verdict) (Claim q.table q.verdict) reply p.is_reply q.is_reply in
+    let verdicts : p.verdict ≡ q.verdict = cc in
+    p.is_kind ∙ ap kind_of verdicts ∙ sym q.is_kind
+has_one_kind line reply a b (inl p) (inr q) = absurd (q.0.no_machine (p.table, p.of))
+has_one_kind line reply a b (inr p) (inl q) = absurd (p.0.no_machine (q.table, q.of))
+has_one_kind line reply a b (inr p) (inr q) = p.1 ∙ sym q.1
+
+-- what deciding replies has its form
+pub reply_has_form : (bounds : Bounds) (plan : Plan) (line reply : List ℕ) → IsReply bounds plan line reply
+    → HasForm line reply
+reply_has_form bounds plan line reply (inl r) = (
+  kind_of r.verdict,
+  inl (record {
+    table = r.table;
+    of = r.of;
+    verdict = r.verdict;
+    is_reply = r.is_reply;
+    is_kind = refl;
+  }),
+)
+reply_has_form bounds plan line reply (inr r) = (kind.Refused, inr (r, refl))
+
 -- ---- counts
 
 pub count_small : (of_kind : ReplyKind) (kinds : List ReplyKind) → count_of of_kind kinds ≤ length kinds
@@ -252,6 +280,12 @@ module _ (all first : List (List ℕ)) (bytes answered : List ℕ) (kinds : List
         is_sum = rw are_counts (is_count ∙ sym many ∙ sym sum);
         is_count = is_count ∙ ap length firsts;
       }
+
+  pub all_replied : first ++ [] ≡ all → answered ++ [] ≡ bytes → AreReplies HasForm all bytes
+  all_replied lines_end bytes_end =
+      let firsts : first ≡ all = sym (append-nil first) ∙ lines_end in
+      let answers : answered ≡ bytes = sym (append-nil answered) ∙ bytes_end in
+      rw (← firsts, ← answers) (are_replies first kinds answered are)
 
   -- where there is no reply to the next line, it is the first without
   pub stops_here : (others : List (List ℕ)) (left : List ℕ) → first ++ others ≡ all → answered ++ left ≡ bytes

@@ -1,6 +1,6 @@
 //! A look at the replies to the lines of a list: whether each has its form, and how many are of each kind.
 ghost use Rattle.std.specs.Prelude.{◌≡◌, ℕ, ◌+◌, ◌<◌, ◌^◌, [], ◌∷◌, ◌++◌, length, IfErr, IfOk, IsTrue};
-ghost use Rattle.std.specs.Prelude.{◌↔◌, MatchOption};
+ghost use Rattle.std.specs.Prelude.{◌↔◌, MatchOption, OnErr, OnOk};
 ghost use Rattle.bb_lines.specs.Lines.{AreReplies, lines};
 ghost use Rattle.bb_machine.specs.Column.{BeginsWith};
 ghost use Rattle.bb_machine.specs.Machine.{text};
@@ -75,8 +75,9 @@ pub struct Unanswered {
 pub fn look(list: &[u8], replies: &[u8]) -> Result<Looked, Unanswered>
     ensures counts { IfOk result (λ looked.
         CountsReplies (lines list.now) replies.now looked.counts looked.lines) }
+    ensures replies { OnOk result (AreReplies HasForm (lines list.now) replies.now) }
     ensures first { IfErr result (λ unanswered. IsFirstWithout (lines list.now) replies.now unanswered.line) }
-    ensures no_replies { IfErr result (λ _. AreReplies HasForm (lines list.now) replies.now → ⊥) }
+    ensures no_replies { OnErr result (AreReplies HasForm (lines list.now) replies.now → ⊥) }
 {
     let mut machine = Machine::blank();
     let mut looked = Looked {

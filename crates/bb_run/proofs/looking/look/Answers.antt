@@ -3,7 +3,7 @@ use Rattle.std.proofs.Common.{append_assoc, length-append}
 use Rattle.std.proofs.lemmas.Bool.{eq-eqb, eqb-true, false≢true}
 use Rattle.bb_lines.specs.Lines.{AreReplies, lines}
 use Rattle.bb_run.specs.Look.{HasForm, HasNoReply}
-use Rattle.bb_run.proofs.Looks.{all_counted, as_many, fails_at_end, fails_here, no_replies, one_more, others_are}
+use Rattle.bb_run.proofs.Looks.{all_counted, all_replied, as_many, fails_at_end, fails_here, no_replies, one_more, others_are}
 use Rattle.bb_run.proofs.Looks.{stops_here}
 use Rattle.bb_run.proofs.Newlines.{lines_of_none}
 use Rattle.bb_run.proofs.looking.look.Goals as goal
@@ -121,6 +121,15 @@ returns-then-not-is_empty-clause-no_replies c = λ are.
 empty : (bytes : List ℕ) → length bytes ≡ 0 → bytes ≡ []
 empty [] is = refl
 empty (byte ∷ bytes) is = absurd (omega arith)
+
+pub returns-clause-replies : goal.returns-clause-replies
+returns-clause-replies c =
+    let here = c.loop-line.invariant in
+    let no_line : lines c.loop-line.lines_left.now ≡ [] = ap lines c.in_default.ensures ∙ lines_of_none in
+    let no_byte = empty c.loop-line.replies_left.now
+    (eqb-true (length c.loop-line.replies_left.now) 0 (sym c.is_empty.ensures ∙ c.if-not-is_empty.false)) in
+    all_replied _ here.first _ here.answered here.kinds _ here.are_replies here.is_count
+    (rw no_line at here.are_lines) (rw no_byte at here.are_bytes)
 
 pub returns-clause-counts : goal.returns-clause-counts
 returns-clause-counts c =
