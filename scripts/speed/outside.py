@@ -3,7 +3,7 @@
 
     scripts/speed/outside.py [crates/bb/out/bb] [--runs N] [--part PART]
 
-PART is `node`, `trace`, `page` or `python`; all of them where not said. It builds the module, the page and
+PART is `node`, `trace`, `look`, `page` or `python`; all of them where not said. It builds the module, the page and
 the library first, where they aren't up to date, by `scripts/web` and `scripts/library`. A time is the least
 of N runs (3 where not said), in turn with those that it is compared with; `processor` marks processor time,
 other times are by the clock. Run it on a quiet machine with four cores: it takes a quarter of an hour. Each
@@ -32,6 +32,7 @@ from tally import Tally, end_with, words  # noqa: E402
 
 os.environ["BB_LIBRARY"] = LIBRARY
 FOUR = {"steps": 200, "cells": 256, "depth": 20, "nodes": 1_000}
+LOWEST = {"steps": 0, "cells": 1, "depth": 0, "nodes": 0}
 MOST = {"steps": 10**12, "cells": 67_108_864, "depth": 10_000, "nodes": 10**12}
 README = b"1RB1LB_1LA1RZ\n1RA1RA\n1rB1LB\n"
 CHAMPION = "1RB1LC_1RC1RB_1RD0LE_1LA1LD_1RZ0LA"
@@ -193,6 +194,28 @@ def measure_trace(figures: Figures, program: str, folder: str) -> None:
     figures.head("The five-state champion in %d lines by `bb_trace`, in one process" % lines[-1])
     figures.ratio("beside `bb_decide`, all deciders; processor", traced, decided, 1.3)
     figures.ratio("beside `bb_decide`, simulation alone; processor", traced, simulated)
+
+
+def measure_look(figures: Figures, program: str, folder: str) -> None:
+    """A look at the replies to the list of four states, beside a check of them that makes no step."""
+    if not has_library(figures.tally, "a look at the machines of four states"):
+        return
+    from budlarem._library import look
+
+    path, verdicts = four_states(folder), os.path.join(folder, "verdicts")
+    with open(path, "rb") as given, open(verdicts, "wb") as out:
+        subprocess.run([program, "decide", *options(FOUR)], stdin=given, stdout=out)
+    with open(path, "rb") as given, open(verdicts, "rb") as replied:
+        lines, replies = given.read(), replied.read()
+    command = [program, "check", *options(LOWEST)]
+    taken, alone = figures.least(
+        lambda: processed(lambda: look(lines, replies)), lambda: spent(command, verdicts)
+    )
+    found = look(lines, replies)
+    figures.head("A look at the replies to %s machines of four states" % "{:,}".format(found.lines))
+    each = taken / found.lines * 1e9
+    figures.row("`bb_look`, a line, in ns; processor", "%.0f" % each, each, 100)
+    figures.ratio("beside `bb check` at the lowest limits; processor", taken, alone)
 
 
 @contextlib.contextmanager
@@ -398,7 +421,13 @@ def measure_interruption(figures: Figures) -> None:
         )
 
 
-PARTS = {"node": measure_node, "trace": measure_trace, "page": measure_page, "python": measure_python}
+PARTS = {
+    "node": measure_node,
+    "trace": measure_trace,
+    "look": measure_look,
+    "page": measure_page,
+    "python": measure_python,
+}
 
 
 def main() -> int:
