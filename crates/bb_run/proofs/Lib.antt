@@ -12,3 +12,4 @@ pub mod Traces
 pub mod SampledRuns
 pub mod TraceEnds
 pub mod TraceSummaries
+pub mod VerdictWords

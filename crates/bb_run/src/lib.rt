@@ -13,6 +13,7 @@ mod rings;
 mod summary;
 mod tally;
 mod tracing;
+mod words;
 
 pub use checking::{run_check, run_check_with_counts};
 pub use counts::{AnswerCounts, VerdictCounts};

@@ -1,12 +1,14 @@
 //! A look at the replies to the lines of a list: whether each has its form, and how many are of each kind.
 ghost use Rattle.std.specs.Prelude.{◌≡◌, ℕ, ◌+◌, ◌<◌, ◌^◌, [], ◌∷◌, ◌++◌, length, IfErr, IfOk, IsTrue};
-ghost use Rattle.std.specs.Prelude.{◌↔◌, MatchOption, OnErr, OnOk};
+ghost use Rattle.std.specs.Prelude.{◌↔◌, IfSome, MatchOption, OnErr, OnOk};
 ghost use Rattle.bb_lines.specs.Lines.{AreReplies, lines};
 ghost use Rattle.bb_machine.specs.Column.{BeginsWith};
 ghost use Rattle.bb_machine.specs.Machine.{text};
-ghost use Rattle.bb_run.specs.Look.{CountsReplies, HasForm, IsFirstWithout, IsOfKind, counts_of, kind_of};
+ghost use Rattle.bb_run.specs.Look.{CountsReplies, HasForm, IsFirstWithout, IsOfKind, SaysVerdict, counts_of};
+ghost use Rattle.bb_run.specs.Look.{kind_of};
 ghost use Rattle.bb_run.specs.inside.Looking.{HasNoNewline, IsRefusedAt};
 
+use crate::words::kind_of_words;
 use bb_cert::{LineContent, Verdict, Why, read_line_in_place};
 use bb_machine::Machine;
 use memchr::memchr;
@@ -132,6 +134,9 @@ fn kind_of_reply(line: &[u8], reply: &[u8], machine: &mut Machine) -> Option<Rep
     ensures { MatchOption result ((kind : ReplyKind) → IsOfKind kind line.now reply.now → ⊥)
         (λ kind. IsOfKind kind line.now reply.now) }
 {
+    if let Some(kind) = kind_by_words(line, reply, machine) {
+        return Some(kind);
+    }
     match read_line_in_place(reply, machine)? {
         LineContent::Claim(verdict) => {
             if !is_text(machine, line, reply) {
@@ -145,6 +150,18 @@ fn kind_of_reply(line: &[u8], reply: &[u8], machine: &mut Machine) -> Option<Rep
             }
             Some(ReplyKind::Refused)
         }
+    }
+}
+
+/// The kind of a reply to a line that is a machine's text, where the numbers have few digits, as nearly all
+/// have: that takes half as long as to read the whole reply. The machine is read in place of another.
+fn kind_by_words(line: &[u8], reply: &[u8], machine: &mut Machine) -> Option<ReplyKind>
+    ensures { IfSome result (λ kind. SaysVerdict kind line.now reply.now) }
+{
+    let kind = kind_of_words(reply.strip_prefix(line)?)?;
+    match machine.read_in_place(line) {
+        Ok(()) => Some(kind),
+        Err(_) => None,
     }
 }
 
