@@ -1,5 +1,5 @@
 -- What a look at replies rests on: which replies have their form, and how many there are of each kind.
-use Rattle.std.proofs.Common.{◌≡◌, ◌≢◌, ℕ, zero, suc, ◌+◌, ◌*◌, ◌<◌, ◌≤◌, ◌^◌, cond, List, []}
+use Rattle.std.proofs.Common.{◌≡◌, ◌≢◌, ℕ, ◌+◌, ◌*◌, ◌≤◌, cond, List, []}
 use Rattle.std.proofs.Common.{◌∷◌, ◌++◌, length, refl, sym, ◌∙◌, ap, subst, inl, inr, arith, zero-mul}
 use Rattle.std.proofs.Common.{append_assoc, length-append}
 use Rattle.std.specs.Prelude.{◌==◌}
@@ -9,7 +9,6 @@ use Rattle.std.proofs.lemmas.List.Elements.{All-append}
 use Rattle.std.proofs.lemmas.List.Sums.{count_by-le-length, sum_by-append}
 use Rattle.bb_machine.specs.declared.entry.Entry.{Entry}
 use Rattle.bb_machine.specs.declared.entry.Entry.TheVariants.{Undefined, Go}
-use Rattle.bb_machine.specs.Column.{IsColumn}
 use Rattle.bb_machine.specs.Entry.{entry_text}
 use Rattle.bb_machine.specs.declared.plan.Plan.{Plan}
 use Rattle.bb_machine.specs.Limits.{Bounds}
@@ -18,7 +17,7 @@ use Rattle.bb_machine.proofs.Facts.{tail_text}
 use Rattle.bb_cert.specs.declared.verdict.reader.Line.{Line}
 use Rattle.bb_cert.specs.declared.verdict.reader.Line.TheVariants.{Claim, Refusal}
 use Rattle.bb_cert.specs.declared.verdict.Verdict.{Verdict}
-use Rattle.bb_cert.specs.verdict.Line.{IsLineOf, refusal_text, verdict_text}
+use Rattle.bb_cert.specs.verdict.Line.{IsLineOf, verdict_text}
 use Rattle.bb_cert.proofs.Facts.{line_unique}
 use Rattle.bb_lines.specs.Lines.{AreReplies}
 use Rattle.bb_run.specs.declared.looking.KindCounts.{KindCounts}

@@ -1,4 +1,4 @@
-use Rattle.std.proofs.Common.{◌≡◌, ◌-◌, ◌<◌, ◌≤◌, length, take, drop, get_or, rules, arith}
+use Rattle.std.proofs.Common.{◌≡◌, ◌-◌, ◌<◌, ◌≤◌, length, take, drop, get_or, arith}
 use Rattle.std.proofs.lemmas.List.{length-drop, take_all}
 use Rattle.bb_run.proofs.VerdictWords.{number_at_first}
 use Rattle.bb_run.proofs.words.after_number.Goals as goal
