@@ -6,7 +6,8 @@
 It looks at README.md, CHANGELOG.md, `docs/`, the manual page and the examples' README. Of each it takes the
 links and the words in backquotes, and tells by their form what they are: files, names of the crates, lemmas,
 clauses of contracts, edits, options, lines of the program. What isn't there is told with document and line.
-It is also tried on a document in which one of each is broken. It takes a second. The last line is `N passed,
+It is also tried on a document in which one of each is broken. The README has at most so many words beside
+tables and code, and each item of the decisions is short. It takes a second. The last line is `N passed,
 M failed`; the status is 1 where any failed.
 """
 
@@ -52,6 +53,9 @@ FORMER = re.compile(
 MACHINE = r"(?:<machine>|(?:\d[LR][A-Z]|---)+(?:_(?:\d[LR][A-Z]|---)+)*)"
 ENDINGS = "rt antt edit md py mjs html h c rs v ml txt png svg wasm a so".split()
 COMMANDS = ("bb", "./bb", "coq/", "scripts/", "budlarem", "./test")
+# The most words of the README beside tables and code, and the most characters of an item of the decisions.
+README_WORDS = 1000
+ITEM_CHARACTERS = 500
 # Documents that speak of another language too.
 LANGUAGES = {
     "docs/python.md": ["python"],
@@ -344,6 +348,20 @@ def manual_page(sources: Sources, path: str, text: str) -> Iterator[Finding]:
                 yield Finding(path, number, "the option %s" % option)
 
 
+def words_beside(text: str) -> int:
+    """How many words a document has beside its tables and its blocks of commands."""
+    lines = [line for line in text.split("\n") if not is_block(line) and not line.startswith("|")]
+    return len(re.findall(r"\S*\w\S*", "\n".join(lines)))
+
+
+def long_items(path: str, text: str) -> Iterator[Finding]:
+    """Items of a list that are too long to be read at a glance."""
+    for number, line in enumerate(text.split("\n"), 1):
+        if line.startswith("- ") and len(line) > ITEM_CHARACTERS:
+            told = "too long: an item of %d characters (%d at most)" % (len(line), ITEM_CHARACTERS)
+            yield Finding(path, number, told)
+
+
 def documents() -> List[str]:
     """The paths of the documents."""
     listed = sorted(name for name in os.listdir(os.path.join(TOP, "docs")) if name.endswith(".md"))
@@ -363,14 +381,26 @@ def tried(sources: Sources) -> Iterator[Tuple[str, bool]]:
         yield "it isn't broken: %s" % what, what in wanted
     options = [str(finding) for finding in manual_page(sources, "bb.1", "\\-\\-steps\n\\-\\-no\\-halts")]
     yield "an option of the manual page: %s" % options, options == ["bb.1:2: the option --no-halts"]
+    counted = words_beside(
+        "# One\n\n![A picture](of.png) and `three` words\n\n| a | table |\n\n    code\n- and more"
+    )
+    yield "words beside tables and code: %d" % counted, counted == 8
+    item = "- " + "a" * (ITEM_CHARACTERS - 2)
+    items = [
+        str(finding) for finding in long_items("one.md", "\n".join([item, item + "a", item[2:] + "aaa"]))
+    ]
+    yield "long items: %s" % items, items == ["one.md:2: too long: an item of 501 characters (500 at most)"]
 
 
 def findings_of(sources: Sources, path: str) -> Iterator[Finding]:
-    """What a document or the manual page names that isn't there."""
+    """What a document or the manual page names that isn't there, and items that are too long."""
     text = read(TOP, path)
-    return (
-        Document(sources, path, text).findings() if path.endswith(".md") else manual_page(sources, path, text)
-    )
+    if not path.endswith(".md"):
+        yield from manual_page(sources, path, text)
+        return
+    yield from Document(sources, path, text).findings()
+    if path == "docs/DECISIONS.md":
+        yield from long_items(path, text)
 
 
 def main() -> int:
@@ -382,7 +412,7 @@ def main() -> int:
     for path in [*documents(), "docs/bb.1"]:
         findings = list(findings_of(sources, path))
         for finding in findings:
-            tally.hold("not there: %s" % finding, False)
+            tally.hold("wrong: %s" % finding, False)
         if not findings:
             tally.hold(path, True)
     return tally.end()
