@@ -7,8 +7,8 @@ It looks at README.md, CHANGELOG.md, `docs/`, the manual page and the examples' 
 links and the words in backquotes, and tells by their form what they are: files, names of the crates, lemmas,
 clauses of contracts, edits, options, lines of the program. What isn't there is told with document and line.
 It is also tried on a document in which one of each is broken. The README has at most so many words beside
-tables and code, and each item of the decisions is short. It takes a second. The last line is `N passed,
-M failed`; the status is 1 where any failed.
+tables and code, each item of the decisions is short, and the version is one wherever it stands. It takes a
+second. The last line is `N passed, M failed`; the status is 1 where any failed.
 """
 
 from __future__ import annotations
@@ -56,6 +56,15 @@ COMMANDS = ("bb", "./bb", "coq/", "scripts/", "budlarem", "./test")
 # The most words of the README beside tables and code, and the most characters of an item of the decisions.
 README_WORDS = 1000
 ITEM_CHARACTERS = 500
+# Where the version stands.
+VERSIONS = {
+    "crates/bb_command/src/command.rt": r'\.version\("([0-9.]+)"\)',
+    "crates/bb/src/tests.rt": r'"bb ([0-9.]+)\\n"',
+    "docs/bb.1": r'"bb ([0-9.]+)"',
+    "include/bb.h": r'#define BB_VERSION "([0-9.]+)"',
+    "python/src/budlarem/_version.py": r'VERSION = "([0-9.]+)"',
+    "CHANGELOG.md": r"## ([0-9.]+), ",
+}
 # Documents that speak of another language too.
 LANGUAGES = {
     "docs/python.md": ["python"],
@@ -401,6 +410,13 @@ def findings_of(sources: Sources, path: str) -> Iterator[Finding]:
     yield from Document(sources, path, text).findings()
     if path == "docs/DECISIONS.md":
         yield from long_items(path, text)
+    if path == "README.md" and words_beside(text) > README_WORDS:
+        yield Finding(path, 1, "too long: %d words (%d at most)" % (words_beside(text), README_WORDS))
+
+
+def versions() -> Dict[str, List[str]]:
+    """The version, by the file that has it, once where all is well; of the changes the latest."""
+    return {path: re.findall(pattern, read(TOP, path))[:1] for path, pattern in VERSIONS.items()}
 
 
 def main() -> int:
@@ -409,6 +425,9 @@ def main() -> int:
     tally = Tally(most_told=1000)
     for what, holds in tried(sources):
         tally.hold(what, holds)
+    found = versions()
+    named = {tuple(ones) for ones in found.values()}
+    tally.hold("one version: %s" % found, len(named) == 1 and () not in named)
     for path in [*documents(), "docs/bb.1"]:
         findings = list(findings_of(sources, path))
         for finding in findings:
