@@ -28,8 +28,12 @@ ELSEWHERE = {
     " flush usize get_flag get_one fault_of subcommand_of arrayvec clap itoa linked_list_allocator memchr"
     " thiserror",
     "C and its library": "free malloc realloc int bool size_t",
-    "the system's commands": "cut git rustc sh split wait",
-    "the kit": "rt requires ensures FoldsTo rattle-kit-13b rattle-kit-13f --anew --minutes",
+    "the system's commands": "cut git grep rustc sh split wait",
+    "the kit": "rt requires ensures FoldsTo rattle-kit-13b rattle-kit-13f --anew --minutes --only --allow-holes"
+    " --fix-imports elim omega refl search grind rules match let else",
+    "names that the kit makes": "returns-then-steps-self returns-then-p-lt0-clause-apart count_run-requires"
+    " rewritten-requires-clause-low loop-moved-init loop-moved-preserved-in_default-widened_side"
+    " After-widened_side loop-x-init loop-x-preserved",
     "GNU parallel": "--pipe",
     "dask": "--host --memory-limit --nanny-port --nthreads --nworkers --worker-port",
     "folders that the runner makes": "pass-1 pass-2",
