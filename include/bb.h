@@ -39,7 +39,7 @@
 #include <stdint.h>
 #endif
 
-#define BB_VERSION "0.1.0"
+#define BB_VERSION "0.2.0"
 
 /* Each line was a machine; each answer was `ok` or `open`; no limit of cells cut the trace off. */
 #define BB_CLEAN 0
