@@ -99,6 +99,7 @@ class RunnerTest(unittest.TestCase):
         self.list, self.out = self.top / "list.txt", self.top / "out"
         self.list.write_bytes(LIST)
         self.told = Told()
+        self.seen: List[bytes] = []
 
     def run_over(
         self,
@@ -128,6 +129,7 @@ class RunnerTest(unittest.TestCase):
                     here,
                     keep,
                     listed.hold_unchanged,
+                    self.seen.append,
                 )
                 return whole.run(opened, listed, limits, manner)
             finally:

@@ -325,6 +325,15 @@ class KeepTest(RunnerTest):
             with self.assertRaisesRegex(FolderError, "begun with --keep left"):
                 self.run_over(limits=limits)
 
+    def test_all_are_seen_before_they_are_dropped(self) -> None:
+        for place, executor in enumerate((None, Answering(lambda reply, before: reply))):
+            self.out, self.seen = self.top / str(place), []
+            for _ in range(2):
+                self.run_over(executor, limits=[SMALL], keep=keeping.Keep(True), check=True)
+                seen = b"".join(self.seen).splitlines()
+                self.assertEqual(sorted(seen), sorted(expected(LIST, [SMALL]).splitlines()))
+            self.assertEqual(self.verdicts(), self.kept([SMALL], 10**12))
+
     def test_passes_are_added(self) -> None:
         keep = keeping.Keep(True)
         self.run_over(limits=[SMALL], keep=keep, check=True)

@@ -26,6 +26,7 @@ from machines import mixed, uniform
 from program import Ended, ended, joined, options
 from runs import SOURCE, environment, folder
 from tally import TOP, Tally, end_with, words
+from terminal import on_terminal
 
 sys.path.insert(0, SOURCE)
 
@@ -263,6 +264,37 @@ def hold_forms_of_machines(tally: Tally, machines: Sequence[str]) -> None:
     tally.hold("%d forms" % len(forms), len(forms) > len(machines) / 2)
 
 
+def shown_on_terminal(*asked: str) -> Tuple[List[str], str]:
+    """The texts of progress that a command of the package showed on a terminal, and what stood there at the
+    end."""
+    with open(os.devnull, "wb") as output:
+        whole = [sys.executable, "-m", "budlarem", *asked]
+        shown = on_terminal(["env", "BB_LIBRARY=" + LIBRARY, "PYTHONPATH=" + SOURCE, *whole], b"", output)[1]
+    rows = [row.split("\r") for row in shown.split("\n")]
+    return [text for row in rows for text in row[:-1] if text.strip()], "\n".join(row[-1] for row in rows)
+
+
+def hold_progress(tally: Tally) -> None:
+    """On a terminal the commands that take long tell how far they are, and leave nothing of it there."""
+    lines = ["1RB1LC_1RC1RB_1RD0LE_1LA1LD_1RZ0LA halt 47176870 4098", "`1ra1ra` halts"]
+    cases: Dict[str, Tuple[List[str], str]] = {
+        "judge": (["--check-steps=1000"], "contradicted"),
+        "check": ([], " ok"),
+        "publish": (["out.tar", "--verdicts"], "lines checked"),
+    }
+    with folder() as top:
+        for name, (more, word) in cases.items():
+            given = top / (name + ".txt")
+            given.write_bytes(joined(lines if name == "judge" else lines[:1]) * 200)
+            words = [word.replace("out.tar", str(top / "out.tar")) for word in more]
+            texts, left = shown_on_terminal(name, *words, str(given))
+            held = any(word in text for text in texts) and all(len(text) < 80 for text in texts)
+            tally.hold("%s on a terminal: %s" % (name, texts[:5]), held)
+            told = left.count("\n") if name != "judge" else left.count(" rewritten: ")
+            right = {"judge": 200, "check": 1, "publish": 0}[name]
+            tally.hold("%s leaves no progress: %r" % (name, left[:400]), told == right)
+
+
 def examples() -> Iterator[Tuple[str, str]]:
     """The commands of the document that are shown with what they write."""
     text = pathlib.Path(DOCUMENT).read_text(encoding="utf-8")
@@ -303,6 +335,7 @@ def main() -> int:
     hold_words(tally, 1_000, asked.seed)
     hold_undefined_steps(tally, asked.program, 1_000, asked.seed)
     hold_forms_of_machines(tally, [uniform(random.Random(k), 4) for k in range(5_000)])
+    hold_progress(tally)
     hold_examples(tally)
     return tally.end()
 

@@ -1,4 +1,4 @@
-"""A decided list as one archive, which whoever gets it can check again in four ways."""
+"""A decided list as one archive, which whoever gets it can check again in five ways."""
 
 from __future__ import annotations
 
