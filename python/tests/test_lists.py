@@ -283,6 +283,27 @@ class CommandTest(unittest.TestCase):
         status, lines, _ = self.run_with("decide", given="1RZ---, a b\r\n%s\n# c\nx;y\n" % CHAMPION)
         self.assertEqual((status, lines), (1, ["1RZ--- halt 1 1\ta b", CHAMPION + " halt 6 4", "refused 1"]))
 
+    def test_a_refused_line_is_told_and_passed_over(self) -> None:
+        machines = [CHAMPION, "1RB1LC_1LA1RZ", "1RA1RA"]
+        claims = [CHAMPION + " halt 6 4", "1RA1RA halt 6", "1RA1RA translated R 1 2 1 1"]
+        with tempfile.TemporaryDirectory() as folder:
+            path = os.path.join(folder, "list.txt")
+            rows: List[Tuple[List[str], List[str], int]] = [
+                (["read", path], machines, 2),
+                (["decide", path], machines, 3),
+                (["normal", path], machines, 2),
+                (["normal", "--distinct", path], machines, 2),
+                (["triage", path], machines, 2),
+                (["compare", path, path], claims, 0),
+            ]
+            if HAS_PLOTS:
+                rows.append((["report", path, "--out", os.path.join(folder, "page.html")], claims, 0))
+            for words, lines, count in rows:
+                pathlib.Path(path).write_text("\n".join(lines) + "\n", encoding="utf-8")
+                status, written, said = self.run_with(*words)
+                self.assertEqual((status, len(written)), (1, count), words)
+                self.assertIn("%s:2: refused: " % path, said, words)
+
     def test_a_full_disk_is_told_with_what_was_written(self) -> None:
         command = [sys.executable, "-m", "budlarem", "decide"]
         with open("/dev/full", "wb") as full:

@@ -235,6 +235,16 @@ def hold_words(tally: Tally, count: int, seed: int) -> None:
         tally.hold("%d words, %s: %s" % (len(lines), right, missed[:3]), not missed and len(lines) == count)
 
 
+def hold_table(tally: Tally) -> None:
+    """The document lists the words that count."""
+    text = pathlib.Path(DOCUMENT).read_text(encoding="utf-8")
+    table = text.partition("| It says | Words |\n")[2].partition("\n\n")[0]
+    told = {word for row in table.splitlines()[1:] for word in row.split("|")[2].replace(",", " ").split()}
+    tally.hold(
+        "the words of the document: %s" % sorted(told ^ set(budlarem.WORDS)), told == set(budlarem.WORDS)
+    )
+
+
 def hold_undefined_steps(tally: Tally, program: str, count: int, seed: int) -> None:
     """Halts that count a step for an undefined entry are found out, and confirmed; told so in the command."""
     verdicts = [verdict for verdict in verdicts_of(count, seed) if isinstance(verdict, Halt)]
@@ -333,6 +343,7 @@ def main() -> int:
     hold_check(tally, asked.program, [*claims, "x", "refused 3", *lines[:100]])
     hold_trace(tally, asked.program, [*list(mixed(5, asked.seed)), "1rB", ""])
     hold_words(tally, 1_000, asked.seed)
+    hold_table(tally)
     hold_undefined_steps(tally, asked.program, 1_000, asked.seed)
     hold_forms_of_machines(tally, [uniform(random.Random(k), 4) for k in range(5_000)])
     hold_progress(tally)
