@@ -2,6 +2,7 @@
 
 from __future__ import annotations
 
+import collections
 import html
 import importlib.util
 import os
@@ -265,7 +266,16 @@ class ReportTest(unittest.TestCase):
                 budlarem.report(["refused 1", "x"], path)
             self.assertFalse(path.exists())
             budlarem.report([], path)
-            self.assertIn("No verdict has numbers", path.read_text(encoding="utf-8"))
+            page = path.read_text(encoding="utf-8")
+            self.assertIn("No verdict has numbers", page)
+            self.assertIn("No machine is left undecided.", page)
+            page = budlarem.report(self.LINES, path, diagrams=0).html
+            self.assertIn("<p>0 of 1 undecided machines are shown.</p>", page)
+
+    @unittest.skipUnless(HAS_PLOTS, "numpy and matplotlib aren't installed")
+    def test_one_bar_stands_at_a_whole_number(self) -> None:
+        drawn = reports.plot(collections.Counter({3: 5}), "shifts")
+        self.assertEqual(re.findall(r"<text[^>]*>([0-9.]+)</text>", drawn), ["3"])
 
     @unittest.skipIf(HAS_PLOTS, "numpy and matplotlib are installed")
     def test_what_is_missing_is_told(self) -> None:
