@@ -22,6 +22,7 @@ import time
 from typing import Dict, Iterator, List, Sequence, Tuple
 
 from library_built import LIBRARY, has_library
+from machine_list import has_lister, listed
 from machines import mixed, uniform
 from program import Ended, ended, joined, options
 from runs import SOURCE, environment, folder
@@ -270,6 +271,7 @@ def hold_forms_of_machines(tally: Tally, machines: Sequence[str]) -> None:
     began = time.process_time()
     forms = {form_of(machine).text for machine in machines}
     each = (time.process_time() - began) / len(machines)
+    print("a form of a machine, of %d: %.1f us" % (len(machines), 1e6 * each), flush=True)
     tally.within("a form of a machine", each, 50e-6)
     tally.hold("%d forms" % len(forms), len(forms) > len(machines) / 2)
 
@@ -346,6 +348,8 @@ def main() -> int:
     hold_table(tally)
     hold_undefined_steps(tally, asked.program, 1_000, asked.seed)
     hold_forms_of_machines(tally, [uniform(random.Random(k), 4) for k in range(5_000)])
+    if not asked.quick and has_lister(tally, "the forms of all machines of four states"):
+        hold_forms_of_machines(tally, listed(4).decode().splitlines())
     hold_progress(tally)
     hold_examples(tally)
     return tally.end()

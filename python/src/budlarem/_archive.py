@@ -173,8 +173,8 @@ class Contents:
         """What was checked, in sentences."""
         total = sum(self.seen.kinds.values())
         told = [
-            "When this archive was made, Budlarem's checker confirmed the {:,} lines that claim something; the"
-            " other {:,} claim nothing.".format(self.confirmed, total - self.confirmed),
+            "When this archive was made, Budlarem's checker confirmed each line that claims something: {:,} of"
+            " {:,}.".format(self.confirmed, total),
             "The checker is proved to confirm no claim that isn't so, whoever wrote it.",
         ]
         if self.machines is not None:
