@@ -6,11 +6,11 @@
 The sample goes through the passes of the whole list, and each verdict is checked. Each count of the sample is
 held exactly, the machines that are left are decided by the program too, and the share of each kind is held to
 be that of the whole list, within what a sample allows. Of a part who takes the figures sees each verdict, and
-only what it left is kept. docs/five-states.md is held to state each figure of docs/five-states.json, which the
-run over the whole list wrote. Over all machines of four states the script is interrupted, ended and killed,
-goes on each time, and gives what docs/four-states.md has; it refuses folders that aren't its own. It takes a
-minute or two, half of it for the sample. Without `rustc` it is skipped. The last line is `N passed, M failed`;
-the status is 1 where any failed.
+only what it left is kept. docs/five-states.md is held to state each figure of docs/five-states.json, which
+the run over the whole list wrote. Over all machines of four states the script is interrupted, ended and
+killed, goes on each time, and gives what docs/four-states.md has; it refuses folders that aren't its own. It
+takes a minute or two, half of it for the sample. Without `rustc` it is skipped. The last line is `N passed, M
+failed`; the status is 1 where any failed.
 """
 
 from __future__ import annotations

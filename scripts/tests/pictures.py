@@ -3,9 +3,9 @@
 
     scripts/tests/pictures.py crates/bb/out/bb
 
-It compares sizes and pixels with what the traces say, and what is said of sampling and cutting. The machine of
-README's first picture halts with the limit that stands below it. It takes four seconds. The last line is `N
-passed, M failed`; the status is 1 where any failed.
+It compares sizes and pixels with what the traces say, and what is said of sampling and cutting. The machine
+of README's first picture halts with the limit that stands below it. It takes four seconds. The last line is
+`N passed, M failed`; the status is 1 where any failed.
 """
 
 import os

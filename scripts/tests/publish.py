@@ -7,9 +7,10 @@ The commands of an archive's own README run in the unpacked archive; each of 1,0
 noticed by them. The same contents are the same bytes, whatever the files are called and whether gzip
 compressed them. What isn't confirmed, and what doesn't go together, is refused with its file and line. A full
 disk, SIGINT, SIGTERM and SIGHUP leave nothing, and an archive that is there stays. It uses
-`crates/bb_c/out/libbb.so`, and runs `scripts/library` where that isn't there. It takes half a minute,
-and as long again where the checker in Coq isn't built; `--quick`, with 100 changed bytes, some seconds. The last line is `N passed, M failed`, with `, K skipped`
-where something can't be tried here; the status is 1 where any failed.
+`crates/bb_c/out/libbb.so`, and runs `scripts/library` where that isn't there. It takes half a minute, and as
+long again where the checker in Coq isn't built; `--quick`, with 100 changed bytes, some seconds. The last
+line is `N passed, M failed`, with `, K skipped` where something can't be tried here; the status is 1 where
+any failed.
 """
 
 import gzip

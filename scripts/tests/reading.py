@@ -7,8 +7,8 @@ The lines of `forms.json`; random machines in random forms, which come back as t
 `budlarem read` writes, out of files and gzip; the bytes of `budlarem check` and `budlarem trace` beside those
 of the program; judging of true claims, of 10,000 forged ones, of swapped words and of halts that count a step
 more; the examples of docs/python.md. First it runs `scripts/library`, which builds the library. It takes some
-two minutes; `--quick`, with fewer lines, half a minute. The last line is `N passed, M failed`; the status is 1
-where any failed.
+two minutes; `--quick`, with fewer lines, half a minute. The last line is `N passed, M failed`; the status is
+1 where any failed.
 """
 
 import gzip

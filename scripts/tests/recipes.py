@@ -27,7 +27,8 @@ from program import ended, options_of_pass
 from tally import TOP, Tally, end_with, heed_interruption, words
 
 DOCUMENT = os.path.join(TOP, "docs", "recipes.md")
-# A line of a list, and the machine that is taken out of it, or why there is none; None where it isn't told of.
+# A line of a list, and the machine that is taken out of it, or why there is none; None where it isn't told
+# of.
 TAKEN: List[Tuple[bytes, Union[bytes, None, str]]] = [
     (b"1RB1LB_1LA1RZ", b"1RB1LB_1LA1RZ"),
     (b"\t 1RB1LB_1LA1RZ  # a comment, with 1RA1RA", "two different machines"),

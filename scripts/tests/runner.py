@@ -7,11 +7,11 @@ The runner is killed by SIGKILL at twenty random moments, and run again after ea
 of 1,000,000,000,000 steps; its disk is full, by a limit of a file's size and by a small file system (which
 takes root); there is no memory, and there are no threads; its list grows or changes while it is read, or is
 one of the files that it writes; its files are cut and changed, and each is somebody else's; another run is in
-its folder; standard output or error is closed; the clock is set back. Lists come as a file, compressed, and by
-standard input, fast and slowly; ten times the list takes the same memory. Executors that answer wrongly are in
-the unit tests. It uses `crates/bb_c/out/libbb.so`, and runs `scripts/library` where that isn't there. It takes
-a minute; `--quick`, with one kill, some seconds. The last line is `N passed, M failed`, with `, K skipped`
-where something can't be tried here; the status is 1 where any failed.
+its folder; standard output or error is closed; the clock is set back. Lists come as a file, compressed, and
+by standard input, fast and slowly; ten times the list takes the same memory. Executors that answer wrongly
+are in the unit tests. It uses `crates/bb_c/out/libbb.so`, and runs `scripts/library` where that isn't there.
+It takes a minute; `--quick`, with one kill, some seconds. The last line is `N passed, M failed`, with `, K
+skipped` where something can't be tried here; the status is 1 where any failed.
 """
 
 import gzip

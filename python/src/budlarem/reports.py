@@ -300,8 +300,8 @@ def _groups(machines: Sequence[Shown]) -> Iterator[str]:
 
 _DIAGRAMS = (
     "A row is a step, from the top down; a column is a position. The head is red. Where many positions were"
-    " visited, a pixel has the mean colour of some, and the head isn't shown. How the cells grow is a guess from"
-    " three looks at the run."
+    " visited, a pixel has the mean colour of some, and the head isn't shown. How the cells grow is a guess"
+    " from three looks at the run."
 )
 _GROWTHS = {
     Growth.STAYS: "Cells stay",

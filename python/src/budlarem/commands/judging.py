@@ -14,14 +14,14 @@ from ..runner.progress import count_of
 from .progress import Progress
 from .shared import ListReader, add_command, add_limits, limits_of, source_of
 
-_HELP = """Judges a list of what others claim: verdict lines, or machines with a word in any field, such as halt,
-nonhalt, undecided or a decider's name, in whatever forms `budlarem help read` says. Each machine is decided;
-what our verdict doesn't settle is checked. Standard error gets the counts, and what of THEIRS was rewritten.
-Status 1 where a line is contradicted.
+_HELP = """Judges a list of what others claim: verdict lines, or machines with a word in any field, such as
+halt, nonhalt, undecided or a decider's name, in whatever forms `budlarem help read` says. Each machine is
+decided; what our verdict doesn't settle is checked. Standard error gets the counts, and what of THEIRS was
+rewritten. Status 1 where a line is contradicted.
 
 confirmed: the checker confirms the claim, or our verdict says what the word does. contradicted: the checker
-refutes the claim, or our verdict says the other. not-judged: undecided here too, over the checker's limits, or
-no word says whether the machine halts. unreadable: no one machine, or two things said of it.
+refutes the claim, or our verdict says the other. not-judged: undecided here too, over the checker's limits,
+or no word says whether the machine halts. unreadable: no one machine, or two things said of it.
 
 Where each halt of theirs at a --- is true of the machine with 1RZ there, and there is one, they are taken to
 count a step for ---, and standard error says so. --undefined-steps says it beforehand.

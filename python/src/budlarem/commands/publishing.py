@@ -17,10 +17,10 @@ from ..runner.progress import count_of
 from .progress import Progress
 from .shared import add_command
 
-_HELP = """Writes one archive of a decided list, which whoever gets it can check again: the list, the verdicts,
-limits and versions, the sha256 of each, a page that says what the lines mean, and again.py, a checker in plain
-Python. The checker has to confirm each claim first, and each line of LIST to have its verdict at its place.
-Files may be compressed by gzip; in the archive they aren't.
+_HELP = """Writes one archive of a decided list, which whoever gets it can check again: the list, the
+verdicts, limits and versions, the sha256 of each, a page that says what the lines mean, and again.py, a
+checker in plain Python. The checker has to confirm each claim first, and each line of LIST to have its
+verdict at its place. Files may be compressed by gzip; in the archive they aren't.
 
 Status 1 where a verdict isn't confirmed, 2 where something can't be published; nothing is written then."""
 

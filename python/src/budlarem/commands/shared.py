@@ -14,10 +14,10 @@ from .progress import Progress
 # So wide are the lines of a help.
 WIDTH = 79
 # What a list of machines may be, for the help of the commands that read one.
-LIST_HELP = """FILE is a list as people have them: a machine a line, alone, beside other fields, in backticks or in
-a link, with other spellings. A machine is taken only where one reading of its line is possible. What was
-rewritten or refused goes to standard error with file and line; empty lines and comments, which begin with #
-or //, are passed over. Gzip is known by its first bytes."""
+LIST_HELP = """FILE is a list as people have them: a machine a line, alone, beside other fields, in backticks
+or in a link, with other spellings. A machine is taken only where one reading of its line is possible. What
+was rewritten or refused goes to standard error with file and line; empty lines and comments, which begin with
+# or //, are passed over. Gzip is known by its first bytes."""
 
 
 def source_of(path: Optional[str]) -> Union[str, BinaryIO]:

@@ -43,10 +43,10 @@ def judge(
     """Judges what each line of a list says of its machine: a verdict, or a word of `WORDS`.
 
     Each machine is decided within `limits` by `plan`, and each claim that our verdict doesn't settle is
-    checked within `checker`. `undefined_steps` says whether they count a step for an undefined entry. Where it
-    isn't said, their halts tell: it is so where each halt of theirs at such an entry is true of the machine
-    with `1RZ` there, and one is. With `listed`, a list of machines, `missing` and `foreign` tell which of
-    them have no line, and which lines are of none.
+    checked within `checker`. `undefined_steps` says whether they count a step for an undefined entry. Where
+    it isn't said, their halts tell: it is so where each halt of theirs at such an entry is true of the
+    machine with `1RZ` there, and one is. With `listed`, a list of machines, `missing` and `foreign` tell
+    which of them have no line, and which lines are of none.
 
     Both lists are what `read` takes. Their list is read twice, so what isn't a path to a file is copied to
     the disk first. `tell` is told what is done beside judging, and with how many lines it was done. Raises

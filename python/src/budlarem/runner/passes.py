@@ -49,9 +49,8 @@ class PassResult:
 class Manner:
     """How the pieces of each pass are decided. `list_name` is for sentences; `hold_list` raises where the
     list isn't as it was, and is called before a piece is put down; `is_checked_here` has the checker of this
-    process confirm each verdict; `keep` says which verdict lines are kept;
-    `seen` is given the verdict lines of each piece that is decided, before any of them is dropped, by whichever
-    thread has them."""
+    process confirm each verdict; `keep` says which verdict lines are kept; `seen` is given the verdict lines
+    of each piece that is decided, before any of them is dropped, by whichever thread has them."""
 
     place: Workplace
     identity: Identity
