@@ -16,6 +16,7 @@ failed`; the status is 1 where any failed.
 from __future__ import annotations
 
 import importlib.machinery
+import importlib.util
 import json
 import math
 import os
@@ -25,7 +26,6 @@ import subprocess
 import sys
 import tempfile
 import time
-import types
 from typing import Any, Dict, Iterator, List, Tuple
 
 from library_built import LIBRARY, has_library
@@ -103,13 +103,22 @@ class Seen:
         self.pieces.append(verdicts)
 
 
+def loaded() -> Any:
+    """The script as a module."""
+    loader = importlib.machinery.SourceFileLoader("five_states_script", SCRIPT)
+    spec = importlib.util.spec_from_loader(loader.name, loader)
+    assert spec is not None
+    script = importlib.util.module_from_spec(spec)
+    # Dataclasses look their module up.
+    sys.modules[loader.name] = script
+    loader.exec_module(script)
+    return script
+
+
 def hold_pieces(tally: Tally, program: str, top: pathlib.Path) -> None:
     """Who takes the figures of a part is given each piece whole; on the disk are only those that are left."""
     os.environ["BB_LIBRARY"] = LIBRARY
-    loader = importlib.machinery.SourceFileLoader("five_states", SCRIPT)
-    script: Any = types.ModuleType("five_states")
-    sys.modules["five_states"] = script
-    loader.exec_module(script)
+    script = loaded()
     task = script.Task(top, "part", script.PASSES[0])
     task.folder.mkdir(parents=True)
     given = listed(4, "--every", "10")
