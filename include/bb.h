@@ -40,7 +40,7 @@
 #include <stdint.h>
 #endif
 
-#define BB_VERSION "0.1.0"
+#define BB_VERSION "0.2.0"
 
 /* Each line was a machine; each answer was `ok` or `open`; no limit of cells cut the trace off; each line has
  * a reply of its form. */

@@ -1,4 +1,5 @@
-"""What stands in an archive of a decided list, and how it is written: the same contents are the same bytes."""
+"""What stands in an archive of a decided list, and how it is written: the same contents are the same
+bytes."""
 
 from __future__ import annotations
 
@@ -173,8 +174,8 @@ class Contents:
         """What was checked, in sentences."""
         total = sum(self.seen.kinds.values())
         told = [
-            "When this archive was made, Budlarem's checker confirmed the {:,} lines that claim something; the"
-            " other {:,} claim nothing.".format(self.confirmed, total - self.confirmed),
+            "When this archive was made, Budlarem's checker confirmed each line that claims something: {:,}"
+            " of {:,}.".format(self.confirmed, total),
             "The checker is proved to confirm no claim that isn't so, whoever wrote it.",
         ]
         if self.machines is not None:

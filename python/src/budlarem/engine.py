@@ -31,8 +31,8 @@ Call = Callable[[Room, bytes], None]
 _ANSWERS = {str(answer): answer for answer in Answer}
 # How many bytes a reply to one line has beyond the line itself, at most, and how many an answer has.
 _BEYOND, _ANSWER = 98, 7
-# How many bytes the replies to some lines have for each byte of these at most, since a machine has six or more
-# and its line one more; and for how many bytes of verdict lines an answer has one.
+# How many bytes the replies to some lines have for each byte of these at most, since a machine has six or
+# more and its line one more; and for how many bytes of verdict lines an answer has one.
 _FOLD, _FOR_EACH = 15, 2
 # How many bytes of a trace are asked for at once, where a line isn't longer; and how many they would have at
 # most if each line were as long as it may be.
@@ -216,8 +216,8 @@ def check_bytes(blocks: Blocks, limits: Limits = Limits(), *, threads: int = 1) 
 
 
 def checked(file: BinaryReader, limits: Limits, *, threads: int = 1) -> Iterator[Tuple[bytes, bytes]]:
-    """Lines of a file, and the bytes that `bb check` writes for them, in large blocks: with large tapes what a
-    call costs is the tapes. A line of more than LONG bytes is cut. Raises what `decide` does."""
+    """Lines of a file, and the bytes that `bb check` writes for them, in large blocks: with large tapes what
+    a call costs is the tapes. A line of more than LONG bytes is cut. Raises what `decide` does."""
     threads = _made_ready(limits, Plan(), threads)
     most = _LARGE if threads == 1 else _LARGE // 4
     pace = Pace(most, is_steady=True)

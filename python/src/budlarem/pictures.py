@@ -334,8 +334,8 @@ def picture(
     visited yet grey. `every`: each of so many steps, else such a power of two that at most `rows` are left.
     `left`, `right`: the positions shown, else all, or `columns` of them about the middle where so many are
     asked for. Where they are more than 2,000 and no `columns` are asked for, the picture is scaled down: a
-    pixel has the mean colour of the cells that it stands for, and the head isn't seen. `scale`: how many pixels
-    a place is wide and high.
+    pixel has the mean colour of the cells that it stands for, and the head isn't seen. `scale`: how many
+    pixels a place is wide and high.
 
     Raises what `trace` does, and PictureError.
 

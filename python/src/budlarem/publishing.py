@@ -1,4 +1,4 @@
-"""A decided list as one archive, which whoever gets it can check again in four ways."""
+"""A decided list as one archive, which whoever gets it can check again in five ways."""
 
 from __future__ import annotations
 
@@ -48,7 +48,8 @@ def _confirmed(verdicts: Input, limits: Limits, threads: int, tell: Callable[[in
     """Has the checker confirm all verdicts; gives how many it confirmed, and how many claim nothing. Raises
     UnconfirmedError."""
     confirmed, free = 0, 0
-    # A call makes its tapes anew, which takes a tenth of a second where they are large: so the batches are, too.
+    # A call makes its tapes anew, which takes a tenth of a second where they are large: so the batches are,
+    # too.
     for _, reply in in_order(checking(limits), verdicts.batches(), threads, Pace(1)):
         answers = reply.text
         lines, ok, open_ = (answers.count(word) for word in (b"\n", b"ok\n", b"open\n"))
@@ -105,8 +106,9 @@ def _seen_beside(machines: Input, verdicts: Input) -> Seen:
 def _raise_other(machines: Input, verdicts: Input, number: int, line: bytes) -> NoReturn:
     """Raises the error for a line of the list to which its verdict doesn't belong."""
     raise PublishError(
-        "%s:%d: line %d of %s isn't the verdict on %s; the list has one machine a line, as `budlarem read` writes"
-        " them, in the order of the verdicts" % (machines.path, number, number, verdicts.path, _shown(line))
+        "%s:%d: line %d of %s isn't the verdict on %s; the list has one machine a line, as `budlarem read`"
+        " writes them, in the order of the verdicts"
+        % (machines.path, number, number, verdicts.path, _shown(line))
     )
 
 
@@ -142,8 +144,8 @@ def _of_run(folder: str) -> Tuple[str, Decided]:
         ) from None
     if kept != str(Keep()):
         raise PublishError(
-            "%s has only the verdicts that --keep %s kept, and all are published; decide the list without --keep,"
-            " in another folder" % (folder, kept)
+            "%s has only the verdicts that --keep %s kept, and all are published; decide the list without"
+            " --keep, in another folder" % (folder, kept)
         )
     return os.path.join(folder, RUN_VERDICTS), Decided(passes, by)
 

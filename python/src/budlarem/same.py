@@ -11,8 +11,8 @@ __all__ = ["Form", "form_of", "turned"]
 
 
 class Form(NamedTuple):
-    """A text that a machine has in common with all that are the same, and whether left and right are exchanged
-    in it."""
+    """A text that a machine has in common with all that are the same, and whether left and right are
+    exchanged in it."""
 
     text: str
     mirrored: bool

@@ -14,8 +14,8 @@ from ..reports import report
 from ..verdicts import Verdict
 from .shared import ListReader, add_command, add_file, add_limits
 
-_CLAIMS = """The lines are verdict lines; machine and verdict may have other fields and spellings beside them, as
-`budlarem help read` says. A line that is none goes to standard error with file and line, and is passed
+_CLAIMS = """The lines are verdict lines; machine and verdict may have other fields and spellings beside them,
+as `budlarem help read` says. A line that is none goes to standard error with file and line, and is passed
 over; status 1 then."""
 _COMPARE = (
     """Compares two lists of verdicts by machine, in any order. Each machine on which they don't agree gets

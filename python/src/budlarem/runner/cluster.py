@@ -27,8 +27,8 @@ from .tasks import Numbers, Task
 
 # Seconds between two looks at the scheduler, and how many it has to answer one.
 _OFTEN, _PATIENCE = 1.0, 10.0
-# Seconds after which a reply that dask has, and its executor doesn't give, is fetched, and a job of which dask
-# knows nothing is handed over again.
+# Seconds after which a reply that dask has, and its executor doesn't give, is fetched, and a job of which
+# dask knows nothing is handed over again.
 _SILENT = 5.0
 # Pieces under way where no worker is known.
 _LEAST = 4

@@ -94,6 +94,11 @@ def write_whole(path: str, blocks: Iterator[bytes]) -> None:
     put_whole(path, make)
 
 
+def as_word(path: str) -> str:
+    """A path as a command line takes it: one that begins with `-` is no option there."""
+    return os.path.join(os.curdir, path) if path.startswith("-") else path
+
+
 def words_of(limits: Limits) -> str:
     """Limits as `--pass` takes them."""
     return "steps=%d,cells=%d,depth=%d,nodes=%d" % limits.numbers()
@@ -127,8 +132,8 @@ class Begun:
     def page(self, folder: str) -> str:
         """What the files of the folder are, and with which commands it goes on."""
         is_piped = self.list_name == STANDARD_INPUT
-        listed = "-" if is_piped else self.list_name
-        words = ["budlarem", "run", listed, "--out", folder]
+        listed = "-" if is_piped else as_word(self.list_name)
+        words = ["budlarem", "run", listed, "--out", as_word(folder)]
         for limits in self.passes:
             words += ["--pass", words_of(limits)]
         if self.keep.only_left:
@@ -138,7 +143,7 @@ class Begun:
             "same": ", with the same list on standard input" if is_piped else "",
             "verdicts": "a verdict for each line of the list, in its order",
             "go_on": shlex.join(words),
-            "again": self._again(folder, [] if is_piped else ["--list", listed]),
+            "again": self._again(as_word(folder), [] if is_piped else ["--list", listed]),
             "version": self.identity.version,
             "commit": self.identity.commit,
         }
@@ -151,7 +156,7 @@ class Begun:
         check = "    " + shlex.join(["budlarem", "check", os.path.join(folder, VERDICTS)])
         if self.keep.only_left:
             return "The verdicts that are kept are checked again by\n\n%s" % check
-        archive = os.path.basename(os.path.abspath(folder)) + ".tar"
+        archive = as_word(os.path.basename(os.path.abspath(folder)) + ".tar")
         publish = shlex.join(["budlarem", "publish", archive, "--verdicts", folder, *listed])
         return "The verdicts are checked again, and published, by\n\n%s\n    %s" % (check, publish)
 

@@ -49,7 +49,8 @@ class PassResult:
 class Manner:
     """How the pieces of each pass are decided. `list_name` is for sentences; `hold_list` raises where the
     list isn't as it was, and is called before a piece is put down; `is_checked_here` has the checker of this
-    process confirm each verdict; `keep` says which verdict lines are kept."""
+    process confirm each verdict; `keep` says which verdict lines are kept; `seen` is given the verdict lines
+    of each piece that is decided, before any of them is dropped, by whichever thread has them."""
 
     place: Workplace
     identity: Identity
@@ -60,6 +61,7 @@ class Manner:
     is_checked_here: bool = False
     keep: Keep = Keep()
     hold_list: Callable[[], None] = lambda: None
+    seen: Callable[[bytes], None] = lambda verdicts: None
 
 
 class PassRun:
@@ -137,6 +139,7 @@ class PassRun:
     def _keep(self, piece: Piece) -> None:
         """Keeps what a piece came to, or that it is confirmed now."""
         if piece.record is None and piece.written is not None:
+            self._manner.seen(piece.written)
             piece.kept = self._manner.keep.kept_of(piece.written)
             piece.record = Record.of(
                 piece.first, piece.lines, piece.given, piece.kept, piece.seconds, piece.counts
