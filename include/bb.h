@@ -1,4 +1,4 @@
-/* Verdicts on small Turing machines, answers to verdicts, and traces, as calls.
+/* Verdicts on small Turing machines, answers to verdicts, traces, and looks at replies, as calls.
  *
  * The lines are those of the program `bb`, which README.md describes. docs/library.md says how to build and
  * link this, and what is proved of it.
@@ -23,10 +23,10 @@
  *
  * A call keeps nothing: neither pointers nor memory. So calls in different threads don't disturb each other.
  *
- * `*count` is the number of bytes of the reply; `bb_look` writes none. Where the status is BB_CLEAN or BB_NOT_CLEAN they stand at
- * the beginning of `out`, and the rest of `out` is as it was. Where it is BB_SHORT, `out` is as it was, and
- * `*count` is how long it has to be. Else `out` is as it was, and `*count` is 0. No byte 0 is put behind the
- * reply.
+ * `*count` is the number of bytes of the reply; `bb_look` has none. Where the status is BB_CLEAN or
+ * BB_NOT_CLEAN they stand at the beginning of `out`, and the rest of `out` is as it was. Where it is BB_SHORT,
+ * `out` is as it was, and `*count` is how long it has to be. Else `out` is as it was, and `*count` is 0. No byte
+ * 0 is put behind the reply.
  */
 #ifndef BB_H
 #define BB_H
