@@ -24,9 +24,9 @@
  * A call keeps nothing: neither pointers nor memory. So calls in different threads don't disturb each other.
  *
  * `*count` is the number of bytes of the reply; `bb_look` has none. Where the status is BB_CLEAN or
- * BB_NOT_CLEAN they stand at the beginning of `out`, and the rest of `out` is as it was. Where it is BB_SHORT,
- * `out` is as it was, and `*count` is how long it has to be. Else `out` is as it was, and `*count` is 0. No byte
- * 0 is put behind the reply.
+ * BB_NOT_CLEAN they stand at the beginning of `out`, and the rest of `out` is as it was. Where it is
+ * BB_SHORT, `out` is as it was, and `*count` is how long it has to be. Else `out` is as it was, and `*count`
+ * is 0. No byte 0 is put behind the reply.
  */
 #ifndef BB_H
 #define BB_H
@@ -45,8 +45,8 @@
 /* Each line was a machine; each answer was `ok` or `open`; no limit of cells cut the trace off; each line has
  * a reply of its form. */
 #define BB_CLEAN 0
-/* A line was refused; an answer was `bad`, `over` or `unread`; the limit of cells cut the trace off; a line has
- * no reply of its form, or there are more replies than lines. */
+/* A line was refused; an answer was `bad`, `over` or `unread`; the limit of cells cut the trace off; a line
+ * has no reply of its form, or there are more replies than lines. */
 #define BB_NOT_CLEAN 1
 /* The limits were refused; `every` was 0. */
 #define BB_LIMITS 2
@@ -98,8 +98,8 @@ uint32_t bb_trace(uint64_t steps, uint64_t cells, uint64_t from, uint64_t every,
 /* Looks at the replies to the lines of a list: whether each line has one of its form, in order, each with a
  * newline, and whether there are no more. A reply has its form where it is the line's bytes, a space and a
  * verdict, together a verdict line; or `refused` and the line's column, where the line is no machine. Then
- * `counts` tells how many there are of halt, cycler, translated, backward, undecided steps, undecided cells and
- * refused, in this order, and `*lines` is their sum. Else `counts` is as it was, and `*lines` is the first
+ * `counts` tells how many there are of halt, cycler, translated, backward, undecided steps, undecided cells
+ * and refused, in this order, and `*lines` is their sum. Else `counts` is as it was, and `*lines` is the first
  * line that has none, from 0: the number of lines where each has one. Whether a verdict is right isn't looked
  * at: no step is made. It takes no memory. */
 uint32_t bb_look(const uint8_t *list, size_t list_len, const uint8_t *replies, size_t replies_len,

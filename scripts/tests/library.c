@@ -160,7 +160,7 @@ static void hold_limits(void) {
     hold("a decider off", told == BB_CLEAN && has(out, "0RB---_0LA--- undecided steps"));
 }
 
-/* Whether a look at replies gives this status and these numbers; the counts stay where there is none to tell. */
+/* Whether a look at replies gives this status and these numbers; where nothing is counted, counts stay 9. */
 static bool looks(const char *list, const char *replies, uint32_t status, const uint64_t wanted[7],
                   uint64_t wanted_lines) {
     uint64_t counts[7] = {9, 9, 9, 9, 9, 9, 9}, lines = 99;

@@ -6,11 +6,11 @@ ghost use Rattle.bb_run.specs.Look.{CountsReplies, HasForm, IsFirstWithout};
 use crate::buffer::{CLEAN, NOT_CLEAN};
 use bb_run::{KindCounts, look};
 
-/// Looks at the replies to the lines of a list: whether each line has one of its form, in order, with a newline
-/// behind it, and whether there are no more. Then it tells how many there are of each kind, and of lines; else
-/// the first line that has none, from 0, which is the number of lines where each has one. Nothing is said of
-/// whether a verdict is right. The list's lines end at a newline; a last line without one counts if it isn't
-/// empty.
+/// Looks at the replies to the lines of a list: whether each line has one of its form, in order, with a
+/// newline behind it, and whether there are no more. Then it tells how many there are of each kind, and of
+/// lines; else the first line that has none, from 0, which is the number of lines where each has one. Nothing
+/// is said of whether a verdict is right. The list's lines end at a newline; a last line without one counts
+/// if it isn't empty.
 #[unsafe(no_mangle)]
 pub extern "C" fn bb_look(
     list: &[u8],

@@ -23,7 +23,8 @@ use Rattle.bb_lines.specs.Lines.{AreReplies}
 use Rattle.bb_run.specs.declared.looking.KindCounts.{KindCounts}
 use Rattle.bb_run.specs.declared.looking.ReplyKind.{ReplyKind}
 use Rattle.bb_run.specs.declared.looking.ReplyKind.TheVariants as kind
-use Rattle.bb_run.specs.Look.{AreOfKinds, CountsReplies, HasForm, HasNoReply, IsFirstWithout, IsOfKind, count_of}
+use Rattle.bb_run.specs.Look.{AreOfKinds, CountsReplies, HasForm, HasNoReply, IsFirstWithout, IsOfKind}
+use Rattle.bb_run.specs.Look.{count_of}
 use Rattle.bb_run.specs.Look.{counts_of, kind_of, number_of, sum_of}
 use Rattle.bb_run.specs.Reply.{IsRefusal, IsReply}
 use Rattle.bb_run.specs.inside.Looking.{HasNoNewline, IsRefusedAt}

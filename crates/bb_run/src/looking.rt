@@ -70,8 +70,9 @@ pub struct Unanswered {
     pub line: u64,
 }
 
-/// Looks at the replies to the lines of a list: whether each line has one of its form, in order, with a newline
-/// behind it, and whether there are no more. Nothing is said of whether a verdict is right. It takes no memory.
+/// Looks at the replies to the lines of a list: whether each line has one of its form, in order, with a
+/// newline behind it, and whether there are no more. Nothing is said of whether a verdict is right. It takes
+/// no memory.
 ///
 /// A line of the list ends at a newline; a last line without one counts if it isn't empty.
 pub fn look(list: &[u8], replies: &[u8]) -> Result<Looked, Unanswered>
@@ -129,7 +130,8 @@ fn first_reply(bytes: &[u8]) -> Option<(&[u8], &[u8])>
     Some((&bytes[..at], &bytes[at + 1..]))
 }
 
-/// The kind of a reply to a line; none where it hasn't the form of one. The machine is read in place of another.
+/// The kind of a reply to a line; none where it hasn't the form of one. The machine is read in place of
+/// another.
 fn kind_of_reply(line: &[u8], reply: &[u8], machine: &mut Machine) -> Option<ReplyKind>
     ensures { MatchOption result ((kind : ReplyKind) → IsOfKind kind line.now reply.now → ⊥)
         (λ kind. IsOfKind kind line.now reply.now) }

@@ -3,8 +3,8 @@ use Rattle.std.proofs.Common.{append_assoc, length-append}
 use Rattle.std.proofs.lemmas.Bool.{eq-eqb, eqb-true, false≢true}
 use Rattle.bb_lines.specs.Lines.{AreReplies, lines}
 use Rattle.bb_run.specs.Look.{HasForm, HasNoReply}
-use Rattle.bb_run.proofs.Looks.{all_counted, all_replied, as_many, fails_at_end, fails_here, no_replies, one_more, others_are}
-use Rattle.bb_run.proofs.Looks.{stops_here}
+use Rattle.bb_run.proofs.Looks.{all_counted, all_replied, as_many, fails_at_end, fails_here, no_replies}
+use Rattle.bb_run.proofs.Looks.{one_more, others_are, stops_here}
 use Rattle.bb_run.proofs.Newlines.{lines_of_none}
 use Rattle.bb_run.proofs.looking.look.Goals as goal
 

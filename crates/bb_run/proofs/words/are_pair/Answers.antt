@@ -16,5 +16,6 @@ returns c = λ is.
       pair.1,
       pair.2,
       pair.3,
-      words_of_pair c.args.first.now c.args.words.now c.in-Some.numbers.now rest pair.0 pair.1 begins pair.4 none,
+      words_of_pair c.args.first.now c.args.words.now c.in-Some.numbers.now rest pair.0 pair.1 begins
+          pair.4 none,
     )

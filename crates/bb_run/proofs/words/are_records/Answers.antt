@@ -19,7 +19,8 @@ returns-then-is_empty c = λ is.
       pair.2,
       pair.3,
       tt,
-      words_of_pair c.args.first.now c.args.words.now c.in-Some.numbers.now rest pair.0 pair.1 begins pair.4 none,
+      words_of_pair c.args.first.now c.args.words.now c.in-Some.numbers.now rest pair.0 pair.1 begins
+          pair.4 none,
     )
 
 pub returns : goal.returns

@@ -44,7 +44,12 @@ returns-then-are_pair-3 c =
 pub returns-then-eq : goal.returns-then-eq
 returns-then-eq c =
     let same = (slice_eq-Decides Decides-eqb _ _ _ c.eq.ensures).0 c.if-eq.true in
-    record { verdict = Undecided Steps; numbers = tt; is_text = sym (same ∙ c.as_slice.ensures); is_kind = refl }
+    record {
+      verdict = Undecided Steps;
+      numbers = tt;
+      is_text = sym (same ∙ c.as_slice.ensures);
+      is_kind = refl;
+    }
 
 pub returns-then-eq-2 : goal.returns-then-eq-2
 returns-then-eq-2 c =
