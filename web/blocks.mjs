@@ -1,6 +1,6 @@
 /**
- * What a machine does inside a block of neighbouring cells. It is worked out once for each content, each state
- * and each end at which the head comes in; so a long run goes on by whole blocks.
+ * What a machine does inside a block of neighbouring cells. It is worked out once for each content, each
+ * state and each end at which the head comes in; so a long run goes on by whole blocks.
  */
 import { machineOf } from "./machine.mjs";
 
