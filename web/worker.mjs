@@ -33,6 +33,9 @@ const MOST_BYTES = 1_048_576;
 const SHARED = 0.75;
 const WARM_MILLISECONDS = 60;
 const WARM_PLAN = { steps: 200, cells: 256, depth: 20, nodes: 1_000 };
+// A machine that runs long.
+const WARM_MACHINE = "1RB1LC_1RC1RB_1RD0LE_1LA1LD_1RZ0LA";
+const WARM_SAMPLE = { steps: 10_000, cells: 256, from: 0, every: 100 };
 
 /** @type {import("./bb.mjs").Engine | undefined} */
 let engine;
@@ -108,11 +111,16 @@ function decidedOne(/** @type {{machine: string, plan: Record<string, any>}} */ 
   return { line: new TextDecoder().decode(part.bytes).trimEnd(), answer: ANSWERS[part.answers[0]] };
 }
 
-/** Answers a list again and again for a while, so that the browser compiles well what is called often. */
+/**
+ * Answers a list and traces a machine again and again for a while, so that the browser compiles well what is
+ * called often.
+ */
 function warm(/** @type {Uint8Array} */ list) {
   const begun = performance.now();
+  const line = new TextEncoder().encode(WARM_MACHINE);
   while (performance.now() - begun < WARM_MILLISECONDS) {
     answered(list, { mode: "decide", clean: false, plan: WARM_PLAN });
+    engine?.traceBytes(line, WARM_SAMPLE);
   }
 }
 
