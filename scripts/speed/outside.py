@@ -3,8 +3,8 @@
 
     scripts/speed/outside.py [crates/bb/out/bb] [--runs N] [--part PART]
 
-PART is `node`, `trace`, `look`, `page` or `python`; all of them where not said. It builds the module, the page and
-the library first, where they aren't up to date, by `scripts/web` and `scripts/library`. A time is the least
+PART is `node`, `trace`, `look`, `page`, `views` or `python`; all of them where not said. It builds the module,
+the page and the library first, where they aren't up to date, by `scripts/web` and `scripts/library`. A time is the least
 of N runs (3 where not said), in turn with those that it is compared with; `processor` marks processor time,
 other times are by the clock. Run it on a quiet machine with four cores: it takes a quarter of an hour. Each
 figure is a row of a table in Markdown, with its bar where it has one. The last line counts the bars that hold
@@ -261,7 +261,7 @@ def measure_page(figures: Figures, program: str, folder: str) -> None:
         return
     figures.head("The page `bb.html`, in Chromium, opened from the disk")
     size = os.path.getsize(PAGE)
-    figures.row("bytes of the page", "{:,}".format(size), size, 200_000)
+    figures.row("bytes of the page", "{:,}".format(size), size, 260_000)
     first = figures.least(lambda: opened(folder))[0]
     figures.row("first verdict after opening, in ms", "%d" % (first * 1000), first * 1000, 300)
     path = four_states(folder)
@@ -277,12 +277,68 @@ def measure_page(figures: Figures, program: str, folder: str) -> None:
         lambda: in_page(folder, path, 4, longest),
     )
     what = "858,909 machines of four states, decided and checked, by %s, beside the program%s"
-    figures.ratio(what % ("one worker", "'s `decide`"), one, alone, 2.5)
-    figures.ratio(what % ("four workers", "'s `decide`"), four, alone, 1.0)
-    figures.ratio(what % ("one worker", "'s `decide` and `check`"), one, alone + checked)
-    figures.ratio(what % ("four workers", "'s `decide` and `check`"), four, alone + checked)
+    figures.ratio(what % ("one worker", "'s `decide`"), one, alone)
+    figures.ratio(what % ("four workers", "'s `decide`"), four, alone)
+    figures.ratio(what % ("one worker", "'s `decide` and `check`"), one, alone + checked, 1.9)
+    figures.ratio(what % ("four workers", "'s `decide` and `check`"), four, alone + checked, 0.67)
     figures.row("the longest that it stood still meanwhile, in ms", "%d" % max(longest), max(longest), 100)
     measure_page_memory(figures, folder)
+
+
+def milliseconds(figures: Figures, what: str, seconds: float, bar: Optional[float] = None) -> None:
+    """A time in milliseconds, with its bar where it has one."""
+    figures.row(what + ", in ms", "%d" % (1_000 * seconds), 1_000 * seconds, bar)
+
+
+def measure_views(figures: Figures, program: str, folder: str) -> None:
+    """Views of the five-state champion's run in the page, and what the module takes of them in Node."""
+    from page import has_selenium
+    from page_times import PAUSE, end, views
+    from web_engine import built
+
+    tally = figures.tally
+    if not tally.has("views", "chromium", "chromedriver", "node") or not has_selenium(tally) or not built():
+        return
+    longest: List[float] = []
+    each: List[List[float]] = []
+
+    def longest_view(pause: float) -> float:
+        with page_of(folder) as page:
+            taken = views(page, pause)
+            longest.append(page.js("return window.longest") / 1_000)
+            if pause:
+                each.append(taken)
+            return max(taken)
+
+    def last_steps() -> float:
+        with page_of(folder) as page:
+            taken = end(page)
+            longest.append(page.js("return window.longest") / 1_000)
+            return taken
+
+    figures.head(
+        "Views of the five-state champion in the page, zoomed at step 9,900,000 of 10,000,000 and back"
+    )
+    module = figures.least(lambda: traced_in_node(folder))[0]
+    milliseconds(figures, "the module's part, which begins at step 0: 10,000,000 steps, 545 lines", module)
+    paused, hurried, last = figures.least(lambda: longest_view(PAUSE), lambda: longest_view(0.0), last_steps)
+    milliseconds(figures, "the longest of 18 views, with pauses of %.1f s between" % PAUSE, paused, 100)
+    usual = min(sorted(taken)[len(taken) // 2] for taken in each)
+    milliseconds(figures, "the middle one of them", usual)
+    milliseconds(figures, "the longest of 18, one at once after another", hurried)
+    milliseconds(figures, "to step 47,176,860 of 50,000,000, with the tape", last, 1_500)
+    milliseconds(figures, "the longest that it stood still meanwhile", max(longest), 100)
+
+
+def traced_in_node(folder: str) -> float:
+    """The seconds that the module takes for the lines of a view at step 10^7."""
+    from web_engine import Engine
+
+    engine = Engine(folder)
+    sample = {"steps": 10_000_000, "cells": 65_536, "from": 0, "every": 18_432}
+    taken = [engine.call("trace", sample, CHAMPION.encode()).told["seconds"] for _ in range(4)]
+    engine.end()
+    return float(min(taken))
 
 
 def processes_below(root: int) -> List[int]:
@@ -426,6 +482,7 @@ PARTS = {
     "trace": measure_trace,
     "look": measure_look,
     "page": measure_page,
+    "views": measure_views,
     "python": measure_python,
 }
 
