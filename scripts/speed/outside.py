@@ -3,12 +3,12 @@
 
     scripts/speed/outside.py [crates/bb/out/bb] [--runs N] [--part PART]
 
-PART is `node`, `trace`, `look`, `page`, `views` or `python`; all of them where not said. It builds the module,
-the page and the library first, where they aren't up to date, by `scripts/web` and `scripts/library`. A time is the least
-of N runs (3 where not said), in turn with those that it is compared with; `processor` marks processor time,
-other times are by the clock. Run it on a quiet machine with four cores: it takes a quarter of an hour. Each
-figure is a row of a table in Markdown, with its bar where it has one. The last line counts the bars that hold
-as passed; the status is 1 where one doesn't.
+PART is `node`, `trace`, `look`, `page`, `views` or `python`; all of them where not said. It builds the
+module, the page and the library first, where they aren't up to date, by `scripts/web` and `scripts/library`.
+A time is the least of N runs (3 where not said), in turn with those that it is compared with; `processor`
+marks processor time, other times are by the clock. Run it on a quiet machine with four cores: it takes a
+quarter of an hour. Each figure is a row of a table in Markdown, with its bar where it has one. The last line
+counts the bars that hold as passed; the status is 1 where one doesn't.
 """
 
 import contextlib
