@@ -9,6 +9,12 @@ needs_of() {
     sed -n "s/^$1: //p" "$here/crates.txt" | tr ' ' '\n' | grep '^bb_' || true
 }
 
+# The libraries that the program stands on, in the order of `crates.txt`.
+libraries() {
+    needs=$(needs_of bb)
+    sed -n 's/^\(bb_[a-z_]*\):.*/\1/p' "$here/crates.txt" | grep -Fx "$needs"
+}
+
 # Whether there is no program, or something that it is made of is newer: the code, the definitions and the
 # proofs of its crates. Edits, tests and other crates are no part of it.
 stale() {
@@ -72,12 +78,12 @@ build() {
     begun=
     above=
     proved=0
-    crates=$(grep -c '^bb[a-z_]*:' "$here/crates.txt")
+    crates=$(($(libraries | wc -l) + 1))
     trap 'kill $begun 2>/dev/null || true; rm -rf "$logs"' EXIT
     trap 'exit 130' INT
     trap 'exit 143' TERM
     echo 'bb: building, which proves every crate first and takes some minutes' >&2
-    for crate in $(sed -n 's/^\(bb_[a-z_]*\):.*/\1/p' "$here/crates.txt"); do
+    for crate in $(libraries); do
         end $(needs_of "$crate")
         case $crate in
             bb_machine | bb_tape) begin "$here" "$crate" rt lib --jobs 2 ;;

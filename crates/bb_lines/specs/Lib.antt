@@ -5,3 +5,4 @@ pub mod Lines
 pub mod Cost
 pub mod Ends
 pub mod Output
+pub mod Taking

@@ -5,4 +5,5 @@ pub mod fault;
 pub mod lines;
 pub mod output;
 pub mod responder;
+pub mod taking;
 pub mod watched;

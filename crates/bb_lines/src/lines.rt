@@ -22,7 +22,7 @@ use memchr::memchr;
 use std::io::{Read, Write};
 
 /// The most bytes of one read.
-const CHUNK: usize = 16384;
+pub(crate) const CHUNK: usize = 16384;
 
 /// Replies to each line of the reader and writes the replies, in order, each as a line. The reader is read to
 /// its end. Replies are buffered: they are written before the next read, when there is no room for one more,
@@ -351,7 +351,7 @@ fn answer<W: Write, A: Responder>(
 }
 
 // Keeps the first `most` bytes of what is kept and a piece that comes after it.
-fn keep_prefix(kept: &mut ArrayVec<u8, MAX_KEPT>, piece: &[u8], most: usize)
+pub(crate) fn keep_prefix(kept: &mut ArrayVec<u8, MAX_KEPT>, piece: &[u8], most: usize)
     requires kept { array_vec_len kept.old ≤ most }
     requires most { most ≤ MAX_KEPT }
     ensures { kept.new.items ≡ take most (kept.old.items ++ piece.now) }

@@ -1,0 +1,214 @@
+-- The entries with which a walk goes on, by their places.
+use Rattle.std.proofs.Common.{◌≡◌, ℕ, zero, suc, ◌+◌, ◌-◌, ◌*◌, ◌/◌, ◌%◌, ◌<◌, ◌≤◌, Bool, true, false, cond, List, []}
+use Rattle.std.proofs.Common.{◌∷◌, ◌++◌, length, get_or, inl, inr, refl, ap, sym, subst, ◌∙◌, arith, length-append}
+use Rattle.std.proofs.lemmas.Bool.{cases_eq, cases_lt}
+use Rattle.std.proofs.lemmas.List.{get_or_append_left, get_or-append_right, get_or_push}
+use Rattle.std.proofs.Math.Nat.{mul-le-mul_left}
+use Rattle.bb_machine.specs.declared.entry.Dir.{Dir}
+use Rattle.bb_machine.specs.declared.entry.Dir.TheVariants as dir
+use Rattle.bb_machine.specs.declared.entry.Entry.{Entry}
+use Rattle.bb_machine.specs.declared.entry.Entry.TheVariants.{Undefined, Go}
+use Rattle.bb_machine.specs.declared.entry.Next.TheVariants.{State}
+use Rattle.laws_of_verdicts.specs.Walk.{entries_of, entries_to, entries_with}
+
+length-entries_to : (write : ℕ) (move : Dir) (states : ℕ) → length (entries_to write move states) ≡ states
+length-entries_to write move zero = refl
+length-entries_to write move (suc n) =
+    let rest = length-entries_to write move n in
+    length-append (entries_to write move n) (Go write move (State n) ∷ []) ∙ omega (arith, rest)
+
+entry_to : (write : ℕ) (move : Dir) (states to : ℕ) → to < states
+    → get_or (entries_to write move states) to Undefined ≡ Go write move (State to)
+entry_to write move zero to less = absurd (omega (arith, less))
+entry_to write move (suc n) to less =
+    let long = length-entries_to write move n in
+    elim (cases_eq to n) [
+      | inl same ↦ subst (λ k. get_or (entries_to write move n ++ Go write move (State n) ∷ []) k Undefined
+          ≡ Go write move (State k)) (sym same)
+          (get_or_push (entries_to write move n) (Go write move (State n)) Undefined n long)
+      | inr apart ↦
+          let low : to < n = omega (arith, less, apart) in
+          get_or_append_left (entries_to write move n) (Go write move (State n) ∷ []) Undefined to
+          (omega (arith, low, long))
+          ∙ entry_to write move n to low
+    ]
+
+abbrev pub width : Bool → ℕ → ℕ
+width is_root states = cond is_root states (states + states)
+
+length-entries_with : (is_root : Bool) (states write : ℕ)
+    → length (entries_with is_root states write) ≡ width is_root states
+length-entries_with true states write =
+    let right = length-entries_to write dir.R states in
+    length-append (entries_to write dir.R states) [] ∙ omega (arith, right)
+length-entries_with false states write =
+    let right = length-entries_to write dir.R states in
+    let left = length-entries_to write dir.L states in
+    length-append (entries_to write dir.R states) (entries_to write dir.L states) ∙ omega (arith, right, left)
+
+entry_right : (is_root : Bool) (states write place : ℕ) → place < states
+    → get_or (entries_with is_root states write) place Undefined ≡ Go write dir.R (State place)
+entry_right is_root states write place low =
+    let long = length-entries_to write dir.R states in
+    get_or_append_left (entries_to write dir.R states) (cond is_root [] (entries_to write dir.L states))
+    Undefined place (omega (arith, long, low))
+    ∙ entry_to write dir.R states place low
+
+entry_left : (is_root : Bool) (states write place : ℕ) → states ≤ place → place < width is_root states
+    → get_or (entries_with is_root states write) place Undefined ≡ Go write dir.L (State (place - states))
+entry_left true states write place high low = absurd (omega (arith, high, low))
+entry_left false states write place high low =
+    let long = length-entries_to write dir.R states in
+    get_or-append_right (entries_to write dir.R states) (entries_to write dir.L states) states place Undefined
+    long high
+    ∙ entry_to write dir.L states (place - states) (omega (arith, high, low))
+
+pub length-entries_of : (is_root : Bool) (states symbols : ℕ)
+    → length (entries_of is_root states symbols) ≡ symbols * width is_root states
+length-entries_of is_root states zero = omega arith
+length-entries_of is_root states (suc k) =
+    let rest = length-entries_of is_root states k in
+    let last = length-entries_with is_root states k in
+    length-append (entries_of is_root states k) (entries_with is_root states k) ∙ omega (arith, rest, last)
+
+-- the one at so many whole widths and a place
+entry_at : (is_root : Bool) (states symbols write place : ℕ) → write < symbols
+    → place < width is_root states
+    → get_or (entries_of is_root states symbols) (write * width is_root states + place) Undefined
+    ≡ get_or (entries_with is_root states write) place Undefined
+entry_at is_root states zero write place less low = absurd (omega (arith, less))
+entry_at is_root states (suc k) write place less low =
+    let long = length-entries_of is_root states k in
+    let w = width is_root states in
+    elim (cases_eq write k) [
+      | inl same ↦
+          let here : w * write ≡ w * k = ap (λ n. w * n) same in
+          let past : write * w + place - k * w ≡ place = omega (arith, here) in
+          get_or-append_right (entries_of is_root states k) (entries_with is_root states k) (k * w)
+          (write * w + place) Undefined long (omega (arith, here))
+          ∙ ap (λ n. get_or (entries_with is_root states k) n Undefined) past
+          ∙ ap (λ n. get_or (entries_with is_root states n) place Undefined) (sym same)
+      | inr apart ↦
+          let low_too : write + 1 ≤ k = omega (arith, less, apart) in
+          let fits : w * (write + 1) ≤ w * k = mul-le-mul_left w low_too in
+          get_or_append_left (entries_of is_root states k) (entries_with is_root states k) Undefined
+          (write * w + place) (omega (arith, long, fits, low))
+          ∙ entry_at is_root states k write place (omega (arith, less, apart)) low
+    ]
+
+-- by an index
+
+pub some_width : (is_root : Bool) (states symbols index : ℕ)
+    → index < length (entries_of is_root states symbols) → 0 < width is_root states
+some_width is_root states symbols index inside = elim (cases_eq (width is_root states) 0) [
+  | inl none ↦
+      let long = length-entries_of is_root states symbols in
+      let zero_long : symbols * width is_root states ≡ symbols * 0 = ap (λ n. symbols * n) none in
+      absurd (omega (arith, inside, long, zero_long))
+  | inr some ↦ omega (arith, some)
+]
+
+pub few_writes : (is_root : Bool) (states symbols index : ℕ)
+    → index < length (entries_of is_root states symbols) → index / width is_root states < symbols
+few_writes is_root states symbols index inside = elim (cases_lt (index / width is_root states) symbols) [
+  | inl less ↦ less
+  | inr more ↦
+      let long = length-entries_of is_root states symbols in
+      let w = width is_root states in
+      let some = some_width is_root states symbols index inside in
+      let fits : w * symbols ≤ w * (index / w) = mul-le-mul_left w more in
+      absurd (omega (arith, inside, long, fits, some))
+]
+
+split : (is_root : Bool) (states symbols index : ℕ) → index < length (entries_of is_root states symbols)
+    → get_or (entries_of is_root states symbols) index Undefined
+    ≡ get_or (entries_with is_root states (index / width is_root states)) (index % width is_root states)
+    Undefined
+split is_root states symbols index inside =
+    let w = width is_root states in
+    let some = some_width is_root states symbols index inside in
+    let parts : index ≡ index / w * w + index % w = omega (arith, some) in
+    ap (λ n. get_or (entries_of is_root states symbols) n Undefined) parts
+    ∙ entry_at is_root states symbols (index / w) (index % w) (few_writes is_root states symbols index inside)
+    (omega (arith, some))
+
+pub by_index_right : (is_root : Bool) (states symbols index : ℕ)
+    → index < length (entries_of is_root states symbols) → index % width is_root states < states
+    → Go (index / width is_root states) dir.R (State (index % width is_root states))
+    ≡ get_or (entries_of is_root states symbols) index Undefined
+by_index_right is_root states symbols index inside low =
+    sym (split is_root states symbols index inside
+    ∙ entry_right is_root states (index / width is_root states) (index % width is_root states) low)
+
+pub by_index_left : (is_root : Bool) (states symbols index : ℕ)
+    → index < length (entries_of is_root states symbols) → states ≤ index % width is_root states
+    → Go (index / width is_root states) dir.L (State (index % width is_root states - states))
+    ≡ get_or (entries_of is_root states symbols) index Undefined
+by_index_left is_root states symbols index inside high =
+    let some = some_width is_root states symbols index inside in
+    sym (split is_root states symbols index inside
+    ∙ entry_left is_root states (index / width is_root states) (index % width is_root states) high
+    (omega (arith, some)))
+
+pub few_places : (is_root : Bool) (states symbols index : ℕ)
+    → index < length (entries_of is_root states symbols) → index % width is_root states < states + states
+few_places is_root states symbols index inside =
+    let some = some_width is_root states symbols index inside in
+    let low : index % width is_root states < width is_root states = omega (arith, some) in
+    let wide = few_width is_root states in
+    omega (arith, low, wide)
+  where
+    few_width : (is_root : Bool) (states : ℕ) → width is_root states ≤ states + states
+    few_width true states = omega arith
+    few_width false states = omega arith
+
+-- each leads to a state
+pub record LeadsOn (entry : Entry) : Type 0 where
+  pub write : ℕ
+  pub move : Dir
+  pub to : ℕ
+  pub is : entry ≡ Go write move (State to)
+
+pub leads_on : (is_root : Bool) (states symbols index : ℕ)
+    → index < length (entries_of is_root states symbols)
+    → LeadsOn (get_or (entries_of is_root states symbols) index Undefined)
+leads_on is_root states symbols index inside =
+    elim (cases_lt (index % width is_root states) states) [
+      | inl low ↦ record {
+        write = _;
+        move = _;
+        to = _;
+        is = sym (by_index_right is_root states symbols index inside low);
+      }
+      | inr high ↦ record {
+        write = _;
+        move = _;
+        to = _;
+        is = sym (by_index_left is_root states symbols index inside high);
+      }
+    ]
+
+pub some_entries : (is_root : Bool) (states symbols : ℕ) → 0 < states → 0 < symbols
+    → 0 < length (entries_of is_root states symbols)
+some_entries is_root states symbols some some_too =
+    let long = length-entries_of is_root states symbols in
+    let wide = wide_enough is_root states in
+    let one : width is_root states * 1 ≤ width is_root states * symbols =
+    mul-le-mul_left (width is_root states) (omega (arith, some_too)) in
+    omega (arith, long, wide, one, some)
+  where
+    wide_enough : (is_root : Bool) (states : ℕ) → states ≤ width is_root states
+    wide_enough true states = omega arith
+    wide_enough false states = omega arith
+
+pub few_entries : (is_root : Bool) (states symbols : ℕ) → states ≤ 25 → symbols ≤ 10
+    → length (entries_of is_root states symbols) ≤ 500
+few_entries is_root states symbols few few_too =
+    let long = length-entries_of is_root states symbols in
+    let wide : width is_root states ≤ 50 = narrow is_root states few in
+    let fits : symbols * width is_root states ≤ symbols * 50 = mul-le-mul_left symbols wide in
+    omega (arith, long, fits, few_too)
+  where
+    narrow : (is_root : Bool) (states : ℕ) → states ≤ 25 → width is_root states ≤ 50
+    narrow true states few = omega (arith, few)
+    narrow false states few = omega (arith, few)

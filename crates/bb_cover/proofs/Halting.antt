@@ -1,0 +1,109 @@
+-- Where a runner has halted.
+use Rattle.std.proofs.Common.{◌≡◌, ◌≢◌, ℕ, ◌+◌, ◌<◌, ◌≤◌, None, inl, inr, refl, ap, sym, subst, ◌∙◌, arith}
+use Rattle.std.proofs.lemmas.Bool.{cases_eq}
+use Rattle.bb_machine.specs.declared.entry.Entry.{Entry}
+use Rattle.bb_machine.specs.declared.entry.Entry.TheVariants.{Undefined, Go}
+use Rattle.bb_machine.specs.declared.entry.Next.TheVariants as next
+use Rattle.bb_machine.specs.Entry.{IsNextOf}
+use Rattle.bb_machine.specs.Limits.{Bounds}
+use Rattle.bb_machine.specs.Machine.{Table, entry_of}
+use Rattle.bb_tape.specs.Content.{cell, score}
+use Rattle.bb_tape.specs.TapeView.{TapeView}
+use Rattle.bb_sim.specs.Configuration as configuration
+use Rattle.bb_sim.specs.Configuration.{Configuration, entry_at, followed}
+use Rattle.bb_sim.specs.declared.runner.Runner.{Runner}
+use Rattle.bb_sim.specs.Run.{HaltsAt}
+use Rattle.bb_sim.specs.Runner.{Stands, position_of, state_of, steps_of}
+use Rattle.bb_sim.specs.Span.{Inside, span}
+use Rattle.bb_sim.proofs.Facts.{halt_is_unique, span_grows}
+use Rattle.laws_of_verdicts.specs.Gap.{HaltsOnGap}
+use Rattle.bb_cover.specs.declared.gap.Gap.{Gap}
+use Rattle.bb_cover.specs.declared.halt.Halted.{Halted}
+use Rattle.bb_cover.specs.Gaps.{HaltsOn, IsGapOf}
+use Rattle.bb_cover.specs.Halts.{EndsSo}
+
+no_step : (entry : Entry) (c : Configuration) → followed entry c ≡ None → entry ≡ Undefined
+no_step Undefined c e = refl
+no_step (Go write dir to) c e = absurd cc
+
+pub gap_of_halt : (table : Table) (runner : Runner) (view : TapeView) → Stands table runner view
+    → HaltsAt table (steps_of runner) → (gap : Gap) → state_of runner ≡ next.State gap.state
+    → gap.symbol ≡ cell view.content (position_of runner)
+    → HaltsOnGap table (steps_of runner) gap.state gap.symbol × IsGapOf table gap
+unfolding configuration.next
+gap_of_halt table runner view stands halts gap in_state at_symbol =
+    let here : Configuration =
+    record { state = state_of runner; head = position_of runner; tape = view.content } in
+    let one = stands.at in
+    let two = halts.exists in
+    let same : halts.last ≡ here = cc in
+    let entry : entry_at table (state_of runner) (cell view.content (position_of runner))
+    ≡ entry_of table gap.state gap.symbol =
+    ap (λ x. entry_at table x (cell view.content (position_of runner))) in_state
+    ∙ ap (entry_of table gap.state) (sym at_symbol) in
+    let none : followed (entry_at table (state_of runner) (cell view.content (position_of runner))) here ≡ None =
+    ap (configuration.next table) (sym same) ∙ halts.no_next in
+    let is_gap : entry_of table gap.state gap.symbol ≡ Undefined = sym entry ∙ no_step _ here none in
+    (
+      record {
+        last = here;
+        exists = stands.at;
+        in_state = in_state;
+        at_symbol = sym at_symbol;
+        gap = is_gap;
+      },
+      record {
+        below = subst (IsNextOf _) in_state stands.state_named;
+        inside = let named = stands.symbols_named (position_of runner) in omega (arith, named, at_symbol);
+        is_gap = is_gap;
+      },
+    )
+
+-- in Z it halts on none
+pub no_gap_in_Z : (table : Table) (runner : Runner) (view : TapeView) → Stands table runner view
+    → state_of runner ≡ next.Halt → (state symbol : ℕ) → HaltsOnGap table (steps_of runner) state symbol → ⊥
+no_gap_in_Z table runner view stands in_Z state symbol gap =
+    let here : Configuration =
+    record { state = state_of runner; head = position_of runner; tape = view.content } in
+    let one = stands.at in
+    let two = gap.exists in
+    let same : gap.last ≡ here = cc in
+    let three = ap (λ (x : Configuration). x.state) same in
+    let four = gap.in_state in
+    let both : next.State state ≡ next.Halt = sym four ∙ three ∙ in_Z in
+    cc
+
+-- it halts after another number of steps
+pub halts_elsewhere : (table : Table) (n steps : ℕ) → HaltsAt table n → n ≢ steps → HaltsAt table steps → ⊥
+halts_elsewhere table n steps here apart there = apart (halt_is_unique table n steps here there)
+
+-- it runs on, past the limit of cells
+pub needs_more_cells : (table : Table) (bounds : Bounds) (n steps : ℕ) → (HaltsAt table n → ⊥) → n ≤ steps
+    → bounds.cells < span table (n + 1) → HaltsAt table steps → Inside table bounds steps → ⊥
+needs_more_cells table bounds n steps on low wide halts inside = elim (cases_eq n steps) [
+  | inl same ↦ on (subst (HaltsAt table) (sym same) halts)
+  | inr apart ↦
+      let grows = span_grows table (n + 1) steps (omega (arith, low, apart)) in
+      let narrow = inside.within_cells in
+      absurd (omega (arith, grows, narrow, wide))
+]
+
+-- it halts here
+pub ends_so : (table : Table) (bounds cut : Bounds) (n : ℕ) → cut ≡ record bounds { steps = n }
+    → n ≤ bounds.steps → (runner : Runner) (view : TapeView) → Stands table runner view
+    → HaltsAt table (steps_of runner) → Inside table cut (steps_of runner) → (halted : Halted)
+    → halted.score ≡ score view.content → HaltsOn table (steps_of runner) halted.gap → steps_of runner ≡ n
+    → EndsSo table bounds n halted
+ends_so table bounds cut n is few runner view stands halts inside halted scored on at =
+    subst (λ k. EndsSo table bounds k halted) at (record {
+      halts = halts;
+      inside = record {
+        here = inside.here;
+        exists = inside.exists;
+        within_steps = omega (arith, at, few);
+        within_cells = let narrow = inside.within_cells in let same = ap (λ (b : Bounds). b.cells) is in
+            omega (arith, narrow, same);
+      };
+      scores = record { here = _; exists = stands.at; counted = scored };
+      on = on;
+    })

@@ -1,0 +1,200 @@
+-- Which verdicts may stand in a list, and on which `---` their machines halt.
+use Rattle.std.proofs.Common.{◌≡◌, ℕ, ◌<◌, ◌≤◌, Bool, true, false, Option, Some, None, inl, inr, refl, sym, subst}
+use Rattle.std.proofs.Common.{ap, ◌∙◌, arith}
+use Rattle.std.proofs.lemmas.Bool.{cases_lt}
+use Rattle.bb_machine.specs.Limits.{Bounds}
+use Rattle.bb_machine.specs.Machine.{Table}
+use Rattle.bb_sim.specs.Configuration.{Configuration}
+use Rattle.bb_sim.specs.Run.{HaltsAt}
+use Rattle.bb_sim.specs.Span.{Inside, span}
+use Rattle.bb_sim.proofs.Facts.{score_is_unique}
+use Rattle.bb_cert.proofs.Facts.{answer_is_unique}
+use Rattle.bb_machine.specs.declared.entry.Next.TheVariants.{State}
+use Rattle.bb_tape.specs.Content.{cell}
+use Rattle.bb_cert.specs.declared.checker.answer.Answer.{Answer}
+use Rattle.bb_cert.specs.declared.checker.answer.Answer.TheVariants as answer
+use Rattle.bb_cert.specs.declared.verdict.Verdict.{Verdict}
+use Rattle.bb_cert.specs.declared.verdict.Verdict.TheVariants.{Halt, Cycler, Translated, Backward, Undecided}
+use Rattle.bb_cert.specs.claims.Claim.{Claim}
+use Rattle.bb_cert.specs.checker.Answer.{Applies, IsAnswer, IsUndecided, Rule, answer_by, is_fine, rank}
+use Rattle.bb_cert.specs.checker.Answer.{undecided, too_much_named, out_of_order, too_much_needed, claim_holds, all_else}
+use Rattle.laws_of_verdicts.specs.Closed.{VerdictLine}
+use Rattle.laws_of_verdicts.specs.Gap.{HaltsOnGap, HasOtherGap}
+use Rattle.laws_of_verdicts.specs.Walk.{HaltsOnOneOf}
+use Rattle.bb_cover.specs.declared.gap.Gap.{Gap}
+use Rattle.bb_cover.specs.declared.halt.Halted.{Halted}
+use Rattle.bb_cover.specs.Claims.{IsFineClaim, IsHalt, IsOneOf}
+use Rattle.bb_cover.specs.Gaps.{HaltsOn, IsToFill}
+use Rattle.bb_cover.specs.Halts.{EndsSo}
+
+-- a halt that a run makes is confirmed
+pub halt_is_ok : (table : Table) (bounds : Bounds) (steps score : ℕ) (halted : Halted)
+    → EndsSo table bounds steps halted → halted.score ≡ score
+    → IsAnswer table bounds (Halt steps score) answer.Ok
+halt_is_ok table bounds steps score halted ends same = record {
+  rule = claim_holds;
+  is = refl;
+  applies = subst (λ n. Claim table (Halt steps n)) same (ends.halts, ends.scores);
+  first = first;
+} where
+  first : (other : Rule) → Applies table bounds (Halt steps score) other → rank claim_holds ≤ rank other
+  first undecided applies = absurd applies
+  first too_much_named applies = let few = ends.inside.within_steps in absurd (omega (arith, few, applies))
+  first out_of_order applies = absurd applies
+  first too_much_needed applies = let few = ends.inside.within_cells in absurd (omega (arith, few, applies))
+  first claim_holds applies = omega arith
+  first all_else applies = omega arith
+
+-- what the answer `ok` says of a halt
+pub record OkHalt (table : Table) (bounds : Bounds) (steps score : ℕ) : Type 0 where
+  pub claim : Claim table (Halt steps score)
+  pub few_steps : steps ≤ bounds.steps
+  pub few_cells : span table steps ≤ bounds.cells
+
+not_more : (n k : ℕ) → (k < n → ⊥) → n ≤ k
+not_more n k not = elim (cases_lt k n) [ | inl more ↦ absurd (not more) | inr few ↦ few ]
+
+by_rule : (table : Table) (bounds : Bounds) (steps score : ℕ) (rule : Rule) → answer.Ok ≡ answer_by rule
+    → Applies table bounds (Halt steps score) rule
+    → ((other : Rule) → Applies table bounds (Halt steps score) other → rank rule ≤ rank other)
+    → OkHalt table bounds steps score
+by_rule table bounds steps score undecided is applies first = cc
+by_rule table bounds steps score too_much_named is applies first = cc
+by_rule table bounds steps score out_of_order is applies first = cc
+by_rule table bounds steps score too_much_needed is applies first = cc
+by_rule table bounds steps score claim_holds is applies first = record {
+  claim = applies;
+  few_steps = not_more steps bounds.steps (λ more. let low = first too_much_named more in omega (arith, low));
+  few_cells = not_more (span table steps) bounds.cells
+      (λ more. let low = first too_much_needed more in omega (arith, low));
+}
+by_rule table bounds steps score all_else is applies first = cc
+
+pub ok_halt : (table : Table) (bounds : Bounds) (steps score : ℕ)
+    → IsAnswer table bounds (Halt steps score) answer.Ok → OkHalt table bounds steps score
+ok_halt table bounds steps score is = by_rule table bounds steps score is.rule is.is is.applies is.first
+
+-- a run that doesn't halt just then refutes it
+pub not_there : (table : Table) (bounds : Bounds) (steps score : ℕ)
+    → (HaltsAt table steps → Inside table bounds steps → ⊥)
+    → IsAnswer table bounds (Halt steps score) answer.Ok → ⊥
+not_there table bounds steps score none is =
+    let ok = ok_halt table bounds steps score is in
+    let halts = ok.claim.0 in
+    none halts (record {
+      here = halts.last;
+      exists = halts.exists;
+      within_steps = ok.few_steps;
+      within_cells = ok.few_cells;
+    })
+
+-- so does another score
+pub other_score : (table : Table) (bounds : Bounds) (steps score : ℕ) (halted : Halted)
+    → EndsSo table bounds steps halted → (halted.score ≡ score → ⊥)
+    → IsAnswer table bounds (Halt steps score) answer.Ok → ⊥
+other_score table bounds steps score halted ends apart is =
+    let ok = ok_halt table bounds steps score is in
+    apart (score_is_unique table steps halted.score score ends.scores ok.claim.1)
+
+-- too many steps are named
+pub over_halt : (table : Table) (bounds : Bounds) (steps score : ℕ) → bounds.steps < steps
+    → IsAnswer table bounds (Halt steps score) answer.Over
+over_halt table bounds steps score many = record {
+  rule = too_much_named;
+  is = refl;
+  applies = many;
+  first = first;
+} where
+  first : (other : Rule) → Applies table bounds (Halt steps score) other → rank too_much_named ≤ rank other
+  first undecided applies = absurd applies
+  first too_much_named applies = omega arith
+  first out_of_order applies = omega arith
+  first too_much_needed applies = omega arith
+  first claim_holds applies = omega arith
+  first all_else applies = omega arith
+
+-- no other answer to a halt than `ok` is fine
+pub not_fine : (table : Table) (bounds : Bounds) (steps score : ℕ) (given : Answer)
+    → IsAnswer table bounds (Halt steps score) given
+    → (IsAnswer table bounds (Halt steps score) answer.Ok → ⊥) → is_fine given ≡ false
+not_fine table bounds steps score answer.Ok is not = absurd (not is)
+not_fine table bounds steps score answer.Bad is not = refl
+not_fine table bounds steps score answer.Over is not = refl
+not_fine table bounds steps score answer.Open is not = absurd (never_open is.rule is.is is.applies)
+  where
+    never_open : (rule : Rule) → answer.Open ≡ answer_by rule → Applies table bounds (Halt steps score) rule → ⊥
+    never_open undecided e applies = applies
+    never_open too_much_named e applies = cc
+    never_open out_of_order e applies = cc
+    never_open too_much_needed e applies = cc
+    never_open claim_holds e applies = cc
+    never_open all_else e applies = cc
+
+-- a fine verdict claims what holds
+pub fine_claim : (bounds : Bounds) (table : Table) (verdict : Verdict) → IsFineClaim bounds table verdict
+    → Claim table verdict
+fine_claim bounds table verdict fine = by fine.is_answer.rule fine.is_answer.applies
+    (sym (ap is_fine fine.is_answer.is) ∙ fine.fine)
+  where
+    nothing : (verdict : Verdict) → IsUndecided verdict → Claim table verdict
+    nothing (Undecided why) is = tt
+    nothing (Halt steps score) is = absurd is
+    nothing (Cycler first second) is = absurd is
+    nothing (Translated side first second extent) is = absurd is
+    nothing (Backward levels nodes) is = absurd is
+
+    by : (rule : Rule) → Applies table bounds verdict rule → is_fine (answer_by rule) ≡ true
+        → Claim table verdict
+    by undecided applies e = nothing verdict applies
+    by too_much_named applies e = cc
+    by out_of_order applies e = cc
+    by too_much_needed applies e = cc
+    by claim_holds applies e = applies
+    by all_else applies e = cc
+
+-- no two answers to a verdict are fine and not
+pub fine_or_not : (bounds : Bounds) (table : Table) (verdict : Verdict) → IsFineClaim bounds table verdict
+    → (given : Answer) → IsAnswer table bounds verdict given → is_fine given ≡ false → ⊥
+fine_or_not bounds table verdict fine given is not =
+    let same = answer_is_unique table bounds verdict fine.given given fine.is_answer is in
+    let one = fine.fine in
+    let both : true ≡ false = sym one ∙ ap is_fine same ∙ not in
+    cc
+
+-- a `---` on which the machine halts is one of several, or none is
+
+pub one_gap : (table : Table) (n q s i j : ℕ) → HaltsOnGap table n q s → HaltsOnGap table n i j
+    → (q ≡ i) × (s ≡ j)
+one_gap table n q s i j gap gap_too =
+    let one = gap.exists in
+    let two = gap_too.exists in
+    let same : gap.last ≡ gap_too.last = cc in
+    let a = gap.in_state in
+    let b = gap_too.in_state in
+    let c = ap (λ (x : Configuration). x.state) same in
+    let states : State q ≡ State i = sym a ∙ c ∙ b in
+    (cc, sym gap.at_symbol ∙ ap (λ (x : Configuration). cell x.tape x.head) same ∙ gap_too.at_symbol)
+
+pub to_fill : (table : Table) (steps score : ℕ) (on found : Option Gap) → HaltsOn table steps on
+    → IsOneOf table on found → IsToFill (record { table = table; verdict = Halt steps score }) found
+to_fill table steps score None None on one = λ state symbol halts.
+    let same : steps ≡ halts.steps = let e = halts.says in cc in
+    on state symbol (subst (λ n. HaltsOnGap table n state symbol) (sym same) halts.gap)
+to_fill table steps score None (Some found) on one = absurd cc
+to_fill table steps score (Some gap) None on one = λ state symbol halts.
+    let same : steps ≡ halts.steps = let e = halts.says in cc in
+    let here = one_gap table steps gap.state gap.symbol state symbol on.0
+    (subst (λ n. HaltsOnGap table n state symbol) (sym same) halts.gap) in
+    one (subst (HasOtherGap table gap.state) (sym here.1)
+    (subst (λ q. HasOtherGap table q symbol) (sym here.0) halts.other))
+to_fill table steps score (Some gap) (Some found) on one =
+    subst (λ g. IsToFill (record { table = table; verdict = Halt steps score }) (Some g)) (sym one.0)
+    (
+      record { steps = steps; score = score; says = refl; gap = on.0; other = one.1 },
+      on.1,
+    )
+
+-- any other verdict fills none
+pub no_halt_fills : (table : Table) (verdict : Verdict) → (IsHalt verdict → ⊥)
+    → IsToFill (record { table = table; verdict = verdict }) None
+no_halt_fills table verdict none = λ state symbol halts. none (subst IsHalt (sym halts.says) tt)

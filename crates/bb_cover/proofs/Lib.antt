@@ -1,0 +1,9 @@
+mod Asks
+mod Halting
+mod Judging
+mod Lefts
+mod Steps
+mod Tables
+mod Tallies
+mod Useds
+mod Wholes

@@ -1,0 +1,123 @@
+-- What one line does to a walk.
+use Rattle.std.proofs.Common.{◌≡◌, ◌≢◌, ◌↔◌, ℕ, zero, suc, ◌+◌, ◌<◌, ◌≤◌, ◌⊎◌, Bool, true, false, List, [], ◌∷◌, ◌++◌}
+use Rattle.std.proofs.Common.{Option, Some, None, length, map, min, inl, inr, refl, ap, sym, subst, ◌∙◌, arith}
+use Rattle.std.specs.Prelude.{IsTrue, is_some}
+use Rattle.std.proofs.lemmas.List.{append-nil}
+use Rattle.bb_machine.specs.Limits.{Bounds}
+use Rattle.bb_machine.specs.Machine.{Table, IsMachine, symbols_of}
+use Rattle.bb_cert.specs.declared.verdict.Verdict.{Verdict}
+use Rattle.bb_cert.specs.declared.verdict.Verdict.TheVariants.{Halt}
+use Rattle.bb_cert.specs.declared.verdict.reader.Line.TheVariants.{Claim, Refusal}
+use Rattle.bb_cert.specs.verdict.Line.{IsLineOf}
+use Rattle.bb_cert.proofs.Facts.{line_unique}
+use Rattle.laws_of_verdicts.specs.Closed.{VerdictLine, with_entry}
+use Rattle.laws_of_verdicts.specs.Gap.{HaltsOnGap}
+use Rattle.laws_of_verdicts.specs.NormalForm.{IsEmpty}
+use Rattle.laws_of_verdicts.specs.Walk.{FillsGapBy, HaltsOnOneOf, IsWalk, LeadsTo, Uses, entries_of}
+use Rattle.bb_cover.specs.declared.found.Stop.{Stop}
+use Rattle.bb_cover.specs.declared.gap.Gap.{Gap}
+use Rattle.bb_cover.specs.declared.list.Course.{Course}
+use Rattle.bb_cover.specs.Claims.{IsTrueLine}
+use Rattle.bb_cover.specs.Course.{Stopped, Took, TookBy, Visited}
+use Rattle.bb_cover.specs.Gaps.{IsToFill}
+use Rattle.bb_cover.specs.Left.{FillsAt}
+use Rattle.bb_cover.proofs.Judging.{one_gap}
+
+-- lines
+
+pub never_both : (bytes : List ℕ) (table : Table) (verdict : Verdict) (column : ℕ)
+    → IsLineOf (Claim table verdict) bytes → IsLineOf (Refusal column) bytes → ⊥
+never_both bytes table verdict column one two =
+    let same = line_unique (Claim table verdict) (Refusal column) bytes one two in
+    cc
+
+pub one_line : (bytes : List ℕ) (a b : VerdictLine) → IsLineOf (Claim a.table a.verdict) bytes
+    → IsLineOf (Claim b.table b.verdict) bytes → a ≡ b
+one_line bytes a b one two = same a.table b.table a.verdict b.verdict
+    (line_unique (Claim a.table a.verdict) (Claim b.table b.verdict) bytes one two)
+  where
+    same : (t u : Table) (v x : Verdict) → Claim t v ≡ Claim u x
+        → ◌≡◌ {A = VerdictLine} (record { table = t; verdict = v }) (record { table = u; verdict = x })
+    same t u v x e =
+        let tables : t ≡ u = cc in
+        let verdicts : v ≡ x = cc in
+        ap (λ (y : Table). let l : VerdictLine = record { table = y; verdict = v } in l) tables
+        ∙ ap (λ (y : Verdict). let l : VerdictLine = record { table = u; verdict = y } in l) verdicts
+
+-- which machines a line leads to
+
+same_test : (a b : Bool) (E : Type 0) → (IsTrue a ↔ E) → (IsTrue b ↔ E) → a ≡ b
+same_test true true E one two = refl
+same_test false false E one two = refl
+same_test true false E one two = let wrong = two.1 (one.0 refl) in cc
+same_test false true E one two = let wrong = one.1 (two.0 refl) in cc
+
+fills_once : (table : Table) (q s : ℕ) (a b : List Table) → FillsGapBy table q s a → FillsGapBy table q s b
+    → a ≡ b
+fills_once table q s a b one two =
+    let first = one.uses.least two.states two.symbols two.uses.first in
+    let second = two.uses.least one.states one.symbols one.uses.first in
+    let states : one.states ≡ two.states =
+    let f = first.0 in let g = second.0 in omega (arith, f, g) in
+    let symbols : one.symbols ≡ two.symbols =
+    let f = first.1 in let g = second.1 in omega (arith, f, g) in
+    let root = same_test one.is_root two.is_root (IsEmpty table) one.root two.root in
+    one.machines
+    ∙ ap (λ r. map (with_entry table q s) (entries_of r (min (length table) (one.states + 1))
+    (min (symbols_of table) (one.symbols + 1)))) root
+    ∙ ap (λ n. map (with_entry table q s) (entries_of two.is_root (min (length table) (n + 1))
+    (min (symbols_of table) (one.symbols + 1)))) states
+    ∙ ap (λ n. map (with_entry table q s) (entries_of two.is_root (min (length table) (two.states + 1))
+    (min (symbols_of table) (n + 1)))) symbols
+    ∙ sym two.machines
+
+-- a machine halts on one gap, whoever says so
+one_of_gaps : (line : VerdictLine) (q s i j : ℕ) → HaltsOnOneOf line q s → HaltsOnOneOf line i j
+    → (q ≡ i) × (s ≡ j)
+one_of_gaps line q s i j one two =
+    let a = one.says in
+    let b = two.says in
+    let both : Halt one.steps one.score ≡ Halt two.steps two.score = sym a ∙ b in
+    let same : one.steps ≡ two.steps = cc in
+    one_gap line.table two.steps q s i j (subst (λ n. HaltsOnGap line.table n q s) same one.gap) two.gap
+
+pub leads_to : (line : VerdictLine) (gap : Option Gap) (more : List Table) → IsToFill line gap
+    → FillsAt line.table gap more → LeadsTo line more
+leads_to line None more fill fills =
+    record { filled = λ q s halts. absurd (fill q s halts); none = λ _. fills }
+leads_to line (Some gap) more fill fills = record {
+  filled = λ q s halts.
+      let same = one_of_gaps line gap.state gap.symbol q s fill.0 halts in
+      subst (λ j. FillsGapBy line.table q j more) same.1
+      (subst (λ i. FillsGapBy line.table i gap.symbol more) same.0 fills);
+  none = λ no. absurd (no gap.state gap.symbol fill.0);
+}
+
+pub leads_nowhere_else : (line : VerdictLine) (gap : Option Gap) (more other : List Table)
+    → IsToFill line gap → FillsAt line.table gap more → LeadsTo line other → other ≡ more
+leads_nowhere_else line None more other fill fills leads = leads.none fill ∙ sym fills
+leads_nowhere_else line (Some gap) more other fill fills leads =
+    fills_once line.table gap.state gap.symbol other more (leads.filled gap.state gap.symbol fill.0) fills
+
+-- a walk that goes on from a machine, and one that begins with it
+pub goes_on : (line : VerdictLine) (gap : Option Gap) (more rest : List Table) → IsToFill line gap
+    → FillsAt line.table gap more → (tail : List VerdictLine)
+    → IsWalk (more ++ rest) tail ↔ IsWalk (line.table ∷ rest) (line ∷ tail)
+goes_on line gap more rest fill fills tail = (
+  λ walk. (refl, (more, leads_to line gap more fill fills, walk)),
+  λ walk. subst (λ m. IsWalk (m ++ rest) tail)
+      (leads_nowhere_else line gap more walk.1.0 fill fills walk.1.1) walk.1.2,
+)
+
+-- a line of a walk that hasn't stopped
+
+none_of : (stop : Option Stop) → is_some stop ≡ false → stop ≡ None
+none_of None e = refl
+none_of (Some stop) e = cc
+
+pub took : (bounds : Bounds) (old : Course) (bytes : List ℕ) (new : Course) → is_some old.stop ≡ false
+    → (old.stop ≡ None → Visited bounds old bytes new ⊎ Stopped bounds old bytes new)
+    → Took bounds old bytes new
+took bounds old bytes new going did =
+    let none = none_of old.stop going in
+    subst (λ s. TookBy s bounds old bytes new) (sym none) (did none)

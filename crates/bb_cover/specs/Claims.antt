@@ -1,0 +1,61 @@
+-- Which verdicts may stand in a list, within bounds.
+use Rattle.std.specs.Prelude.{◌≡◌, ℕ, true, false, List, [], ◌∷◌, Option, Some, None}
+use Rattle.bb_machine.specs.Limits.{Bounds}
+use Rattle.bb_machine.specs.Machine.{Table}
+use Rattle.bb_cert.specs.declared.checker.answer.Answer.{Answer}
+use Rattle.bb_cert.specs.declared.verdict.Verdict.{Verdict}
+use Rattle.bb_cert.specs.declared.verdict.Verdict.TheVariants.{Halt, Cycler, Translated, Backward, Undecided}
+use Rattle.bb_cert.specs.declared.verdict.reader.Line.TheVariants as said
+use Rattle.bb_cert.specs.checker.Answer.{IsAnswer, is_fine}
+use Rattle.bb_cert.specs.verdict.Line.{IsLineOf}
+use Rattle.laws_of_verdicts.specs.Closed.{VerdictLine}
+use Rattle.laws_of_verdicts.specs.Gap.{HasOtherGap}
+use Rattle.bb_cover.specs.declared.claim.Judged.{Judged}
+use Rattle.bb_cover.specs.declared.claim.Judged.TheVariants.{Fine, Refused}
+use Rattle.bb_cover.specs.declared.gap.Gap.{Gap}
+use Rattle.bb_cover.specs.Gaps.{IsToFill}
+
+-- the verdict is a halt
+abbrev pub IsHalt : Verdict → Type 0
+IsHalt (Halt steps score) = Unit {0}
+IsHalt (Cycler first second) = ⊥
+IsHalt (Translated side first second extent) = ⊥
+IsHalt (Backward levels nodes) = ⊥
+IsHalt (Undecided why) = ⊥
+
+-- of a `---`, if there is one, the same, where it is one of several
+abbrev pub IsOneOf : Table → Option Gap → Option Gap → Type 0
+IsOneOf table None found = found ≡ None
+IsOneOf table (Some gap) None = HasOtherGap table gap.state gap.symbol → ⊥
+IsOneOf table (Some gap) (Some other) = (other ≡ gap) × HasOtherGap table gap.state gap.symbol
+
+-- the checker's answer to the verdict is `ok` or `open`
+pub record IsFineClaim (bounds : Bounds) (table : Table) (verdict : Verdict) : Type 0 where
+  pub given : Answer
+  pub is_answer : IsAnswer table bounds verdict given
+  pub fine : is_fine given ≡ true
+
+-- the checker's answer is this one, and neither `ok` nor `open`
+pub record IsRefusedClaim (bounds : Bounds) (table : Table) (verdict : Verdict) (given : Answer)
+    : Type 0 where
+  pub is_answer : IsAnswer table bounds verdict given
+  pub not_fine : is_fine given ≡ false
+
+-- the verdict is judged so
+abbrev pub IsJudged : Table → Bounds → Verdict → Judged → Type 0
+IsJudged table bounds verdict (Fine gap) = IsFineClaim bounds table verdict
+    × IsToFill (record { table = table; verdict = verdict }) gap
+IsJudged table bounds verdict (Refused given) = IsRefusedClaim bounds table verdict given
+
+-- the bytes are the line of this machine and this verdict, which may stand in a list
+pub record IsTrueLine (bounds : Bounds) (bytes : List ℕ) (line : VerdictLine) : Type 0 where
+  pub is_line : IsLineOf (said.Claim line.table line.verdict) bytes
+  pub is_fine : IsFineClaim bounds line.table line.verdict
+
+-- these bytes, in their order, are these lines
+abbrev pub AreTrueLines : Bounds → List (List ℕ) → List VerdictLine → Type 0
+AreTrueLines bounds [] [] = Unit {0}
+AreTrueLines bounds [] (line ∷ lines) = ⊥
+AreTrueLines bounds (bytes ∷ more) [] = ⊥
+AreTrueLines bounds (bytes ∷ more) (line ∷ lines) =
+    IsTrueLine bounds bytes line × AreTrueLines bounds more lines

@@ -1,0 +1,89 @@
+-- How many lines of each kind there are.
+use Rattle.std.specs.Prelude.{◌≡◌, ℕ, ◌+◌, ◌-◌, ◌^◌, ◌<◌, min, Bool, true, false, cond, nat_lt, List, count_by, length}
+use Rattle.bb_cert.specs.declared.verdict.Verdict.{Verdict}
+use Rattle.bb_cert.specs.declared.verdict.Verdict.TheVariants.{Halt, Cycler, Translated, Backward, Undecided}
+use Rattle.laws_of_verdicts.specs.Closed.{VerdictLine}
+use Rattle.bb_cover.specs.declared.counts.Counts.{Counts}
+use Rattle.bb_cover.specs.Gaps.{gaps_of}
+
+-- the kinds of verdicts
+
+abbrev pub is_halt : Verdict → Bool
+is_halt (Halt steps score) = true
+is_halt (Cycler first second) = false
+is_halt (Translated side first second extent) = false
+is_halt (Backward levels nodes) = false
+is_halt (Undecided why) = false
+
+abbrev pub is_cycler : Verdict → Bool
+is_cycler (Halt steps score) = false
+is_cycler (Cycler first second) = true
+is_cycler (Translated side first second extent) = false
+is_cycler (Backward levels nodes) = false
+is_cycler (Undecided why) = false
+
+abbrev pub is_translated : Verdict → Bool
+is_translated (Halt steps score) = false
+is_translated (Cycler first second) = false
+is_translated (Translated side first second extent) = true
+is_translated (Backward levels nodes) = false
+is_translated (Undecided why) = false
+
+abbrev pub is_backward : Verdict → Bool
+is_backward (Halt steps score) = false
+is_backward (Cycler first second) = false
+is_backward (Translated side first second extent) = false
+is_backward (Backward levels nodes) = true
+is_backward (Undecided why) = false
+
+abbrev pub is_undecided : Verdict → Bool
+is_undecided (Halt steps score) = false
+is_undecided (Cycler first second) = false
+is_undecided (Translated side first second extent) = false
+is_undecided (Backward levels nodes) = false
+is_undecided (Undecided why) = true
+
+-- an undecided line whose machine has more than one `---`
+abbrev pub is_wide : VerdictLine → Bool
+is_wide line = cond (is_undecided line.verdict) (nat_lt 1 (gaps_of line.table)) false
+
+-- a count stops here
+abbrev pub saturated : ℕ → ℕ
+saturated n = min n (2 ^ 64 - 1)
+
+abbrev pub no_counts : Counts
+no_counts = record {
+  lines = 0;
+  halt = 0;
+  cycler = 0;
+  translated = 0;
+  backward = 0;
+  undecided = 0;
+  wide = 0;
+}
+
+-- one more where the test holds
+abbrev pub more_if : Bool → ℕ → ℕ
+more_if b n = cond b (saturated (n + 1)) n
+
+-- the counts with one line more
+abbrev pub counted : Counts → VerdictLine → Counts
+counted counts line = record {
+  lines = saturated (counts.lines + 1);
+  halt = more_if (is_halt line.verdict) counts.halt;
+  cycler = more_if (is_cycler line.verdict) counts.cycler;
+  translated = more_if (is_translated line.verdict) counts.translated;
+  backward = more_if (is_backward line.verdict) counts.backward;
+  undecided = more_if (is_undecided line.verdict) counts.undecided;
+  wide = more_if (is_wide line) counts.wide;
+}
+
+-- these are the counts of the lines
+pub record AreCounts (lines : List VerdictLine) (counts : Counts) : Type 0 where
+  pub all : counts.lines ≡ saturated (length lines)
+  pub halt : counts.halt ≡ saturated (count_by (λ line. is_halt line.verdict) lines)
+  pub cycler : counts.cycler ≡ saturated (count_by (λ line. is_cycler line.verdict) lines)
+  pub translated : counts.translated ≡ saturated (count_by (λ line. is_translated line.verdict) lines)
+  pub backward : counts.backward ≡ saturated (count_by (λ line. is_backward line.verdict) lines)
+  pub undecided : counts.undecided ≡ saturated (count_by (λ line. is_undecided line.verdict) lines)
+  pub wide : counts.wide ≡ saturated (count_by is_wide lines)

@@ -1,0 +1,91 @@
+-- How a walk goes along a list, line by line.
+use Rattle.std.specs.Prelude.{◌≡◌, ◌≢◌, ◌⊎◌, ℕ, ◌+◌, List, [], ◌∷◌, ◌++◌, length, Option, Some, None}
+use Rattle.bb_machine.specs.Limits.{Bounds}
+use Rattle.bb_machine.specs.Machine.{Table, symbols_of}
+use Rattle.bb_cert.specs.declared.verdict.reader.Line.TheVariants as said
+use Rattle.bb_cert.specs.declared.verdict.Verdict.{Verdict}
+use Rattle.bb_cert.specs.verdict.Line.{IsLineOf}
+use Rattle.laws_of_verdicts.specs.Closed.{VerdictLine}
+use Rattle.laws_of_verdicts.specs.NormalForm.{IsEmpty}
+use Rattle.bb_cover.specs.declared.found.Found.{Found}
+use Rattle.bb_cover.specs.declared.found.Found.TheVariants.{Covers, Stops}
+use Rattle.bb_cover.specs.declared.found.Stop.{Stop}
+use Rattle.bb_cover.specs.declared.found.Why.{Why}
+use Rattle.bb_cover.specs.declared.found.Why.TheVariants.{Unread, NotNext, Refused, TooSoon, Beyond}
+use Rattle.bb_cover.specs.declared.gap.Gap.{Gap}
+use Rattle.bb_cover.specs.declared.list.Course.{Course}
+use Rattle.bb_cover.specs.declared.list.Size.{Size}
+use Rattle.bb_cover.specs.Claims.{IsRefusedClaim, IsTrueLine}
+use Rattle.bb_cover.specs.Counts.{counted, saturated}
+use Rattle.bb_cover.specs.Gaps.{IsToFill}
+use Rattle.bb_cover.specs.Left.{FillsAt}
+
+-- the machine is the next one, before these; that of the first line is one with no entry
+abbrev pub IsAsked : Option Size → List Table → Table → List Table → Type 0
+IsAsked None left table rest = IsEmpty table × (rest ≡ [])
+IsAsked (Some size) left table rest = left ≡ table ∷ rest
+
+-- the size is that of the first line's machine
+abbrev pub size_after : Option Size → Table → Option Size
+size_after None table = Some (record { states = length table; symbols = symbols_of table })
+size_after (Some size) table = Some size
+
+-- a machine was visited: those that fill its `---`, if there is one to fill, come in its place
+pub record GoesOn (old : Course) (table : Table) (gap : Option Gap) (new : Course) : Type 0 where
+  pub rest : List Table
+  pub asked : IsAsked old.size old.walk table rest
+  pub more : List Table
+  pub fills : FillsAt table gap more
+  pub size : new.size ≡ size_after old.size table
+  pub walk : new.walk ≡ more ++ rest
+  pub stop : new.stop ≡ old.stop
+
+-- the line was that of the next machine, with a verdict that may stand there
+pub record Visited (bounds : Bounds) (old : Course) (bytes : List ℕ) (new : Course) : Type 0 where
+  pub line : VerdictLine
+  pub is_true : IsTrueLine bounds bytes line
+  pub gap : Option Gap
+  pub to_fill : IsToFill line gap
+  pub goes : GoesOn old line.table gap new
+  pub counts : new.counts ≡ counted old.counts line
+
+-- why a line isn't as the walk asks that has still to visit these machines
+abbrev pub IsWrong : Bounds → Option Size → List Table → List ℕ → Why → Type 0
+IsWrong bounds size left bytes Unread =
+    (table : Table) (verdict : Verdict) → IsLineOf (said.Claim table verdict) bytes → ⊥
+IsWrong bounds size left bytes NotNext = (line : VerdictLine)
+    × IsLineOf (said.Claim line.table line.verdict) bytes
+    × ((rest : List Table) → IsAsked size left line.table rest → ⊥)
+IsWrong bounds size left bytes (Refused given) = (line : VerdictLine)
+    × IsLineOf (said.Claim line.table line.verdict) bytes
+    × IsRefusedClaim bounds line.table line.verdict given
+IsWrong bounds size left bytes TooSoon = ⊥
+IsWrong bounds size left bytes Beyond = (size ≢ None) × (left ≡ [])
+
+-- the line wasn't as the walk asks
+pub record Stopped (bounds : Bounds) (old : Course) (bytes : List ℕ) (new : Course) : Type 0 where
+  pub why : Why
+  pub wrong : IsWrong bounds old.size old.walk bytes why
+  pub stop : new.stop ≡ Some (record { line = saturated (old.counts.lines + 1); why = why })
+  pub counts : new.counts ≡ old.counts
+
+-- what a line does, by whether the walk stopped before
+abbrev pub TookBy : Option Stop → Bounds → Course → List ℕ → Course → Type 0
+TookBy None bounds old bytes new = Visited bounds old bytes new ⊎ Stopped bounds old bytes new
+TookBy (Some stop) bounds old bytes new = new ≡ old
+
+abbrev pub Took : Bounds → Course → List ℕ → Course → Type 0
+Took bounds old bytes new = TookBy old.stop bounds old bytes new
+
+-- the list ended before the walk did
+pub record EndsTooSoon (course : Course) (stop : Stop) : Type 0 where
+  pub not_stopped : course.stop ≡ None
+  pub line : stop.line ≡ saturated (course.counts.lines + 1)
+  pub why : stop.why ≡ TooSoon
+  pub something : course.size ≢ None → course.walk ≢ []
+
+-- what is found after the last line
+abbrev pub IsFoundBy : Course → Found → Type 0
+IsFoundBy course (Covers states symbols) = (course.stop ≡ None)
+    × (course.size ≡ Some (record { states = states; symbols = symbols })) × (course.walk ≡ [])
+IsFoundBy course (Stops stop) = (course.stop ≡ Some stop) ⊎ EndsTooSoon course stop

@@ -1,0 +1,65 @@
+-- Why the first bytes of a line, one more than the buffer of a verdict line has, decide what it does: a law
+-- that the engine asks for. It is a proof; it stands here, since a trait's law may cite nothing of `proofs/`.
+use Rattle.std.proofs.Common.{◌≡◌, ℕ, ◌+◌, ◌<◌, ◌⊎◌, List, take, length, inl, inr, subst, arith, Option}
+use Rattle.std.proofs.Common.{Some, None}
+use Rattle.std.proofs.lemmas.Bool.{cases_lt}
+use Rattle.std.proofs.lemmas.List.{take_all, length-take}
+use Rattle.bb_machine.specs.Limits.{Bounds}
+use Rattle.bb_cert.specs.declared.verdict.line.TheConstants.{LINE_BUFFER}
+use Rattle.bb_cert.specs.declared.verdict.reader.Line.{Line}
+use Rattle.bb_cert.specs.declared.verdict.reader.Line.TheVariants.{Claim}
+use Rattle.bb_cert.specs.verdict.Line.{IsLineOf}
+use Rattle.bb_cert.proofs.Facts.{length-line}
+use Rattle.bb_cover.specs.declared.found.Stop.{Stop}
+use Rattle.bb_cover.specs.declared.found.Why.{Why}
+use Rattle.bb_cover.specs.declared.found.Why.TheVariants.{Unread, NotNext, Refused, TooSoon, Beyond}
+use Rattle.bb_cover.specs.declared.list.Course.{Course}
+use Rattle.bb_cover.specs.Course.{IsWrong, Stopped, TookBy, Visited}
+
+module _ (line : List ℕ) where
+  -- either all bytes of a line are kept, or neither they nor the line are a verdict line
+  record IsTooLong : Type 0 where
+    kept : (said : Line) → IsLineOf said (take (LINE_BUFFER + 1) line) → ⊥
+    whole : (said : Line) → IsLineOf said line → ⊥
+
+  all_or_too_long : (take (LINE_BUFFER + 1) line ≡ line) ⊎ IsTooLong
+  all_or_too_long = elim (cases_lt LINE_BUFFER (length line)) [
+    | inl long ↦ inr (record {
+      kept = λ said of.
+          let few = length-take (LINE_BUFFER + 1) line in
+          let short = length-line said (take (LINE_BUFFER + 1) line) of in omega (arith, few, long, short);
+      whole = λ said of. let short = length-line said line of in omega (arith, long, short);
+    })
+    | inr fits ↦ inl (take_all (LINE_BUFFER + 1) line (omega (arith, fits)))
+  ]
+
+  wrong_of_long : (bounds : Bounds) (old : Course) (why : Why) → IsTooLong
+      → IsWrong bounds old.size old.walk (take (LINE_BUFFER + 1) line) why
+      → IsWrong bounds old.size old.walk line why
+  wrong_of_long bounds old Unread long wrong = λ table verdict of. long.whole (Claim table verdict) of
+  wrong_of_long bounds old NotNext long wrong =
+      absurd (long.kept (Claim wrong.0.table wrong.0.verdict) wrong.1)
+  wrong_of_long bounds old (Refused given) long wrong =
+      absurd (long.kept (Claim wrong.0.table wrong.0.verdict) wrong.1)
+  wrong_of_long bounds old TooSoon long wrong = wrong
+  wrong_of_long bounds old Beyond long wrong = wrong
+
+  took_of_long : (stop : Option Stop) (bounds : Bounds) (old new : Course) → IsTooLong
+      → TookBy stop bounds old (take (LINE_BUFFER + 1) line) new → TookBy stop bounds old line new
+  took_of_long (Some stop) bounds old new long took = took
+  took_of_long None bounds old new long (inl visited) =
+      absurd (long.kept (Claim visited.line.table visited.line.verdict) visited.is_true.is_line)
+  took_of_long None bounds old new long (inr stopped) = inr (record {
+    why = stopped.why;
+    wrong = wrong_of_long bounds old stopped.why long stopped.wrong;
+    stop = stopped.stop;
+    counts = stopped.counts;
+  })
+
+-- what the kept bytes of a line do, the line does
+pub took_of_kept : (bounds : Bounds) (line : List ℕ) (old new : Course)
+    → TookBy old.stop bounds old (take (LINE_BUFFER + 1) line) new → TookBy old.stop bounds old line new
+took_of_kept bounds line old new took = elim (all_or_too_long line) [
+  | inl all ↦ subst (λ bytes. TookBy old.stop bounds old bytes new) all took
+  | inr long ↦ took_of_long line old.stop bounds old new long took
+]

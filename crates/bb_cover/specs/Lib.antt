@@ -1,0 +1,10 @@
+pub mod Asked
+pub mod Claims
+pub mod Counts
+pub mod Course
+pub mod Covering
+pub mod Gaps
+pub mod Halts
+pub mod KeptBytes
+pub mod Left
+pub mod Used

@@ -1,0 +1,71 @@
+//! How many lines of each kind a list has.
+ghost use Rattle.std.specs.Prelude.{◌≡◌, ◌+◌, nat_lt};
+ghost use Rattle.bb_cover.specs.Counts.{counted, more_if, no_counts, saturated};
+ghost use Rattle.bb_cover.specs.Gaps.{gaps_of};
+
+use crate::table::count_gaps;
+use bb_cert::Verdict;
+use bb_machine::Machine;
+
+/// How many lines were visited, and how many have each verdict. A count stops at 2^64 - 1.
+#[derive(Clone, Copy, Debug, PartialEq, Eq)]
+pub struct Counts {
+    /// All of them.
+    pub lines: u64,
+    /// The machine halts.
+    pub halt: u64,
+    /// It never halts: a configuration comes again.
+    pub cycler: u64,
+    /// It never halts: records of a side agree.
+    pub translated: u64,
+    /// It never halts: the tree of what could come before a halt ends.
+    pub backward: u64,
+    /// It is undecided.
+    pub undecided: u64,
+    /// It is undecided and has more than one `---`.
+    pub wide: u64,
+}
+
+impl Counts {
+    /// Nothing counted yet.
+    pub(crate) fn new() -> Counts
+        ensures { result ≡ no_counts }
+    {
+        Counts {
+            lines: 0,
+            halt: 0,
+            cycler: 0,
+            translated: 0,
+            backward: 0,
+            undecided: 0,
+            wide: 0,
+        }
+    }
+
+    /// Counts a line.
+    pub(crate) fn add(&mut self, machine: &Machine, verdict: &Verdict)
+        ensures { self.new ≡ counted self.old (record { table = machine.now; verdict = verdict.now }) }
+    {
+        self.lines = self.lines.saturating_add(1);
+        match *verdict {
+            Verdict::Halt { .. } => self.halt = self.halt.saturating_add(1),
+            Verdict::Cycler { .. } => self.cycler = self.cycler.saturating_add(1),
+            Verdict::Translated { .. } => self.translated = self.translated.saturating_add(1),
+            Verdict::Backward { .. } => self.backward = self.backward.saturating_add(1),
+            Verdict::Undecided(_) => self.add_undecided(machine),
+        }
+    }
+
+    /// Counts an undecided line, as such alone.
+    fn add_undecided(&mut self, machine: &Machine)
+        ensures { self.new ≡ record self.old {
+            undecided = saturated (self.old.undecided + 1);
+            wide = more_if (nat_lt 1 (gaps_of machine.now)) self.old.wide;
+        } }
+    {
+        self.undecided = self.undecided.saturating_add(1);
+        if count_gaps(machine) > 1 {
+            self.wide = self.wide.saturating_add(1);
+        }
+    }
+}

@@ -1,0 +1,80 @@
+//! Where and with what score a machine halts.
+ghost use Rattle.std.specs.Prelude.{◌≡◌, ◌≤◌, IfOk, IsTrue, MatchOption, OnErr};
+ghost use Rattle.bb_sim.specs.Run.{HaltsAt, IsScore};
+ghost use Rattle.bb_sim.specs.Runner.{Stands, steps_of};
+ghost use Rattle.bb_sim.specs.Span.{Inside};
+ghost use Rattle.bb_cover.specs.Gaps.{HaltsOn};
+ghost use Rattle.bb_cover.specs.Halts.{EndsSo};
+
+use crate::gap::Gap;
+use bb_machine::{Entry, Limits, Machine};
+use bb_sim::{Meter, Moved, Runner};
+use bb_tape::{Memory, Tape};
+
+/// How a run ends that halts.
+#[derive(Clone, Copy, Debug)]
+pub(crate) struct Halted {
+    /// How many cells aren't 0.
+    pub(crate) score: u64,
+    /// On which `---`; none where it is a step into Z.
+    pub(crate) gap: Option<Gap>,
+}
+
+/// Runs a machine for so many steps: how it ends, if it halts just then and within the limits; none else.
+pub(crate) fn halt_at<T: Tape>(
+    machine: &Machine,
+    steps: u64,
+    limits: &Limits,
+    tape: &mut T,
+) -> Result<Option<Halted>, Memory>
+    requires steps { steps ≤ limits.now.steps }
+    requires limit { (T.view tape.old).limit ≡ limits.now.cells }
+    ensures ends { IfOk result (λ found. MatchOption found
+        (HaltsAt machine.now steps → Inside machine.now limits.now steps → ⊥)
+        (EndsSo machine.now limits.now steps)) }
+    ensures limit { (T.view tape.new).limit ≡ (T.view tape.old).limit }
+    ensures memory { OnErr result (IsTrue T.GROWS) }
+{
+    limits.show_accepted();
+    let limits = with_steps(limits, steps);
+    let mut meter = Meter::new();
+    let mut runner = Runner::start(machine, tape);
+    loop {
+        match runner.advance(machine, tape, &limits, &mut meter)? {
+            Moved::Stepped => {}
+            Moved::Halted => {
+                if runner.steps() != steps {
+                    return Ok(None);
+                }
+                return Ok(Some(Halted {
+                    score: tape.score(),
+                    gap: gap_here(machine, &runner, tape),
+                }));
+            }
+            Moved::NoSteps => return Ok(None),
+            Moved::NoCells => return Ok(None),
+        }
+    }
+}
+
+/// These limits, but with so many steps.
+fn with_steps(limits: &Limits, steps: u64) -> Limits
+    requires { steps ≤ limits.now.steps }
+    ensures { result ≡ record limits.now { steps = steps } }
+{
+    match Limits::new(steps, limits.cells(), limits.depth(), limits.nodes()) {
+        Ok(limits) => limits,
+        Err(_) => unreachable!(),
+    }
+}
+
+/// The `---` where a runner has halted; none in Z.
+fn gap_here<T: Tape>(machine: &Machine, runner: &Runner, tape: &T) -> Option<Gap>
+    requires stands { Stands machine.now runner.now (T.view tape.now) }
+    requires halts { HaltsAt machine.now (steps_of runner.now) }
+    ensures { HaltsOn machine.now (steps_of runner.now) result }
+{
+    let state = runner.state()?;
+    let symbol = tape.read(runner.position());
+    Some(Gap { state, symbol })
+}

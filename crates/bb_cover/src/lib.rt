@@ -1,0 +1,20 @@
+//! Whether a list of verdicts settles every machine of a size: whether its lines are those of a walk in depth
+//! through all of them, each with a claim that the checker confirms.
+#![tactic(auto)]
+
+mod asked;
+mod claim;
+mod counts;
+mod found;
+mod gap;
+mod halt;
+mod list;
+mod table;
+mod text;
+mod used;
+mod walk;
+
+pub use counts::Counts;
+pub use found::{Found, Stop, Why};
+pub use list::{Cover, run_cover};
+pub use text::Text;

@@ -1,0 +1,24 @@
+-- The program's exit status.
+use Rattle.std.specs.Prelude.{ℕ, Result, Ok, Err}
+use Rattle.bb_lines.specs.declared.fault.Fault.{Fault}
+use Rattle.bb_cover.specs.declared.found.Found.{Found}
+use Rattle.bb_cover.specs.declared.found.Found.TheVariants.{Covers, Stops}
+use Rattle.bb_cover.specs.declared.list.Cover.{Cover}
+use Rattle.cover.specs.declared.command.Stop.{Stop}
+use Rattle.cover.specs.declared.command.Stop.TheVariants.{Help, Words, Limits, Memory}
+
+-- where nothing is done
+abbrev pub stop_status : Stop → ℕ
+stop_status (Help text) = 0
+stop_status (Words text) = 2
+stop_status (Limits fault) = 2
+stop_status Memory = 3
+
+abbrev pub found_status : Found → ℕ
+found_status (Covers states symbols) = 0
+found_status (Stops stop) = 1
+
+-- 0 where the list covers its size, 1 where it doesn't, 3 for a fault
+abbrev pub end_status : Result Cover Fault → ℕ
+end_status (Ok cover) = found_status cover.found
+end_status (Err fault) = 3

@@ -1,0 +1,91 @@
+//! What is printed.
+
+use bb_cert::Answer;
+use bb_cover::{Cover, Found, Stop, Text, Why};
+use bb_lines::fault::Fault;
+use bb_machine::LimitFault;
+use std::fmt;
+use std::fmt::{Display, Formatter};
+
+/// What a list comes to, as one line.
+#[derive(Drop)]
+pub struct Report<'a> {
+    pub cover: &'a Cover,
+}
+
+impl Display for Report<'_> {
+    fn fmt<W: fmt::Write>(&self, f: &mut Formatter<W>) -> fmt::Result {
+        let counts = &self.cover.counts;
+        match self.cover.found {
+            Found::Covers { states, symbols } => write!(
+                f,
+                "covers {states} {} {symbols} symbols: {} lines, {} undecided, {} of them with more than one ---",
+                if states == 1 { "state" } else { "states" },
+                counts.lines,
+                counts.undecided,
+                counts.wide
+            ),
+            Found::Stops(stop) => self.tell_stop(f, &stop),
+        }
+    }
+}
+
+impl Report<'_> {
+    fn tell_stop<W: fmt::Write>(&self, f: &mut Formatter<W>, stop: &Stop) -> fmt::Result {
+        let line = stop.line;
+        let asked = shown(&self.cover.asked);
+        let given = shown(&self.cover.given);
+        match stop.why {
+            Why::Unread => write!(f, "line {line}: it is no verdict line"),
+            Why::NotNext => write!(f, "line {line}: {asked} expected, found {given}"),
+            Why::Refused(Answer::Over) => {
+                write!(f, "line {line}: the claim on {given} needs more than the limits")
+            }
+            Why::Refused(_) => write!(f, "line {line}: the claim on {given} doesn't hold"),
+            Why::TooSoon => write!(f, "line {line}: {asked} expected, the list ends"),
+            Why::Beyond => write!(f, "line {line}: no line expected, all machines were visited"),
+        }
+    }
+}
+
+/// A machine's text; that of the first line of a list isn't known before it was read.
+fn shown(text: &Text) -> &str {
+    if text.is_empty() {
+        return "a machine with no entry";
+    }
+    str::from_utf8(text.as_slice()).unwrap_or("")
+}
+
+/// Why a run ended early.
+#[derive(Drop)]
+pub struct FaultText {
+    pub fault: Fault,
+}
+
+impl Display for FaultText {
+    fn fmt<W: fmt::Write>(&self, f: &mut Formatter<W>) -> fmt::Result {
+        match self.fault {
+            Fault::Memory => write!(f, "cover: out of memory"),
+            Fault::Read => write!(f, "cover: read failed"),
+            Fault::Write => write!(f, "cover: write failed"),
+        }
+    }
+}
+
+/// Why limits are refused.
+#[derive(Drop)]
+pub struct StopText {
+    pub fault: LimitFault,
+}
+
+impl Display for StopText {
+    fn fmt<W: fmt::Write>(&self, f: &mut Formatter<W>) -> fmt::Result {
+        match self.fault {
+            LimitFault::Steps => write!(f, "cover: steps out of range"),
+            LimitFault::Cells => write!(f, "cover: cells out of range"),
+            LimitFault::Depth => write!(f, "cover: depth out of range"),
+            LimitFault::Nodes => write!(f, "cover: nodes out of range"),
+            LimitFault::DepthCells => write!(f, "cover: depth does not fit in cells"),
+        }
+    }
+}
