@@ -14,7 +14,7 @@ from typing import Any, Callable, List, Sequence
 import budlarem
 from budlarem import Limits
 from budlarem.runner import folder as folders
-from budlarem.runner import journal, keeping, passes, pieces, progress, source, tasks, whole, workplace
+from budlarem.runner import journal, keeping, list_run, passes, pieces, progress, source, tasks, workplace
 
 
 # Two that halt, a cycler, two translated cyclers, three that small limits leave, one of which larger ones
@@ -43,7 +43,7 @@ def expected(given: bytes, limits: Sequence[Limits] = PASSES) -> bytes:
     return b"".join(lines)
 
 
-def resealed(reply: tasks.Reply, written: bytes) -> tasks.Reply:
+def resealed(reply: tasks.PieceReply, written: bytes) -> tasks.PieceReply:
     """A reply with other bytes, and the digest of these."""
     return (written, *reply[1:7], tasks.hash_of(written))
 
@@ -52,7 +52,7 @@ class Answering(Executor):
     """An executor whose answer to a task a function changes; it is given the reply and how many came
     before."""
 
-    def __init__(self, change: Callable[[tasks.Reply, int], Any]) -> None:
+    def __init__(self, change: Callable[[tasks.PieceReply, int], Any]) -> None:
         self.change, self.count = change, 0
 
     def submit(self, function: Any, /, *given: Any, **named: Any) -> Any:
@@ -110,7 +110,7 @@ class RunnerTest(unittest.TestCase):
         path: str = "",
         here: bool = False,
         keep: keeping.Keep = keeping.Keep(),
-    ) -> whole.Outcome:
+    ) -> list_run.Outcome:
         """A run, by an executor or by two threads."""
         place: workplace.Workplace = workplace.Threads(2)
         if executor is not None:
@@ -131,7 +131,7 @@ class RunnerTest(unittest.TestCase):
                     listed.hold_unchanged,
                     self.seen.append,
                 )
-                return whole.run(opened, listed, limits, manner)
+                return list_run.run(opened, listed, limits, manner)
             finally:
                 opened.close()
         finally:

@@ -19,7 +19,7 @@ import budlarem
 from budlarem import Limits, commands
 from budlarem.runner import cutting
 from budlarem.runner import folder as folders
-from budlarem.runner import joining, journal, keeping, look, source, tasks, writing
+from budlarem.runner import joining, journal, keeping, reply_checks, source, tasks, writing
 from budlarem.runner.errors import CheckError, FolderError, RunError, WordsError
 
 from .running import KINDS, LIST, MIDDLE, PASSES, SMALL, Answering, Late, RunnerTest, Told, expected, resealed
@@ -45,7 +45,7 @@ class WholeTest(RunnerTest):
         left = first["counts"]["undecided steps"] + first["counts"]["undecided cells"]
         self.assertEqual((first["lines"], second["lines"]), (370, left))
         self.assertEqual((sum(first["counts"].values()), sum(second["counts"].values())), (370, left))
-        self.assertEqual(told["counts"], look.counts_of(self.verdicts(), 370))
+        self.assertEqual(told["counts"], reply_checks.counts_of(self.verdicts(), 370))
         self.assertEqual((first["checked"], told["version"]), (True, budlarem.__version__))
         self.assertEqual((told["commit"], len(told["library"])), (budlarem.COMMIT, 64))
 
@@ -201,7 +201,7 @@ class WholeTest(RunnerTest):
             self.assertEqual(self.verdicts(), expected(LIST))
 
     def test_a_changed_piece_while_passes_are_joined(self) -> None:
-        def change(reply: tasks.Reply, before: int) -> tasks.Reply:
+        def change(reply: tasks.PieceReply, before: int) -> tasks.PieceReply:
             os.truncate(self.out / "pass-1" / "pieces", 100)
             return reply
 
@@ -252,7 +252,7 @@ class WriterTest(RunnerTest):
 
     def piece(self, index: int) -> cutting.Piece:
         text = b"%d\n" % index * (index % 7 + 1)
-        counts = dict.fromkeys(look.KINDS, 0)
+        counts = dict.fromkeys(reply_checks.KINDS, 0)
         record = journal.Record.of(index, 1, b"", text, 0.0, counts)
         return cutting.Piece(index, index, b"given", 1, record, kept=text)
 
@@ -317,7 +317,7 @@ class KeepTest(RunnerTest):
             for _ in range(2):
                 outcome = self.run_over(limits=limits, keep=keep)
                 self.assertEqual(self.verdicts(), self.kept(limits, 10**12 if halts is None else halts))
-                self.assertEqual(outcome.counts, look.counts_of(expected(LIST, limits), 370))
+                self.assertEqual(outcome.counts, reply_checks.counts_of(expected(LIST, limits), 370))
             told = json.loads((self.out / "summary.json").read_text())
             self.assertEqual((told["lines"], told["kept"]), (370, str(keep)))
             with self.assertRaisesRegex(FolderError, "dropped before they were checked"):
@@ -345,7 +345,7 @@ class KeepTest(RunnerTest):
             self.run_over(keep=keep)
 
     def test_a_line_of_a_later_pass_is_named(self) -> None:
-        def change(reply: tasks.Reply, before: int) -> tasks.Reply:
+        def change(reply: tasks.PieceReply, before: int) -> tasks.PieceReply:
             return resealed(reply, reply[0].replace(b" undecided steps", b" unknown steps"))
 
         keep = keeping.Keep(True)
@@ -373,7 +373,7 @@ class ExecutorTest(RunnerTest):
         self.assertEqual(self.verdicts(), expected(LIST))
 
     def test_wrong_answers_now_and_then(self) -> None:
-        answers: List[Callable[[tasks.Reply], Any]] = [
+        answers: List[Callable[[tasks.PieceReply], Any]] = [
             lambda reply: None,
             lambda reply: (b"", *reply[1:]),
             lambda reply: (reply[0][:-1], *reply[1:]),
@@ -401,7 +401,7 @@ class ExecutorTest(RunnerTest):
             self.goes_on()
 
     def test_the_line_is_named(self) -> None:
-        def change(reply: tasks.Reply, before: int) -> tasks.Reply:
+        def change(reply: tasks.PieceReply, before: int) -> tasks.PieceReply:
             return resealed(
                 reply,
                 reply[0].replace(
@@ -452,7 +452,7 @@ class ExecutorTest(RunnerTest):
         self.goes_on()
 
     def test_a_verdict_that_the_checker_refuses(self) -> None:
-        def change(reply: tasks.Reply, before: int) -> tasks.Reply:
+        def change(reply: tasks.PieceReply, before: int) -> tasks.PieceReply:
             wrong = reply[0].replace(b"_1RZ0LA undecided steps", b"_1RZ0LA cycler 5 9")
             return resealed(reply, wrong)
 
@@ -466,7 +466,7 @@ class ExecutorTest(RunnerTest):
     def test_a_lying_worker_is_found_here(self) -> None:
         """It says that its wrong verdict is right, and of all others that they are undecided."""
 
-        def lie(reply: tasks.Reply, before: int) -> tasks.Reply:
+        def lie(reply: tasks.PieceReply, before: int) -> tasks.PieceReply:
             if reply[6].startswith(tasks.CHECK):
                 return resealed(reply, b"ok\n" * reply[0].count(b"\n"))
             return resealed(reply, reply[0].replace(b"_1RZ0LA undecided steps", b"_1RZ0LA cycler 5 9"))
@@ -481,9 +481,9 @@ class ExecutorTest(RunnerTest):
                 self.run_over(Answering(lie), limits=[SMALL], check=True, here=True)
 
     def test_answers_to_other_verdicts(self) -> None:
-        kept: List[tasks.Reply] = []
+        kept: List[tasks.PieceReply] = []
 
-        def swap(reply: tasks.Reply, before: int) -> tasks.Reply:
+        def swap(reply: tasks.PieceReply, before: int) -> tasks.PieceReply:
             kept.append(reply)
             is_check = reply[6].startswith(tasks.CHECK)
             return next(one for one in kept if one[6] == reply[6]) if is_check else reply
@@ -557,7 +557,7 @@ class ProgressTest(unittest.TestCase):
             text, r"^\rpass 1 of 2, 1 pieces, 20k lines, 0%, \d+[kM]? lines/s, [0-9.]+ \w+ left, 3 work"
         )
         self.assertLess(len(text), 81)
-        told.tell("a sentence")
+        told.print_line("a sentence")
         self.assertTrue(told.kept.getvalue().endswith("\rbudlarem: a sentence\n"))
 
     def test_a_long_pass_is_told_once(self) -> None:

@@ -12,7 +12,7 @@ import unittest
 import unittest.mock
 from typing import Any, Iterator, List
 
-from budlarem.runner import cutting, journal, look, source, tasks
+from budlarem.runner import cutting, journal, reply_checks, source, tasks
 from budlarem.runner.errors import ReplyError, RunError
 
 from .running import KINDS, LIST, MIDDLE, PASSES, SMALL, RunnerTest, expected
@@ -79,7 +79,7 @@ class JournalTest(RunnerTest):
     def setUp(self) -> None:
         super().setUp()
         self.path = str(self.top / "journal")
-        self.counts = look.counts_of(expected(KINDS), 10)
+        self.counts = reply_checks.counts_of(expected(KINDS), 10)
         self.journal = journal.Journal(self.path, "key")
         self.addCleanup(self.journal.close)
         self.known = [
@@ -140,20 +140,20 @@ class LookTest(unittest.TestCase):
     def test_verdicts_of_a_list(self) -> None:
         for limits in PASSES:
             verdicts = expected(LIST, [limits])
-            counts = look.look_at_verdicts(LIST, verdicts, LIST.count(b"\n"))
-            self.assertEqual(look.look_in_python(LIST, verdicts, LIST.count(b"\n")), counts)
+            counts = reply_checks.look_at_verdicts(LIST, verdicts, LIST.count(b"\n"))
+            self.assertEqual(reply_checks.look_in_python(LIST, verdicts, LIST.count(b"\n")), counts)
             self.assertEqual(sum(counts.values()), LIST.count(b"\n"))
             for kind in ("halt", "cycler", "translated", "refused"):
                 self.assertGreater(counts[kind], 0)
 
     def wrong(self, given: bytes, verdicts: bytes) -> None:
-        for looks in (look.look_at_verdicts, look.look_in_python):
+        for looks in (reply_checks.look_at_verdicts, reply_checks.look_in_python):
             with self.assertRaises(ReplyError):
                 looks(given, verdicts, given.count(b"\n"))
 
     def test_what_is_wrong(self) -> None:
         good = expected(KINDS)
-        look.look_at_verdicts(KINDS, good, KINDS.count(b"\n"))
+        reply_checks.look_at_verdicts(KINDS, good, KINDS.count(b"\n"))
         lines = good.splitlines(keepends=True)
         for changed in (
             b"",
@@ -184,27 +184,27 @@ class LookTest(unittest.TestCase):
         for text in (b"refused 3", b"refused 0", b"refused 2 ", b"refused", b"refused 2\n"):
             self.wrong(b"1rB1LB\n", text + b"\n")
         self.wrong(b"1RA1RA translated\n", b"1RA1RA translated R 1 2 1 1\n")
-        look.look_at_verdicts(b"1RA1RA translated\n", b"refused 7\n", 1)
+        reply_checks.look_at_verdicts(b"1RA1RA translated\n", b"refused 7\n", 1)
         self.wrong(b"1RZ---\n", b"refused 7\n")
         self.wrong(b"refused\n", b"refused 5\n")
-        look.look_at_verdicts(b"refused\n", b"refused 1\n", 1)
+        reply_checks.look_at_verdicts(b"refused\n", b"refused 1\n", 1)
 
     def test_answers(self) -> None:
         verdicts = expected(KINDS)
-        look.look_at_answers(verdicts, b"ok\n" * 9 + b"open\n")
+        reply_checks.look_at_answers(verdicts, b"ok\n" * 9 + b"open\n")
         for answers in (b"", b"ok\n" * 9, b"ok\n" * 10 + b"\n", b"fine\n" * 10):
             with self.assertRaises(ReplyError) as raised:
-                look.look_at_answers(verdicts, answers)
+                reply_checks.look_at_answers(verdicts, answers)
             self.assertIsNone(raised.exception.line)
         with self.assertRaisesRegex(ReplyError, "bad") as raised:
-            look.look_at_answers(verdicts, b"ok\n" * 4 + b"bad\n" + b"over\n" * 5)
+            reply_checks.look_at_answers(verdicts, b"ok\n" * 4 + b"bad\n" + b"over\n" * 5)
         self.assertEqual(raised.exception.line, 4)
 
     def test_replies(self) -> None:
         ours = tasks.identity()
         reply = tasks.decide_piece(KINDS, SMALL.numbers())
         asked = tasks.question(tasks.DECIDE, SMALL.numbers())
-        self.assertEqual(look.opened(reply, ours, asked, KINDS)[0], expected(KINDS, [SMALL]))
+        self.assertEqual(reply_checks.opened(reply, ours, asked, KINDS)[0], expected(KINDS, [SMALL]))
         wrong: List[Any] = [
             None,
             b"",
@@ -224,14 +224,14 @@ class LookTest(unittest.TestCase):
         ]
         for changed in wrong:
             with self.assertRaises(ReplyError):
-                look.opened(changed, ours, asked, KINDS)
+                reply_checks.opened(changed, ours, asked, KINDS)
 
 
 class PaceTest(unittest.TestCase):
     def test_a_piece_lasts_some_seconds(self) -> None:
         costs, widths = (1e-6, 1e-3, 0.1, 3.0, 1e4), {8: 2, 200: 2, 2_000: 20}
         for cost, (width, lasting) in itertools.product(costs, widths.items()):
-            pace = cutting.Pace(20_000)
+            pace = cutting.PiecePace(20_000)
             sizes = []
             for _ in range(40):
                 sizes.append(pace.now)

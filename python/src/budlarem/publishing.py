@@ -9,7 +9,7 @@ import os
 from typing import Callable, List, NoReturn, Optional, Sequence, Tuple, Union
 
 from ._archive import LINES, LIST, VERDICTS, Contents, Decided, Input, PublishError, Seen, write_new
-from ._crew import Pace, in_order
+from ._crew import BatchPace, in_order
 from .checking import why
 from .engine import checking, decide_bytes
 from .limits import Limits, in_range
@@ -50,7 +50,7 @@ def _confirmed(verdicts: Input, limits: Limits, threads: int, tell: Callable[[in
     confirmed, free = 0, 0
     # A call makes its tapes anew, which takes a tenth of a second where they are large: so the batches are,
     # too.
-    for _, reply in in_order(checking(limits), verdicts.batches(), threads, Pace(1)):
+    for _, reply in in_order(checking(limits), verdicts.batches(), threads, BatchPace(1)):
         answers = reply.text
         lines, ok, open_ = (answers.count(word) for word in (b"\n", b"ok\n", b"open\n"))
         if ok + open_ < lines:
@@ -65,8 +65,8 @@ def _raise_unconfirmed(verdicts: Input, before: int, answers: Sequence[str], lim
     place = next(place for place, answer in enumerate(answers) if answer not in ("ok", "open"))
     number, answer = before + place, Answer(answers[place])
     line = next(itertools.islice(verdicts.lines(), number, None), b"").decode("utf-8", "surrogateescape")
-    told = (verdicts.path, number + 1, answer, line, why(line, answer, limits))
-    raise UnconfirmedError("%s:%d: %s: %.200s: %s" % told)
+    parts = (verdicts.path, number + 1, answer, line, why(line, answer, limits))
+    raise UnconfirmedError("%s:%d: %s: %.200s: %s" % parts)
 
 
 def _shown(line: bytes) -> str:
@@ -134,10 +134,10 @@ def _of_run(folder: str) -> Tuple[str, Decided]:
             )
     try:
         with open(path, encoding="utf-8") as file:
-            told = json.load(file)
-        passes = tuple(Limits(**one["limits"]) for one in told["passes"])
-        by = Identity(told["version"], told["commit"], told["library"])
-        kept = str(told["kept"])
+            summary = json.load(file)
+        passes = tuple(Limits(**one["limits"]) for one in summary["passes"])
+        by = Identity(summary["version"], summary["commit"], summary["library"])
+        kept = str(summary["kept"])
     except (ValueError, KeyError, TypeError) as error:
         raise PublishError(
             "%s isn't as a run writes it: %s; its command writes it anew" % (path, error)

@@ -258,12 +258,12 @@ def _counts(found: Gathered) -> Iterator[str]:
 
 
 def _plots(found: Gathered) -> Iterator[str]:
-    told = {
+    plotted = {
         "steps": (found.steps, "steps of halts, second steps of pairs"),
         "shifts": (found.shifts, "shifts of translated cyclers"),
         "levels": (found.levels, "levels of backward trees"),
     }
-    for counts, name in told.values():
+    for counts, name in plotted.values():
         if counts:
             yield "<figure>%s</figure>" % plot(counts, name)
 
@@ -316,8 +316,8 @@ def _left(count: int, left: int) -> str:
     """What is said of so many diagrams of so many machines that are left."""
     if not left:
         return "No machine is left undecided."
-    told = "%s of %s undecided machines are shown." % (_number(count), _number(left))
-    return "%s %s" % (told, _DIAGRAMS) if count else told
+    sentence = "%s of %s undecided machines are shown." % (_number(count), _number(left))
+    return "%s %s" % (sentence, _DIAGRAMS) if count else sentence
 
 
 def _page(found: Gathered, machines: Sequence[Shown], title: str) -> str:
@@ -360,8 +360,8 @@ def report(
     _modules()
     found = gathered(verdicts, diagrams)
     machines = [machine for _, machine in found.smallest]
-    told = all_shown(machines, steps, cells, threads or os.cpu_count() or 1)
-    page = _page(found, told, title)
+    pictured = all_shown(machines, steps, cells, threads or os.cpu_count() or 1)
+    page = _page(found, pictured, title)
     part = pathlib.Path(path).with_name(pathlib.Path(path).name + ".part")
     try:
         with naming(part):

@@ -140,7 +140,9 @@ class Refused:
         return "refused %d" % self.column
 
 
-Verdict = Union[Halt, Cycler, Translated, Backward, Undecided, Refused]
+# What is said of a machine that a line has.
+OfMachine = Union[Halt, Cycler, Translated, Backward, Undecided]
+Verdict = Union[OfMachine, Refused]
 VERDICTS = (Halt, Cycler, Translated, Backward, Undecided, Refused)
 
 

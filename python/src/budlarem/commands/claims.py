@@ -34,7 +34,7 @@ undecided machines.
 
 
 class VerdictReader(ListReader):
-    """Reads a list of verdicts, and tells on standard error what was rewritten or refused."""
+    """Reads a list of verdicts, and prints on standard error what was rewritten or refused."""
 
     def verdicts(self) -> Iterator[Verdict]:
         """The verdict of each line that has one. Raises OSError."""
@@ -45,8 +45,8 @@ class VerdictReader(ListReader):
             elif said.reading.machine is None:
                 self.refuse(said.reading.number, str(said.reading))
             else:
-                told = said.trouble or "no verdict of %s" % said.reading.machine
-                self.refuse(said.reading.number, "refused: %s" % told)
+                why = said.trouble or "no verdict of %s" % said.reading.machine
+                self.refuse(said.reading.number, "refused: %s" % why)
 
 
 def do_compare(asked: argparse.Namespace) -> int:

@@ -33,8 +33,8 @@ right."""
 
 def counts_text(counts: Counter[Judgement]) -> str:
     """How many lines were judged how so far."""
-    told = ("%s %s" % (count_of(counts[kind]), kind) for kind in Judgement if counts[kind])
-    return ", ".join(told)
+    parts = ("%s %s" % (count_of(counts[kind]), kind) for kind in Judgement if counts[kind])
+    return ", ".join(parts)
 
 
 def do_judge(asked: argparse.Namespace) -> int:
@@ -68,8 +68,8 @@ def do_judge(asked: argparse.Namespace) -> int:
     sys.stdout.flush()
     if judging.undefined_steps:
         print("%s: a step is counted for each ---" % reader.name, file=sys.stderr)
-    told = ", ".join("%s %d" % (kind, counts[kind]) for kind in Judgement)
-    print("%s: %s" % (reader.name, told), file=sys.stderr)
+    parts = ", ".join("%s %d" % (kind, counts[kind]) for kind in Judgement)
+    print("%s: %s" % (reader.name, parts), file=sys.stderr)
     return 1 if counts[Judgement.CONTRADICTED] else 0
 
 

@@ -60,12 +60,12 @@ def do_publish(asked: argparse.Namespace) -> int:
         print(written)
         return 0
     except UnconfirmedError as error:
-        told, status = str(error), 1
+        sentence, status = str(error), 1
     except RunError as error:
-        told, status = str(error), 3
+        sentence, status = str(error), 3
     except _Ended as end:
-        told, status = "%s: no archive is written" % signal.Signals(end.number).name, 128 + end.number
-    print("budlarem: %s" % told, file=sys.stderr)
+        sentence, status = "%s: no archive is written" % signal.Signals(end.number).name, 128 + end.number
+    print("budlarem: %s" % sentence, file=sys.stderr)
     return status
 
 

@@ -1,4 +1,4 @@
-"""What several commands take: lists, limits, and what they tell of lists on standard error."""
+"""What several commands take: lists, limits, and what they print of lists on standard error."""
 
 from __future__ import annotations
 
@@ -26,7 +26,7 @@ def source_of(path: Optional[str]) -> Union[str, BinaryIO]:
 
 
 class ListReader:
-    """Reads a list, and tells on standard error what was rewritten or refused. Counts both."""
+    """Reads a list, and prints on standard error what was rewritten or refused. Counts both."""
 
     def __init__(self, path: Optional[str], progress: Optional[Progress] = None) -> None:
         self.name = "standard input" if path is None or path == "-" else path

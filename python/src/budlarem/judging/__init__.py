@@ -147,8 +147,8 @@ class Judging(Iterator[Judged]):
     def _settled(self, said: Said, ours: Optional[Verdict]) -> Optional[Judged]:
         """What is said of a line without the checker; None where that has to be asked."""
         if ours is None or (said.trouble is not None and said.word is None):
-            told = said.trouble or str(said.reading.reason or "a refusal names no machine")
-            return Judged(Judgement.UNREADABLE, said, ours, told)
+            sentence = said.trouble or str(said.reading.reason or "a refusal names no machine")
+            return Judged(Judgement.UNREADABLE, said, ours, sentence)
         if said.claim is None or isinstance(said.claim, (Undecided, Refused)):
             return _by_word(said, ours)
         if isinstance(ours, Undecided):
@@ -174,16 +174,16 @@ class Judging(Iterator[Judged]):
 
 def _other(said: Said, ours: Verdict) -> str:
     """What a line says, and that our verdict says another thing."""
-    told = str(said.word) if said.claim is None else str(said.claim).partition(" ")[2]
-    return "%s; ours is %s" % (told, str(ours).partition(" ")[2])
+    sentence = str(said.word) if said.claim is None else str(said.claim).partition(" ")[2]
+    return "%s; ours is %s" % (sentence, str(ours).partition(" ")[2])
 
 
 def _by_word(said: Said, ours: Verdict) -> Judged:
     """What is said of a line that has a word and no claim."""
     word = Word.UNDECIDED if said.claim is not None else said.word
     if word not in (Word.HALTS, Word.NEVER_HALTS):
-        told = "no word says whether it halts" if word is None else "%s says neither" % word
-        return Judged(Judgement.NOT_JUDGED, said, ours, told)
+        sentence = "no word says whether it halts" if word is None else "%s says neither" % word
+        return Judged(Judgement.NOT_JUDGED, said, ours, sentence)
     if isinstance(ours, Undecided):
         return Judged(Judgement.NOT_JUDGED, said, ours, "%s; undecided here" % word)
     halts = isinstance(ours, Halt)

@@ -118,13 +118,13 @@ class Begun:
 
     def text(self) -> str:
         """The text of the file that says it."""
-        told = {
+        fields = {
             "passes": [words_of(limits) for limits in self.passes],
             "keep": str(self.keep),
             "list": {"name": self.list_name, "bytes": self.list_bytes, "lines": self.list_lines},
             **dataclasses.asdict(self.identity),
         }
-        body = json.dumps(told, indent=2)[1:-2]
+        body = json.dumps(fields, indent=2)[1:-2]
         size = len(_HEAD) + _SIZE + len('",') + len(body) + len(_SEALED % ("0" * 64))
         text = '%s%0*d",%s' % (_HEAD, _SIZE, size, body)
         return text + _SEALED % hash_of(text.encode())
@@ -138,7 +138,7 @@ class Begun:
             words += ["--pass", words_of(limits)]
         if self.keep.only_left:
             words += ["--keep", str(self.keep)]
-        told = {
+        fields = {
             "list": self.list_name,
             "same": ", with the same list on standard input" if is_piped else "",
             "verdicts": "a verdict for each line of the list, in its order",
@@ -148,8 +148,8 @@ class Begun:
             "commit": self.identity.commit,
         }
         if self.keep.only_left:
-            told["verdicts"] = "the verdicts that are kept (%s), in order" % self.keep
-        return _PAGE.substitute(told)
+            fields["verdicts"] = "the verdicts that are kept (%s), in order" % self.keep
+        return _PAGE.substitute(fields)
 
     def _again(self, folder: str, listed: Sequence[str]) -> str:
         """With which commands the verdicts are checked again, and published where all are kept."""
@@ -166,25 +166,25 @@ class Begun:
         anything else than what `text` gives."""
         if _is_cut(text):
             return None
-        told: Any = None
+        fields: Any = None
         try:
-            told = json.loads(text)
-            begun = cls._of(told)
+            fields = json.loads(text)
+            begun = cls._of(fields)
             if begun.text() == text:
                 return begun
         except (ValueError, TypeError, KeyError, AttributeError, RecursionError):
             pass
-        other = told.get("format", FORMAT) if isinstance(told, dict) else FORMAT
+        other = fields.get("format", FORMAT) if isinstance(fields, dict) else FORMAT
         if other != FORMAT:
             raise FolderError("it has format %.20s, which another version of this package writes" % other)
         raise FolderError("it was changed: its seal doesn't fit; put it back as it was, or remove it")
 
     @classmethod
-    def _of(cls, told: Dict[str, Any]) -> Begun:
-        passes = [limits_of(words) for words in told["passes"]]
-        identity = Identity(*(str(told[name]) for name in ("version", "commit", "library")))
-        listed = told["list"]
-        keep = keep_of([told["keep"]])
+    def _of(cls, fields: Dict[str, Any]) -> Begun:
+        passes = [limits_of(words) for words in fields["passes"]]
+        identity = Identity(*(str(fields[name]) for name in ("version", "commit", "library")))
+        listed = fields["list"]
+        keep = keep_of([fields["keep"]])
         return cls(passes, keep, identity, str(listed["name"]), listed["bytes"], listed["lines"])
 
 

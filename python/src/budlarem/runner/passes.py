@@ -14,9 +14,9 @@ from .errors import CheckError, FolderError, ReplyError
 from .joining import number_in_list
 from .journal import Record
 from .keeping import Keep
-from .look import look_at_answers, look_at_verdicts
 from .pieces import PassFolder
 from .progress import Progress
+from .reply_checks import look_at_answers, look_at_verdicts
 from .source import Cuttable
 from .tasks import Identity
 from .workplace import Workplace
@@ -118,7 +118,7 @@ class PassRun:
                 look_at_verdicts(piece.given, kept, piece.lines)
         except ReplyError as error:
             where = "piece %d of pass %d" % (piece.index + 1, self._folder.number)
-            self._manner.progress.tell("%s is decided again: %s" % (where, error))
+            self._manner.progress.print_line("%s is decided again: %s" % (where, error))
             piece.record = None
             return False
         piece.counts = record.counts_by_kind()
@@ -167,8 +167,8 @@ class PassRun:
             ends, behind = [end + 1 for end in ends], " of those that pass %d left" % len(self._before)
         else:
             ends = [number_in_list(self._before, end) for end in ends]
-        told = "line %d" % ends[0] if ends[0] == ends[1] else "lines %d to %d" % (ends[0], ends[1])
-        return told + behind
+        where = "line %d" % ends[0] if ends[0] == ends[1] else "lines %d to %d" % (ends[0], ends[1])
+        return where + behind
 
     def _put_down_if_due(self) -> None:
         """Puts down what is written, where it is time for it."""
@@ -204,7 +204,7 @@ class PassRun:
         return piece.is_confirmed and (record is None or not record.is_checked)
 
 
-def told(error: BaseException) -> str:
+def sentence_of(error: BaseException) -> str:
     """An error as a sentence has it."""
     if isinstance(error, ReplyError):
         return str(error)
