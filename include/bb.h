@@ -1,4 +1,4 @@
-/* Verdicts on small Turing machines, answers to verdicts, and traces, as calls.
+/* Verdicts on small Turing machines, answers to verdicts, traces, and looks at replies, as calls.
  *
  * The lines are those of the program `bb`, which README.md describes. docs/library.md says how to build and
  * link this, and what is proved of it.
@@ -13,19 +13,20 @@
  * What a caller has to uphold:
  * - No pointer is NULL, also where its length is 0. Each points to as many bytes as its length says.
  * - No length is above PTRDIFF_MAX.
- * - `count` is aligned as a `size_t` is.
- * - Input, `out` and `count` don't overlap.
- * - During a call no other thread changes the input, and none reads or writes `out` or `*count`.
+ * - `count` is aligned as a `size_t` is, `counts` and `lines` as a `uint64_t` is.
+ * - What a call reads doesn't overlap with what it writes: `out` and `count`, or `counts` and `lines`; nor do
+ *   these with each other.
+ * - During a call no other thread changes what it reads, and none reads or writes what it writes.
  * - A `bool` is 0 or 1.
  * - `malloc`, `realloc` and `free` come from one allocator, and align as C says: for any object that fits.
  * - No call from a signal handler, or from the forked child of a process that has threads.
  *
  * A call keeps nothing: neither pointers nor memory. So calls in different threads don't disturb each other.
  *
- * `*count` is the number of bytes of the reply. Where the status is BB_CLEAN or BB_NOT_CLEAN they stand at
- * the beginning of `out`, and the rest of `out` is as it was. Where it is BB_SHORT, `out` is as it was, and
- * `*count` is how long it has to be. Else `out` is as it was, and `*count` is 0. No byte 0 is put behind the
- * reply.
+ * `*count` is the number of bytes of the reply; `bb_look` has none. Where the status is BB_CLEAN or
+ * BB_NOT_CLEAN they stand at the beginning of `out`, and the rest of `out` is as it was. Where it is
+ * BB_SHORT, `out` is as it was, and `*count` is how long it has to be. Else `out` is as it was, and `*count`
+ * is 0. No byte 0 is put behind the reply.
  */
 #ifndef BB_H
 #define BB_H
@@ -39,11 +40,13 @@
 #include <stdint.h>
 #endif
 
-#define BB_VERSION "0.1.0"
+#define BB_VERSION "0.2.0"
 
-/* Each line was a machine; each answer was `ok` or `open`; no limit of cells cut the trace off. */
+/* Each line was a machine; each answer was `ok` or `open`; no limit of cells cut the trace off; each line has
+ * a reply of its form. */
 #define BB_CLEAN 0
-/* A line was refused; an answer was `bad`, `over` or `unread`; the limit of cells cut the trace off. */
+/* A line was refused; an answer was `bad`, `over` or `unread`; the limit of cells cut the trace off; a line
+ * has no reply of its form, or there are more replies than lines. */
 #define BB_NOT_CLEAN 1
 /* The limits were refused; `every` was 0. */
 #define BB_LIMITS 2
@@ -91,6 +94,16 @@ uint32_t bb_check_line(uint64_t steps, uint64_t cells, uint64_t depth, uint64_t 
  * `out_len` of 0, `*count` tells how much is, at the cost of the whole run. */
 uint32_t bb_trace(uint64_t steps, uint64_t cells, uint64_t from, uint64_t every, const uint8_t *line,
                   size_t line_len, uint8_t *out, size_t out_len, size_t *count);
+
+/* Looks at the replies to the lines of a list: whether each line has one of its form, in order, each with a
+ * newline, and whether there are no more. A reply has its form where it is the line's bytes, a space and a
+ * verdict, together a verdict line; or `refused` and the line's column, where the line is no machine. Then
+ * `counts` tells how many there are of halt, cycler, translated, backward, undecided steps, undecided cells
+ * and refused, in this order, and `*lines` is their sum. Else `counts` is as it was, and `*lines` is the first
+ * line that has none, from 0: the number of lines where each has one. Whether a verdict is right isn't looked
+ * at: no step is made. It takes no memory. */
+uint32_t bb_look(const uint8_t *list, size_t list_len, const uint8_t *replies, size_t replies_len,
+                 uint64_t counts[7], uint64_t *lines);
 
 #ifdef __cplusplus
 }

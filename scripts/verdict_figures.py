@@ -1,10 +1,13 @@
 """What a long list of verdict lines comes to: the greatest numbers of each kind, the longest runs, and the
-machines that are left."""
+machines that are left. As a program it reads verdict lines from standard input, and writes their figures as
+JSON."""
 
 from __future__ import annotations
 
 import dataclasses
+import json
 import re
+import sys
 from typing import Any, BinaryIO, Dict, Iterator, List, Set, Tuple
 
 # Bytes that are looked at together.
@@ -123,3 +126,15 @@ def left_of(lines: bytes) -> bytes:
         machines.append(lines[lines.rfind(b"\n", 0, place) + 1 : place] + b"\n")
         place = lines.find(_UNDECIDED, place + 1)
     return b"".join(machines)
+
+
+def main() -> None:
+    """Reads verdict lines, and writes their figures."""
+    reader = Reader()
+    for lines in blocks_of_lines(sys.stdin.buffer):
+        reader.take_in(lines)
+    print(json.dumps(dataclasses.asdict(reader.figures)))
+
+
+if __name__ == "__main__":
+    main()

@@ -26,6 +26,11 @@ const NODE_WORDS =
 const SHOW = ["The rows above show it.", "The rows above don’t show"];
 const NO_TREE = "No entry halts, so nothing could come before a halt.";
 const asker = new Asker();
+/**
+ * The verdict that is shown: rows that come for another one are too late.
+ * @type {Verdict | null}
+ */
+let shownVerdict = null;
 
 /** The last step that the diagram of a verdict goes to, and the last one that there is. */
 export function stepsOf(/** @type {Verdict} */ { kind, numbers }, /** @type {number} */ limit) {
@@ -48,9 +53,7 @@ function askRows(/** @type {any} */ about, /** @type {(rows: Row[]) => void} */ 
   const pair = verdict.kind !== "halt";
   const sample = pair ? { every: second - first, upto: second } : { every: 1, upto: first };
   const question = { what: "trace", machine, cells, between: [-FAR, FAR], from: first, ...sample };
-  asker.ask(question, (answer) =>
-    done(answer.error ? [] : answer.traced.rows),
-  );
+  asker.ask(question, (answer) => done(answer.error ? [] : answer.traced.rows));
 }
 
 /** The cells that agree in the rows of a translated cycler: those behind the head, itself with them. */
@@ -67,6 +70,7 @@ function stretchOf(/** @type {Row} */ { head }, /** @type {string} */ side, /** 
 export function showBehind(about, mark) {
   const box = part("behind");
   const { kind } = about.verdict;
+  shownVerdict = about.verdict;
   box.replaceChildren();
   if (kind === "backward" || kind === "undecided") {
     box.append(...(kind === "backward" ? treeParts(about) : []));
@@ -74,6 +78,9 @@ export function showBehind(about, mark) {
     return;
   }
   askRows(about, (rows) => {
+    if (shownVerdict !== about.verdict) {
+      return;
+    }
     const { bands, parts } = rowsBehind(about.verdict, rows);
     box.replaceChildren(...parts);
     mark([{ bands, arrow: kind === "translated" }], kind === "halt" ? null : pairOf(about.verdict, bands));

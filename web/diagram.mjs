@@ -6,10 +6,12 @@
  * @typedef {{machine: string, cells: number, upto: number, last: number, pair: Pair | null}} Shown
  * @typedef {{step: number, position: number}} Place
  * @typedef {{view: View, home: View, sample: import("./sample.mjs").Sample, agrees: boolean, cut: boolean,
- *   every: number, columns: number, image: Uint8ClampedArray, low: number, high: number}} Picture
+ *   every: number, columns: number, image: Uint8ClampedArray, low: number, high: number,
+ *   ahead: import("./samples.mjs").Asked[]}} Picture `ahead` are the rows of views that may come next
  */
 import { Asker } from "./pool.mjs";
-import { paintAxes, paintHeads, paintMarks, paintPicture, paintPlace, palette } from "./paint.mjs";
+import { paintAxes, paintHeads, paintMarks, paintPicture, paintPlace } from "./paint.mjs";
+import { forgetColours, palette } from "./paint.mjs";
 import { counted, shown } from "./machine.mjs";
 import { part, signed } from "./parts.mjs";
 import { symbolAt } from "./sample.mjs";
@@ -20,6 +22,8 @@ const TOP = 22;
 const LEFT = 78;
 const LEFT_NARROW = 58;
 const NARROW = 500;
+// A picture is waited for so long before the next one is begun: what was traced for it is of use.
+const PATIENCE_MILLISECONDS = 1_500;
 // A view is moved so far beyond what was visited.
 const BEYOND = 4;
 
@@ -28,7 +32,9 @@ export class Diagram {
   constructor(choose) {
     this.choose = choose;
     this.canvas = /** @type {HTMLCanvasElement} */ (part("diagram"));
-    this.asker = new Asker();
+    this.asker = new Asker(PATIENCE_MILLISECONDS);
+    // Takes rows of views that may come next.
+    this.aheadAsker = new Asker();
     /** @type {Shown | null} */
     this.shown = null;
     /** @type {Picture | null} */
@@ -54,7 +60,10 @@ export class Diagram {
     // How often a picture was asked for.
     this.asked = 0;
     new ResizeObserver(() => this.resized()).observe(this.canvas);
-    matchMedia("(prefers-color-scheme: dark)").addEventListener("change", () => this.fetch());
+    matchMedia("(prefers-color-scheme: dark)").addEventListener("change", () => {
+      forgetColours();
+      this.fetch();
+    });
   }
 
   /** Where the picture stands in the canvas. */
@@ -69,6 +78,9 @@ export class Diagram {
     Object.assign(this, { shown: asked, marks, data: null, sheet: null, view: null, opens: true });
     this.place = null;
     this.chosen = { step: 0, position: 0 };
+    if (this.aheadAsker.isBusy) {
+      this.aheadAsker.end();
+    }
     this.fetch();
   }
 
@@ -125,6 +137,25 @@ export class Diagram {
     this.view ??= data.view;
     this.canvas.dataset.state = isLast ? "taken" : "asked";
     this.drawSoon();
+    if (isLast) {
+      this.lookAhead(data.ahead, this.asked);
+    }
+  }
+
+  /**
+   * Has rows of views that may come next taken, and kept where pictures are made.
+   * @param {import("./samples.mjs").Asked[]} ahead @param {number} asked the picture that they belong to
+   */
+  lookAhead([rows, ...others], asked) {
+    if (rows === undefined || asked !== this.asked) {
+      return;
+    }
+    this.aheadAsker.ask({ what: "ahead", rows }, ({ kept }) => {
+      if (kept !== undefined) {
+        this.asker.tell({ what: "keep", kept }, [kept.sample.bytes.buffer]);
+        this.lookAhead(others, asked);
+      }
+    });
   }
 
   /** Moves by so many pixels. */

@@ -1,7 +1,6 @@
 /**
  * What is known of a machine beside its verdict: its other forms, what the verdict says of other machines,
- * other
- * starts and later steps, and how its cells grow.
+ * other starts and later steps, and how its cells grow.
  *
  * @typedef {import("./machine.mjs").Verdict} Verdict
  * @typedef {{machine: string, cells: number, steps: number, verdict: Verdict, isConfirmed: boolean}} About
@@ -27,6 +26,11 @@ const GROWTHS = {
 };
 const asker = new Asker();
 const growthAsker = new Asker();
+/**
+ * What is told of: an answer that comes for another one is too late.
+ * @type {About | null}
+ */
+let told = null;
 
 /** The machine with left and right swapped. */
 export function mirrorOf(/** @type {string} */ text) {
@@ -98,8 +102,7 @@ function startsTold(/** @type {Verdict} */ { kind, numbers: [levels] }) {
 
 /**
  * Where a pair of steps says that a machine is much later: it comes back to a step of the pair, farther out
- * by
- * the shift each time.
+ * by the shift each time.
  * @param {Verdict} verdict
  */
 function laterOf({ kind, numbers: [first, second, shift], side }) {
@@ -113,6 +116,7 @@ function laterOf({ kind, numbers: [first, second, shift], side }) {
 /** Tells what is known; what takes a run comes when it is done. */
 export function tellFacts(/** @type {About} */ about) {
   const { machine, verdict, isConfirmed } = about;
+  told = about;
   const normal = normalOf(machine);
   const mirror = mirrorOf(machine);
   const code = (/** @type {string} */ text) => made("code", {}, text);
@@ -149,33 +153,37 @@ function askLater(/** @type {About} */ about) {
   const sample = { from: early, every: 1, upto: early, between: [-FAR, FAR] };
   asker.ask({ what: "trace", machine, cells, ...sample }, (answer) => {
     const row = answer.traced?.rows[0];
-    if (row === undefined) {
+    if (row === undefined || told !== about) {
       return;
     }
     part("fact-completions").textContent = completionsTold(about, row.state);
     const isWithout = kind === "translated" && numbers[2] === undefined;
     const place = `state ${row.state}, head at ${signed(BigInt(row.head) + farther)}`;
-    const told = kind === "halt" ? "It halted before." : isWithout ? "The line has no shift." : `${place}.`;
-    part("fact-later").textContent = told;
+    const later = kind === "halt" ? "It halted before." : isWithout ? "The line has no shift." : `${place}.`;
+    part("fact-later").textContent = later;
   });
 }
 
 /** Asks how the cells grow. */
-function askGrowth(/** @type {About} */ { machine, cells, steps }) {
+function askGrowth(/** @type {About} */ about) {
+  const { machine, cells, steps } = about;
   const upto = Math.min(steps, MOST_GROWTH_STEPS);
   if (upto < FEWEST_GROWTH_STEPS) {
     part("fact-growth").textContent = "Too few steps to say.";
     return;
   }
   growthAsker.ask({ what: "growth", machine, cells, upto }, (answer) => {
+    if (told !== about) {
+      return;
+    }
     if (answer.growth === undefined) {
       part("fact-growth").textContent = `Not known: ${answer.message}.`;
       return;
     }
     const { growth, steps: last, visited } = /** @type {Growth} */ (answer.growth);
     const many = visited.map(shown).join(", ");
-    const looks = `${many} after a hundredth, a tenth and all of ${counted(last, "step")}`;
-    const told = growth === "halts" ? `, with ${counted(visited[2], "cell")}` : `: ${looks}; a guess from these`;
-    part("fact-growth").textContent = `${GROWTHS[growth]}${told}.`;
+    const looks = `${many} after a hundredth, a tenth and all of ${counted(last, "step")}; a guess from these`;
+    const rest = growth === "halts" ? `, with ${counted(visited[2], "cell")}` : `: ${looks}`;
+    part("fact-growth").textContent = `${GROWTHS[growth]}${rest}.`;
   });
 }

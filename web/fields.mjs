@@ -33,7 +33,9 @@ export function makeFields() {
 export function tellLimits() {
   const limits = NAMES.filter((name) => field(name).value.trim() !== String(RANGES[name].usual));
   const off = SWITCHES.filter((name) => !field(name).checked);
-  const words = [...limits.map((name) => `${name} ${field(name).value}`), ...off.map((name) => `no ${name}`)];
+  const limit = (/** @type {string} */ text) => numberOf(text)?.toLocaleString("en") ?? text;
+  const told = limits.map((name) => `${name} ${limit(field(name).value)}`);
+  const words = [...told, ...off.map((name) => `no ${name}`)];
   part("limits-told").textContent = words.join(", ");
 }
 

@@ -13,8 +13,7 @@ const CLICK_PIXELS = 4;
 /**
  * Lets a diagram be moved and zoomed.
  * @param {import("./diagram.mjs").Diagram} diagram @param {(told: string, byKeys: boolean) => void} tell
- *   what is
- *   pointed at
+ *   what is pointed at
  */
 export function listen(diagram, tell) {
   const { canvas } = diagram;

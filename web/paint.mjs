@@ -21,15 +21,32 @@ const STEPS_APART = 44;
 const POSITIONS_APART = 84;
 const LETTERED = 16;
 
-/** A colour of the page's style, as red, green and blue. */
-function colour(/** @type {string} */ name) {
-  const text = getComputedStyle(document.documentElement).getPropertyValue(name).trim();
-  return [1, 3, 5].map((at) => parseInt(text.slice(at, at + 2), 16));
+/**
+ * The colours that were asked for; the browser works out its style anew each time that it is asked.
+ * @type {Map<string, string>}
+ */
+const colours = new Map();
+
+/** Has colours be asked for again, since the style has others. */
+export function forgetColours() {
+  colours.clear();
 }
 
-/** The same as a pen wants it. */
+/** A colour of the page's style, as a pen wants it. */
 function ink(/** @type {string} */ name) {
-  return `rgb(${colour(name).join(" ")})`;
+  const known = colours.get(name);
+  if (known !== undefined) {
+    return known;
+  }
+  const text = getComputedStyle(document.documentElement).getPropertyValue(name).trim();
+  colours.set(name, text);
+  return text;
+}
+
+/** The same as red, green and blue. */
+function colour(/** @type {string} */ name) {
+  const text = ink(name);
+  return [1, 3, 5].map((at) => parseInt(text.slice(at, at + 2), 16));
 }
 
 /** The colours of the symbols, of what isn't visited yet, and of the head. */
@@ -112,7 +129,7 @@ export function paintAxes(pen, area, view, chosen) {
   pen.textAlign = "right";
   for (const step of ticks(view.top, stepsOf(view), area.height, STEPS_APART)) {
     const y = rowAt(area, view, step) + view.high / 2;
-    if (y > area.y + 4 && y < area.y + area.height - 4) {
+    if (y >= area.y && y < area.y + area.height - 4) {
       pen.fillText(shown(step), area.x - 8, y);
       pen.fillRect(area.x - 4, y, 4, 1);
     }

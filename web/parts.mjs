@@ -74,7 +74,8 @@ export async function copyPicture(png, button) {
   });
 }
 
-const LIVE_MILLISECONDS = 1_000;
+// A little more than a second, since a timer may come a little early beside what it is held against.
+const LIVE_MILLISECONDS = 1_050;
 let lastTold = -Infinity;
 let liveTimer = 0;
 

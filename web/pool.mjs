@@ -7,10 +7,8 @@
  *   has: from which byte on it was sent, which one comes next, and the number of its line
  * @typedef {{worker: Worker, pieces: Given[], note: import("./worker.mjs").Note | null, since: number,
  *   held: number, taken: number, size: number | undefined}} Hand a worker, its pieces, what it began and
- *   when, the
- *   memory of its engine in bytes, the milliseconds of its last batch, and how many bytes its next one has,
- *   where
- *   that is said
+ *   when, the memory of its engine in bytes, the milliseconds of its last batch, and how many bytes its next
+ *   one has, where that is said
  * @typedef {{piece: () => Promise<Piece | null>, part: (part: Part, read: number) => void, end: () => void,
  *   fail: (error: {error: string, message: string, limit?: string}) => void}} Work
  */
@@ -102,7 +100,9 @@ function toldOf(/** @type {Error} */ { name, message }) {
  * one before, and takes the place of one that waits; one that takes longer is ended.
  */
 export class Asker {
-  constructor() {
+  /** @param {number} patience the milliseconds after which a question is ended for the next one */
+  constructor(patience = PATIENCE_MILLISECONDS) {
+    this.patience = patience;
     /** @type {Worker | undefined} */
     this.worker = undefined;
     /** @type {(() => void) | null} */
@@ -123,8 +123,19 @@ export class Asker {
     }
     this.waiting = () => this.begin(question, done);
     clearTimeout(this.timer);
-    const left = this.begun + PATIENCE_MILLISECONDS - performance.now();
+    const left = this.begun + this.patience - performance.now();
     this.timer = setTimeout(() => this.endWorker(), Math.max(0, left));
+  }
+
+  /**
+   * Tells the worker what has no answer, if there is one.
+   * @param {Record<string, any>} message @param {Transferable[]} moved
+   */
+  tell(message, moved) {
+    ready.then(
+      (module) => this.worker?.postMessage({ module, ...message }, moved),
+      () => undefined,
+    );
   }
 
   /** Ends the worker in the middle of its answer, which isn't handed over. */
@@ -157,8 +168,8 @@ export class Asker {
     const heard = (/** @type {any} */ answer) => {
       const isLast = this.waiting === null;
       this.next();
-      // Of a question that another one followed only a picture is of use.
-      if (isLast || answer.picture) {
+      // Of a question that another one followed only rows and pictures are of use.
+      if (isLast || answer.picture || answer.kept) {
         done(answer);
       }
     };

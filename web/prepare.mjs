@@ -22,8 +22,7 @@ const encoder = new TextEncoder();
  * @typedef {{bytes: Uint8Array, numbers: Uint32Array | null, places: Uint32Array | null, left: number}}
  *   Prepared
  *   what the engine is given; of each of its lines the number among the lines that were given, from 0, and
- *   where
- *   it begins there, null where all are as they were; and how many lines were left out
+ *   where it begins there, null where all are as they were; and how many lines were left out
  */
 
 /** Whether a list has verdict lines: most of the lines at its begin are whole ones. */

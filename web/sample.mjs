@@ -3,8 +3,7 @@
  *
  * @typedef {{steps: Float64Array, heads: Float64Array, lows: Float64Array, wide: Float64Array,
  *   places: Float64Array, states: string, bytes: Uint8Array}} Sample of each row the step, the head, the
- *   lowest
- *   position visited, how many are, and where their symbols begin in `bytes`
+ *   lowest position visited, how many are, and where their symbols begin in `bytes`
  */
 
 const ZERO = 48;

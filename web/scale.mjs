@@ -18,6 +18,10 @@ const CLOSE_PIXELS = 12;
 const LARGEST = SIZES[SIZES.length - 1];
 // A cell is at most so many times as wide as high.
 const MOST_WIDE = 4;
+// Steps of a row are halved down to so many, at least.
+const HALVED = 16;
+// What zooms less goes through all sizes.
+const LEAST_LEVEL = 2;
 // Rows of a pair nearer than this many pixels aren't told apart: then the picture opens on them.
 const APART_PIXELS = 24;
 // The last step's row is outlined; it has this room below the sampled ones.
@@ -48,6 +52,18 @@ function shownAs(/** @type {number} */ units) {
   return { many: 1, pixels };
 }
 
+/** So many steps or a few more, which can be halved again and again: closer views have rows of this one. */
+function halved(/** @type {number} */ every) {
+  const times = 2 ** Math.max(0, Math.floor(Math.log2(every / HALVED)));
+  return Math.ceil(every / times) * times;
+}
+
+/** Nearly so many steps of a row, which are those of the whole, doubled or halved some times. */
+function levelNear(/** @type {number} */ steps, /** @type {View} */ home) {
+  const level = stepsOf(home) * 2 ** Math.round(Math.log2(steps / stepsOf(home)));
+  return level > 1 && Number.isInteger(level) ? level : steps;
+}
+
 /**
  * The view of some steps between two positions, as large as fits.
  * @param {number} width @param {number} height in pixels
@@ -57,7 +73,7 @@ function shownAs(/** @type {number} */ units) {
 function viewOf(width, height, { first, last, low, high }) {
   const [rows, span] = [last - first + 1, high - low + 3];
   const across = Math.max(1, Math.ceil(span / width));
-  const every = Math.max(across, Math.ceil(rows / Math.max(1, height - LAST_ROW_PIXELS)));
+  const every = halved(Math.max(across, Math.ceil(rows / Math.max(1, height - LAST_ROW_PIXELS))));
   const tall = every > 1 ? 1 : sizeUpTo(height / (rows + 1));
   const wide = across > 1 ? 1 : sizeUpTo(Math.min(width / span, MOST_WIDE * tall));
   const left = Math.round((low + high + 1) / 2 - (width / wide / 2) * across);
@@ -100,7 +116,8 @@ function cellsFor(/** @type {number} */ steps, /** @type {View} */ home) {
 export function zoomed(view, home, factor, { x, y }) {
   const least = 1 / LARGEST;
   const most = Math.max(stepsOf(home), stepsOf(view)) * 1024;
-  const wanted = Math.min(Math.max(stepsOf(view) / factor, least), most);
+  const near = Math.min(Math.max(stepsOf(view) / factor, least), most);
+  const wanted = Math.max(factor, 1 / factor) >= LEAST_LEVEL ? levelNear(near, home) : near;
   return scaled(view, wanted, cellsFor(wanted, home), { x, y });
 }
 
@@ -113,7 +130,7 @@ function scaled(view, steps, cells, { x, y }) {
   const [rows, columns] = [shownAs(steps), shownAs(cells)];
   const step = view.top + Math.floor(y / view.high) * view.every;
   const position = view.left + Math.floor(x / view.wide) * view.across;
-  const top = Math.max(0, step - Math.floor(y / rows.pixels) * rows.many);
+  const top = Math.max(0, Math.round(step / rows.many) - Math.floor(y / rows.pixels)) * rows.many;
   const left = position - Math.floor(x / columns.pixels) * columns.many;
   return { top, left, every: rows.many, high: rows.pixels, across: columns.many, wide: columns.pixels };
 }

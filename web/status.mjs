@@ -1,11 +1,9 @@
 /**
  * How far a list is, in words.
  *
- * @typedef {{mode: "decide" | "check", plan: Record<string, any>, size: number, begun: number, taken:
- *   number}} Run a
- *   list that is worked on: its bytes, the milliseconds at which the work began, and those that it took; 0
- *   while it
- *   is under way
+ * @typedef {{mode: "decide" | "check", plan: Record<string, any>, size: number, begun: number,
+ *   taken: number}} Run a list that is worked on: its bytes, the milliseconds at which the work began, and
+ *   those that it took; 0 while it is under way
  */
 import { ANSWERS, KINDS, counted, shown } from "./machine.mjs";
 

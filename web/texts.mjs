@@ -5,8 +5,7 @@
  * @typedef {{machine: string, rewritten: string[]}} Found a machine as the engine reads it, and what was
  *   rewritten
  * @typedef {{refusal: string, reason: string, place: number}} Reason why there is none: its kind, in words,
- *   and
- *   the character of the line where it is, from 1
+ *   and the character of the line where it is, from 1
  * @typedef {[number, string][]} Group entries, each with how many characters come before it
  */
 

@@ -22,8 +22,7 @@ const DOUBTS = {
 /**
  * @typedef {import("./machine.mjs").Verdict} Verdict
  * @typedef {{machine: string, verdict: Verdict, answer: string, plan: Record<string, any>}} About a machine,
- *   its
- *   verdict at these limits, and the checker's answer
+ *   its verdict at these limits, and the checker's answer
  */
 
 export class View {

@@ -3,14 +3,9 @@
  * first one lies. It is worked out here by running the machine from the definition; only the first visits are
  * kept, so that each step of the run can be asked for afterwards.
  */
-import { machineOf } from "./machine.mjs";
+import { Blocks, HALTS, moveOf, nextOf, writtenBy } from "./blocks.mjs";
 
-const HALTS = -1;
-const UNDEFINED = -2;
-const WRITTEN = 15;
-const FIRST_CELLS = 4096;
-// Steps between two looks at whether there is room on the tape; the head can't go farther meanwhile.
-const STRIDE = 1024;
+const FIRST_BLOCKS = 512;
 
 /** The steps at which positions were first visited, one after another; it grows. */
 class Steps {
@@ -40,28 +35,15 @@ class Steps {
   }
 }
 
-/**
- * An entry as one number.
- * @param {import("./machine.mjs").Entry | null} entry @param {number} symbols
- */
-function packed(entry, symbols) {
-  if (entry === null) {
-    return UNDEFINED;
-  }
-  return entry.next < 0 ? HALTS : (entry.next * symbols * 4 + entry.move + 1) * 16 + entry.write;
-}
-
 export class Windows {
   constructor(/** @type {string} */ text) {
-    const { symbols, rules } = machineOf(text);
     this.text = text;
-    this.symbols = symbols;
-    // For each state and symbol what is written, the move, and the next state's first place; below 0 where
-    // the run ends.
-    this.entries = Int32Array.from(rules, ({ entry }) => packed(entry, symbols));
-    this.cells = new Uint8Array(FIRST_CELLS);
-    this.zero = FIRST_CELLS / 2;
-    this.at = this.zero;
+    this.inside = new Blocks(text);
+    // The contents of blocks; position 0 is the lowest cell of the block `zero`.
+    this.blocks = new Uint16Array(FIRST_BLOCKS);
+    this.zero = FIRST_BLOCKS / 2;
+    this.block = this.zero;
+    this.place = 0;
     this.state = 0;
     this.step = 0;
     this.ended = false;
@@ -84,53 +66,95 @@ export class Windows {
    * @param {number} upto @param {number} cells
    */
   reach(upto, cells) {
-    while (this.step < upto && !this.ended && this.left.length + this.right.length < cells) {
-      this.widen();
-      this.stride(Math.min(upto, this.step + STRIDE), cells);
+    while (this.step < upto && !this.ended && this.visited < cells) {
+      this.leap(upto);
+      if (this.step < upto && this.visited < cells) {
+        this.widen();
+        this.walk(upto, cells);
+      }
     }
     return Math.min(this.step, upto);
   }
 
-  /**
-   * Makes some steps, for which there is room on the tape.
-   * @param {number} upto @param {number} most cells visited
-   */
-  stride(upto, most) {
-    const { cells, entries, left, right } = this;
-    let { at, state, step } = this;
-    let [low, high] = [this.zero - left.length, this.zero + right.length];
-    while (step < upto && high - low < most) {
-      const entry = entries[state + cells[at]];
-      if (entry < 0) {
-        this.ended = true;
-        step += entry === HALTS ? 1 : 0;
-        break;
-      }
-      cells[at] = entry & WRITTEN;
-      at += ((entry >> 4) & 3) - 1;
-      state = entry >> 6;
-      step += 1;
-      if (at < low) {
-        low = at;
-        left.push(step);
-      } else if (at > high) {
-        high = at;
-        right.push(step);
-      }
-    }
-    Object.assign(this, { at, state, step });
+  /** How many positions were visited beside the first one. */
+  get visited() {
+    return this.left.length + this.right.length;
   }
 
-  /** Makes room on both sides where a stride could leave the tape. */
-  widen() {
-    const [first, last] = [this.zero - this.left.length, this.zero + this.right.length];
-    if (first <= STRIDE || last >= this.cells.length - STRIDE) {
-      const larger = new Uint8Array(2 * this.cells.length + 4 * STRIDE);
-      const shift = (larger.length - this.cells.length) >> 1;
-      larger.set(this.cells, shift);
-      this.cells = larger;
-      this.zero += shift;
-      this.at += shift;
+  /** Goes on by whole blocks up to a step, while all cells of each were visited before. */
+  leap(/** @type {number} */ upto) {
+    const { inside, blocks } = this;
+    const { cells, contents, after, next } = inside;
+    if (this.place !== 0 && this.place !== cells - 1) {
+      return;
     }
+    const first = this.zero - Math.floor(this.left.length / cells);
+    const last = this.zero + Math.floor((this.right.length + 1) / cells) - 1;
+    let { block, step } = this;
+    let from = 2 * this.state + (this.place === 0 ? 0 : 1);
+    while (block >= first && block <= last) {
+      const way = from * contents + blocks[block];
+      const taken = inside.stepsOf(way);
+      if (taken < 0 || step + taken > upto) {
+        break;
+      }
+      blocks[block] = after[way];
+      from = next[way];
+      block += 1 - 2 * (from & 1);
+      step += taken;
+    }
+    const place = (from & 1) === 0 ? 0 : cells - 1;
+    Object.assign(this, { block, step, state: from >> 1, place });
+    this.visit();
+  }
+
+  /** Keeps the step of a first visit, if this is one. */
+  visit() {
+    const position = (this.block - this.zero) * this.inside.cells + this.place;
+    if (position < -this.left.length) {
+      this.left.push(this.step);
+    } else if (position > this.right.length) {
+      this.right.push(this.step);
+    }
+  }
+
+  /**
+   * Goes on step by step until the head leaves its block.
+   * @param {number} upto @param {number} most cells visited
+   */
+  walk(upto, most) {
+    const { inside, blocks, block } = this;
+    const { entries, symbols, powers, cells } = inside;
+    while (this.step < upto && this.visited < most && this.place >= 0 && this.place < cells) {
+      const symbol = inside.symbolAt(blocks[block], this.place);
+      const entry = entries[this.state * symbols + symbol];
+      if (entry < 0) {
+        this.ended = true;
+        this.step += entry === HALTS ? 1 : 0;
+        return;
+      }
+      blocks[block] += (writtenBy(entry) - symbol) * powers[this.place];
+      this.place += moveOf(entry);
+      this.state = nextOf(entry);
+      this.step += 1;
+      this.visit();
+    }
+    if (this.place < 0 || this.place === cells) {
+      this.block += Math.sign(this.place);
+      this.place = this.place < 0 ? cells - 1 : 0;
+    }
+  }
+
+  /** Makes room on both sides where the head is in the first or the last block. */
+  widen() {
+    if (this.block > 1 && this.block < this.blocks.length - 2) {
+      return;
+    }
+    const larger = new Uint16Array(3 * this.blocks.length);
+    const shift = this.blocks.length;
+    larger.set(this.blocks, shift);
+    this.blocks = larger;
+    this.zero += shift;
+    this.block += shift;
   }
 }

@@ -5,8 +5,7 @@
  * @typedef {{words: Word[], begin: number, end: number, isAddress: boolean, isLast: boolean}} Text words
  *   that are
  *   one text, since only spaces stand between them; where it stands in the line, with the address that it is
- *   a
- *   part of, and whether it is that address's last part
+ *   a part of, and whether it is that address's last part
  * @typedef {{texts: Text[], rows: Word[]}} Parts what of a line may be a machine, and its rows of dashes or
  *   dots
  */

@@ -9,19 +9,17 @@
  *   held: number}} Part
  *   `first` is the number of the first line, `numbers` those of all where some between them were left out;
  *   `source` has the lines as they were given and `places` where they begin, where some aren't as the engine
- *   was
- *   given them; `left` is how many were left out; `next` and `nextLine` say which byte and line of the piece
- *   come
- *   next; `taken` are the milliseconds that it took, `held` is the memory of the engine, in bytes
+ *   was given them; `left` is how many were left out; `next` and `nextLine` say which byte and line of the
+ *   piece come next; `taken` are the milliseconds that it took, `held` is the memory of the engine, in bytes
  * @typedef {{job: number, at: string, lines: number, bytes: number}} Note what is begun: the first line of a
- *   batch,
- *   and how many lines and bytes it has
+ *   batch, and how many lines and bytes it has
+ * @typedef {import("./bb.mjs").Engine} Host
  */
 import { load } from "./bb.mjs";
 import { ANSWERS, KINDS } from "./machine.mjs";
 import { lineAt, prepared } from "./prepare.mjs";
 import { readAnswers, readLines, startsOf, tallied } from "./replies.mjs";
-import { growthOf, lastOf, pictured, traced } from "./traced.mjs";
+import { growthOf, keep, lastOf, pictured, takenAhead, traced } from "./traced.mjs";
 
 const NEWLINE = 10;
 // A piece is answered in batches that take about so long, so that what was done stays where it is stopped.
@@ -35,6 +33,9 @@ const MOST_BYTES = 1_048_576;
 const SHARED = 0.75;
 const WARM_MILLISECONDS = 60;
 const WARM_PLAN = { steps: 200, cells: 256, depth: 20, nodes: 1_000 };
+// A machine that runs long.
+const WARM_MACHINE = "1RB1LC_1RC1RB_1RD0LE_1LA1LD_1RZ0LA";
+const WARM_SAMPLE = { steps: 10_000, cells: 256, from: 0, every: 100 };
 
 /** @type {import("./bb.mjs").Engine | undefined} */
 let engine;
@@ -110,18 +111,22 @@ function decidedOne(/** @type {{machine: string, plan: Record<string, any>}} */ 
   return { line: new TextDecoder().decode(part.bytes).trimEnd(), answer: ANSWERS[part.answers[0]] };
 }
 
-/** Answers a list again and again for a while, so that the browser compiles well what is called often. */
+/**
+ * Answers a list and traces a machine again and again for a while, so that the browser compiles well what is
+ * called often.
+ */
 function warm(/** @type {Uint8Array} */ list) {
   const begun = performance.now();
+  const line = new TextEncoder().encode(WARM_MACHINE);
   while (performance.now() - begun < WARM_MILLISECONDS) {
     answered(list, { mode: "decide", clean: false, plan: WARM_PLAN });
+    engine?.traceBytes(line, WARM_SAMPLE);
   }
 }
 
 /**
  * How many bytes the next batch has, at least; it ends with a line. Where a call costs much by itself, as
- * with
- * large tapes, more lines share it.
+ * with large tapes, more lines share it.
  * @param {number} taken by the batch before, in milliseconds @param {number} lines that it had
  */
 function nextSize(taken, lines) {
@@ -151,6 +156,26 @@ function sorted(rows, steps, down) {
   return order.map((k) => rows[k]);
 }
 
+/**
+ * What is told of each question but a list, and which bytes are handed over with it.
+ * @type {Record<string, (host: Host, asked: any) => {told: any, moved?: ArrayBufferLike[]}>}
+ */
+const QUESTIONS = {
+  sort: (_, { rows, steps, down }) => ({ told: { order: sorted(rows, steps, down) } }),
+  picture: (host, asked) => {
+    const picture = pictured(host, asked);
+    return { told: { picture }, moved: [picture.image.buffer, picture.sample.bytes.buffer] };
+  },
+  ahead: (host, { rows }) => {
+    const kept = takenAhead(host, rows);
+    return { told: { kept }, moved: [kept.sample.bytes.buffer] };
+  },
+  growth: (_, asked) => ({ told: { growth: growthOf(asked) } }),
+  one: (_, asked) => ({ told: decidedOne(asked) }),
+  last: (_, asked) => ({ told: { last: lastOf(asked) } }),
+  trace: (host, asked) => ({ told: { traced: traced(host, asked) } }),
+};
+
 /** Does what a message asks. */
 async function answer(/** @type {any} */ asked) {
   engine ??= await load(asked.module);
@@ -161,19 +186,11 @@ async function answer(/** @type {any} */ asked) {
     work(asked);
   } else if (asked.what === "warm") {
     warm(asked.list);
-  } else if (asked.what === "sort") {
-    postMessage({ order: sorted(asked.rows, asked.steps, asked.down) });
-  } else if (asked.what === "picture") {
-    const picture = pictured(engine, asked);
-    postMessage({ picture }, /** @type {any} */ ([picture.image.buffer, picture.sample.bytes.buffer]));
-  } else if (asked.what === "growth") {
-    postMessage({ growth: growthOf(asked) });
-  } else if (asked.what === "one") {
-    postMessage(decidedOne(asked));
-  } else if (asked.what === "last") {
-    postMessage({ last: lastOf(asked) });
+  } else if (asked.what === "keep") {
+    keep(asked.kept);
   } else {
-    postMessage({ traced: traced(engine, asked) });
+    const { told, moved = [] } = QUESTIONS[asked.what](engine, asked);
+    postMessage(told, /** @type {any} */ (moved));
   }
 }
 

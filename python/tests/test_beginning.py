@@ -155,6 +155,18 @@ class PageTest(BeginningTest):
             for words in found[:2]:
                 self.assertEqual(self.called(*words)[0], 0, words)
 
+    def test_names_that_begin_as_options_do(self) -> None:
+        """Each command of the page can be given as it stands there, where the run was begun."""
+        before = os.getcwd()
+        self.addCleanup(os.chdir, before)
+        os.chdir(self.top)
+        pathlib.Path("-list").write_bytes(MACHINE)
+        self.out = self.top / "--out"
+        self.assertEqual(self.called("run", "--out=--out", *SMALL, "--", "-list")[0], 0)
+        for words in self.commands():
+            self.assertEqual(self.called(*words)[0], 0, words)
+        self.assertTrue((self.top / "--out.tar").exists())
+
     def test_somebody_else_s_page(self) -> None:
         self.list.write_bytes(MACHINE)
         self.out.mkdir()

@@ -13,14 +13,14 @@ from concurrent.futures import CancelledError, Future
 from typing import Any, Dict, Iterator, List, Optional, Tuple
 
 from budlarem import commands
-from budlarem.runner import cluster, command, halves, progress, tasks
+from budlarem.runner import cluster, command, progress, splitting, tasks
 from budlarem.runner.errors import DeadlyError, RunError
 
 LIMITS = (30, 16, 3, 5)
 LINES = b"1RZ---\n1RA1RA\n0RZ---\n1LA1LA\n1LZ---\n"
 
 
-def reply_to(lines: bytes, limits: tasks.Numbers) -> tasks.Reply:
+def reply_to(lines: bytes, limits: tasks.Numbers) -> tasks.PieceReply:
     """A reply that tells which lines it belongs to."""
     written, seconds = lines.upper(), float(lines.count(b"\n"))
     told = (tasks.hash_of(lines), "asked", tasks.hash_of(written))
@@ -335,12 +335,12 @@ class HalvesTest(unittest.TestCase):
             ([good, ("x", *good[1:])], ("x", *good[1:])),
         ]
         for replies, joined in cases:
-            self.assertEqual(halves.joined([LINES, LINES], replies), joined)
+            self.assertEqual(splitting.reply_of_parts([LINES, LINES], replies), joined)
 
     def test_an_error_of_a_half_is_that_of_the_whole(self) -> None:
         for place in (0, 1):
-            job = halves.Job(reply_to, LINES, LIMITS)
-            both = halves.halved(job)
+            job = splitting.Job(reply_to, LINES, LIMITS)
+            both = splitting.halved(job)
             both[place].future.set_exception(ValueError("wrong"))
             both[1 - place].future.set_result(reply_to(LINES, LIMITS))
             self.assertIsInstance(job.future.exception(0), ValueError)

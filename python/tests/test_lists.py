@@ -2,6 +2,7 @@
 
 from __future__ import annotations
 
+import collections
 import html
 import importlib.util
 import os
@@ -265,7 +266,16 @@ class ReportTest(unittest.TestCase):
                 budlarem.report(["refused 1", "x"], path)
             self.assertFalse(path.exists())
             budlarem.report([], path)
-            self.assertIn("No verdict has numbers", path.read_text(encoding="utf-8"))
+            page = path.read_text(encoding="utf-8")
+            self.assertIn("No verdict has numbers", page)
+            self.assertIn("No machine is left undecided.", page)
+            page = budlarem.report(self.LINES, path, diagrams=0).html
+            self.assertIn("<p>0 of 1 undecided machines are shown.</p>", page)
+
+    @unittest.skipUnless(HAS_PLOTS, "numpy and matplotlib aren't installed")
+    def test_one_bar_stands_at_a_whole_number(self) -> None:
+        drawn = reports.plot(collections.Counter({3: 5}), "shifts")
+        self.assertEqual(re.findall(r"<text[^>]*>([0-9.]+)</text>", drawn), ["3"])
 
     @unittest.skipIf(HAS_PLOTS, "numpy and matplotlib are installed")
     def test_what_is_missing_is_told(self) -> None:
@@ -282,6 +292,27 @@ class CommandTest(unittest.TestCase):
     def test_fields_are_carried(self) -> None:
         status, lines, _ = self.run_with("decide", given="1RZ---, a b\r\n%s\n# c\nx;y\n" % CHAMPION)
         self.assertEqual((status, lines), (1, ["1RZ--- halt 1 1\ta b", CHAMPION + " halt 6 4", "refused 1"]))
+
+    def test_a_refused_line_is_told_and_passed_over(self) -> None:
+        machines = [CHAMPION, "1RB1LC_1LA1RZ", "1RA1RA"]
+        claims = [CHAMPION + " halt 6 4", "1RA1RA halt 6", "1RA1RA translated R 1 2 1 1"]
+        with tempfile.TemporaryDirectory() as folder:
+            path = os.path.join(folder, "list.txt")
+            rows: List[Tuple[List[str], List[str], int]] = [
+                (["read", path], machines, 2),
+                (["decide", path], machines, 3),
+                (["normal", path], machines, 2),
+                (["normal", "--distinct", path], machines, 2),
+                (["triage", path], machines, 2),
+                (["compare", path, path], claims, 0),
+            ]
+            if HAS_PLOTS:
+                rows.append((["report", path, "--out", os.path.join(folder, "page.html")], claims, 0))
+            for words, lines, count in rows:
+                pathlib.Path(path).write_text("\n".join(lines) + "\n", encoding="utf-8")
+                status, written, said = self.run_with(*words)
+                self.assertEqual((status, len(written)), (1, count), words)
+                self.assertIn("%s:2: refused: " % path, said, words)
 
     def test_a_full_disk_is_told_with_what_was_written(self) -> None:
         command = [sys.executable, "-m", "budlarem", "decide"]

@@ -1,4 +1,4 @@
-"""The runner: cutting, journal, the look at replies, whole runs, and executors that answer wrongly."""
+"""The runner: whole runs, the writer, what is kept, executors that answer wrongly, and the command."""
 
 from __future__ import annotations
 
@@ -9,383 +9,20 @@ import io
 import itertools
 import json
 import os
-import pathlib
 import random
-import tempfile
 import unittest
 import unittest.mock
 from concurrent.futures import Executor, Future
-from typing import Any, Callable, Iterator, List, Sequence, Tuple
+from typing import Any, Callable, List, Sequence, Tuple
 
 import budlarem
 from budlarem import Limits, commands
 from budlarem.runner import cutting
 from budlarem.runner import folder as folders
-from budlarem.runner import joining, journal, keeping, look, passes, pieces, progress, source, tasks, whole
-from budlarem.runner import workplace, writing
-from budlarem.runner.errors import CheckError, FolderError, ReplyError, RunError, WordsError
+from budlarem.runner import joining, journal, keeping, reply_checks, source, tasks, writing
+from budlarem.runner.errors import CheckError, FolderError, RunError, WordsError
 
-# Two that halt, a cycler, two translated cyclers, three that small limits leave, one of which larger ones
-# decide, and two that are no machines.
-KINDS = (
-    b"1RB1LB_1LA1RZ\n------\n0RB---_0LA---\n1RA1RA\n1RB1LC_1RC1RB_1RD0LE_1LA1LD_1RZ0LA\n1rB1LB\n"
-    b"1RB0RA_1LC1LB_1RA0LB\n1RB1LB_1LA1RZ halt 6 4\n0RB1LD_0RC1RD_0RD---_1LA0RB\n"
-    b"1RB0LA_0RC---_1RD0LD_1LA1RB\n"
-)
-LIST = KINDS * 37
-# Files there need no disk, so that the tests take no time for it.
-MEMORY = "/dev/shm"
-SMALL, MIDDLE = Limits(30, 16, 3, 5), Limits(1_000, 128, 20, 100)
-PASSES = (SMALL, MIDDLE)
-
-
-def expected(given: bytes, limits: Sequence[Limits] = PASSES) -> bytes:
-    """The verdict lines of a list, by one call for each pass."""
-    lines = b"".join(budlarem.decide_bytes(given, limits[0])).splitlines(keepends=True)
-    for limit in limits[1:]:
-        left = [place for place, line in enumerate(lines) if b" undecided " in line]
-        machines = b"".join(lines[place].split()[0] + b"\n" for place in left)
-        later = b"".join(budlarem.decide_bytes(machines, limit)).splitlines(keepends=True)
-        for place, line in zip(left, later):
-            lines[place] = line
-    return b"".join(lines)
-
-
-def resealed(reply: tasks.Reply, written: bytes) -> tasks.Reply:
-    """A reply with other bytes, and the digest of these."""
-    return (written, *reply[1:7], tasks.hash_of(written))
-
-
-class Answering(Executor):
-    """An executor whose answer to a task a function changes; it is given the reply and how many came
-    before."""
-
-    def __init__(self, change: Callable[[tasks.Reply, int], Any]) -> None:
-        self.change, self.count = change, 0
-
-    def submit(self, function: Any, /, *given: Any, **named: Any) -> Any:
-        future: Future[Any] = Future()
-        self.count += 1
-        try:
-            future.set_result(self.change(function(*given, **named), self.count - 1))
-        except Exception as error:
-            future.set_exception(error)
-        return future
-
-
-class Late(Executor):
-    """An executor that answers when several tasks wait, the last one first."""
-
-    def __init__(self, most: int) -> None:
-        self.most = most
-        self.waiting: List[Callable[[], None]] = []
-
-    def submit(self, function: Any, /, *given: Any, **named: Any) -> Any:
-        future: Future[Any] = Future()
-        self.waiting.append(lambda: future.set_result(function(*given, **named)))
-        if len(self.waiting) == self.most:
-            while self.waiting:
-                self.waiting.pop()()
-        return future
-
-
-class Told(progress.Progress):
-    """Progress that is kept."""
-
-    def __init__(self) -> None:
-        self.kept = io.StringIO()
-        super().__init__(self.kept)
-
-
-class RunnerTest(unittest.TestCase):
-    """A list and a folder, and a run over them."""
-
-    def setUp(self) -> None:
-        kept = tempfile.TemporaryDirectory(dir=MEMORY if os.path.isdir(MEMORY) else None)
-        self.addCleanup(kept.cleanup)
-        self.top = pathlib.Path(kept.name)
-        self.list, self.out = self.top / "list.txt", self.top / "out"
-        self.list.write_bytes(LIST)
-        self.told = Told()
-
-    def run_over(
-        self,
-        executor: Any = None,
-        limits: Sequence[Limits] = PASSES,
-        most: int = 7,
-        check: bool = False,
-        path: str = "",
-        here: bool = False,
-        keep: keeping.Keep = keeping.Keep(),
-    ) -> whole.Outcome:
-        """A run, by an executor or by two threads."""
-        place: workplace.Workplace = workplace.Threads(2)
-        if executor is not None:
-            place = workplace.ExecutorPlace(executor, 2)
-        listed = source.ListFile(path or str(self.list))
-        try:
-            opened = folders.Folder(str(self.out))
-            try:
-                manner = passes.Manner(
-                    place,
-                    tasks.identity(),
-                    self.told,
-                    listed.name,
-                    most,
-                    check,
-                    here,
-                    keep,
-                    listed.hold_unchanged,
-                )
-                return whole.run(opened, listed, limits, manner)
-            finally:
-                opened.close()
-        finally:
-            listed.close()
-
-    def verdicts(self) -> bytes:
-        return (self.out / "verdicts.txt").read_bytes()
-
-    def opened(self, limits: Sequence[Limits], keep: keeping.Keep = keeping.Keep()) -> pieces.PassFolder:
-        """The last of these passes, which is whole."""
-        top = folders.Folder(str(self.out))
-        try:
-            found = top.open_pass(limits, keep, tasks.identity())
-        finally:
-            top.close()
-        self.addCleanup(found.close)
-        found.pieces = found.journal.length()
-        return found
-
-    def records(self, limits: Sequence[Limits]) -> List[journal.Record]:
-        """What the journal of the last of these passes has."""
-        found = self.opened(limits).journal
-        records = map(found.read, range(found.length()))
-        return [record for record in records if record is not None]
-
-
-class SourceTest(RunnerTest):
-    def taken(self, blocks: Iterator[bytes], lines: int, size: int) -> List[bytes]:
-        found = source.Lines(blocks)
-        return list(iter(lambda: found.take(lines, size), b""))
-
-    def test_pieces_are_the_same_however_the_bytes_come(self) -> None:
-        chance = random.Random(1)
-        texts = [b"x" * chance.choice((0, 1, 2, 30, 1_023, 1_024, 1_025, 5_000)) for _ in range(60)]
-        given = b"\n".join(texts)
-        for lines, size in itertools.product((1, 3, 17, 50, 1_000), (1, 100, 2_000, 1 << 20)):
-            whole_list = self.taken(iter([given]), lines, size)
-            for cut in (1, 7, 1_000, 1_030):
-                blocks = (given[place : place + cut] for place in range(0, len(given), cut))
-                self.assertEqual(self.taken(blocks, lines, size), whole_list)
-            self.assertEqual(b"".join(whole_list), b"".join(text[:1_024] + b"\n" for text in texts))
-            self.list.write_bytes(given)
-            listed = source.ListFile(str(self.list))
-            plain = listed.lines()
-            pieces_of_file = list(iter(lambda: plain.take(lines, size), b""))
-            listed.close()
-            self.assertEqual(b"".join(pieces_of_file), b"".join(whole_list))
-            self.assertEqual(plain.taken_lines, b"".join(whole_list).count(b"\n"))
-            for piece in [*whole_list, *pieces_of_file]:
-                self.assertLessEqual(piece.count(b"\n"), lines)
-                self.assertTrue(len(piece) <= size or piece.count(b"\n") == 1)
-
-    def test_pieces_are_as_large_as_may_be(self) -> None:
-        given = b"abc\n" * 1_000
-        self.assertEqual(
-            [len(piece) for piece in self.taken(iter([given]), 300, 1 << 20)], [1200] * 3 + [400]
-        )
-        self.assertEqual([len(piece) for piece in self.taken(iter([given]), 300, 1_002)], [1000] * 4)
-
-    def test_gzip_and_empty_lists(self) -> None:
-        for given in (b"", b"\n", b"1RZ---", LIST):
-            path = self.top / "list"
-            for written in (given, gzip.compress(given) + gzip.compress(b"")):
-                path.write_bytes(written)
-                listed = source.ListFile(str(path))
-                self.assertEqual(b"".join(listed.blocks()), given)
-                listed.close()
-
-    def test_a_cut_gzip_file(self) -> None:
-        self.list.write_bytes(gzip.compress(LIST)[:-20])
-        with self.assertRaisesRegex(RunError, "can't be read as gzip"):
-            self.run_over()
-
-    def test_a_list_that_changes(self) -> None:
-        listed = source.ListFile(str(self.list))
-        self.addCleanup(listed.close)
-        blocks = listed.blocks()
-        next(blocks)
-        self.list.write_bytes(LIST + KINDS)
-        with self.assertRaisesRegex(RunError, "changed while it was read"):
-            list(blocks)
-
-
-class JournalTest(RunnerTest):
-    def setUp(self) -> None:
-        super().setUp()
-        self.path = str(self.top / "journal")
-        self.counts = look.counts_of(expected(KINDS), 10)
-        self.journal = journal.Journal(self.path, "key")
-        self.addCleanup(self.journal.close)
-        self.known = [
-            dataclasses.replace(
-                journal.Record.of(10 * place, 10, KINDS, b"x" * place, place / 3, self.counts),
-                is_checked=place % 2 == 1,
-                place=1_000 * place,
-            )
-            for place in range(6)
-        ]
-        for place in (0, 1, 4, 5):
-            self.journal.put(place, self.known[place])
-
-    def test_records_come_back(self) -> None:
-        self.assertEqual(os.path.getsize(self.path), 6 * journal.WIDTH)
-        found = [self.journal.read(place) for place in range(8)]
-        self.assertEqual(found, [*self.known[:2], None, None, *self.known[4:], None, None])
-        self.assertEqual((self.journal.end(), self.known[0].counts_by_kind()), (5_005, self.counts))
-        self.assertTrue(self.known[3].fits(KINDS) and self.known[3].has(b"xxx"))
-        self.assertFalse(self.known[3].fits(KINDS[1:]) or self.known[3].has(b"xx"))
-
-    def test_a_gap(self) -> None:
-        self.assertEqual(self.journal.gap(2, 20), (2, 20))
-        self.assertEqual(self.journal.gap(2, 39), (3, 11))
-        self.assertIsNone(self.journal.gap(6, 60))
-        self.assertEqual([self.journal.gap(2, 20), self.journal.gap(3, 30)], [(2, 20), (1, 10)])
-
-    def test_gaps_of_a_foreign_journal(self) -> None:
-        """Each line is read once, however often is asked what comes."""
-        foreign = journal.Journal(self.path, "other")
-        self.addCleanup(foreign.close)
-        with unittest.mock.patch.object(foreign, "read", wraps=foreign.read) as read:
-            self.assertEqual([foreign.gap(index, index) for index in range(6)], [None] * 6)
-        self.assertLessEqual(read.call_count, 6)
-
-    def test_each_changed_byte_is_seen(self) -> None:
-        data = pathlib.Path(self.path).read_bytes()
-        for place in range(journal.WIDTH):
-            changed = bytearray(data)
-            changed[place] ^= 1
-            pathlib.Path(self.path).write_bytes(changed)
-            self.assertIsNone(self.journal.read(0))
-            self.assertEqual(self.journal.read(1), self.known[1])
-
-    def test_cut_moved_and_other_keys(self) -> None:
-        data = pathlib.Path(self.path).read_bytes()
-        pathlib.Path(self.path).write_bytes(data[journal.WIDTH :])
-        self.assertEqual([self.journal.read(place) for place in range(6)], [None] * 6)
-        pathlib.Path(self.path).write_bytes(data[:-1])
-        self.assertIsNone(self.journal.read(5))
-        self.assertEqual(self.journal.read(4), self.known[4])
-        other = journal.Journal(self.path, "other")
-        self.addCleanup(other.close)
-        self.assertIsNone(other.read(4))
-
-
-class LookTest(unittest.TestCase):
-    def test_verdicts_of_a_list(self) -> None:
-        for limits in PASSES:
-            verdicts = expected(LIST, [limits])
-            counts = look.look_at_verdicts(LIST, verdicts, LIST.count(b"\n"))
-            self.assertEqual(look.look_in_python(LIST, verdicts, LIST.count(b"\n")), counts)
-            self.assertEqual(sum(counts.values()), LIST.count(b"\n"))
-            for kind in ("halt", "cycler", "translated", "refused"):
-                self.assertGreater(counts[kind], 0)
-
-    def wrong(self, given: bytes, verdicts: bytes) -> None:
-        for looks in (look.look_at_verdicts, look.look_in_python):
-            with self.assertRaises(ReplyError):
-                looks(given, verdicts, given.count(b"\n"))
-
-    def test_what_is_wrong(self) -> None:
-        good = expected(KINDS)
-        look.look_at_verdicts(KINDS, good, KINDS.count(b"\n"))
-        lines = good.splitlines(keepends=True)
-        for changed in (
-            b"",
-            good[:-1],
-            good + lines[0],
-            good[len(lines[0]) :],
-            good + b"x",
-            good[::-1],
-            KINDS,
-        ):
-            self.wrong(KINDS, changed)
-        for place, line in itertools.product(range(len(lines)), lines):
-            if line != lines[place]:
-                self.wrong(KINDS, b"".join([*lines[:place], line, *lines[place + 1 :]]))
-
-    def test_lines_that_are_no_verdict_lines(self) -> None:
-        machine = b"1RB1LB_1LA1RZ"
-        for text in (
-            b"halt 6",
-            b"halt 06 4",
-            b"halt 6 4 ",
-            b" halt 6 4",
-            b"",
-            b"open",
-            b"\x00",
-        ):
-            self.wrong(machine + b"\n", machine + b" " + text + b"\n")
-        for text in (b"refused 3", b"refused 0", b"refused 2 ", b"refused", b"refused 2\n"):
-            self.wrong(b"1rB1LB\n", text + b"\n")
-        self.wrong(b"1RA1RA translated\n", b"1RA1RA translated R 1 2 1 1\n")
-        look.look_at_verdicts(b"1RA1RA translated\n", b"refused 7\n", 1)
-        self.wrong(b"1RZ---\n", b"refused 7\n")
-        self.wrong(b"refused\n", b"refused 5\n")
-        look.look_at_verdicts(b"refused\n", b"refused 1\n", 1)
-
-    def test_answers(self) -> None:
-        verdicts = expected(KINDS)
-        look.look_at_answers(verdicts, b"ok\n" * 9 + b"open\n")
-        for answers in (b"", b"ok\n" * 9, b"ok\n" * 10 + b"\n", b"fine\n" * 10):
-            with self.assertRaises(ReplyError) as raised:
-                look.look_at_answers(verdicts, answers)
-            self.assertIsNone(raised.exception.line)
-        with self.assertRaisesRegex(ReplyError, "bad") as raised:
-            look.look_at_answers(verdicts, b"ok\n" * 4 + b"bad\n" + b"over\n" * 5)
-        self.assertEqual(raised.exception.line, 4)
-
-    def test_replies(self) -> None:
-        ours = tasks.identity()
-        reply = tasks.decide_piece(KINDS, SMALL.numbers())
-        asked = tasks.question(tasks.DECIDE, SMALL.numbers())
-        self.assertEqual(look.opened(reply, ours, asked, KINDS)[0], expected(KINDS, [SMALL]))
-        wrong: List[Any] = [
-            None,
-            b"",
-            [],
-            reply[:4],
-            reply[:5],
-            (*reply[:7], tasks.hash_of(KINDS)),
-            (reply[0][:-1] + b" ", *reply[1:]),
-            tasks.decide_piece(KINDS[:-1], SMALL.numbers()),
-            tasks.decide_piece(KINDS, MIDDLE.numbers()),
-            tasks.check_piece(KINDS, SMALL.numbers()),
-            (reply[0].decode(), *reply[1:]),
-            (reply[0], "1", *reply[2:]),
-            (reply[0], float("nan"), *reply[2:]),
-            (*reply[:2], "0.0", *reply[3:]),
-            (*reply[:4], "0" * 64, *reply[5:]),
-        ]
-        for changed in wrong:
-            with self.assertRaises(ReplyError):
-                look.opened(changed, ours, asked, KINDS)
-
-
-class PaceTest(unittest.TestCase):
-    def test_a_piece_lasts_some_seconds(self) -> None:
-        costs, widths = (1e-6, 1e-3, 0.1, 3.0, 1e4), {8: 2, 200: 2, 2_000: 20}
-        for cost, (width, lasting) in itertools.product(costs, widths.items()):
-            pace = cutting.Pace(20_000)
-            sizes = []
-            for _ in range(40):
-                sizes.append(pace.now)
-                pace.took(pace.now, pace.now * cost, width)
-            self.assertEqual(sizes[0], 1)
-            self.assertTrue(all(after <= 8 * before for before, after in zip(sizes, sizes[1:])))
-            seconds = sizes[-1] * cost
-            self.assertTrue(sizes[-1] in (1, 20_000) or 0.7 <= seconds / lasting <= 1.3, sizes)
+from .running import KINDS, LIST, MIDDLE, PASSES, SMALL, Answering, Late, RunnerTest, Told, expected, resealed
 
 
 class WholeTest(RunnerTest):
@@ -408,7 +45,7 @@ class WholeTest(RunnerTest):
         left = first["counts"]["undecided steps"] + first["counts"]["undecided cells"]
         self.assertEqual((first["lines"], second["lines"]), (370, left))
         self.assertEqual((sum(first["counts"].values()), sum(second["counts"].values())), (370, left))
-        self.assertEqual(told["counts"], look.counts_of(self.verdicts(), 370))
+        self.assertEqual(told["counts"], reply_checks.counts_of(self.verdicts(), 370))
         self.assertEqual((first["checked"], told["version"]), (True, budlarem.__version__))
         self.assertEqual((told["commit"], len(told["library"])), (budlarem.COMMIT, 64))
 
@@ -564,7 +201,7 @@ class WholeTest(RunnerTest):
             self.assertEqual(self.verdicts(), expected(LIST))
 
     def test_a_changed_piece_while_passes_are_joined(self) -> None:
-        def change(reply: tasks.Reply, before: int) -> tasks.Reply:
+        def change(reply: tasks.PieceReply, before: int) -> tasks.PieceReply:
             os.truncate(self.out / "pass-1" / "pieces", 100)
             return reply
 
@@ -615,7 +252,7 @@ class WriterTest(RunnerTest):
 
     def piece(self, index: int) -> cutting.Piece:
         text = b"%d\n" % index * (index % 7 + 1)
-        counts = dict.fromkeys(look.KINDS, 0)
+        counts = dict.fromkeys(reply_checks.KINDS, 0)
         record = journal.Record.of(index, 1, b"", text, 0.0, counts)
         return cutting.Piece(index, index, b"given", 1, record, kept=text)
 
@@ -680,13 +317,22 @@ class KeepTest(RunnerTest):
             for _ in range(2):
                 outcome = self.run_over(limits=limits, keep=keep)
                 self.assertEqual(self.verdicts(), self.kept(limits, 10**12 if halts is None else halts))
-                self.assertEqual(outcome.counts, look.counts_of(expected(LIST, limits), 370))
+                self.assertEqual(outcome.counts, reply_checks.counts_of(expected(LIST, limits), 370))
             told = json.loads((self.out / "summary.json").read_text())
             self.assertEqual((told["lines"], told["kept"]), (370, str(keep)))
             with self.assertRaisesRegex(FolderError, "dropped before they were checked"):
                 self.run_over(limits=limits, keep=keep, check=True)
             with self.assertRaisesRegex(FolderError, "begun with --keep left"):
                 self.run_over(limits=limits)
+
+    def test_all_are_seen_before_they_are_dropped(self) -> None:
+        for place, executor in enumerate((None, Answering(lambda reply, before: reply))):
+            self.out, self.seen = self.top / str(place), []
+            for _ in range(2):
+                self.run_over(executor, limits=[SMALL], keep=keeping.Keep(True), check=True)
+                seen = b"".join(self.seen).splitlines()
+                self.assertEqual(sorted(seen), sorted(expected(LIST, [SMALL]).splitlines()))
+            self.assertEqual(self.verdicts(), self.kept([SMALL], 10**12))
 
     def test_passes_are_added(self) -> None:
         keep = keeping.Keep(True)
@@ -699,7 +345,7 @@ class KeepTest(RunnerTest):
             self.run_over(keep=keep)
 
     def test_a_line_of_a_later_pass_is_named(self) -> None:
-        def change(reply: tasks.Reply, before: int) -> tasks.Reply:
+        def change(reply: tasks.PieceReply, before: int) -> tasks.PieceReply:
             return resealed(reply, reply[0].replace(b" undecided steps", b" unknown steps"))
 
         keep = keeping.Keep(True)
@@ -727,7 +373,7 @@ class ExecutorTest(RunnerTest):
         self.assertEqual(self.verdicts(), expected(LIST))
 
     def test_wrong_answers_now_and_then(self) -> None:
-        answers: List[Callable[[tasks.Reply], Any]] = [
+        answers: List[Callable[[tasks.PieceReply], Any]] = [
             lambda reply: None,
             lambda reply: (b"", *reply[1:]),
             lambda reply: (reply[0][:-1], *reply[1:]),
@@ -755,7 +401,7 @@ class ExecutorTest(RunnerTest):
             self.goes_on()
 
     def test_the_line_is_named(self) -> None:
-        def change(reply: tasks.Reply, before: int) -> tasks.Reply:
+        def change(reply: tasks.PieceReply, before: int) -> tasks.PieceReply:
             return resealed(
                 reply,
                 reply[0].replace(
@@ -806,7 +452,7 @@ class ExecutorTest(RunnerTest):
         self.goes_on()
 
     def test_a_verdict_that_the_checker_refuses(self) -> None:
-        def change(reply: tasks.Reply, before: int) -> tasks.Reply:
+        def change(reply: tasks.PieceReply, before: int) -> tasks.PieceReply:
             wrong = reply[0].replace(b"_1RZ0LA undecided steps", b"_1RZ0LA cycler 5 9")
             return resealed(reply, wrong)
 
@@ -820,7 +466,7 @@ class ExecutorTest(RunnerTest):
     def test_a_lying_worker_is_found_here(self) -> None:
         """It says that its wrong verdict is right, and of all others that they are undecided."""
 
-        def lie(reply: tasks.Reply, before: int) -> tasks.Reply:
+        def lie(reply: tasks.PieceReply, before: int) -> tasks.PieceReply:
             if reply[6].startswith(tasks.CHECK):
                 return resealed(reply, b"ok\n" * reply[0].count(b"\n"))
             return resealed(reply, reply[0].replace(b"_1RZ0LA undecided steps", b"_1RZ0LA cycler 5 9"))
@@ -835,9 +481,9 @@ class ExecutorTest(RunnerTest):
                 self.run_over(Answering(lie), limits=[SMALL], check=True, here=True)
 
     def test_answers_to_other_verdicts(self) -> None:
-        kept: List[tasks.Reply] = []
+        kept: List[tasks.PieceReply] = []
 
-        def swap(reply: tasks.Reply, before: int) -> tasks.Reply:
+        def swap(reply: tasks.PieceReply, before: int) -> tasks.PieceReply:
             kept.append(reply)
             is_check = reply[6].startswith(tasks.CHECK)
             return next(one for one in kept if one[6] == reply[6]) if is_check else reply
@@ -911,7 +557,7 @@ class ProgressTest(unittest.TestCase):
             text, r"^\rpass 1 of 2, 1 pieces, 20k lines, 0%, \d+[kM]? lines/s, [0-9.]+ \w+ left, 3 work"
         )
         self.assertLess(len(text), 81)
-        told.tell("a sentence")
+        told.print_line("a sentence")
         self.assertTrue(told.kept.getvalue().endswith("\rbudlarem: a sentence\n"))
 
     def test_a_long_pass_is_told_once(self) -> None:

@@ -3,12 +3,12 @@
 
     scripts/speed/outside.py [crates/bb/out/bb] [--runs N] [--part PART]
 
-PART is `node`, `trace`, `page` or `python`; all of them where not said. It builds the module, the page and
-the library first, where they aren't up to date, by `scripts/web` and `scripts/library`. A time is the least
-of N runs (3 where not said), in turn with those that it is compared with; `processor` marks processor time,
-other times are by the clock. Run it on a quiet machine with four cores: it takes a quarter of an hour. Each
-figure is a row of a table in Markdown, with its bar where it has one. The last line counts the bars that hold
-as passed; the status is 1 where one doesn't.
+PART is `node`, `trace`, `look`, `page`, `views` or `python`; all of them where not said. It builds the
+module, the page and the library first, where they aren't up to date, by `scripts/web` and `scripts/library`.
+A time is the least of N runs (3 where not said), in turn with those that it is compared with; `processor`
+marks processor time, other times are by the clock. Run it on a quiet machine with four cores: it takes a
+quarter of an hour. Each figure is a row of a table in Markdown, with its bar where it has one. The last line
+counts the bars that hold as passed; the status is 1 where one doesn't.
 """
 
 import contextlib
@@ -32,6 +32,7 @@ from tally import Tally, end_with, words  # noqa: E402
 
 os.environ["BB_LIBRARY"] = LIBRARY
 FOUR = {"steps": 200, "cells": 256, "depth": 20, "nodes": 1_000}
+LOWEST = {"steps": 0, "cells": 1, "depth": 0, "nodes": 0}
 MOST = {"steps": 10**12, "cells": 67_108_864, "depth": 10_000, "nodes": 10**12}
 README = b"1RB1LB_1LA1RZ\n1RA1RA\n1rB1LB\n"
 CHAMPION = "1RB1LC_1RC1RB_1RD0LE_1LA1LD_1RZ0LA"
@@ -195,6 +196,28 @@ def measure_trace(figures: Figures, program: str, folder: str) -> None:
     figures.ratio("beside `bb_decide`, simulation alone; processor", traced, simulated)
 
 
+def measure_look(figures: Figures, program: str, folder: str) -> None:
+    """A look at the replies to the list of four states, beside a check of them that makes no step."""
+    if not has_library(figures.tally, "a look at the machines of four states"):
+        return
+    from budlarem._library import look
+
+    path, verdicts = four_states(folder), os.path.join(folder, "verdicts")
+    with open(path, "rb") as given, open(verdicts, "wb") as out:
+        subprocess.run([program, "decide", *options(FOUR)], stdin=given, stdout=out)
+    with open(path, "rb") as given, open(verdicts, "rb") as replied:
+        lines, replies = given.read(), replied.read()
+    command = [program, "check", *options(LOWEST)]
+    taken, alone = figures.least(
+        lambda: processed(lambda: look(lines, replies)), lambda: spent(command, verdicts)
+    )
+    found = look(lines, replies)
+    figures.head("A look at the replies to %s machines of four states" % "{:,}".format(found.lines))
+    each = taken / found.lines * 1e9
+    figures.row("`bb_look`, a line, in ns; processor", "%.0f" % each, each, 100)
+    figures.ratio("beside `bb check` at the lowest limits; processor", taken, alone)
+
+
 @contextlib.contextmanager
 def page_of(folder: str, cores: Optional[int] = None) -> Iterator[Any]:
     """The page in a browser of its own."""
@@ -238,7 +261,7 @@ def measure_page(figures: Figures, program: str, folder: str) -> None:
         return
     figures.head("The page `bb.html`, in Chromium, opened from the disk")
     size = os.path.getsize(PAGE)
-    figures.row("bytes of the page", "{:,}".format(size), size, 200_000)
+    figures.row("bytes of the page", "{:,}".format(size), size, 260_000)
     first = figures.least(lambda: opened(folder))[0]
     figures.row("first verdict after opening, in ms", "%d" % (first * 1000), first * 1000, 300)
     path = four_states(folder)
@@ -254,12 +277,68 @@ def measure_page(figures: Figures, program: str, folder: str) -> None:
         lambda: in_page(folder, path, 4, longest),
     )
     what = "858,909 machines of four states, decided and checked, by %s, beside the program%s"
-    figures.ratio(what % ("one worker", "'s `decide`"), one, alone, 2.5)
-    figures.ratio(what % ("four workers", "'s `decide`"), four, alone, 1.0)
-    figures.ratio(what % ("one worker", "'s `decide` and `check`"), one, alone + checked)
-    figures.ratio(what % ("four workers", "'s `decide` and `check`"), four, alone + checked)
+    figures.ratio(what % ("one worker", "'s `decide`"), one, alone)
+    figures.ratio(what % ("four workers", "'s `decide`"), four, alone)
+    figures.ratio(what % ("one worker", "'s `decide` and `check`"), one, alone + checked, 1.9)
+    figures.ratio(what % ("four workers", "'s `decide` and `check`"), four, alone + checked, 0.67)
     figures.row("the longest that it stood still meanwhile, in ms", "%d" % max(longest), max(longest), 100)
     measure_page_memory(figures, folder)
+
+
+def milliseconds(figures: Figures, what: str, seconds: float, bar: Optional[float] = None) -> None:
+    """A time in milliseconds, with its bar where it has one."""
+    figures.row(what + ", in ms", "%d" % (1_000 * seconds), 1_000 * seconds, bar)
+
+
+def measure_views(figures: Figures, program: str, folder: str) -> None:
+    """Views of the five-state champion's run in the page, and what the module takes of them in Node."""
+    from page import has_selenium
+    from page_times import PAUSE, end, views
+    from web_engine import built
+
+    tally = figures.tally
+    if not tally.has("views", "chromium", "chromedriver", "node") or not has_selenium(tally) or not built():
+        return
+    longest: List[float] = []
+    each: List[List[float]] = []
+
+    def longest_view(pause: float) -> float:
+        with page_of(folder) as page:
+            taken = views(page, pause)
+            longest.append(page.js("return window.longest") / 1_000)
+            if pause:
+                each.append(taken)
+            return max(taken)
+
+    def last_steps() -> float:
+        with page_of(folder) as page:
+            taken = end(page)
+            longest.append(page.js("return window.longest") / 1_000)
+            return taken
+
+    figures.head(
+        "Views of the five-state champion in the page, zoomed at step 9,900,000 of 10,000,000 and back"
+    )
+    module = figures.least(lambda: traced_in_node(folder))[0]
+    milliseconds(figures, "the module's part, which begins at step 0: 10,000,000 steps, 545 lines", module)
+    paused, hurried, last = figures.least(lambda: longest_view(PAUSE), lambda: longest_view(0.0), last_steps)
+    milliseconds(figures, "the longest of 18 views, with pauses of %.1f s between" % PAUSE, paused, 100)
+    usual = min(sorted(taken)[len(taken) // 2] for taken in each)
+    milliseconds(figures, "the middle one of them", usual)
+    milliseconds(figures, "the longest of 18, one at once after another", hurried)
+    milliseconds(figures, "to step 47,176,860 of 50,000,000, with the tape", last, 1_500)
+    milliseconds(figures, "the longest that it stood still meanwhile", max(longest), 100)
+
+
+def traced_in_node(folder: str) -> float:
+    """The seconds that the module takes for the lines of a view at step 10^7."""
+    from web_engine import Engine
+
+    engine = Engine(folder)
+    sample = {"steps": 10_000_000, "cells": 65_536, "from": 0, "every": 18_432}
+    taken = [engine.call("trace", sample, CHAMPION.encode()).told["seconds"] for _ in range(4)]
+    engine.end()
+    return float(min(taken))
 
 
 def processes_below(root: int) -> List[int]:
@@ -398,7 +477,14 @@ def measure_interruption(figures: Figures) -> None:
         )
 
 
-PARTS = {"node": measure_node, "trace": measure_trace, "page": measure_page, "python": measure_python}
+PARTS = {
+    "node": measure_node,
+    "trace": measure_trace,
+    "look": measure_look,
+    "page": measure_page,
+    "views": measure_views,
+    "python": measure_python,
+}
 
 
 def main() -> int:

@@ -168,8 +168,8 @@ def forged(source: random.Random, line: bytes) -> bytes:
 
 
 def is_right(line: bytes, told: bytes, answer: bytes) -> bool:
-    """Whether again.py answers a line as the program does. It has no bound on levels: a tree never has more of
-    them than nodes."""
+    """Whether again.py answers a line as the program does. It has no bound on levels: a tree never has more
+    of them than nodes."""
     if told == b"over" and b" backward " in line and int(line.split(b" ")[2]) > NODES:
         return answer in (b"too long", b"false")
     return answer.decode() == WORDS[told.decode()]

@@ -25,6 +25,32 @@ const moved = new DataTransfer();
 moved.items.add(document.getElementById("file").files[0]);
 dispatchEvent(new DragEvent("drop", { dataTransfer: moved, bubbles: true, cancelable: true }));
 """
+# Does what a script says, and tells how long it takes until the diagram is drawn anew, in milliseconds.
+DRAWING = """
+const done = arguments[arguments.length - 1];
+const canvas = document.getElementById("diagram");
+const begun = performance.now();
+const watch = new MutationObserver(() => {
+  if (canvas.dataset.state === "drawn") {
+    watch.disconnect();
+    done(performance.now() - begun);
+  }
+});
+watch.observe(canvas, { attributes: true, attributeFilter: ["data-state"] });
+%s
+"""
+# Turns the wheel on the diagram by so many notches, at a place in pixels from where its picture begins.
+WHEEL = """
+canvas.focus({ preventScroll: true });
+const { left, top } = canvas.getBoundingClientRect();
+canvas.dispatchEvent(new WheelEvent("wheel", {
+  deltaY: -100 * arguments[0],
+  clientX: left + Number(canvas.dataset.x) + arguments[1],
+  clientY: top + Number(canvas.dataset.y) + arguments[2],
+  bubbles: true,
+  cancelable: true,
+}));
+"""
 # After so many seconds something that is waited for counts as lost.
 PATIENCE = 1_800
 
@@ -148,6 +174,15 @@ class Page:
             lambda: (found := self.js(script)).get("state") == "drawn" and found
         )
         return {name: float(value) for name, value in drawn.items() if name != "state"}
+
+    def drawing(self, script: str, *words: Any) -> float:
+        """The seconds from what a script does until the diagram is drawn anew, by the page's clock."""
+        taken = self.driver.execute_async_script(DRAWING % script, *words)
+        return float(taken) / 1_000
+
+    def zooming(self, notches: float, right: float, down: float) -> float:
+        """The same of the wheel, turned at a place in the picture."""
+        return self.drawing(WHEEL, notches, right, down)
 
     def plan(self, plan: Dict[str, Any], mode: str, clean: bool = False) -> None:
         """Sets the fields; those that aren't named get their defaults."""

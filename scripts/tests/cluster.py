@@ -8,9 +8,10 @@ it; all workers are killed and new ones come; the scheduler is killed and starte
 runner's timeout; workers lack the package, have another version, answer garbage or what belongs elsewhere,
 tell seconds that didn't pass, or lie of a verdict; the runner is killed by SIGKILL at ten random moments, and
 interrupted; connections are encrypted. After each the verdicts are byte for byte those of one process for
-each pass, or the run ended with status 3 and a sentence and goes on when it is run again. It needs Debian's `python3-distributed`, and runs `scripts/library` where the library isn't
-there. It takes some minutes; `--quick`, with one killed worker, half of one. The last line is `N passed, M
-failed`, with `, K skipped` where something isn't installed; the status is 1 where any failed.
+each pass, or the run ended with status 3 and a sentence and goes on when it is run again. It needs Debian's
+`python3-distributed`, and runs `scripts/library` where the library isn't there. It takes some minutes;
+`--quick`, with one killed worker, half of one. The last line is `N passed, M failed`, with `, K skipped`
+where something isn't installed; the status is 1 where any failed.
 """
 
 import contextlib

@@ -123,8 +123,8 @@ WRONG = [
         "takes the score before the halting step",
         "Check.v",
         "if is_stop (zstep M z) then N.eqb (score z) w else false",
-        "if is_stop (zstep M z) then match run M (N.pred n) zstart with More y | Stop y => N.eqb (score y) w end"
-        " else false",
+        "if is_stop (zstep M z) then match run M (N.pred n) zstart with More y | Stop y => N.eqb (score y) w"
+        " end else false",
     ),
     Edit(
         "counts the cell that a step into Z leads to",

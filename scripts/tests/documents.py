@@ -6,8 +6,9 @@
 It looks at README.md, CHANGELOG.md, `docs/`, the manual page and the examples' README. Of each it takes the
 links and the words in backquotes, and tells by their form what they are: files, names of the crates, lemmas,
 clauses of contracts, edits, options, lines of the program. What isn't there is told with document and line.
-It is also tried on a document in which one of each is broken. It takes a second. The last line is `N passed,
-M failed`; the status is 1 where any failed.
+It is also tried on a document in which one of each is broken. The README has at most so many words beside
+tables and code, each item of the decisions is short, and the version is one wherever it stands. It takes a
+second. The last line is `N passed, M failed`; the status is 1 where any failed.
 """
 
 from __future__ import annotations
@@ -27,8 +28,12 @@ ELSEWHERE = {
     " flush usize get_flag get_one fault_of subcommand_of arrayvec clap itoa linked_list_allocator memchr"
     " thiserror",
     "C and its library": "free malloc realloc int bool size_t",
-    "the system's commands": "cut git rustc sh split wait",
-    "the kit": "rt requires ensures FoldsTo rattle-kit-13b rattle-kit-13f --anew --minutes",
+    "the system's commands": "cut git grep rustc sh split wait",
+    "the kit": "rt requires ensures FoldsTo rattle-kit-13b rattle-kit-13f --anew --minutes --only --allow-holes"
+    " --fix-imports elim omega refl search grind rules match let else",
+    "names that the kit makes": "returns-then-steps-self returns-then-p-lt0-clause-apart count_run-requires"
+    " rewritten-requires-clause-low loop-moved-init loop-moved-preserved-in_default-widened_side"
+    " After-widened_side loop-x-init loop-x-preserved",
     "GNU parallel": "--pipe",
     "dask": "--host --memory-limit --nanny-port --nthreads --nworkers --worker-port",
     "folders that the runner makes": "pass-1 pass-2",
@@ -52,6 +57,18 @@ FORMER = re.compile(
 MACHINE = r"(?:<machine>|(?:\d[LR][A-Z]|---)+(?:_(?:\d[LR][A-Z]|---)+)*)"
 ENDINGS = "rt antt edit md py mjs html h c rs v ml txt png svg wasm a so".split()
 COMMANDS = ("bb", "./bb", "coq/", "scripts/", "budlarem", "./test")
+# The most words of the README beside tables and code, and the most characters of an item of the decisions.
+README_WORDS = 1000
+ITEM_CHARACTERS = 500
+# Where the version stands.
+VERSIONS = {
+    "crates/bb_command/src/command.rt": r'\.version\("([0-9.]+)"\)',
+    "crates/bb/src/tests.rt": r'"bb ([0-9.]+)\\n"',
+    "docs/bb.1": r'"bb ([0-9.]+)"',
+    "include/bb.h": r'#define BB_VERSION "([0-9.]+)"',
+    "python/src/budlarem/_version.py": r'VERSION = "([0-9.]+)"',
+    "CHANGELOG.md": r"## ([0-9.]+), ",
+}
 # Documents that speak of another language too.
 LANGUAGES = {
     "docs/python.md": ["python"],
@@ -344,6 +361,20 @@ def manual_page(sources: Sources, path: str, text: str) -> Iterator[Finding]:
                 yield Finding(path, number, "the option %s" % option)
 
 
+def words_beside(text: str) -> int:
+    """How many words a document has beside its tables and its blocks of commands."""
+    lines = [line for line in text.split("\n") if not is_block(line) and not line.startswith("|")]
+    return len(re.findall(r"\S*\w\S*", "\n".join(lines)))
+
+
+def long_items(path: str, text: str) -> Iterator[Finding]:
+    """Items of a list that are too long to be read at a glance."""
+    for number, line in enumerate(text.split("\n"), 1):
+        if line.startswith("- ") and len(line) > ITEM_CHARACTERS:
+            told = "too long: an item of %d characters (%d at most)" % (len(line), ITEM_CHARACTERS)
+            yield Finding(path, number, told)
+
+
 def documents() -> List[str]:
     """The paths of the documents."""
     listed = sorted(name for name in os.listdir(os.path.join(TOP, "docs")) if name.endswith(".md"))
@@ -363,14 +394,33 @@ def tried(sources: Sources) -> Iterator[Tuple[str, bool]]:
         yield "it isn't broken: %s" % what, what in wanted
     options = [str(finding) for finding in manual_page(sources, "bb.1", "\\-\\-steps\n\\-\\-no\\-halts")]
     yield "an option of the manual page: %s" % options, options == ["bb.1:2: the option --no-halts"]
+    counted = words_beside(
+        "# One\n\n![A picture](of.png) and `three` words\n\n| a | table |\n\n    code\n- and more"
+    )
+    yield "words beside tables and code: %d" % counted, counted == 8
+    item = "- " + "a" * (ITEM_CHARACTERS - 2)
+    items = [
+        str(finding) for finding in long_items("one.md", "\n".join([item, item + "a", item[2:] + "aaa"]))
+    ]
+    yield "long items: %s" % items, items == ["one.md:2: too long: an item of 501 characters (500 at most)"]
 
 
 def findings_of(sources: Sources, path: str) -> Iterator[Finding]:
-    """What a document or the manual page names that isn't there."""
+    """What a document or the manual page names that isn't there, and items that are too long."""
     text = read(TOP, path)
-    return (
-        Document(sources, path, text).findings() if path.endswith(".md") else manual_page(sources, path, text)
-    )
+    if not path.endswith(".md"):
+        yield from manual_page(sources, path, text)
+        return
+    yield from Document(sources, path, text).findings()
+    if path == "docs/DECISIONS.md":
+        yield from long_items(path, text)
+    if path == "README.md" and words_beside(text) > README_WORDS:
+        yield Finding(path, 1, "too long: %d words (%d at most)" % (words_beside(text), README_WORDS))
+
+
+def versions() -> Dict[str, List[str]]:
+    """The version, by the file that has it, once where all is well; of the changes the latest."""
+    return {path: re.findall(pattern, read(TOP, path))[:1] for path, pattern in VERSIONS.items()}
 
 
 def main() -> int:
@@ -379,10 +429,13 @@ def main() -> int:
     tally = Tally(most_told=1000)
     for what, holds in tried(sources):
         tally.hold(what, holds)
+    found = versions()
+    named = {tuple(ones) for ones in found.values()}
+    tally.hold("one version: %s" % found, len(named) == 1 and () not in named)
     for path in [*documents(), "docs/bb.1"]:
         findings = list(findings_of(sources, path))
         for finding in findings:
-            tally.hold("not there: %s" % finding, False)
+            tally.hold("wrong: %s" % finding, False)
         if not findings:
             tally.hold(path, True)
     return tally.end()

@@ -5,28 +5,32 @@
 
 The sample goes through the passes of the whole list, and each verdict is checked. Each count of the sample is
 held exactly, the machines that are left are decided by the program too, and the share of each kind is held to
-be that of the whole list, within what a sample allows. docs/five-states.md is held to state each figure of
-docs/five-states.json, which the run over the whole list wrote. The verdicts of three states that are kept come
-as one list in order, which `cover` finds whole. Over all machines of four states the script is
-interrupted, ended and killed, goes on each time, and gives what docs/four-states.md has; it refuses folders
-that aren't its own. It takes a minute or two, half of it for the sample. Without `rustc` it is skipped. The
-last line is `N passed, M failed`; the status is 1 where any failed.
+be that of the whole list, within what a sample allows. Of a part who takes the figures sees each verdict, and
+only what it left is kept. The verdicts of three states that are kept come as one list in order, which `cover`
+finds whole. docs/five-states.md is held to state each figure of docs/five-states.json, which
+the run over the whole list wrote. Over all machines of four states the script is interrupted, ended and
+killed, goes on each time, and gives what docs/four-states.md has; it refuses folders that aren't its own. It
+takes a minute or two, half of it for the sample. Without `rustc` it is skipped. The last line is `N passed, M
+failed`; the status is 1 where any failed.
 """
 
 from __future__ import annotations
 
+import importlib.machinery
+import importlib.util
 import json
 import math
 import os
 import pathlib
 import signal
 import subprocess
+import sys
 import tempfile
 import time
 from typing import Any, Dict, Iterator, List, Tuple
 
 from library_built import LIBRARY, has_library
-from machine_list import has_lister
+from machine_list import has_lister, listed
 from program import ended, options_of_pass
 from tally import TOP, Tally, end_with, heed_interruption, words
 
@@ -88,6 +92,48 @@ def hold_sample(tally: Tally, program: str, top: pathlib.Path) -> None:
     decided = ended([program, "decide", *limits], left).output
     undecided = b"".join(machine + b" undecided steps\n" for machine in left.splitlines())
     tally.hold("the program decides none of what is left", decided == undecided)
+
+
+class Seen:
+    """Stands for who takes the figures: keeps what it is given."""
+
+    def __init__(self) -> None:
+        self.pieces: List[bytes] = []
+
+    def take_in(self, verdicts: bytes) -> None:
+        self.pieces.append(verdicts)
+
+
+def loaded() -> Any:
+    """The script as a module."""
+    loader = importlib.machinery.SourceFileLoader("five_states_script", SCRIPT)
+    spec = importlib.util.spec_from_loader(loader.name, loader)
+    assert spec is not None
+    script = importlib.util.module_from_spec(spec)
+    # Dataclasses look their module up.
+    sys.modules[loader.name] = script
+    loader.exec_module(script)
+    return script
+
+
+def hold_pieces(tally: Tally, program: str, top: pathlib.Path) -> None:
+    """Who takes the figures of a part is given each piece whole; on the disk are only those that are left."""
+    os.environ["BB_LIBRARY"] = LIBRARY
+    script = loaded()
+    task = script.Task(top, "part", script.PASSES[0])
+    task.folder.mkdir(parents=True)
+    given = listed(4, "--every", "10")
+    task.list.write_bytes(given)
+    right = ended([program, "decide", *options_of_pass(task.limits)], given).output
+    left = b"".join(line for line in right.splitlines(keepends=True) if b" undecided " in line)
+    for _ in range(2):
+        seen = Seen()
+        script.decide_part(script.Asked(top, 4, 1, 1, 2, LIBRARY), task, seen)
+        tally.hold("more than a piece: %d" % len(seen.pieces), len(seen.pieces) > 3)
+        lines = b"".join(seen.pieces).splitlines(keepends=True)
+        tally.hold("each verdict is seen", sorted(lines) == sorted(right.splitlines(keepends=True)))
+        kept = (task.run / "pass-1" / "pieces").read_bytes()
+        tally.hold("what is left is kept: %d bytes of %d" % (len(kept), len(right)), kept == left != b"")
 
 
 def hold_shares(tally: Tally, counts: Dict[str, int]) -> None:
@@ -245,6 +291,7 @@ def main() -> int:
         top = pathlib.Path(name)
         hold_document(tally)
         hold_refusals(tally, top)
+        hold_pieces(tally, program, top / "pieces")
         hold_stream(tally, top / "three")
         hold_interruptions(tally, top / "four")
         hold_sample(tally, program, top)

@@ -160,6 +160,32 @@ static void hold_limits(void) {
     hold("a decider off", told == BB_CLEAN && has(out, "0RB---_0LA--- undecided steps"));
 }
 
+/* Whether a look at replies gives this status and these numbers; where nothing is counted, counts stay 9. */
+static bool looks(const char *list, const char *replies, uint32_t status, const uint64_t wanted[7],
+                  uint64_t wanted_lines) {
+    uint64_t counts[7] = {9, 9, 9, 9, 9, 9, 9}, lines = 99;
+    uint32_t told =
+        bb_look(bytes(list), strlen(list), bytes(replies), strlen(replies), counts, &lines);
+    return told == status && lines == wanted_lines && memcmp(counts, wanted, sizeof counts) == 0;
+}
+
+static void hold_looks(void) {
+    static const uint64_t EACH[7] = {1, 0, 1, 1, 0, 0, 1}, OTHERS[7] = {0, 1, 0, 0, 1, 2, 0};
+    static const uint64_t NONE[7] = {0}, AS_IT_WAS[7] = {9, 9, 9, 9, 9, 9, 9};
+    static const char REPLIES[] =
+        "1RB1LB_1LA1RZ halt 6 4\n1RA1RA translated R 1 2 1 1\nrefused 1\n0RB---_0LA--- backward 2 4\n";
+    static const char UNDECIDED[] = "1RA1RA undecided cells\n1RA1RA undecided steps\n"
+                                    "1RA1RA undecided cells\n1RA1RA cycler 1 2\n";
+    hold("a look", looks(LIST, REPLIES, BB_CLEAN, EACH, 4));
+    hold("a look at others", looks("1RA1RA\n1RA1RA\n1RA1RA\n1RA1RA\n", UNDECIDED, BB_CLEAN, OTHERS, 4));
+    hold("a look at nothing", looks("", "", BB_CLEAN, NONE, 0));
+    hold("a reply left out", looks("1RZ---\n1RZ---\n", "1RZ--- halt 1 1\n", BB_NOT_CLEAN, AS_IT_WAS, 1));
+    hold("one too many", looks("1RZ---", "1RZ--- halt 1 1\nrefused 1\n", BB_NOT_CLEAN, AS_IT_WAS, 1));
+    hold("no newline", looks("1RZ---\n", "1RZ--- halt 1 1", BB_NOT_CLEAN, AS_IT_WAS, 0));
+    hold("another's reply", looks("1RZ---\n", "1RA1RA cycler 1 2\n", BB_NOT_CLEAN, AS_IT_WAS, 0));
+    hold("another column", looks("\n1rB1LB\n", "refused 1\nrefused 3\n", BB_NOT_CLEAN, AS_IT_WAS, 1));
+}
+
 static void *decides_often(void *wrong) {
     for (int at = 0; at < 20; at++) {
         uint8_t out[256];
@@ -189,6 +215,7 @@ int main(void) {
     hold_lines();
     hold_traces();
     hold_limits();
+    hold_looks();
     hold_threads();
     printf("%d passed, %d failed\n", passed, failed);
     return failed > 0;

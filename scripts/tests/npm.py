@@ -5,9 +5,9 @@
 
 The example of docs/web.md and that of the package's own README run there, and answer what the program does; a
 program in TypeScript is held against the package's types, and one that misspells a limit is refused. The same
-sources give the same bytes. It runs `scripts/npm`, which builds the module first, where that isn't done, in two
-minutes; else it takes some seconds. The last line is `N passed, M failed`, with `, K skipped` where something
-isn't installed; the status is 1 where any failed.
+sources give the same bytes. It runs `scripts/npm`, which builds the module first, where that isn't done, in
+two minutes; else it takes some seconds. The last line is `N passed, M failed`, with `, K skipped` where
+something isn't installed; the status is 1 where any failed.
 """
 
 import os

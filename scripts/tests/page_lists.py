@@ -221,6 +221,7 @@ def hold_one_by_one(held: Held) -> None:
     held.tally.within("a machine that takes long is named", time.monotonic() - begun, 2 * SOON)
     page.until(lambda: decided(page) >= 1_300)
     before = page.text("status")
+    held.hold("how much is done: " + before, re.search(r"s, \d+ % done\. ", before))
     time.sleep(0.5)
     held.hold("the clock runs", page.text("status") != before)
     page.click("stop")

@@ -4,6 +4,7 @@ import json
 import os
 import subprocess
 import sys
+import time
 from typing import Any, Dict, List
 
 from library_built import has_library
@@ -149,6 +150,23 @@ def hold_going_on(held: Held) -> None:
     held.hold("the next undecided one", page.text("machine-text") == champion)
 
 
+def hold_late_answers(held: Held) -> None:
+    """What comes late of a line that was left isn't shown with the next one."""
+    page = held.page
+    page.plan({"steps": 100}, "auto", True)
+    page.open_list("1RA1RA\n1RB1LB_1LA1RZ\n1RB1LC_1RC1RB_1RD0LE_1LA1LD_1RZ0LA\n")
+    page.js(
+        "const key = () => new KeyboardEvent('keydown', { key: 'n', bubbles: true });"
+        "for (let k = 0; k < 2; k += 1) document.getElementById('rows').dispatchEvent(key())"
+    )
+    page.until(lambda: page.drawn() and "\u2026" not in page.text("facts"))
+    time.sleep(0.5)
+    told = page.text("diagram-told")
+    held.hold("the diagram of the last line: " + told, "Steps 0 to 100" in told)
+    held.hold("nothing behind it: " + page.text("behind"), page.text("behind") == "")
+    held.hold("later steps: " + page.text("fact-later"), "doesn\u2019t say" in page.text("fact-later"))
+
+
 def hold_again(held: Held) -> None:
     """A machine, and all that is left, is decided again with larger limits; kinds are saved by themselves."""
     page = held.page
@@ -178,4 +196,5 @@ def hold_machine(held: Held) -> None:
     hold_laws(held)
     hold_copies(held)
     hold_going_on(held)
+    hold_late_answers(held)
     hold_again(held)

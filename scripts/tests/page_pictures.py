@@ -1,19 +1,26 @@
 """Diagrams of the page: their pixels, scaling, zooming, what is pointed at, and the tape below."""
 
 import base64
+import json
+import os
 import random
 import re
+import subprocess
 import tempfile
 import time
 from typing import Any, Dict, List, Tuple
 
 from selenium.webdriver.common.keys import Keys
 
+from machines import mixed, seldom_halting
 from page_held import HEAD, UNVISITED, Held, Row, colour, palette, pixels, traced
+from page_times import CHAMPION as CHAMPION_5
+from page_times import PAUSE, end, steps_seen, views
+from tally import TOP
 from web_engine import Engine
 
+WINDOWS = os.path.join(TOP, "scripts", "tests", "windows.mjs")
 CHAMPION = "1RB1LB_1LA0LC_1RZ1LD_1RD0RA"
-CHAMPION_5 = "1RB1LC_1RC1RB_1RD0LE_1LA1LD_1RZ0LA"
 TRANSLATED = "1LB0LA_1RA---"
 # The champion of four states, which goes to the right for ever in place of its halt.
 LATE = "1RB1LB_1LA0LC_1RE1LD_1RD0RA_1RE1RE"
@@ -39,6 +46,26 @@ def hold_cells(held: Held, machine: str, upto: int) -> None:
             wanted.append(colours[HEAD if is_head else int(symbol)])
     found = pixels(page, places)
     held.hold("the pixels of %s: %d by %d" % (machine, wide, high), found == wanted)
+
+
+def hold_windows(held: Held, count: int, seed: int) -> None:
+    """Which positions a run has visited up to each step, as the page works it out beside the trace."""
+    if not held.tally.has("visited positions", "node"):
+        return
+    source = random.Random(seed)
+    machines = [seldom_halting(source, source.randint(2, 5), source.randint(2, 4)) for _ in range(count)]
+    machines += [CHAMPION_5, LATE, TREE, *mixed(count, seed)]
+    asked = [
+        {"machine": machine, "upto": source.randint(100, 4_000), "cells": 65_536} for machine in machines
+    ]
+    given = "".join(json.dumps(one) + "\n" for one in asked)
+    done = subprocess.run(["node", WINDOWS], input=given, stdout=subprocess.PIPE, text=True, check=True)
+    wrong = []
+    for one, line in zip(asked, done.stdout.splitlines()):
+        rows = traced(held.program, str(one["machine"]), int(one["upto"]))
+        if json.loads(line) != [[row.low, row.low + len(row.cells) - 1] for row in rows]:
+            wrong.append(one)
+    held.hold("visited positions of %d machines: %s" % (len(machines), wrong[:3]), not wrong)
 
 
 def mean(row: Row, first: int, across: int, colours: List[List[int]]) -> List[float]:
@@ -98,30 +125,17 @@ def hold_scaled(held: Held, seed: int) -> None:
         held.hold("the means of step %d: %d of 40" % (row.step, sum(near)), all(near))
 
 
-def steps_seen(page: Any) -> float:
-    """How many steps the view has."""
-    view = page.drawn()
-    height = page.js("return document.getElementById('diagram').clientHeight") - view["y"]
-    return float(height / view["high"] * view["every"])
-
-
 def hold_zoom(held: Held) -> None:
     """From a glance at 10^7 steps to 100 steps in a few gestures, at the head; and back to the whole."""
-    page, gestures, longest = held.page, 0, 0.0
+    page, gestures = held.page, 0
     page.open("#machine=%s&steps=10000000" % CHAMPION_5)
-    page.js("window.longest = 0")
     whole = page.drawn()
     held.hold("10^7 steps are seen", steps_seen(page) >= 10**7)
     page.click("fit")
     while steps_seen(page) > 100 and gestures < 20:
-        begun = time.monotonic()
         page.press("diagram", "+")
-        page.drawn()
-        longest = max(longest, time.monotonic() - begun)
         gestures += 1
     held.hold("in %d gestures to 100 steps" % gestures, gestures <= 9)
-    held.tally.within("a view up to step 10^7", longest, VIEW)
-    held.tally.within("it stood still meanwhile for", page.js("return window.longest") / 1000, STILL)
     near = page.drawn()
     held.hold("single cells are seen: %s" % near, near["high"] >= 6 and near["wide"] == near["high"])
     rows = {row.step: row for row in traced(held.program, CHAMPION_5, int(near["top"]) + 200)}
@@ -132,6 +146,17 @@ def hold_zoom(held: Held) -> None:
     held.hold("and back: %s" % page.drawn(), steps_seen(page) >= 0.9 * 10**7)
     page.press("diagram", "0")
     held.hold("the whole again", page.drawn() == whole)
+
+
+def hold_times(held: Held) -> None:
+    """What views take, and for how long the page stands still meanwhile."""
+    taken = views(held.page, PAUSE)
+    held.tally.within("a view up to step 10^7", max(taken), VIEW)
+    held.tally.within("it stood still meanwhile for", held.page.js("return window.longest") / 1000, STILL)
+    held.hold("it went near and back", len(taken) > 6 and steps_seen(held.page) >= 0.9 * 10**7)
+    held.tally.within("the champion's last steps", end(held.page), LAST_VIEW)
+    held.hold("they are shown", "Step 47,176,860:" in held.page.text("tape-told"))
+    held.tally.within("it stood still meanwhile for", held.page.js("return window.longest") / 1000, STILL)
 
 
 def hold_wheel(held: Held) -> None:
@@ -160,13 +185,10 @@ def hold_goto(held: Held) -> None:
     page = held.page
     page.open("#machine=%s&steps=50000000" % CHAMPION_5)
     page.drawn()
-    page.js("window.longest = 0")
-    begun = time.monotonic()
     page.type("tape-step", "47,176,860")
     page.js("document.getElementById('tape-form').requestSubmit()")
     page.until(lambda: "47,176,860" in page.text("tape-told"))
     page.until(lambda: page.drawn()["every"] == 1)
-    held.tally.within("the champion's last steps", time.monotonic() - begun, LAST_VIEW)
     view, row = page.drawn(), sampled(47_176_860)
     held.hold("the step is in view: %s" % view, view["top"] <= 47_176_860 <= view["top"] + 400 / view["high"])
     told = page.text("tape-told")
@@ -176,7 +198,6 @@ def hold_goto(held: Held) -> None:
     page.press("tape", Keys.END)
     page.until(lambda: "halted" in page.text("tape-told"))
     held.hold("its last step: " + page.text("tape-told"), "Step 47,176,870: halted" in page.text("tape-told"))
-    held.tally.within("it stood still for at most", page.js("return window.longest") / 1000, STILL)
     page.type("tape-step", "many")
     page.js("document.getElementById('tape-form').requestSubmit()")
     held.hold("no number: " + page.text("tape-refused"), "whole number" in page.text("tape-refused"))
@@ -379,6 +400,7 @@ def hold_png(held: Held) -> None:
 
 def hold_pictures(held: Held, quick: bool, seed: int) -> None:
     """All that diagrams show; the long runs only where there is time."""
+    hold_windows(held, 50 if quick else 500, seed)
     hold_cells(held, CHAMPION, 107)
     hold_cells(held, "1RB1LB_1LA1RZ", 6)
     hold_stretch(held)
@@ -389,6 +411,7 @@ def hold_pictures(held: Held, quick: bool, seed: int) -> None:
     if not quick:
         hold_scaled(held, seed)
         hold_zoom(held)
+        hold_times(held)
         hold_goto(held)
         hold_tape(held)
         hold_marks_in_view(held)

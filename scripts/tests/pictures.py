@@ -3,9 +3,9 @@
 
     scripts/tests/pictures.py crates/bb/out/bb
 
-It compares sizes and pixels with what the traces say, and what is said of sampling and cutting. The machine of
-README's first picture halts with the limit that stands below it. It takes four seconds. The last line is `N
-passed, M failed`; the status is 1 where any failed.
+It compares sizes and pixels with what the traces say, and what is said of sampling and cutting. The command
+below README's first picture writes what stands there. It takes four seconds. The last line is `N passed, M
+failed`; the status is 1 where any failed.
 """
 
 import os
@@ -118,13 +118,16 @@ def refusals(program: str) -> Held:
 
 
 def first_of_readme(program: str) -> Held:
-    """The limit with which README's champion halts, as it says below its first picture."""
+    """The command below README's first picture, by which the picture's machine halts; it needs all its steps."""
     with open(os.path.join(TOP, "README.md"), encoding="utf-8") as file:
-        steps = re.findall(r"!\[.*\n\n.*`bb decide --steps ([0-9]+)`", file.read())
-    yield "README names a limit: %s" % steps, len(steps) == 1
-    for limit, kind in ((int(steps[0]), "halt"), (int(steps[0]) - 1, "undecided")):
-        (line,) = replies([program, "decide", "--steps", str(limit)], [FIVE_STATES])
-        yield "%d steps: %s" % (limit, line), kind_of(line) == kind
+        shown = re.findall(r"!\[.*\n\n    \$ echo (\S+) \| bb decide --steps (\d+)\n    (.*)\n", file.read())
+    yield "README shows a command: %s" % shown, len(shown) == 1
+    machine, limit, told = shown[0]
+    (line,) = replies([program, "decide", "--steps", limit], [machine])
+    yield "%s steps: %s" % (limit, line), line == told and machine == FIVE_STATES
+    steps = int(told.split()[2])
+    (line,) = replies([program, "decide", "--steps", str(steps - 1)], [machine])
+    yield "a step less: %s" % line, kind_of(line) == "undecided"
 
 
 def main() -> int:

@@ -7,9 +7,10 @@ The commands of an archive's own README run in the unpacked archive; each of 1,0
 noticed by them. The same contents are the same bytes, whatever the files are called and whether gzip
 compressed them. What isn't confirmed, and what doesn't go together, is refused with its file and line. A full
 disk, SIGINT, SIGTERM and SIGHUP leave nothing, and an archive that is there stays. It uses
-`crates/bb_c/out/libbb.so`, and runs `scripts/library` where that isn't there. It takes half a minute;
-`--quick`, with 100 changed bytes, some seconds. The last line is `N passed, M failed`, with `, K skipped`
-where something can't be tried here; the status is 1 where any failed.
+`crates/bb_c/out/libbb.so`, and runs `scripts/library` where that isn't there. It takes half a minute, and as
+long again where the checker in Coq isn't built; `--quick`, with 100 changed bytes, some seconds. The last
+line is `N passed, M failed`, with `, K skipped` where something can't be tried here; the status is 1 where
+any failed.
 """
 
 import gzip
@@ -30,10 +31,11 @@ from library_built import has_library
 from machines import mixed
 from program import ended, joined, options
 from runs import Case, environment, folder, is_at_work, seen
-from tally import Tally, end_with, heed_interruption, words
+from tally import TOP, Tally, end_with, heed_interruption, words
 
 FIRST = (300, 64, 10, 100)
 PASS = "steps=300,cells=64,depth=10,nodes=100"
+COQ = os.path.join(TOP, "coq")
 # A claim that takes hours to be refused.
 ENDLESS = b"0RB1LD_0RC1RD_0RD---_1LA0RB halt 1000000000000 1\n"
 
@@ -79,7 +81,7 @@ def commands_of(readme: str) -> List[List[str]]:
     """The commands of a README, those of each numbered way together."""
     ways: List[List[str]] = []
     for line in readme.partition("How to check it again")[2].splitlines():
-        if line[2:4] in ("1.", "2.", "3.", "4."):
+        if line[2:4] in ("1.", "2.", "3.", "4.", "5."):
             ways.append([])
         elif line.startswith("      "):
             ways[-1].append(line.strip())
@@ -87,14 +89,15 @@ def commands_of(readme: str) -> List[List[str]]:
 
 
 class Ways:
-    """The commands of an archive's README, run in its folder. `bb` and `budlarem` stand in a folder of
-    programs."""
+    """The commands of an archive's README, run in its folder. `bb`, `budlarem` and the checker in Coq, where
+    that is built, stand in a folder of programs."""
 
     def __init__(self, program: str, folder: pathlib.Path, programs: pathlib.Path) -> None:
         self.folder = folder
         self.ways = commands_of((folder / "README.txt").read_text(encoding="utf-8"))
         programs.mkdir()
         (programs / "bb").symlink_to(program)
+        (programs / "checker").symlink_to(os.path.join(COQ, "out", "checker"))
         package = '#!/bin/sh\nexec %s -m budlarem "$@"\n' % sys.executable
         (programs / "budlarem").write_text(package)
         (programs / "budlarem").chmod(0o755)
@@ -110,14 +113,22 @@ class Ways:
         return first.returncode == 0 and not first.stdout and second.returncode == 0
 
 
+def hold_silent(tally: Tally, ways: Ways, command: str) -> None:
+    """A command that shows what isn't confirmed shows nothing."""
+    done = ways.run(command)
+    told = done.stdout + done.stderr
+    tally.hold("%s: status %d, %s" % (command, done.returncode, told), done.returncode == 1 and not told)
+
+
 def hold_ways(tally: Tally, ways: Ways, count: int) -> None:
-    """All four ways confirm an archive."""
-    tally.hold("four ways: %s" % ways.ways, [len(way) for way in ways.ways] == [2, 1, 1, 1])
+    """All five ways confirm an archive."""
+    tally.hold("five ways: %s" % ways.ways, [len(way) for way in ways.ways] == [2, 1, 1, 1, 1])
     tally.hold("sha256sum", ways.is_whole())
-    done = ways.run(ways.ways[1][0])
-    tally.hold(
-        "bb check: %s%s" % (done.stdout, done.stderr), done.returncode == 1 and not done.stdout + done.stderr
-    )
+    hold_silent(tally, ways, ways.ways[1][0])
+    if tally.has("the way by Coq", "coqc", "ocamlfind"):
+        built = subprocess.run([os.path.join(COQ, "build")], stdout=subprocess.DEVNULL).returncode == 0
+        tally.hold("coq/build", built)
+        hold_silent(tally, ways, ways.ways[4][0])
     for way, name in zip(ways.ways[2:], ("budlarem check", "again.py")):
         done = ways.run(way[0])
         tally.hold("%s: status %d, %s" % (name, done.returncode, done.stderr), done.returncode == 0)

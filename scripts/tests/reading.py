@@ -7,8 +7,8 @@ The lines of `forms.json`; random machines in random forms, which come back as t
 `budlarem read` writes, out of files and gzip; the bytes of `budlarem check` and `budlarem trace` beside those
 of the program; judging of true claims, of 10,000 forged ones, of swapped words and of halts that count a step
 more; the examples of docs/python.md. First it runs `scripts/library`, which builds the library. It takes some
-two minutes; `--quick`, with fewer lines, half a minute. The last line is `N passed, M failed`; the status is 1
-where any failed.
+two minutes; `--quick`, with fewer lines, half a minute. The last line is `N passed, M failed`; the status is
+1 where any failed.
 """
 
 import gzip
@@ -22,10 +22,12 @@ import time
 from typing import Dict, Iterator, List, Sequence, Tuple
 
 from library_built import LIBRARY, has_library
+from machine_list import has_lister, listed
 from machines import mixed, uniform
 from program import Ended, ended, joined, options
 from runs import SOURCE, environment, folder
 from tally import TOP, Tally, end_with, words
+from terminal import on_terminal
 
 sys.path.insert(0, SOURCE)
 
@@ -234,6 +236,16 @@ def hold_words(tally: Tally, count: int, seed: int) -> None:
         tally.hold("%d words, %s: %s" % (len(lines), right, missed[:3]), not missed and len(lines) == count)
 
 
+def hold_table(tally: Tally) -> None:
+    """The document lists the words that count."""
+    text = pathlib.Path(DOCUMENT).read_text(encoding="utf-8")
+    table = text.partition("| It says | Words |\n")[2].partition("\n\n")[0]
+    told = {word for row in table.splitlines()[1:] for word in row.split("|")[2].replace(",", " ").split()}
+    tally.hold(
+        "the words of the document: %s" % sorted(told ^ set(budlarem.WORDS)), told == set(budlarem.WORDS)
+    )
+
+
 def hold_undefined_steps(tally: Tally, program: str, count: int, seed: int) -> None:
     """Halts that count a step for an undefined entry are found out, and confirmed; told so in the command."""
     verdicts = [verdict for verdict in verdicts_of(count, seed) if isinstance(verdict, Halt)]
@@ -259,8 +271,40 @@ def hold_forms_of_machines(tally: Tally, machines: Sequence[str]) -> None:
     began = time.process_time()
     forms = {form_of(machine).text for machine in machines}
     each = (time.process_time() - began) / len(machines)
+    print("a form of a machine, of %d: %.1f us" % (len(machines), 1e6 * each), flush=True)
     tally.within("a form of a machine", each, 50e-6)
     tally.hold("%d forms" % len(forms), len(forms) > len(machines) / 2)
+
+
+def shown_on_terminal(*asked: str) -> Tuple[List[str], str]:
+    """The texts of progress that a command of the package showed on a terminal, and what stood there at the
+    end."""
+    with open(os.devnull, "wb") as output:
+        whole = [sys.executable, "-m", "budlarem", *asked]
+        shown = on_terminal(["env", "BB_LIBRARY=" + LIBRARY, "PYTHONPATH=" + SOURCE, *whole], b"", output)[1]
+    rows = [row.split("\r") for row in shown.split("\n")]
+    return [text for row in rows for text in row[:-1] if text.strip()], "\n".join(row[-1] for row in rows)
+
+
+def hold_progress(tally: Tally) -> None:
+    """On a terminal the commands that take long tell how far they are, and leave nothing of it there."""
+    lines = ["1RB1LC_1RC1RB_1RD0LE_1LA1LD_1RZ0LA halt 47176870 4098", "`1ra1ra` halts"]
+    cases: Dict[str, Tuple[List[str], str]] = {
+        "judge": (["--check-steps=1000"], " not-judged"),
+        "check": ([], " ok"),
+        "publish": (["out.tar", "--verdicts"], "lines checked"),
+    }
+    with folder() as top:
+        for name, (more, word) in cases.items():
+            given = top / (name + ".txt")
+            given.write_bytes(joined(lines) * 100 if name == "judge" else joined(lines[:1]) * 10)
+            words = [word.replace("out.tar", str(top / "out.tar")) for word in more]
+            texts, left = shown_on_terminal(name, *words, str(given))
+            held = any(word in text for text in texts) and all(len(text) < 80 for text in texts)
+            tally.hold("%s on a terminal: %s" % (name, texts[:5]), held)
+            told = left.count("\n") if name != "judge" else left.count("small letters read as capital ones")
+            right = {"judge": 100, "check": 1, "publish": 0}[name]
+            tally.hold("%s leaves no progress: %r" % (name, left[:400]), told == right)
 
 
 def examples() -> Iterator[Tuple[str, str]]:
@@ -301,8 +345,12 @@ def main() -> int:
     hold_check(tally, asked.program, [*claims, "x", "refused 3", *lines[:100]])
     hold_trace(tally, asked.program, [*list(mixed(5, asked.seed)), "1rB", ""])
     hold_words(tally, 1_000, asked.seed)
+    hold_table(tally)
     hold_undefined_steps(tally, asked.program, 1_000, asked.seed)
     hold_forms_of_machines(tally, [uniform(random.Random(k), 4) for k in range(5_000)])
+    if not asked.quick and has_lister(tally, "the forms of all machines of four states"):
+        hold_forms_of_machines(tally, listed(4).decode().splitlines())
+    hold_progress(tally)
     hold_examples(tally)
     return tally.end()
 

@@ -27,7 +27,8 @@ from program import ended, options_of_pass
 from tally import TOP, Tally, end_with, heed_interruption, words
 
 DOCUMENT = os.path.join(TOP, "docs", "recipes.md")
-# A line of a list, and the machine that is taken out of it, or why there is none; None where it isn't told of.
+# A line of a list, and the machine that is taken out of it, or why there is none; None where it isn't told
+# of.
 TAKEN: List[Tuple[bytes, Union[bytes, None, str]]] = [
     (b"1RB1LB_1LA1RZ", b"1RB1LB_1LA1RZ"),
     (b"\t 1RB1LB_1LA1RZ  # a comment, with 1RA1RA", "two different machines"),
@@ -67,6 +68,8 @@ LISTS = {
     b"1RB0LA_0RC---_1RD0LD_1LA1RB\n"
     b"1RB1LC_1RC1RB_1RD0LE_1LA1LD_1RZ0LA\n" + b"x" * 100_000 + b"\n1RA1RA",
 }
+# It halts after 41,709 steps.
+LONG_HALT = b"1RB0LB_1RC1LB_1LD0RE_1LD1LA_---0RD\n"
 GREATEST = ["--steps=1000000000000", "--cells=67108864", "--depth=10000", "--nodes=1000000000000"]
 CLAIMS_ELSEWHERE = b"""1RB1LB_1LA--- halt 6 4
 0RB---_0LA--- cycler 2 4
@@ -469,6 +472,18 @@ def any_length(folder: Folder, blocks: List[str], tally: Tally) -> Held:
             wanted += again
         held = status == 0 and folder.read("decided/verdicts.txt") == wanted
         yield "the runner over %s: %r" % (name, error), held
+        yield from _kept(folder, blocks[1], content)
+
+
+def _kept(folder: Folder, keep: str, content: bytes) -> Held:
+    """What is left is kept, what was refused, and long halts."""
+    folder.write("machines.txt", content + b"\n" + LONG_HALT)
+    status, _, error = folder.run("rm -rf left\n" + keep)
+    lines = folder.decided(content + b"\n" + LONG_HALT).splitlines(keepends=True)
+    words = b" undecided ", b"refused ", LONG_HALT.strip() + b" halt "
+    wanted = b"".join(line for line in lines if any(word in line for word in words))
+    held = status == 0 and folder.read("left/verdicts.txt") == wanted
+    yield "what is kept: %r" % error, held and wanted.endswith(b" halt 41709 161\n")
 
 
 def without_python(folder: Folder, blocks: List[str], tally: Tally) -> Held:
@@ -507,7 +522,7 @@ def main() -> int:
         "Publishing what was decided": (2, lambda folder, blocks: publishing(folder, blocks, tally)),
         "More than one core": (2, lambda folder, blocks: all_cores(folder, blocks, look, tally)),
         "Is the list whole": (1, whole),
-        "Lists of any length": (1, lambda folder, blocks: any_length(folder, blocks, tally)),
+        "Lists of any length": (2, lambda folder, blocks: any_length(folder, blocks, tally)),
         "Many cores without Python": (1, lambda folder, blocks: without_python(folder, blocks, tally)),
         "A picture": (2, pictures),
         "Running it elsewhere": (1, elsewhere),

@@ -7,10 +7,11 @@ The runner is killed by SIGKILL at twenty random moments, and run again after ea
 of 1,000,000,000,000 steps; its disk is full, by a limit of a file's size and by a small file system (which
 takes root); there is no memory, and there are no threads; its list grows or changes while it is read, or is
 one of the files that it writes; its files are cut and changed, and each is somebody else's; another run is in
-its folder; standard output or error is closed. Lists come as a file, compressed, and by standard input, fast
-and slowly; ten times the list takes the same memory. Executors that answer wrongly are in the unit tests. It uses `crates/bb_c/out/libbb.so`, and runs `scripts/library`
-where that isn't there. It takes a minute; `--quick`, with one kill, some seconds. The last line is `N passed,
-M failed`, with `, K skipped` where something can't be tried here; the status is 1 where any failed.
+its folder; standard output or error is closed; the clock is set back. Lists come as a file, compressed, and
+by standard input, fast and slowly; ten times the list takes the same memory. Executors that answer wrongly
+are in the unit tests. It uses `crates/bb_c/out/libbb.so`, and runs `scripts/library` where that isn't there.
+It takes a minute; `--quick`, with one kill, some seconds. The last line is `N passed, M failed`, with `, K
+skipped` where something can't be tried here; the status is 1 where any failed.
 """
 
 import gzip
@@ -36,6 +37,11 @@ from tally import Tally, end_with, words
 QUICK_PASS = (50, 64, 3, 10)
 # Words by which a list takes a second or more.
 SLOWLY = ["--threads", "1", "--piece", "20"]
+# A process whose wall's clock is an hour earlier each time that it is asked.
+SET_BACK = """import time
+hours = iter(range(2_000_000_000, 0, -3_600))
+time.time = lambda: float(next(hours))
+"""
 LONG_PASS = "steps=1000000000000,cells=67108864"
 
 
@@ -420,6 +426,19 @@ def hold_closed_files(tally: Tally, top: pathlib.Path) -> None:
     tally.hold("a closed list: status %d: %s" % (status, case.said()), is_told)
 
 
+def hold_clock(tally: Tally, top: pathlib.Path) -> None:
+    """The wall's clock is set back all the time: no time that the summary tells is below nothing."""
+    case = Case(top / "clock", b"1RZ---\n" * 5_000)
+    (top / "clock" / "sitecustomize.py").write_text(SET_BACK, encoding="utf-8")
+    places = os.pathsep.join([str(top / "clock"), environment()["PYTHONPATH"]])
+    status = case.run(more_environment={"PYTHONPATH": places})
+    told = json.loads((case.out / "summary.json").read_text()) if status == 0 else {}
+    tally.hold("a clock that is set back, status %d: %s" % (status, case.said()), status == 0)
+    seconds = [told.get("seconds", -1), *(one["work_seconds"] for one in told.get("passes", []))]
+    is_told = min(seconds) >= 0 and told["began"] <= told["ended"]
+    tally.hold("its summary: %s" % told, is_told)
+
+
 def hold_memory(tally: Tally, top: pathlib.Path) -> None:
     """Ten times the list takes the same memory; the longer list alone has 72 MB, and its verdicts 100."""
     case = Case(top / "memory", b"")
@@ -452,6 +471,7 @@ def main() -> int:
         hold_order(tally, program, top)
         hold_no_memory(tally, top)
         hold_closed_files(tally, top)
+        hold_clock(tally, top)
         hold_changed_files(tally, program, top, seed)
         hold_lists(tally, program, top)
         hold_memory(tally, top)

@@ -81,7 +81,8 @@ def causes(folder: str) -> Iterator[Tuple[str, List[str], Optional[str], int, st
     yield "a trace's last step", trace, None, 2, "bb: steps out of range\n--upto %s\n" % above
     reason = "%s: No such file or directory (os error 2)" % missing
     yield "a missing file", ["check", missing], None, 3, "bb: read failed\n%s\n" % reason
-    reason = "-: No such file or directory (os error 2); - is no file name here, and without FILE standard input is read"
+    reason = "-: No such file or directory (os error 2); - is no file name here, and without FILE"
+    reason += " standard input is read"
     yield "a dash", ["decide", "-"], None, 3, "bb: read failed\n%s\n" % reason
     reason = "%s: Is a directory (os error 21)" % folder
     yield "a folder", ["decide", folder], None, 3, "bb: read failed\n%s\n" % reason

@@ -340,7 +340,7 @@ fn tells_what_it_is_asked(rt: HostRuntime) {
         (["trace", "--help"].as_slice(), "STEP STATE POSITION CELLS"),
         (["help"].as_slice(), "| bb decide "),
         (["help", "trace"].as_slice(), "STEP STATE POSITION CELLS"),
-        (["--version"].as_slice(), "bb 0.1.0\n"),
+        (["--version"].as_slice(), "bb 0.2.0\n"),
     ] {
         let stop = stop(&rt, words);
         assert!(rt; matches!(&stop, Stop::Help(text) if text.as_str().contains(told)));

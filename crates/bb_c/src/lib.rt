@@ -1,4 +1,5 @@
-//! The engine as calls for other languages: verdicts and answers for whole lists, and for single lines.
+//! The engine as calls for other languages: verdicts and answers for whole lists and for single lines,
+//! traces, and a look at the replies to a list.
 //!
 //! `include/bb.h` declares them, and says what a caller has to uphold.
 #![tactic(auto)]
@@ -6,4 +7,5 @@
 mod buffer;
 mod checking;
 mod deciding;
+mod looking;
 mod tracing;

@@ -275,7 +275,7 @@ fn program<'a>(alloc: Global) -> Result<Command<'a>, AllocError>
     Command::new(alloc, "bb")
         .about("Simulates and decides Turing machines of up to 25 states and 10 symbols")
         .after_help(ABOUT_ALL)
-        .version("0.1.0")
+        .version("0.2.0")
         .disable_help_subcommand(true)
         .subcommand_required(true)
         .subcommand(decide_command(alloc)?)?

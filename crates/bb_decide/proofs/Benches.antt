@@ -28,3 +28,9 @@ lent_on run right left had = record {
   path = had.path;
   meter = had.meter;
 }
+
+-- and the meter left alone
+pub lent_uncounted : {T : Type 0} {view : T → TapeView} {cells : ℕ} {first old : Bench T}
+    {at_first here new : Meter} → new ≡ here → IsAsLent view cells first old at_first here
+    → IsAsLent view cells first old at_first new
+lent_uncounted same had = record { tapes = had.tapes; path = had.path; meter = same ∙ had.meter }

@@ -1,5 +1,5 @@
 -- How the run of a search ends, as a simulation does or with what was found, and what is promised of it then.
-use Rattle.std.proofs.Common.{◌≡◌, ℕ, ℤ, Bool, IfOk, IsTrue, Ok, Err, Option, Some, None, Result, refl, ap}
+use Rattle.std.proofs.Common.{◌≡◌, ℕ, ℤ, Bool, IfOk, IsTrue, OnErr, Ok, Err, Option, Some, None, Result, refl, ap}
 use Rattle.bb_machine.specs.declared.entry.Next.TheVariants.{Halt}
 use Rattle.bb_machine.specs.Limits.{Bounds}
 use Rattle.bb_machine.specs.Machine.{Table}
@@ -12,7 +12,7 @@ use Rattle.bb_sim.specs.declared.runner.Moved.{Moved}
 use Rattle.bb_sim.specs.declared.runner.Moved.TheVariants.{Halted, NoCells, NoSteps, Stepped}
 use Rattle.bb_sim.specs.declared.runner.Runner.{Runner}
 use Rattle.bb_sim.specs.declared.simulation.Outcome.{Outcome}
-use Rattle.bb_sim.specs.Meter.{IsWithinRun, counted}
+use Rattle.bb_sim.specs.Meter.{CountsPart, IsWithinRun, counted}
 use Rattle.bb_sim.specs.Outcome.{IsOutcome}
 use Rattle.bb_sim.specs.Run.{Never}
 use Rattle.bb_sim.specs.Runner.{Answers, Moves, Reaches, Stands, high_of, low_of, state_of, steps_of}
@@ -142,12 +142,19 @@ module _ {T : Type 0} {view : T → TapeView} {grows : Bool} {table : Table} {bo
     }
 
     pub watches : {key : ℤ → ℕ} {result : Result (Option Ending) Memory}
-        → IfOk result (Watches table bounds key first meter) → IsWithinRun bounds first meter
+        → IfOk result (Watches table bounds key first meter)
+        → OnErr result (CountsPart table bounds first meter) → IsWithinRun bounds first meter
         → WatchPromised table grows result → WatchesRun grows view table bounds key old new first meter result
-    watches watched within promised = record {
+    watches watched cut within promised = record {
       watched = watched;
+      cut = cut;
       within = within;
       promised = promised;
       tapes = lent.tapes;
       path = lent.path;
     }
+
+    pub watches_until_cut : {key : ℤ → ℕ} {fault : Memory} → HasCut table bounds first meter → IsTrue grows
+        → WatchesRun grows view table bounds key old new first meter (Err fault)
+    watches_until_cut cut memory =
+        watches tt cut.part cut.within (record { claim = tt; numbers = tt; memory = memory })

@@ -12,6 +12,7 @@ pub mod KnownOfVerdicts
 pub mod OneRun
 pub mod OneSide
 pub mod Partners
+pub mod Refused
 pub mod RunsMade
 pub mod SmallLimits
 pub mod Sure

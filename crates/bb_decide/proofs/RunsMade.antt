@@ -17,7 +17,7 @@ use Rattle.bb_decide.specs.Backward.{CountsTree}
 use Rattle.bb_decide.specs.Cost.{CycleSteps, TranslationSteps}
 use Rattle.bb_decide.specs.Cycle.{CountsSearch, FindsCycle, HasNoCycle}
 use Rattle.bb_decide.specs.Translation.{FindsTranslation}
-use Rattle.bb_decide.specs.OneRun.{CountsRuns, IsStoppedAt, MakesRuns}
+use Rattle.bb_decide.specs.OneRun.{CountsRefused, CountsRuns, IsStoppedAt, MakesRuns}
 use Rattle.bb_decide.specs.declared.ending.Ending.{Ending}
 use Rattle.bb_decide.specs.declared.ending.Ending.TheVariants.{Found, Ran}
 use Rattle.bb_decide.specs.inside.Ending.{AddsRuns, RanAs, Watches, found_of, is_settled}
@@ -68,13 +68,13 @@ adds_more {table} {count} {latest} n {old} {mid} {new} before counts =
 -- ---- what one search makes
 
 -- it made the steps that it costs, and they were counted
-record Makes (table : Table) (Cost : ℕ → Type 0) (old new : Meter) : Type 0 where
-  steps : ℕ
-  is_steps : Cost steps
-  counts : CountsTo table steps old new
+pub record Makes (table : Table) (Cost : ℕ → Type 0) (old new : Meter) : Type 0 where
+  pub steps : ℕ
+  pub is_steps : Cost steps
+  pub counts : CountsTo table steps old new
 
 module _ (table : Table) (bounds : Bounds) {old new : Meter} where
-  makes_cycles : (found : Option Verdict) → FindsCycle table bounds found
+  pub makes_cycles : (found : Option Verdict) → FindsCycle table bounds found
       → CountsSearch table bounds old new found → Makes table (CycleSteps table bounds) old new
   makes_cycles None none counts =
       record { steps = counts.last; is_steps = inr (none, counts.is_last); counts = counts.counts }
@@ -123,6 +123,14 @@ module _ (key : ℤ → ℕ) (table : Table) (bounds : Bounds) {old new : Meter}
   watched_adds (Found (Translated side first second extent)) watched =
       adds_once second watched.1 (inl (watched.2, inl (side, first, watched.0.0), refl))
   watched_adds (Found verdict) watched = absurd watched.0
+
+-- a search for cycles that settles nothing has found none, and the machine doesn't halt
+pub both_open : {table : Table} {bounds : Bounds} (end : Ending) → is_settled end ≡ false
+    → FindsCycle table bounds (found_of end) → RanAs table bounds end
+    → HaltsNowhere table bounds × HasNoCycle table bounds
+both_open {table} {bounds} (Ran outcome) is found as_told =
+    (halts_nowhere table bounds outcome as_told is, found)
+both_open (Found verdict) is found as_told = absurd cc
 
 -- after it was stopped
 module _ {key : ℤ → ℕ} {table : Table} {bounds : Bounds} {n : ℕ} (stopped : IsStoppedAt key table bounds n)
@@ -178,18 +186,13 @@ module _ {key : ℤ → ℕ} {table : Table} {bounds : Bounds} {n : ℕ} (stoppe
           cycles = made.steps;
           is_cycles = made.is_steps;
           translations = more.steps;
-          is_translations = inl (both ending unsettled finds ran, more.is_steps);
+          is_translations = inl (both_open ending unsettled finds ran, more.is_steps);
           sum = omega arith;
           is_latest = omega arith;
         });
         steps = adds.steps;
         most_cells = adds.most_cells;
       }
-    where
-      both : (end : Ending) → is_settled end ≡ false → FindsCycle table bounds (found_of end)
-          → RanAs table bounds end → HaltsNowhere table bounds × HasNoCycle table bounds
-      both (Ran outcome) is found as_told = (halts_nowhere table bounds outcome as_told is, found)
-      both (Found verdict) is found as_told = absurd cc
 
 -- ---- what a decision has counted, from a meter that was begun at 0
 
@@ -268,3 +271,11 @@ module _ (key : ℤ → ℕ) (table : Table) (bounds : Bounds) where
 pub runs_are_unique : RunsAreUnique
 runs_are_unique key table bounds plan a b first second =
     runs_are_one key table bounds plan.cyclers plan.translated a.0 a.1 b.0 b.1 first second
+
+-- where all runs were made, and then the tree was refused memory
+pub runs_before_tree : {key : ℤ → ℕ} {table : Table} {bounds : Bounds} (plan : Plan) {begin mid : Meter}
+    → begin ≡ zero_meter → AddsRuns key table bounds plan.cyclers plan.translated begin mid → (new : Meter)
+    → new.steps ≡ mid.steps → CountsRefused key table bounds plan new.steps
+runs_before_tree plan zero adds new same =
+    let runs = runs_counted plan zero adds in
+    inr (runs.latest, rw same runs.runs)

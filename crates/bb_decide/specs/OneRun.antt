@@ -56,3 +56,32 @@ pub record CountsRuns (key : ℤ → ℕ) (table : Table) (bounds : Bounds) (pla
     pub latest : ℕ
     pub runs : MakesRuns key table bounds plan.cyclers plan.translated meter.steps latest
     pub most_cells : meter.most_cells ≡ span table latest
+
+-- so many steps were made before the run that was refused memory, where both searches are on: none, if it is the
+-- watched run; those up to where that was stopped, if it is the search for cycles; and those of that search too,
+-- which found nothing, if it is the one for records
+abbrev pub StepsBefore : (ℤ → ℕ) → Table → Bounds → ℕ → Type 0
+StepsBefore key table bounds before = (before ≡ 0) ⊎ IsStoppedAt key table bounds before
+    ⊎ ((stop cycles : ℕ) × IsStoppedAt key table bounds stop × HaltsNowhere table bounds × HasNoCycle table bounds
+    × CycleSteps table bounds cycles × (before ≡ stop + cycles))
+
+-- the same with these searches on: a run of one search alone is the first
+abbrev pub RunsBefore : (ℤ → ℕ) → Table → Bounds → (cyclers translated : Bool) → ℕ → Type 0
+RunsBefore key table bounds true true before = StepsBefore key table bounds before
+RunsBefore key table bounds false false before = before ≡ 0
+RunsBefore key table bounds true false before = before ≡ 0
+RunsBefore key table bounds false true before = before ≡ 0
+
+-- where a run is refused memory, the steps before it are counted and its own, the last of which is inside
+pub record BreaksOff (key : ℤ → ℕ) (table : Table) (bounds : Bounds) (cyclers translated : Bool) (steps : ℕ)
+    : Type 0 where
+  pub before : ℕ
+  pub runs : RunsBefore key table bounds cyclers translated before
+  pub part : ℕ
+  pub inside : Inside table bounds part
+  pub sum : steps ≡ before + part
+
+-- where deciding is refused memory: in a run, or in the tree, after all runs
+abbrev pub CountsRefused : (ℤ → ℕ) → Table → Bounds → Plan → ℕ → Type 0
+CountsRefused key table bounds plan steps = BreaksOff key table bounds plan.cyclers plan.translated steps
+    ⊎ ((latest : ℕ) × MakesRuns key table bounds plan.cyclers plan.translated steps latest)

@@ -11,7 +11,7 @@ ghost use Rattle.bb_cert.specs.verdict.Verdict.{HasNumbers};
 ghost use Rattle.bb_decide.specs.Bench.{BenchHasCells};
 ghost use Rattle.bb_decide.specs.FewCells.{DecidesFewCells};
 ghost use Rattle.bb_decide.specs.Fingerprint.{CostsWhatItNames};
-ghost use Rattle.bb_decide.specs.OneRun.{CountsRuns};
+ghost use Rattle.bb_decide.specs.OneRun.{BreaksOff, CountsRefused, CountsRuns};
 ghost use Rattle.bb_decide.specs.inside.Ending.{AddsRuns, EndingCosts, EndsBoth, EndsPromised, EndsSearches};
 ghost use Rattle.bb_decide.specs.inside.Ending.{IsWithinThreeRuns};
 ghost use Rattle.bb_decide.specs.Sure.{KeepsEarlier};
@@ -35,7 +35,8 @@ use bb_tape::{Memory, Tape};
 /// halt costs the steps that it names, a pair at most twice its second step, and what stays undecided one run
 /// and the tree; more only where the fingerprints of two different configurations agree by chance.
 ///
-/// After an error nothing is said of what the tapes hold; the next call resets them.
+/// After an error nothing is said of what the tapes hold; the next call resets them. The steps that were made
+/// are counted then too.
 #[inline(always)]
 pub fn decide_in_one_run<T: Tape, K: Keys>(
     machine: &Machine,
@@ -61,6 +62,8 @@ pub fn decide_in_one_run<T: Tape, K: Keys>(
         (CostsWhatItNames (K.key_of keys.now) machine.now limits.now meter.new.steps) }
     ensures counted { OnOk result
         (CountsRuns (K.key_of keys.now) machine.now limits.now plan meter.new) }
+    ensures cut { OnErr result
+        (CountsRefused (K.key_of keys.now) machine.now limits.now plan meter.new.steps) }
     ensures walk { OnOk result
         (CountsWalk (MakesWalk machine.now limits.now plan) machine.now limits.now meter.new) }
     ensures within { IsWithinCost limits.now meter.new }
@@ -91,6 +94,8 @@ fn settle<T: Tape, K: Keys>(
         (CostsWhatItNames (K.key_of keys.now) machine.now limits.now meter.new.steps) }
     ensures counted { OnOk result
         (CountsRuns (K.key_of keys.now) machine.now limits.now plan meter.new) }
+    ensures cut { OnErr result
+        (CountsRefused (K.key_of keys.now) machine.now limits.now plan meter.new.steps) }
     ensures walk { OnOk result
         (CountsWalk (MakesWalk machine.now limits.now plan) machine.now limits.now meter.new) }
     ensures within { IsWithinCost limits.now meter.new }
@@ -132,6 +137,8 @@ fn search<T: Tape, K: Keys>(
     ensures ended { IfOk result (EndsSearches machine.now limits.now plan) }
     ensures adds { OnOk result (AddsRuns (K.key_of keys.now) machine.now limits.now plan.cyclers
         plan.translated meter.old meter.new) }
+    ensures cut { OnErr result (BreaksOff (K.key_of keys.now) machine.now limits.now plan.cyclers
+        plan.translated meter.new.steps) }
     ensures costs { IfOk result
         (EndingCosts (K.key_of keys.now) machine.now limits.now meter.new.steps) }
     ensures within { IsWithinThreeRuns limits.now meter.old meter.new }
@@ -167,6 +174,8 @@ fn search_both<T: Tape, K: Keys>(
     ensures ended { IfOk result (EndsBoth machine.now limits.now) }
     ensures adds { OnOk result
         (AddsRuns (K.key_of keys.now) machine.now limits.now true true meter.old meter.new) }
+    ensures cut { OnErr result
+        (BreaksOff (K.key_of keys.now) machine.now limits.now true true meter.new.steps) }
     ensures costs { IfOk result
         (EndingCosts (K.key_of keys.now) machine.now limits.now meter.new.steps) }
     ensures within { IsWithinThreeRuns limits.now meter.old meter.new }

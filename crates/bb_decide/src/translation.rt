@@ -1,12 +1,13 @@
 //! The search for records that agree.
-ghost use Rattle.std.specs.Prelude.{◌≡◌, ◌*◌, ◌≤◌, IfOk, IfSome, IsTrue, OnErr};
+ghost use Rattle.std.specs.Prelude.{◌≡◌, ◌+◌, ◌*◌, ◌<◌, ◌≤◌, ◌^◌, IfOk, IfSome, IsTrue, OnErr};
+ghost use Rattle.bb_sim.specs.Runner.{steps_of};
 ghost use Rattle.bb_sim.specs.Meter.{CountsPart, IsWithinRun};
 ghost use Rattle.bb_sim.specs.Run.{Never};
 ghost use Rattle.bb_cert.specs.claims.Claim.{Claim};
 ghost use Rattle.bb_cert.specs.verdict.Verdict.{HasNumbers};
 ghost use Rattle.bb_decide.specs.Bench.{BenchHasCells};
 ghost use Rattle.bb_decide.specs.Cycle.{CountsSearch};
-ghost use Rattle.bb_decide.specs.inside.Follow.{IsReady, Looks, on_side};
+ghost use Rattle.bb_decide.specs.inside.Follow.{IsReady, Looks, TakesOver, on_side};
 ghost use Rattle.bb_decide.specs.inside.Ending.{Seeks};
 ghost use Rattle.bb_decide.specs.Sure.{FindsAgreeingRecords};
 ghost use Rattle.bb_decide.specs.Translation.{FindsTranslation};
@@ -111,7 +112,7 @@ fn run_to_records<T: Tape>(
         let Some(side) = widened_side(&runner, cells) else {
             continue;
         };
-        let ended = match look_on(
+        match look_on(
             side,
             &mut right,
             &mut left,
@@ -119,17 +120,19 @@ fn run_to_records<T: Tape>(
             &bench.run,
             &mut bench.right,
             &mut bench.left,
-        ) {
-            Ok(None) => continue,
-            Ok(Some(verdict)) => Ok(Ending::Found(verdict)),
-            Err(_) => Err(Memory),
-        };
-        count_run(meter, runner);
-        return ended;
+            meter,
+        )? {
+            Some(verdict) => {
+                count_run(meter, runner);
+                return Ok(Ending::Found(verdict));
+            }
+            None => {}
+        }
     }
 }
 
-/// Looks at the record that the runner has just made on a side.
+/// Looks at the record that the runner has just made on a side. Where there is no memory to keep it, the meter
+/// takes the run over.
 #[inline(always)]
 pub(crate) fn look_on<T: Tape>(
     side: Side,
@@ -139,11 +142,13 @@ pub(crate) fn look_on<T: Tape>(
     run: &T,
     saved_right: &mut T,
     saved_left: &mut T,
+    meter: &mut Meter,
 ) -> Result<Option<Verdict>, Memory>
     requires right_limit { (T.view saved_right.old).limit ≡ (T.view run.now).limit }
     requires left_limit { (T.view saved_left.old).limit ≡ (T.view run.now).limit }
     requires ready { IsReady (on_side side right.old left.old) runner.now
         (on_side side (T.view saved_right.old) (T.view saved_left.old)) (T.view run.now) }
+    requires room { meter.old.steps + steps_of runner.now < 2 ^ 64 }
     ensures looks { IfOk result (Looks side runner.now (T.view run.now) right.old left.old
         (T.view saved_right.old) (T.view saved_left.old) right.new left.new
         (T.view saved_right.new) (T.view saved_left.new)) }
@@ -151,9 +156,11 @@ pub(crate) fn look_on<T: Tape>(
     ensures right_limit { (T.view saved_right.new).limit ≡ (T.view saved_right.old).limit }
     ensures left_limit { (T.view saved_left.new).limit ≡ (T.view saved_left.old).limit }
     ensures memory { OnErr result (IsTrue T.GROWS) }
+    ensures uncounted { IfOk result (λ found. meter.new ≡ meter.old) }
+    ensures cut { OnErr result (TakesOver runner.now meter.old meter.new) }
 {
     match side {
-        Side::R => look_at_record(right, runner, run, saved_right),
-        Side::L => look_at_record(left, runner, run, saved_left),
+        Side::R => look_at_record(right, runner, run, saved_right, meter),
+        Side::L => look_at_record(left, runner, run, saved_left, meter),
     }
 }

@@ -116,7 +116,11 @@ fn run_watched<T: Tape, K: Keys>(
         let position = runner.position();
         let old = bench.run.read_inside(position);
         let mut uncounted = Meter::new();
-        match runner.advance(machine, &mut bench.run, limits, &mut uncounted)? {
+        let Ok(moved) = runner.advance(machine, &mut bench.run, limits, &mut uncounted) else {
+            count_run(meter, runner);
+            return Err(Memory);
+        };
+        match moved {
             Moved::Stepped => {}
             moved => {
                 count_run(meter, runner);
@@ -150,6 +154,7 @@ fn run_watched<T: Tape, K: Keys>(
             &bench.run,
             &mut bench.right,
             &mut bench.left,
+            meter,
         )? {
             Some(verdict) => {
                 count_run(meter, runner);

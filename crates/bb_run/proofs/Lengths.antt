@@ -18,7 +18,7 @@ use Rattle.bb_run.specs.CheckReply.{IsCheckReply}
 use Rattle.bb_run.specs.Reply.{IsReply}
 
 -- a prefix that begins some machine's text is no longer than that
-column_small : (line : List ℕ) (column : ℕ) → IsColumn line column → column ≤ LINE + 1
+pub column_small : (line : List ℕ) (column : ℕ) → IsColumn line column → column ≤ LINE + 1
 column_small line column is =
     let begun = is.2.holds in
     let short = text_short MAX_STATES MAX_SYMBOLS begun.0 begun.1 in

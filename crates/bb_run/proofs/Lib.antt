@@ -1,5 +1,7 @@
 pub mod Facts
 pub mod Lengths
+pub mod Looks
+pub mod Newlines
 pub mod CheckReplies
 pub mod CheckSummaries
 pub mod FewCells
@@ -10,3 +12,4 @@ pub mod Traces
 pub mod SampledRuns
 pub mod TraceEnds
 pub mod TraceSummaries
+pub mod VerdictWords

@@ -4,6 +4,8 @@ ghost use Rattle.bb_run.specs.Laws.{
   AllVerdictsAreBorneOut,
   CheckReplyIsUnique,
   LongLinesAreUnread,
+  RepliesHaveForm,
+  ReplyHasOneKind,
   ReplyIsUnique,
 };
 
@@ -28,4 +30,10 @@ pub fn verdicts_are_borne_out()
 /// steps`.
 pub fn few_cells_are_replied()
     ensures { AllFewCellsAreReplied }
+{}
+
+/// A reply to a line is of one kind, and what deciding a list replies has the form of a reply.
+pub fn replies_are_of_one_kind()
+    ensures one { ReplyHasOneKind }
+    ensures form { RepliesHaveForm }
 {}

@@ -1,5 +1,5 @@
 //! Engines over readers and writers: verdicts on the machines of a list, answers to verdict lines, and the
-//! trace of one machine.
+//! trace of one machine; and a look at the replies to a list.
 #![tactic(auto)]
 
 mod checking;
@@ -7,15 +7,18 @@ mod counts;
 mod decider;
 mod deciding;
 pub mod laws;
+mod looking;
 mod one_run;
 mod rings;
 mod summary;
 mod tally;
 mod tracing;
+mod words;
 
 pub use checking::{run_check, run_check_with_counts};
 pub use counts::{AnswerCounts, VerdictCounts};
 pub use deciding::{run_decide, run_decide_with_counts};
+pub use looking::{KindCounts, Looked, ReplyKind, Unanswered, look};
 pub use one_run::{run_decide_in_one_run, run_decide_in_one_run_with_counts};
 pub use rings::{ring_bench, ring_pair};
 pub use summary::Summary;

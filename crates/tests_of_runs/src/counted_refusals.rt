@@ -1,4 +1,4 @@
-//! How many steps are counted where a simulation or a search is refused memory: all that were made.
+//! How many steps are counted where a call is refused memory: all that were made.
 //!
 //! The machine writes a 1 in each of its six steps, the last into Z. Its configurations 1, 2 and 4 are kept for
 //! the search for cycles. Its first record on the right comes at step 1, its first two on the left at steps 3
@@ -6,7 +6,8 @@
 
 use crate::failed_allocations::refusing_bench;
 use crate::support::counting_tape::NEVER;
-use bb_decide::{cyclers, translated};
+use crate::support::rows::ALL;
+use bb_decide::{SpreadKeys, cyclers, decide_in_one_run, translated};
 use bb_machine::{Limits, Machine};
 use bb_sim::{Meter, simulate};
 use std::process::Abort;
@@ -19,6 +20,7 @@ enum Call {
     Simulate,
     Cyclers,
     Translated,
+    DecideInOneRun,
 }
 
 /// The steps that a call counts which is refused memory, by the tape of the run, the right or the left one,
@@ -32,6 +34,9 @@ fn counted(rt: &(impl Abort + AllocGlobal), call: Call, before: [u64; 3]) -> u64
         Call::Simulate => simulate(&machine, &mut bench.run, &limits, &mut meter).is_err(),
         Call::Cyclers => cyclers(&machine, &limits, &mut bench, &mut meter).is_err(),
         Call::Translated => translated(&machine, &limits, &mut bench, &mut meter).is_err(),
+        Call::DecideInOneRun => {
+            decide_in_one_run(&machine, &limits, ALL, &SpreadKeys, &mut bench, &mut meter).is_err()
+        }
     };
     assert!(rt; refused, "{call:?} after {before:?}");
     meter.steps
@@ -39,7 +44,12 @@ fn counted(rt: &(impl Abort + AllocGlobal), call: Call, before: [u64; 3]) -> u64
 
 #[test]
 fn steps_before_a_refused_write_are_counted(rt: HostRuntime) {
-    for call in [Call::Simulate, Call::Cyclers, Call::Translated] {
+    for call in [
+        Call::Simulate,
+        Call::Cyclers,
+        Call::Translated,
+        Call::DecideInOneRun,
+    ] {
         for made in 0..6 {
             assert_eq!(rt; counted(&rt, call, [made, NEVER, NEVER]), made, "{call:?}");
         }
@@ -52,11 +62,9 @@ fn steps_before_a_refused_copy_are_counted(rt: HostRuntime) {
         let before = [NEVER, kept as u64, NEVER];
         assert_eq!(rt; counted(&rt, Call::Cyclers, before), made);
     }
-    for (before, made) in [
-        ([NEVER, 0, NEVER], 1),
-        ([NEVER, NEVER, 0], 3),
-        ([NEVER, NEVER, 1], 4),
-    ] {
-        assert_eq!(rt; counted(&rt, Call::Translated, before), made);
+    for call in [Call::Translated, Call::DecideInOneRun] {
+        assert_eq!(rt; counted(&rt, call, [NEVER, 0, NEVER]), 1, "{call:?}");
+        assert_eq!(rt; counted(&rt, call, [NEVER, NEVER, 0]), 3, "{call:?}");
+        assert_eq!(rt; counted(&rt, call, [NEVER, NEVER, 1]), 4, "{call:?}");
     }
 }

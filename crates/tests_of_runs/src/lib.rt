@@ -28,6 +28,8 @@ mod larger_limits;
 #[cfg(test)]
 mod line_engine;
 #[cfg(test)]
+mod looks;
+#[cfg(test)]
 mod many_symbols;
 #[cfg(test)]
 mod support;

@@ -1,4 +1,5 @@
-"""What stands in an archive of a decided list, and how it is written: the same contents are the same bytes."""
+"""What stands in an archive of a decided list, and how it is written: the same contents are the same
+bytes."""
 
 from __future__ import annotations
 
@@ -134,7 +135,7 @@ class Seen:
 
 @dataclasses.dataclass(frozen=True)
 class Decided:
-    """How verdicts were decided, as far as that is told: the limits of each pass, and by which package."""
+    """How verdicts were decided, as far as that is known: the limits of each pass, and by which package."""
 
     passes: Tuple[Limits, ...] = ()
     identity: Optional[Identity] = None
@@ -157,7 +158,7 @@ class Contents:
     def about(self) -> bytes:
         """The file of counts, limits and versions."""
         decided = self.decided.identity
-        told: Dict[str, Any] = {
+        fields: Dict[str, Any] = {
             "format": FORMAT,
             "lines": sum(self.seen.kinds.values()),
             "counts": {kind: self.seen.kinds[kind] for kind in KINDS},
@@ -167,23 +168,23 @@ class Contents:
             "checked_by": dataclasses.asdict(identity()),
             "sha256": {given.name: given.sha256 for given in self._inputs()},
         }
-        return (json.dumps(told, indent=2) + "\n").encode()
+        return (json.dumps(fields, indent=2) + "\n").encode()
 
     def _checked(self) -> str:
         """What was checked, in sentences."""
         total = sum(self.seen.kinds.values())
-        told = [
-            "When this archive was made, Budlarem's checker confirmed the {:,} lines that claim something; the"
-            " other {:,} claim nothing.".format(self.confirmed, total - self.confirmed),
+        sentences = [
+            "When this archive was made, Budlarem's checker confirmed each line that claims something: {:,}"
+            " of {:,}.".format(self.confirmed, total),
             "The checker is proved to confirm no claim that isn't so, whoever wrote it.",
         ]
         if self.machines is not None:
-            told.append("Each line of list.txt has its verdict on the same line of verdicts.txt.")
+            sentences.append("Each line of list.txt has its verdict on the same line of verdicts.txt.")
         if self.decided.passes:
-            told.append("What is undecided was tried with these limits, one pass after another:")
+            sentences.append("What is undecided was tried with these limits, one pass after another:")
         elif self.seen.kinds["undecided"]:
-            told.append("With which limits what is undecided was tried isn't told.")
-        lines = [line for text in told for line in textwrap.wrap(text, _WIDE - 2)]
+            sentences.append("With which limits what is undecided was tried isn't told.")
+        lines = [line for text in sentences for line in textwrap.wrap(text, _WIDE - 2)]
         lines += ["    " + words_of(limits) for limits in self.decided.passes]
         return "\n".join("  " + line for line in lines)
 
@@ -195,7 +196,7 @@ class Contents:
         cells = Limits.RANGES["cells"][1]
         bounds = (seen.steps, cells, seen.levels, seen.nodes)
         counts = ["{:,} {}".format(seen.kinds[kind], kind) for kind in KINDS if seen.kinds[kind]]
-        told = {
+        fields = {
             "title": title,
             "underline": "=" * len(title),
             "counts": textwrap.fill("%s." % ", ".join(counts), _WIDE),
@@ -207,7 +208,7 @@ class Contents:
             "again_limits": "--steps %d --nodes %d" % (seen.steps, seen.nodes),
         }
         page = (_HERE / "archive.txt").read_text(encoding="utf-8")
-        return string.Template(page).substitute(told).encode()
+        return string.Template(page).substitute(fields).encode()
 
     def small_files(self) -> Dict[str, bytes]:
         """What is made here and held whole, by name: each file but the list, the verdicts and the sums."""

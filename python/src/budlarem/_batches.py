@@ -5,7 +5,7 @@ from __future__ import annotations
 import dataclasses
 from typing import Any, Iterable, Iterator, List, Protocol, Union, runtime_checkable
 
-from ._crew import Pace
+from ._crew import BatchPace
 
 # How many lines and bytes a batch has at most. One line may have more bytes.
 MOST_LINES = 8_192
@@ -60,7 +60,7 @@ def _look(name: str, before: int, texts: List[Any]) -> None:
             raise _wrong(name, place, text)
 
 
-def of_texts(texts: Iterable[str], name: str, pace: Pace) -> Iterator[Batch]:
+def of_texts(texts: Iterable[str], name: str, pace: BatchPace) -> Iterator[Batch]:
     """The texts in batches. Raises TypeError or ValueError, which say which item is wrong, after those
     batches that come before it."""
     before, size = 0, 0
@@ -113,7 +113,7 @@ def _pieces(blocks: Blocks) -> Iterator[bytes]:
         yield bytes(block)
 
 
-def of_bytes(blocks: Blocks, pace: Pace) -> Iterator[bytes]:
+def of_bytes(blocks: Blocks, pace: BatchPace) -> Iterator[bytes]:
     """The bytes in batches of whole lines; what is left of a line longer than LONG is its beginning."""
     rest, is_cut = b"", False
     for piece in _pieces(blocks):
@@ -133,7 +133,7 @@ def of_bytes(blocks: Blocks, pace: Pace) -> Iterator[bytes]:
         yield rest
 
 
-def _sliced(rest: bytes, piece: bytes, whole: int, pace: Pace) -> Iterator[bytes]:
+def _sliced(rest: bytes, piece: bytes, whole: int, pace: BatchPace) -> Iterator[bytes]:
     """The begin of a line and the piece that it goes on in, up to `whole`, where a line ends: in batches of
     bounded bytes, the last of which may have half as many more."""
     begin = 0

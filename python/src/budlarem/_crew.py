@@ -14,7 +14,7 @@ from ._library import Reply, Room, forbid_fork
 Given = TypeVar("Given")
 
 
-class Pace:
+class BatchPace:
     """How much goes into a batch: twice as much after a short one, eight times as much after one that was
     shorter than an eighth of that, half as much after a long one. A steady pace is always the greatest."""
 
@@ -25,7 +25,7 @@ class Pace:
         self._is_steady = is_steady
 
     def took(self, seconds: float) -> None:
-        """Tells how long a batch took."""
+        """Takes in how long a batch took."""
         if self._is_steady:
             return
         if seconds < self.SHORT:
@@ -38,7 +38,7 @@ class Crew(Generic[Given]):
     """Daemon threads that make calls. A call that was begun can't be stopped: when the crew is left, its
     thread ends after that call, or with the process."""
 
-    def __init__(self, work: Callable[[Room, Given], None], threads: int, pace: Pace) -> None:
+    def __init__(self, work: Callable[[Room, Given], None], threads: int, pace: BatchPace) -> None:
         self._work, self._most, self._pace = work, threads, pace
         self._tasks: queue.SimpleQueue[Optional[Tuple[Given, Future[Room]]]] = queue.SimpleQueue()
         self._threads: List[threading.Thread] = []
@@ -106,7 +106,7 @@ def _until_it_fails(items: Iterable[Given], failed: List[Exception]) -> Iterator
 
 
 def in_order(
-    work: Callable[[Room, Given], None], batches: Iterable[Given], threads: int, pace: Pace
+    work: Callable[[Room, Given], None], batches: Iterable[Given], threads: int, pace: BatchPace
 ) -> Iterator[Tuple[Given, Reply]]:
     """Each batch and the reply to the call that `work` makes for it, in the order of the batches. At most one
     more batch than threads is under way. An error of the batches is raised after those before it."""

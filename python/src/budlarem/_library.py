@@ -37,9 +37,9 @@ class LibraryError(OSError):
 def places() -> List[pathlib.Path]:
     """Where the library is looked for: where the variable BB_LIBRARY says, and nowhere else; if it isn't
     set, beside this package, then where `scripts/library` of the repository puts it."""
-    told = os.environ.get(VARIABLE)
-    if told:
-        return [pathlib.Path(told)]
+    named = os.environ.get(VARIABLE)
+    if named:
+        return [pathlib.Path(named)]
     found = [_HERE / "libbb.so"]
     if len(_HERE.parents) > 2:
         found.append(_HERE.parents[2] / "crates" / "bb_c" / "out" / "libbb.so")
@@ -125,7 +125,7 @@ def forbid_fork() -> None:
 
 
 class Reply(NamedTuple):
-    """What a call told: its status, how many bytes its reply has, and the reply; none where the status is
+    """What a call returned: its status, how many bytes its reply has, and the reply; none where the status is
     SHORT."""
 
     status: int
@@ -151,7 +151,7 @@ class Room:
         return self._status
 
     def reply(self) -> Reply:
-        """What the last call told."""
+        """What the last call returned."""
         given_back = 0 if self._status == SHORT else self._length
         return Reply(self._status, self._length, self._bytes[:given_back])
 

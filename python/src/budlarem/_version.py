@@ -1,4 +1,4 @@
 """The version. `scripts/wheel` writes the commit into it, in a copy."""
 
-VERSION = "0.1.0"
+VERSION = "0.2.0"
 COMMIT = "unknown"

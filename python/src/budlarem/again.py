@@ -2,19 +2,20 @@
 
     python3 again.py [--steps N] [--nodes N] [FILE]
 
-To each line of FILE, or of standard input, it says whether its claim is `true` or `false`; `no claim` where it
-is undecided or refused; `too long` where it names more than N steps or nodes, 1,000,000 where not said; else
-`not a verdict line`. Standard error counts. The status is 0 where all is true or no claim, 1 where something
-isn't, 2 for wrong words, 3 for a fault of files or memory.
+To each line of FILE, or of standard input, it says whether its claim is `true` or `false`; `no claim` where
+it is undecided or refused; `too long` where it names more than N steps or nodes, 1,000,000 where not said;
+else `not a verdict line`. Standard error counts. The status is 0 where all is true or no claim, 1 where
+something isn't, 2 for wrong words, 3 for a fault of files or memory.
 """
 
 import sys
 
 
 class Machine:
-    """A machine, and where it is in its run: at first in state A, at position 0 of a tape of zeros. `table` has
-    for a state and a symbol what is written, how far the head moves to the right, and the next state. Where it
-    has nothing, as in state Z and for `---`, the machine has halted. `mirrored` exchanges left and right."""
+    """A machine, and where it is in its run: at first in state A, at position 0 of a tape of zeros. `table`
+    has for a state and a symbol what is written, how far the head moves to the right, and the next state.
+    Where it has nothing, as in Z and for `---`, the machine has halted. `mirrored` exchanges left and right.
+    """
 
     def __init__(self, text: str, mirrored: bool) -> None:
         groups = text.split("_")
@@ -30,8 +31,8 @@ class Machine:
         self.tape: "dict[int, int]" = {}
 
     def go(self, steps: int) -> None:
-        """Makes so many steps more. `low` and `high` are the least and the greatest position of the head before
-        each of them. Raises KeyError where the machine halts earlier."""
+        """Makes so many steps more. `low` and `high` are the least and the greatest position of the head
+        before each of them. Raises KeyError where the machine halts earlier."""
         table, tape, state, head = self.table, self.tape, self.state, self.head
         low = high = head
         for _ in range(steps):
@@ -59,9 +60,9 @@ def cycles(machine: Machine, first: int, second: int) -> bool:
 
 
 def moves_on(machine: Machine, first: int, second: int) -> bool:
-    """After both steps the head is farther to the right than ever before, in the same state, and has behind it
-    the same symbols, as far back as it was between them: so it moves on for ever. The extent is by how much the
-    second is farther, and how many symbols these are. To the left it is the same of the mirrored machine."""
+    """After both steps the head is farther to the right than ever before, in the same state, and has behind
+    it the same symbols, as far back as it was between them: so it moves on for ever. The extent is by how
+    much the second is farther, and how many symbols these are. To the left, that of the mirrored machine."""
     machine.go(first)
     state, head, high, tape = machine.state, machine.head, machine.high, dict(machine.tape)
     machine.go(second - first)

@@ -133,8 +133,8 @@ def _with_words(reading: Reading, claims: List[Verdict], fields: str) -> Said:
     words = set(_words(fields)) - {Word.DECIDED}
     said = words | {_word_of(claim) for claim in claims}
     if len(said) > 1 or len(set(claims)) > 1:
-        told = sorted(map(str, said)) if len(said) > 1 else sorted(map(str, set(claims)))
-        return Said(reading, trouble="the line says two things: %s, and %s" % (told[0], told[1]))
+        both = sorted(map(str, said)) if len(said) > 1 else sorted(map(str, set(claims)))
+        return Said(reading, trouble="the line says two things: %s, and %s" % (both[0], both[1]))
     if claims:
         return Said(reading, claims[0])
     return Said(reading, word=next(iter(said), None) or (Word.DECIDED if _is_decided(fields) else None))
@@ -156,9 +156,9 @@ def _words(fields: str) -> Set[Word]:
     for field in _FIELDS.split(fields):
         whole = WORDS.get(_plain(field))
         pieces = [piece for piece in field.split() if not _NAME.fullmatch(piece)]
-        told = [WORDS.get(_plain(piece)) for piece in pieces] if whole is None else [whole]
-        if None not in told:
-            found.update(word for word in told if word is not None)
+        meant = [WORDS.get(_plain(piece)) for piece in pieces] if whole is None else [whole]
+        if None not in meant:
+            found.update(word for word in meant if word is not None)
     return found
 
 

@@ -7,7 +7,7 @@ from typing import Callable, Iterable, Iterator, List, Optional, Sequence, Tuple
 
 from . import _batches
 from ._batches import LONG, MOST_BYTES, MOST_LINES, Batch, BinaryReader, Blocks
-from ._crew import Pace, in_order
+from ._crew import BatchPace, in_order
 from ._library import NOT_CLEAN, SHORT, Reply, Room, forbid_fork, loaded
 from .limits import Limits, Plan, in_range, whole
 from .verdicts import STATES, VERDICTS, Answer, Refused, Verdict, hold_fields, verdict_of
@@ -31,8 +31,8 @@ Call = Callable[[Room, bytes], None]
 _ANSWERS = {str(answer): answer for answer in Answer}
 # How many bytes a reply to one line has beyond the line itself, at most, and how many an answer has.
 _BEYOND, _ANSWER = 98, 7
-# How many bytes the replies to some lines have for each byte of these at most, since a machine has six or more
-# and its line one more; and for how many bytes of verdict lines an answer has one.
+# How many bytes the replies to some lines have for each byte of these at most, since a machine has six or
+# more and its line one more; and for how many bytes of verdict lines an answer has one.
 _FOLD, _FOR_EACH = 15, 2
 # How many bytes of a trace are asked for at once, where a line isn't longer; and how many they would have at
 # most if each line were as long as it may be.
@@ -51,8 +51,8 @@ class MachineError(ValueError):
         self.machine, self.column, self.place = machine, column, place
 
     def __str__(self) -> str:
-        told = "no machine, from column %d on: %.200r" % (self.column, self.machine)
-        return "%s: %s" % (self.place, told) if self.place else told
+        sentence = "no machine, from column %d on: %.200r" % (self.column, self.machine)
+        return "%s: %s" % (self.place, sentence) if self.place else sentence
 
 
 def deciding(limits: Limits, plan: Plan) -> Call:
@@ -96,8 +96,10 @@ def _listed(name: str, texts: Iterable[object]) -> None:
     iter(texts)
 
 
-def _told(batches: Iterator[Batch], call: Call, threads: int, pace: Pace) -> Iterator[Tuple[str, str]]:
-    """Each text and the line that the library tells of it."""
+def _answered(
+    batches: Iterator[Batch], call: Call, threads: int, pace: BatchPace
+) -> Iterator[Tuple[str, str]]:
+    """Each text and the line that the library writes for it."""
 
     def work(room: Room, batch: Batch) -> None:
         call(room, batch.lines)
@@ -107,7 +109,7 @@ def _told(batches: Iterator[Batch], call: Call, threads: int, pace: Pace) -> Ite
 
 
 def _verdict(machine: str, line: str) -> Verdict:
-    """The verdict that the library told of a text."""
+    """The verdict of a text, by the line that the library wrote for it."""
     words = line[len(machine) + 1 :]
     if line.startswith("refused "):
         return Refused(int(line[len("refused ") :]), machine)
@@ -136,9 +138,9 @@ def decide(
     """
     threads = _made_ready(limits, plan, threads)
     _listed("machines", machines)
-    pace = Pace(MOST_LINES)
-    told = _told(_batches.of_texts(machines, "machines", pace), deciding(limits, plan), threads, pace)
-    return (_verdict(machine, line) for machine, line in told)
+    pace = BatchPace(MOST_LINES)
+    answered = _answered(_batches.of_texts(machines, "machines", pace), deciding(limits, plan), threads, pace)
+    return (_verdict(machine, line) for machine, line in answered)
 
 
 def column_of(text: str) -> Optional[int]:
@@ -176,16 +178,16 @@ def check(
     threads = _made_ready(limits, Plan(), threads)
     _listed("lines", lines)
     pace = _checking_pace(MOST_LINES, limits)
-    told = _told(_batches.of_texts(_lines_of(lines), "lines", pace), checking(limits), threads, pace)
-    return (_ANSWERS[answer] for _, answer in told)
+    answered = _answered(_batches.of_texts(_lines_of(lines), "lines", pace), checking(limits), threads, pace)
+    return (_ANSWERS[answer] for _, answer in answered)
 
 
-def _checking_pace(most: int, limits: Limits) -> Pace:
+def _checking_pace(most: int, limits: Limits) -> BatchPace:
     """How many claims are checked together."""
-    return Pace(most, is_steady=limits.cells >= _LARGE_TAPES)
+    return BatchPace(most, is_steady=limits.cells >= _LARGE_TAPES)
 
 
-def _replies(blocks: Blocks, call: Call, threads: int, pace: Pace) -> Iterator[bytes]:
+def _replies(blocks: Blocks, call: Call, threads: int, pace: BatchPace) -> Iterator[bytes]:
     return (reply.text for _, reply in in_order(call, _batches.of_bytes(blocks, pace), threads, pace))
 
 
@@ -201,7 +203,7 @@ def decide_bytes(
     b'1RB1LB_1LA1RZ halt 6 4\\n'
     """
     threads = _made_ready(limits, plan, threads)
-    return _replies(blocks, deciding(limits, plan), threads, Pace(MOST_BYTES))
+    return _replies(blocks, deciding(limits, plan), threads, BatchPace(MOST_BYTES))
 
 
 def check_bytes(blocks: Blocks, limits: Limits = Limits(), *, threads: int = 1) -> Iterator[bytes]:
@@ -216,14 +218,14 @@ def check_bytes(blocks: Blocks, limits: Limits = Limits(), *, threads: int = 1) 
 
 
 def checked(file: BinaryReader, limits: Limits, *, threads: int = 1) -> Iterator[Tuple[bytes, bytes]]:
-    """Lines of a file, and the bytes that `bb check` writes for them, in large blocks: with large tapes what a
-    call costs is the tapes. A line of more than LONG bytes is cut. Raises what `decide` does."""
+    """Lines of a file, and the bytes that `bb check` writes for them, in large blocks: with large tapes what
+    a call costs is the tapes. A line of more than LONG bytes is cut. Raises what `decide` does."""
     threads = _made_ready(limits, Plan(), threads)
     most = _LARGE if threads == 1 else _LARGE // 4
-    pace = Pace(most, is_steady=True)
+    pace = BatchPace(most, is_steady=True)
     blocks = iter(lambda: file.read(most), b"")
-    told = in_order(checking(limits), _batches.of_bytes(blocks, pace), threads, pace)
-    return ((lines, reply.text) for lines, reply in told)
+    replies = in_order(checking(limits), _batches.of_bytes(blocks, pace), threads, pace)
+    return ((lines, reply.text) for lines, reply in replies)
 
 
 @dataclasses.dataclass(frozen=True)
@@ -295,14 +297,14 @@ class Trace(Iterator[Configuration]):
         return lines
 
     def _asked(self, count: int, left: int, room: int) -> Reply:
-        """What a call tells of the next `count` lines; where they are all that are `left`, of the last step
+        """What a call returns for the next `count` lines; where they are all that are `left`, of the last step
         too."""
         last = self._upto if count == left else self._next + self._every * (count - 1)
         return _apart(self._machine, (last, self._cells, self._next, self._every), room)
 
 
 def _apart(machine: str, asked: Sequence[int], room: int) -> Reply:
-    """What one call that traces tells. It is made beside the caller's thread unless it is short."""
+    """What one call that traces returns. It is made beside the caller's thread unless it is short."""
     line = machine.encode("utf-8", "surrogatepass")[: _batches.LONG]
 
     def work(buffer: Room, line: bytes) -> None:
@@ -312,8 +314,8 @@ def _apart(machine: str, asked: Sequence[int], room: int) -> Reply:
         buffer = Room()
         work(buffer, line)
         return buffer.reply()
-    ((_, told),) = in_order(work, [line], 1, Pace(1))
-    return told
+    ((_, reply),) = in_order(work, [line], 1, BatchPace(1))
+    return reply
 
 
 def trace(machine: str, upto: int, cells: int = 65_536, start: int = 0, every: int = 1) -> Trace:

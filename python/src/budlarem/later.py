@@ -12,7 +12,7 @@ from .verdicts import VERDICTS, Answer, Cycler, Halt, Translated, Verdict
 __all__ = ["Place", "at"]
 
 # A verdict that says where its machine is, after how many steps whatever.
-_Told = Union[Halt, Cycler, Translated]
+_Placing = Union[Halt, Cycler, Translated]
 
 
 @dataclasses.dataclass(frozen=True)
@@ -27,7 +27,7 @@ class Place:
         return "%d %s %d" % (self.step, self.state, self.position)
 
 
-def _told(verdict: Verdict, step: int) -> _Told:
+def _placing(verdict: Verdict, step: int) -> _Placing:
     """The verdict, where it says something of that step. Raises ValueError."""
     if not isinstance(verdict, (Halt, Cycler, Translated)):
         raise ValueError(
@@ -38,7 +38,7 @@ def _told(verdict: Verdict, step: int) -> _Told:
     return verdict
 
 
-def _confirm(verdict: _Told, cells: int) -> None:
+def _confirm(verdict: _Placing, cells: int) -> None:
     """Has the checker confirm a verdict. Raises ValueError where it doesn't, LimitsError where the verdict
     names more steps than a run may have."""
     last = verdict.steps if isinstance(verdict, Halt) else max(verdict.first, verdict.second)
@@ -90,13 +90,13 @@ def at(verdict: Verdict, step: int, cells: int = 65_536) -> Place:
     step, cells = whole("step", step), in_range("cells", cells, *Limits.RANGES["cells"])
     if step < 0:
         raise ValueError("step is %d, but must be 0 or more" % step)
-    told = _told(verdict, step)
-    _confirm(told, cells)
-    if isinstance(told, Halt) or step < told.first:
+    placing = _placing(verdict, step)
+    _confirm(placing, cells)
+    if isinstance(placing, Halt) or step < placing.first:
         times, early = 0, step
     else:
-        times, early = divmod(step - told.first, told.second - told.first)
-        early += told.first
-    now = _traced(told.machine, early, cells)
-    farther = times * _moved(told, cells) if isinstance(told, Translated) else 0
+        times, early = divmod(step - placing.first, placing.second - placing.first)
+        early += placing.first
+    now = _traced(placing.machine, early, cells)
+    farther = times * _moved(placing, cells) if isinstance(placing, Translated) else 0
     return Place(step, now.state, now.position + farther)

@@ -19,6 +19,7 @@ from .verdicts import (
     Backward,
     Cycler,
     Halt,
+    OfMachine,
     Refused,
     Translated,
     Undecided,
@@ -148,7 +149,7 @@ def agreement(first: Verdict, second: Verdict, undefined_steps: bool = False) ->
     return Agreement.AGREE if alike else Agreement.CONTRADICT
 
 
-def _parsed(items: Iterable[Union[str, Verdict]], name: str) -> Iterator[Verdict]:
+def _parsed(items: Iterable[Union[str, Verdict]], name: str) -> Iterator[OfMachine]:
     """The verdicts of verdicts and lines, but for refusals, which have no machine."""
     for place, item in enumerate(items):
         if not isinstance(item, VERDICTS):
@@ -163,11 +164,11 @@ def _parsed(items: Iterable[Union[str, Verdict]], name: str) -> Iterator[Verdict
 class _Side:
     """A list of verdicts, read one after another, and those for which the other list had none yet."""
 
-    def __init__(self, items: Iterator[Verdict]) -> None:
+    def __init__(self, items: Iterator[OfMachine]) -> None:
         self.items = items
-        self.waiting: Dict[str, List[Verdict]] = {}
+        self.waiting: Dict[str, List[OfMachine]] = {}
 
-    def taken(self, machine: str) -> Optional[Verdict]:
+    def taken(self, machine: str) -> Optional[OfMachine]:
         """The first waiting verdict on a machine, which then waits no longer."""
         found = self.waiting.get(machine)
         if found is None:
@@ -177,7 +178,7 @@ class _Side:
             del self.waiting[machine]
         return verdict
 
-    def left(self) -> List[Verdict]:
+    def left(self) -> List[OfMachine]:
         """The verdicts that wait."""
         return [verdict for verdicts in self.waiting.values() for verdict in verdicts]
 
@@ -193,9 +194,8 @@ def compare(
     Both are read side by side; what is held are the verdicts for which the other list had none yet, so lists
     in about the same order take little memory. What is left then is compared by what the laws of verdicts
     make the same: mirrored, or with other names for states and symbols. What only one has comes last.
-    Refusals are left out, since
-    they don't tell their machine; fields behind a tab too. `undefined_steps`: one of the lists counts a step
-    for an undefined entry.
+    Refusals are left out, since they don't have their machine; fields behind a tab too. `undefined_steps`:
+    one of the lists counts a step for an undefined entry.
 
     Raises ValueError, with its place, for a text that is no verdict line, TypeError for what is no text.
 
@@ -209,7 +209,7 @@ def compare(
     while any(is_open):
         for here, side in enumerate(sides):
             verdict = next(side.items, None)
-            if verdict is None or isinstance(verdict, Refused):
+            if verdict is None:
                 is_open[here] = False
                 continue
             other = sides[1 - here].taken(verdict.machine)
@@ -222,16 +222,16 @@ def compare(
 
 
 def _compared_by_form(
-    first: List[Verdict], second: List[Verdict], undefined_steps: bool
+    first: List[OfMachine], second: List[OfMachine], undefined_steps: bool
 ) -> Iterator[Comparison]:
     """Compares what has no machine of the same text in the other list: by what the laws of verdicts make the
     same."""
-    waiting: Dict[str, List[Tuple[Verdict, bool]]] = collections.defaultdict(list)
+    waiting: Dict[str, List[Tuple[OfMachine, bool]]] = collections.defaultdict(list)
     for other in second if first else []:
-        form = form_of(_machine_of(other))
+        form = form_of(other.machine)
         waiting[form.text].append((other, form.mirrored))
     for verdict in first:
-        machine = _machine_of(verdict)
+        machine = verdict.machine
         form = form_of(machine)
         found = waiting.get(form.text)
         if not found:
@@ -241,12 +241,7 @@ def _compared_by_form(
         kind = agreement(verdict, turned(other, mirrored != form.mirrored), undefined_steps)
         yield Comparison(kind, machine, verdict, other)
     left = (other for pairs in waiting.values() for other, _ in pairs) if first else iter(second)
-    yield from (Comparison(Agreement.ONLY_SECOND, _machine_of(other), None, other) for other in left)
-
-
-def _machine_of(verdict: Verdict) -> str:
-    assert verdict.machine is not None
-    return verdict.machine
+    yield from (Comparison(Agreement.ONLY_SECOND, other.machine, None, other) for other in left)
 
 
 @dataclasses.dataclass(frozen=True)

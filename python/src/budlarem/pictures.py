@@ -76,8 +76,8 @@ class Picture:
         where it can't be written."""
         ending = os.path.splitext(os.fspath(path))[1]
         if ending.lower() not in ("", ".png"):
-            told = os.fspath(path)
-            raise PictureError("%s: a picture is a PNG file, so not a name that ends in %s" % (told, ending))
+            named = os.fspath(path)
+            raise PictureError("%s: a picture is a PNG file, so not a name that ends in %s" % (named, ending))
         with naming(path), open(path, "wb") as file:
             file.write(self.png)
 
@@ -274,13 +274,13 @@ def _refuse_large(rows: int, columns: int, scale: int) -> None:
     pixels = rows * columns * scale**2
     if pixels <= MOST_PIXELS:
         return
-    told = "{:,} rows and {:,} columns at scale {:,} are {:,} pixels, more than {:,}".format(
+    size = "{:,} rows and {:,} columns at scale {:,} are {:,} pixels, more than {:,}".format(
         rows, columns, scale, pixels, MOST_PIXELS
     )
     largest = math.isqrt(MOST_PIXELS // (rows * columns))
     if largest:
-        raise PictureError("%s; lower scale to %d or less, or rows or columns" % (told, largest))
-    raise PictureError("%s; lower rows or columns" % told)
+        raise PictureError("%s; lower scale to %d or less, or rows or columns" % (size, largest))
+    raise PictureError("%s; lower rows or columns" % size)
 
 
 def drawn(
@@ -334,8 +334,8 @@ def picture(
     visited yet grey. `every`: each of so many steps, else such a power of two that at most `rows` are left.
     `left`, `right`: the positions shown, else all, or `columns` of them about the middle where so many are
     asked for. Where they are more than 2,000 and no `columns` are asked for, the picture is scaled down: a
-    pixel has the mean colour of the cells that it stands for, and the head isn't seen. `scale`: how many pixels
-    a place is wide and high.
+    pixel has the mean colour of the cells that it stands for, and the head isn't seen. `scale`: how many
+    pixels a place is wide and high.
 
     Raises what `trace` does, and PictureError.
 

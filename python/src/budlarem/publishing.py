@@ -1,4 +1,4 @@
-"""A decided list as one archive, which whoever gets it can check again in four ways."""
+"""A decided list as one archive, which whoever gets it can check again in five ways."""
 
 from __future__ import annotations
 
@@ -9,7 +9,7 @@ import os
 from typing import Callable, List, NoReturn, Optional, Sequence, Tuple, Union
 
 from ._archive import LINES, LIST, VERDICTS, Contents, Decided, Input, PublishError, Seen, write_new
-from ._crew import Pace, in_order
+from ._crew import BatchPace, in_order
 from .checking import why
 from .engine import checking, decide_bytes
 from .limits import Limits, in_range
@@ -48,8 +48,9 @@ def _confirmed(verdicts: Input, limits: Limits, threads: int, tell: Callable[[in
     """Has the checker confirm all verdicts; gives how many it confirmed, and how many claim nothing. Raises
     UnconfirmedError."""
     confirmed, free = 0, 0
-    # A call makes its tapes anew, which takes a tenth of a second where they are large: so the batches are, too.
-    for _, reply in in_order(checking(limits), verdicts.batches(), threads, Pace(1)):
+    # A call makes its tapes anew, which takes a tenth of a second where they are large: so the batches are,
+    # too.
+    for _, reply in in_order(checking(limits), verdicts.batches(), threads, BatchPace(1)):
         answers = reply.text
         lines, ok, open_ = (answers.count(word) for word in (b"\n", b"ok\n", b"open\n"))
         if ok + open_ < lines:
@@ -64,8 +65,8 @@ def _raise_unconfirmed(verdicts: Input, before: int, answers: Sequence[str], lim
     place = next(place for place, answer in enumerate(answers) if answer not in ("ok", "open"))
     number, answer = before + place, Answer(answers[place])
     line = next(itertools.islice(verdicts.lines(), number, None), b"").decode("utf-8", "surrogateescape")
-    told = (verdicts.path, number + 1, answer, line, why(line, answer, limits))
-    raise UnconfirmedError("%s:%d: %s: %.200s: %s" % told)
+    parts = (verdicts.path, number + 1, answer, line, why(line, answer, limits))
+    raise UnconfirmedError("%s:%d: %s: %.200s: %s" % parts)
 
 
 def _shown(line: bytes) -> str:
@@ -105,8 +106,9 @@ def _seen_beside(machines: Input, verdicts: Input) -> Seen:
 def _raise_other(machines: Input, verdicts: Input, number: int, line: bytes) -> NoReturn:
     """Raises the error for a line of the list to which its verdict doesn't belong."""
     raise PublishError(
-        "%s:%d: line %d of %s isn't the verdict on %s; the list has one machine a line, as `budlarem read` writes"
-        " them, in the order of the verdicts" % (machines.path, number, number, verdicts.path, _shown(line))
+        "%s:%d: line %d of %s isn't the verdict on %s; the list has one machine a line, as `budlarem read`"
+        " writes them, in the order of the verdicts"
+        % (machines.path, number, number, verdicts.path, _shown(line))
     )
 
 
@@ -132,18 +134,18 @@ def _of_run(folder: str) -> Tuple[str, Decided]:
             )
     try:
         with open(path, encoding="utf-8") as file:
-            told = json.load(file)
-        passes = tuple(Limits(**one["limits"]) for one in told["passes"])
-        by = Identity(told["version"], told["commit"], told["library"])
-        kept = str(told["kept"])
+            summary = json.load(file)
+        passes = tuple(Limits(**one["limits"]) for one in summary["passes"])
+        by = Identity(summary["version"], summary["commit"], summary["library"])
+        kept = str(summary["kept"])
     except (ValueError, KeyError, TypeError) as error:
         raise PublishError(
             "%s isn't as a run writes it: %s; its command writes it anew" % (path, error)
         ) from None
     if kept != str(Keep()):
         raise PublishError(
-            "%s has only the verdicts that --keep %s kept, and all are published; decide the list without --keep,"
-            " in another folder" % (folder, kept)
+            "%s has only the verdicts that --keep %s kept, and all are published; decide the list without"
+            " --keep, in another folder" % (folder, kept)
         )
     return os.path.join(folder, RUN_VERDICTS), Decided(passes, by)
 

@@ -60,7 +60,10 @@ class Report:
     def _repr_html_(self) -> str:
         # In a frame, so that neither the page's styles nor the notebook's reach the other.
         shown = html.escape(self.title), html.escape(self.html)
-        return '<iframe title="%s" srcdoc="%s" style="width:100%%;height:40rem;border:0"></iframe>' % shown
+        return (
+            '<iframe title="%s" srcdoc="%s" style="width:100%%;height:40rem;border:1px solid #8886"></iframe>'
+            % shown
+        )
 
 
 @dataclasses.dataclass
@@ -138,30 +141,33 @@ def _modules() -> Tuple[Any, Any]:
         import numpy
         from matplotlib import rc_context
         from matplotlib.figure import Figure
+        from matplotlib.ticker import MaxNLocator
     except ImportError as error:
         raise ReportError(
             "a report needs numpy and matplotlib (%s): pip install numpy matplotlib, or on Debian"
             " apt install python3-matplotlib" % error
         ) from None
-    return numpy, (rc_context, Figure)
+    return numpy, (rc_context, Figure, MaxNLocator)
 
 
 def plot(counts: Counter[int], name: str) -> str:
     """A distribution as an SVG image."""
-    rc_context, figure_of = _modules()[1]
+    rc_context, figure_of, locator_of = _modules()[1]
     with rc_context({"svg.hashsalt": name, "svg.fonttype": "none", "font.size": 9, "text.color": _INK}):
         figure = figure_of(figsize=(4.6, 2.4), layout="constrained")
         axes = figure.subplots()
         begins = [begin_of(place) for place in sorted(counts)]
         ends = [begin_of(place + 1) for place in sorted(counts)]
+        heights = [counts[place] for place in sorted(counts)]
         widths = [0.9 * (end - begin) for begin, end in zip(begins, ends)]
-        axes.bar(begins, [counts[place] for place in sorted(counts)], widths, align="edge", color=_BAR)
+        lefts = [begin + width / 18 for begin, width in zip(begins, widths)]
+        axes.bar(lefts, heights, widths, align="edge", color=_BAR)
         axes.set_yscale("log")
         axes.set_ylim(bottom=0.7)
         if max(counts) > 10:
             axes.set_xscale("symlog", linthresh=10, linscale=1)
         else:
-            axes.xaxis.get_major_locator().set_params(integer=True)
+            axes.xaxis.set_major_locator(locator_of(integer=True, min_n_ticks=1))
         axes.set_xlim(begins[0] if max(counts) <= 10 else -0.5, ends[-1])
         axes.set_xlabel(name)
         axes.set_ylabel("machines")
@@ -252,12 +258,12 @@ def _counts(found: Gathered) -> Iterator[str]:
 
 
 def _plots(found: Gathered) -> Iterator[str]:
-    told = {
+    plotted = {
         "steps": (found.steps, "steps of halts, second steps of pairs"),
         "shifts": (found.shifts, "shifts of translated cyclers"),
         "levels": (found.levels, "levels of backward trees"),
     }
-    for counts, name in told.values():
+    for counts, name in plotted.values():
         if counts:
             yield "<figure>%s</figure>" % plot(counts, name)
 
@@ -292,6 +298,11 @@ def _groups(machines: Sequence[Shown]) -> Iterator[str]:
             yield '<h3>%s: %s</h3><div class="cards">%s</div>' % (_GROWTHS[kind], _number(len(group)), cards)
 
 
+_DIAGRAMS = (
+    "A row is a step, from the top down; a column is a position. The head is red. Where many positions were"
+    " visited, a pixel has the mean colour of some, and the head isn't shown. How the cells grow is a guess"
+    " from three looks at the run."
+)
 _GROWTHS = {
     Growth.STAYS: "Cells stay",
     Growth.LOGARITHM: "Cells grow as a logarithm",
@@ -301,6 +312,14 @@ _GROWTHS = {
 }
 
 
+def _left(count: int, left: int) -> str:
+    """What is said of so many diagrams of so many machines that are left."""
+    if not left:
+        return "No machine is left undecided."
+    sentence = "%s of %s undecided machines are shown." % (_number(count), _number(left))
+    return "%s %s" % (sentence, _DIAGRAMS) if count else sentence
+
+
 def _page(found: Gathered, machines: Sequence[Shown], title: str) -> str:
     left = found.kinds["undecided steps"] + found.kinds["undecided cells"]
     parts = {
@@ -308,7 +327,7 @@ def _page(found: Gathered, machines: Sequence[Shown], title: str) -> str:
         "counts": "".join(_counts(found)),
         "plots": "".join(_plots(found)) or "<p>No verdict has numbers.</p>",
         "longest": "".join(_longest(found)) or "<p>No run is told.</p>",
-        "left": "%s of %s undecided machines are shown." % (_number(len(machines)), _number(left)),
+        "left": _left(len(machines), left),
         "diagrams": "".join(_groups(machines)),
     }
     return string.Template(_PAGE.read_text(encoding="utf-8")).substitute(parts)
@@ -341,8 +360,8 @@ def report(
     _modules()
     found = gathered(verdicts, diagrams)
     machines = [machine for _, machine in found.smallest]
-    told = all_shown(machines, steps, cells, threads or os.cpu_count() or 1)
-    page = _page(found, told, title)
+    pictured = all_shown(machines, steps, cells, threads or os.cpu_count() or 1)
+    page = _page(found, pictured, title)
     part = pathlib.Path(path).with_name(pathlib.Path(path).name + ".part")
     try:
         with naming(part):

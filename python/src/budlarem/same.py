@@ -11,8 +11,8 @@ __all__ = ["Form", "form_of", "turned"]
 
 
 class Form(NamedTuple):
-    """A text that a machine has in common with all that are the same, and whether left and right are exchanged
-    in it."""
+    """A text that a machine has in common with all that are the same, and whether left and right are
+    exchanged in it."""
 
     text: str
     mirrored: bool
@@ -106,8 +106,8 @@ class _Walk:
         count = 1
         while True:
             seen: Dict[str, List[str]] = {one: self._seen(one, colours) for one in colours}
-            ranks = {told: rank for rank, told in enumerate(sorted(map(str, seen.values())))}
-            colours = {one: ranks[str(told)] for one, told in seen.items()}
+            ranks = {entries: rank for rank, entries in enumerate(sorted(map(str, seen.values())))}
+            colours = {one: ranks[str(entries)] for one, entries in seen.items()}
             if len(set(colours.values())) <= count:
                 return colours
             count = len(set(colours.values()))
@@ -121,11 +121,11 @@ class _Walk:
                 entry, symbol = row[3 * place : 3 * place + 3], str(place)
                 if one in (state, symbol, entry[0], entry[2]):
                     parts = (state, symbol, entry[0], entry[2])
-                    told = ("=" if part == one else self._told(part, colours) for part in parts)
-                    found.append(self._sides.get(entry[1], "-") + ",".join(told))
-        return [self._told(one, colours), *sorted(found)]
+                    names = ("=" if part == one else self._name_of(part, colours) for part in parts)
+                    found.append(self._sides.get(entry[1], "-") + ",".join(names))
+        return [self._name_of(one, colours), *sorted(found)]
 
-    def _told(self, one: str, colours: Dict[str, int]) -> str:
+    def _name_of(self, one: str, colours: Dict[str, int]) -> str:
         name = self._states.get(one) or self._symbols.get(one)
         return name or "(%d)" % colours.get(one, -1)
 

@@ -140,7 +140,9 @@ class Refused:
         return "refused %d" % self.column
 
 
-Verdict = Union[Halt, Cycler, Translated, Backward, Undecided, Refused]
+# What is said of a machine that a line has.
+OfMachine = Union[Halt, Cycler, Translated, Backward, Undecided]
+Verdict = Union[OfMachine, Refused]
 VERDICTS = (Halt, Cycler, Translated, Backward, Undecided, Refused)
 
 
@@ -157,8 +159,8 @@ _FIELDS: Dict[type, Dict[str, type]] = {
 
 
 def hold_fields(name: str, verdict: Union[Verdict, Extent]) -> None:
-    """Raises TypeError where a field of a verdict, which is called so, has another type than it must have: its
-    line would say something else."""
+    """Raises TypeError where a field of a verdict, which is called so, has another type than it must have:
+    its line would say something else."""
     for field, kind in _FIELDS[type(verdict)].items():
         given = getattr(verdict, field)
         if type(given) is kind or isinstance(given, str) and kind is str:
@@ -189,7 +191,8 @@ def size_of(machine: str) -> Tuple[int, int]:
 
 
 def is_machine(text: str) -> bool:
-    """Whether a text is a machine of 1 to 25 states and 2 to 10 symbols. Raises TypeError where it is no text.
+    """Whether a text is a machine of 1 to 25 states and 2 to 10 symbols. Raises TypeError where it is no
+    text.
 
     >>> is_machine("1RB1LB_1LA1RZ"), is_machine("1RB1LC_1LA1RZ")
     (True, False)

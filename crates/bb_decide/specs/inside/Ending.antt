@@ -101,6 +101,7 @@ pub record WatchesRun {T : Type 0} (grows : Bool) (view : T → TapeView) (table
     (key : ℤ → ℕ) (bench_old bench_new : Bench T) (old new : Meter) (result : Result (Option Ending) Memory)
     : Type 0 where
   pub watched : IfOk result (Watches table bounds key old new)
+  pub cut : OnErr result (CountsPart table bounds old new)
   pub within : IsWithinRun bounds old new
   pub promised : WatchPromised table grows result
   pub tapes : BenchHasCells view bounds.cells bench_new

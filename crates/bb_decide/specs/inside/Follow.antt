@@ -6,7 +6,10 @@ use Rattle.bb_machine.specs.Machine.{Table}
 use Rattle.bb_tape.specs.TapeView.{TapeView}
 use Rattle.bb_tape.specs.declared.tape.Memory.{Memory}
 use Rattle.bb_sim.specs.declared.runner.Runner.{Runner}
-use Rattle.bb_sim.specs.Runner.{position_of, steps_of}
+use Rattle.bb_sim.specs.declared.meter.Meter.{Meter}
+use Rattle.bb_sim.specs.CellsBetween.{cells_between}
+use Rattle.bb_sim.specs.Meter.{counted}
+use Rattle.bb_sim.specs.Runner.{high_of, low_of, position_of, steps_of}
 use Rattle.bb_cert.specs.declared.records.Records.{Records}
 use Rattle.bb_cert.specs.declared.verdict.Extent.{Extent}
 use Rattle.bb_cert.specs.declared.verdict.Side.{Side}
@@ -50,15 +53,23 @@ Compares old runner run saved new new_saved None =
 Compares old runner run saved new new_saved (Some verdict) =
     AgreesWithKept old runner saved run × TellsPair old runner verdict
 
+-- a meter takes over what a runner has run
+abbrev pub TakesOver : Runner → Meter → Meter → Type 0
+TakesOver runner old new = new ≡ counted old (steps_of runner) (cells_between (low_of runner) (high_of runner))
+
 -- what is promised where the record that the runner has just made is looked at: what it comes to, for the
--- same side, on a tape with the same room; no memory is left only on a tape that grows
+-- same side, on a tape with the same room; no memory is left only on a tape that grows, and then alone the
+-- meter takes the run over
 pub record LooksAtRecord (grows : Bool) (old : Records) (runner : Runner) (run saved : TapeView)
-    (new : Records) (new_saved : TapeView) (result : Result (Option Verdict) Memory) : Type 0 where
+    (new : Records) (new_saved : TapeView) (meter_old meter_new : Meter)
+    (result : Result (Option Verdict) Memory) : Type 0 where
   pub compared : IfOk result (Compares old runner run saved new new_saved)
   pub numbers : IfOk result (λ found. IfSome found HasNumbers)
   pub side : new.side ≡ old.side
   pub limit : new_saved.limit ≡ saved.limit
   pub memory : OnErr result (IsTrue grows)
+  pub uncounted : IfOk result (λ found. meter_new ≡ meter_old)
+  pub cut : OnErr result (TakesOver runner meter_old meter_new)
 
 -- what is meant for a side
 abbrev pub on_side : {A : Type 0} → Side → A → A → A

@@ -5,12 +5,12 @@ from __future__ import annotations
 import argparse
 import contextlib
 import sys
-import time
 
 from ..checking import Checked, answers_to, why
 from ..reading.files import BytesFile
 from ..runner.progress import count_of
 from ..verdicts import Answer
+from .progress import Progress
 from .shared import add_command, add_file, add_greatest_limits, greatest_limits, source_of
 
 _HELP = """Checks verdict lines, whoever wrote them, and writes an answer to each line, the bytes of bb check:
@@ -20,43 +20,25 @@ first line that is neither ok nor open, with the reason. Status 1 where there is
 
 A claim costs what it names, whatever the limits, so these are the greatest where they aren't given. The tapes
 of each thread then take 134 MB. Whoever fears a claim of 10^12 steps, which takes hours, gives --steps."""
-# Seconds between two lines of progress.
-_OFTEN = 0.5
 
 
-class _Progress:
-    """Shows on a terminal how many lines were checked, where the answers don't go there."""
-
-    def __init__(self) -> None:
-        self._is_shown = sys.stderr.isatty() and not sys.stdout.isatty()
-        self._width, self._next = 0, time.monotonic() + _OFTEN
-
-    def tell(self, found: Checked) -> None:
-        if not self._is_shown or time.monotonic() < self._next:
-            return
-        text = ", ".join(
-            "%s %s" % (count_of(found.counts[answer]), answer) for answer in Answer if found.counts[answer]
-        )
-        self._show(text)
-        self._next = time.monotonic() + _OFTEN
-
-    def _show(self, text: str) -> None:
-        sys.stderr.write("\r%s\r%s" % (text.ljust(self._width), text))
-        sys.stderr.flush()
-        self._width = len(text)
-
-    def clear(self) -> None:
-        if self._width:
-            self._show("")
+def counts_text(found: Checked) -> str:
+    """How often each answer was given so far."""
+    told = ((count_of(found.counts[answer]), answer) for answer in Answer if found.counts[answer])
+    return ", ".join("%s %s" % pair for pair in told)
 
 
 def do_check(asked: argparse.Namespace) -> int:
     """Writes the checker's answers."""
     limits = greatest_limits(asked)
     name = "standard input" if asked.file in (None, "-") else asked.file
-    found, progress = Checked(), _Progress()
+    found, progress = Checked(), Progress()
+
+    def tell(found: Checked) -> None:
+        progress.tell(lambda: counts_text(found))
+
     with contextlib.closing(BytesFile(source_of(asked.file))) as file:
-        for answers in answers_to(file, limits, asked.threads, found, progress.tell):
+        for answers in answers_to(file, limits, asked.threads, found, tell):
             sys.stdout.write(answers.decode())
     progress.clear()
     sys.stdout.flush()

@@ -14,8 +14,8 @@ from ..reports import report
 from ..verdicts import Verdict
 from .shared import ListReader, add_command, add_file, add_limits
 
-_CLAIMS = """The lines are verdict lines; machine and verdict may have other fields and spellings beside them, as
-`budlarem help read` says. A line that is none goes to standard error with file and line, and is passed
+_CLAIMS = """The lines are verdict lines; machine and verdict may have other fields and spellings beside them,
+as `budlarem help read` says. A line that is none goes to standard error with file and line, and is passed
 over; status 1 then."""
 _COMPARE = (
     """Compares two lists of verdicts by machine, in any order. Each machine on which they don't agree gets
@@ -34,7 +34,7 @@ undecided machines.
 
 
 class VerdictReader(ListReader):
-    """Reads a list of verdicts, and tells on standard error what was rewritten or refused."""
+    """Reads a list of verdicts, and prints on standard error what was rewritten or refused."""
 
     def verdicts(self) -> Iterator[Verdict]:
         """The verdict of each line that has one. Raises OSError."""
@@ -45,8 +45,8 @@ class VerdictReader(ListReader):
             elif said.reading.machine is None:
                 self.refuse(said.reading.number, str(said.reading))
             else:
-                told = said.trouble or "no verdict of %s" % said.reading.machine
-                self.refuse(said.reading.number, "refused: %s" % told)
+                why = said.trouble or "no verdict of %s" % said.reading.machine
+                self.refuse(said.reading.number, "refused: %s" % why)
 
 
 def do_compare(asked: argparse.Namespace) -> int:

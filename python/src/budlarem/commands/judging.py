@@ -5,20 +5,23 @@ from __future__ import annotations
 import argparse
 import collections
 import sys
-from typing import Counter, Optional
+from typing import Counter, Sequence
 
-from ..judging import GREATEST, Judgement, Judging, judge
+from ..judging import GREATEST, Judgement, judge
+from ..judging.lists import Placed
 from ..limits import Limits, Plan
+from ..runner.progress import count_of
+from .progress import Progress
 from .shared import ListReader, add_command, add_limits, limits_of, source_of
 
-_HELP = """Judges a list of what others claim: verdict lines, or machines with a word in any field, such as halt,
-nonhalt, undecided or a decider's name, in whatever forms `budlarem help read` says. Each machine is decided;
-what our verdict doesn't settle is checked. Standard error gets the counts, and what of THEIRS was rewritten.
-Status 1 where a line is contradicted.
+_HELP = """Judges a list of what others claim: verdict lines, or machines with a word in any field, such as
+halt, nonhalt, undecided or a decider's name, in whatever forms `budlarem help read` says. Each machine is
+decided; what our verdict doesn't settle is checked. Standard error gets the counts, and what of THEIRS was
+rewritten. Status 1 where a line is contradicted.
 
 confirmed: the checker confirms the claim, or our verdict says what the word does. contradicted: the checker
-refutes the claim, or our verdict says the other. not-judged: undecided here too, over the checker's limits, or
-no word says whether the machine halts. unreadable: no one machine, or two things said of it.
+refutes the claim, or our verdict says the other. not-judged: undecided here too, over the checker's limits,
+or no word says whether the machine halts. unreadable: no one machine, or two things said of it.
 
 Where each halt of theirs at a --- is true of the machine with 1RZ there, and there is one, they are taken to
 count a step for ---, and standard error says so. --undefined-steps says it beforehand.
@@ -28,11 +31,18 @@ THEIRS that isn't in LIST. Machines are the same there up to the names of states
 right."""
 
 
+def counts_text(counts: Counter[Judgement]) -> str:
+    """How many lines were judged how so far."""
+    parts = ("%s %s" % (count_of(counts[kind]), kind) for kind in Judgement if counts[kind])
+    return ", ".join(parts)
+
+
 def do_judge(asked: argparse.Namespace) -> int:
     """Judges a list of claims."""
     if asked.theirs == "-" == asked.list:
         raise ValueError("THEIRS and LIST can't both be standard input")
-    reader = ListReader(asked.theirs)
+    progress = Progress()
+    reader = ListReader(asked.theirs, progress)
     highest = asked.check_steps
     checker = GREATEST if highest is None else Limits(highest, GREATEST.cells, GREATEST.depth, GREATEST.nodes)
     judging = judge(
@@ -43,26 +53,28 @@ def do_judge(asked: argparse.Namespace) -> int:
         checker=checker,
         undefined_steps=True if asked.undefined_steps else None,
         threads=asked.threads,
+        tell=lambda what, lines: progress.tell(lambda: "%s lines %s" % (count_of(lines), what)),
     )
     counts: Counter[Judgement] = collections.Counter()
     for judged in judging:
         counts[judged.judgement] += 1
         reader.tell_rewritten(judged.said.reading)
         sys.stdout.write("%s\n" % judged)
-    _write_list(judging, asked.list)
+        progress.tell(lambda: counts_text(counts))
+    missing, foreign = judging.missing(), judging.foreign()
+    progress.clear()
+    if asked.list is not None:
+        _write_list(missing, foreign, asked.list)
     sys.stdout.flush()
     if judging.undefined_steps:
         print("%s: a step is counted for each ---" % reader.name, file=sys.stderr)
-    told = ", ".join("%s %d" % (kind, counts[kind]) for kind in Judgement)
-    print("%s: %s" % (reader.name, told), file=sys.stderr)
+    parts = ", ".join("%s %d" % (kind, counts[kind]) for kind in Judgement)
+    print("%s: %s" % (reader.name, parts), file=sys.stderr)
     return 1 if counts[Judgement.CONTRADICTED] else 0
 
 
-def _write_list(judging: Judging, path: Optional[str]) -> None:
+def _write_list(missing: Sequence[Placed], foreign: Sequence[Placed], path: str) -> None:
     """Writes which machines of the list have no line, and which lines aren't of it; counts them."""
-    if path is None:
-        return
-    missing, foreign = judging.missing(), judging.foreign()
     for number, machine in missing:
         sys.stdout.write("no-line\t%d\t%s\n" % (number, machine))
     for number, machine in foreign:

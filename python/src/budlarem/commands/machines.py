@@ -42,8 +42,8 @@ def do_read(asked: argparse.Namespace) -> int:
     for machine in reader.machines():
         sys.stdout.write("%s\n" % machine)
     sys.stdout.flush()
-    told = (reader.name, reader.taken, reader.rewritten, reader.refused)
-    print("%s: machines %d, of these rewritten %d; refused %d" % told, file=sys.stderr)
+    counts = (reader.name, reader.taken, reader.rewritten, reader.refused)
+    print("%s: machines %d, of these rewritten %d; refused %d" % counts, file=sys.stderr)
     return reader.status
 
 

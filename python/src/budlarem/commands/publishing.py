@@ -6,7 +6,6 @@ import argparse
 import os
 import signal
 import sys
-import time
 from types import FrameType
 from typing import Optional
 
@@ -15,33 +14,15 @@ from ..publishing import UnconfirmedError, publish
 from ..runner.errors import RunError
 from ..runner.folder import limits_of
 from ..runner.progress import count_of
+from .progress import Progress
 from .shared import add_command
 
-_HELP = """Writes one archive of a decided list, which whoever gets it can check again: the list, the verdicts,
-limits and versions, the sha256 of each, a page that says what the lines mean, and again.py, a checker in plain
-Python. The checker has to confirm each claim first, and each line of LIST to have its verdict at its place.
-Files may be compressed by gzip; in the archive they aren't.
+_HELP = """Writes one archive of a decided list, which whoever gets it can check again: the list, the
+verdicts, limits and versions, the sha256 of each, a page that says what the lines mean, and again.py, a
+checker in plain Python. The checker has to confirm each claim first, and each line of LIST to have its
+verdict at its place. Files may be compressed by gzip; in the archive they aren't.
 
 Status 1 where a verdict isn't confirmed, 2 where something can't be published; nothing is written then."""
-# Seconds between two counts on a terminal.
-_OFTEN = 0.5
-
-
-class _Counter:
-    """Shows on a terminal how many lines were checked."""
-
-    def __init__(self) -> None:
-        self._is_shown, self._next = False, time.monotonic() + _OFTEN
-
-    def tell(self, lines: int) -> None:
-        if sys.stderr.isatty() and time.monotonic() >= self._next:
-            self._is_shown, self._next = True, time.monotonic() + _OFTEN
-            sys.stderr.write("\r%s lines checked" % count_of(lines).rjust(5))
-            sys.stderr.flush()
-
-    def clear(self) -> None:
-        if self._is_shown:
-            sys.stderr.write("\r%s\r" % (" " * len("12345 lines checked")))
 
 
 class _Ended(BaseException):
@@ -61,29 +42,30 @@ def do_publish(asked: argparse.Namespace) -> int:
     for number in (signal.SIGINT, signal.SIGTERM, signal.SIGHUP):
         if signal.getsignal(number) is not signal.SIG_IGN:
             signal.signal(number, _end_by)
-    counter = _Counter()
+    progress = Progress(is_beside=False)
     most = {name: highest for name, (_, highest) in Limits.RANGES.items()}
     try:
-        written = publish(
-            asked.out,
-            asked.verdicts,
-            asked.list,
-            passes=[limits_of(words) for words in asked.passes or ()],
-            limits=Limits(**{**most, "steps": asked.steps}),
-            threads=len(os.sched_getaffinity(0)) if asked.threads is None else asked.threads,
-            tell=counter.tell,
-        )
+        try:
+            written = publish(
+                asked.out,
+                asked.verdicts,
+                asked.list,
+                passes=[limits_of(words) for words in asked.passes or ()],
+                limits=Limits(**{**most, "steps": asked.steps}),
+                threads=len(os.sched_getaffinity(0)) if asked.threads is None else asked.threads,
+                tell=lambda lines: progress.tell(lambda: "%s lines checked" % count_of(lines)),
+            )
+        finally:
+            progress.clear()
         print(written)
         return 0
     except UnconfirmedError as error:
-        told, status = str(error), 1
+        sentence, status = str(error), 1
     except RunError as error:
-        told, status = str(error), 3
+        sentence, status = str(error), 3
     except _Ended as end:
-        told, status = "%s: no archive is written" % signal.Signals(end.number).name, 128 + end.number
-    finally:
-        counter.clear()
-    print("budlarem: %s" % told, file=sys.stderr)
+        sentence, status = "%s: no archive is written" % signal.Signals(end.number).name, 128 + end.number
+    print("budlarem: %s" % sentence, file=sys.stderr)
     return status
 
 

@@ -9,11 +9,11 @@ from ..engine import MachineError, trace
 from ..pictures import picture
 from .shared import add_command, add_limits
 
-_TRACE = """Writes a line for each step of a run up to N, the bytes of bb trace. Status 1 where the cells ended the
-run before, and where MACHINE is refused."""
+_TRACE = """Writes a line for each step of a run up to N, the bytes of bb trace. Status 1 where the cells
+ended the run before, and where MACHINE is refused."""
 _PICTURE = """Writes a space-time picture of a run, as a PNG file: a row for each step, a column for each
-position; 0 is white, 1 black, the head red, what isn't visited yet grey. A run of more than 2,000 positions is
-scaled down: a pixel has the mean colour of its cells, and the head isn't seen."""
+position; 0 is white, 1 black, the head red, what isn't visited yet grey. A run of more than 2,000 positions
+is scaled down: a pixel has the mean colour of its cells, and the head isn't seen."""
 
 
 def do_trace(asked: argparse.Namespace) -> int:

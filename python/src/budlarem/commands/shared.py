@@ -1,4 +1,4 @@
-"""What several commands take: lists, limits, and what they tell of lists on standard error."""
+"""What several commands take: lists, limits, and what they print of lists on standard error."""
 
 from __future__ import annotations
 
@@ -9,14 +9,15 @@ from typing import BinaryIO, Iterable, Iterator, Optional, Sequence, Tuple, Unio
 
 from ..limits import Limits
 from ..reading import Reading, read
+from .progress import Progress
 
 # So wide are the lines of a help.
 WIDTH = 79
 # What a list of machines may be, for the help of the commands that read one.
-LIST_HELP = """FILE is a list as people have them: a machine a line, alone, beside other fields, in backticks or in
-a link, with other spellings. A machine is taken only where one reading of its line is possible. What was
-rewritten or refused goes to standard error with file and line; empty lines and comments, which begin with #
-or //, are passed over. Gzip is known by its first bytes."""
+LIST_HELP = """FILE is a list as people have them: a machine a line, alone, beside other fields, in backticks
+or in a link, with other spellings. A machine is taken only where one reading of its line is possible. What
+was rewritten or refused goes to standard error with file and line; empty lines and comments, which begin with
+# or //, are passed over. Gzip is known by its first bytes."""
 
 
 def source_of(path: Optional[str]) -> Union[str, BinaryIO]:
@@ -25,11 +26,12 @@ def source_of(path: Optional[str]) -> Union[str, BinaryIO]:
 
 
 class ListReader:
-    """Reads a list, and tells on standard error what was rewritten or refused. Counts both."""
+    """Reads a list, and prints on standard error what was rewritten or refused. Counts both."""
 
-    def __init__(self, path: Optional[str]) -> None:
+    def __init__(self, path: Optional[str], progress: Optional[Progress] = None) -> None:
         self.name = "standard input" if path is None or path == "-" else path
         self.source = source_of(path)
+        self._progress = progress
         self.taken, self.rewritten, self.refused = 0, 0, 0
 
     def readings(self) -> Iterator[Reading]:
@@ -48,6 +50,8 @@ class ListReader:
 
     def tell(self, number: int, text: str) -> None:
         """Says something of a line."""
+        if self._progress is not None:
+            self._progress.clear()
         print("%s:%d: %s" % (self.name, number, text), file=sys.stderr)
 
     def tell_rewritten(self, reading: Reading) -> None:

@@ -14,7 +14,7 @@ from ..reading import read
 from ..reading.files import Source
 from ..verdicts import Answer, Halt, Refused, Undecided, Verdict
 from .answers import answers_of
-from .lists import Lists
+from .lists import Lists, Tell, counted
 from .sources import Twice
 from .undefined import as_steps, counts_undefined_steps
 from .values import Judged, Judgement
@@ -38,17 +38,19 @@ def judge(
     checker: Limits = GREATEST,
     undefined_steps: Optional[bool] = None,
     threads: int = 1,
+    tell: Tell = lambda what, lines: None,
 ) -> Judging:
     """Judges what each line of a list says of its machine: a verdict, or a word of `WORDS`.
 
     Each machine is decided within `limits` by `plan`, and each claim that our verdict doesn't settle is
-    checked within `checker`. `undefined_steps` says whether they count a step for an undefined entry. Where it
-    isn't said, their halts tell: it is so where each halt of theirs at such an entry is true of the machine
-    with `1RZ` there, and one is. With `listed`, a list of machines, `missing` and `foreign` tell which of
-    them have no line, and which lines are of none.
+    checked within `checker`. `undefined_steps` says whether they count a step for an undefined entry. Where
+    it isn't said, their halts tell: it is so where each halt of theirs at such an entry is true of the
+    machine with `1RZ` there, and one is. With `listed`, a list of machines, `missing` and `foreign` tell
+    which of them have no line, and which lines are of none.
 
     Both lists are what `read` takes. Their list is read twice, so what isn't a path to a file is copied to
-    the disk first. Raises what `read` and `decide` do.
+    the disk first. `tell` is told what is done beside judging, and with how many lines it was done. Raises
+    what `read` and `decide` do.
 
     >>> lines = ["1RB1LB_1LA1RZ halt 6 4", "1LB1RB_1RA1LZ nonhalt", "1RA1RA undecided"]
     >>> for judged in judge(lines):
@@ -59,8 +61,9 @@ def judge(
     """
     source = Twice(theirs)
     if undefined_steps is None:
-        undefined_steps = counts_undefined_steps(sayings(source.lines()), limits, checker, threads)
-    lists = None if listed is None else Lists(read(listed))
+        looked_at = counted(sayings(source.lines()), "looked at for steps at ---", tell)
+        undefined_steps = counts_undefined_steps(looked_at, limits, checker, threads)
+    lists = None if listed is None else Lists(read(listed), tell)
     decided = _decided(sayings(source.lines()), limits, plan, threads)
     return Judging(decided, lists, checker, undefined_steps, threads)
 
@@ -144,8 +147,8 @@ class Judging(Iterator[Judged]):
     def _settled(self, said: Said, ours: Optional[Verdict]) -> Optional[Judged]:
         """What is said of a line without the checker; None where that has to be asked."""
         if ours is None or (said.trouble is not None and said.word is None):
-            told = said.trouble or str(said.reading.reason or "a refusal names no machine")
-            return Judged(Judgement.UNREADABLE, said, ours, told)
+            sentence = said.trouble or str(said.reading.reason or "a refusal names no machine")
+            return Judged(Judgement.UNREADABLE, said, ours, sentence)
         if said.claim is None or isinstance(said.claim, (Undecided, Refused)):
             return _by_word(said, ours)
         if isinstance(ours, Undecided):
@@ -171,16 +174,16 @@ class Judging(Iterator[Judged]):
 
 def _other(said: Said, ours: Verdict) -> str:
     """What a line says, and that our verdict says another thing."""
-    told = str(said.word) if said.claim is None else str(said.claim).partition(" ")[2]
-    return "%s; ours is %s" % (told, str(ours).partition(" ")[2])
+    sentence = str(said.word) if said.claim is None else str(said.claim).partition(" ")[2]
+    return "%s; ours is %s" % (sentence, str(ours).partition(" ")[2])
 
 
 def _by_word(said: Said, ours: Verdict) -> Judged:
     """What is said of a line that has a word and no claim."""
     word = Word.UNDECIDED if said.claim is not None else said.word
     if word not in (Word.HALTS, Word.NEVER_HALTS):
-        told = "no word says whether it halts" if word is None else "%s says neither" % word
-        return Judged(Judgement.NOT_JUDGED, said, ours, told)
+        sentence = "no word says whether it halts" if word is None else "%s says neither" % word
+        return Judged(Judgement.NOT_JUDGED, said, ours, sentence)
     if isinstance(ours, Undecided):
         return Judged(Judgement.NOT_JUDGED, said, ours, "%s; undecided here" % word)
     halts = isinstance(ours, Halt)

@@ -2,23 +2,35 @@
 
 from __future__ import annotations
 
-from typing import Container, Dict, Iterable, Iterator, List, Set, Tuple
+from typing import Callable, Container, Dict, Iterable, Iterator, List, Set, Tuple, TypeVar
 
 from ..reading import Reading
 from ..same import form_of
 
 # The number of a line, and its machine.
 Placed = Tuple[int, str]
+# Is told what is being done beside judging, and with how many lines it was done.
+Tell = Callable[[str, int], None]
+_Item = TypeVar("_Item")
+_COMPARED = "compared by form"
+
+
+def counted(items: Iterable[_Item], what: str, tell: Tell) -> Iterator[_Item]:
+    """The items; of each is told how many it makes."""
+    for count, item in enumerate(items, 1):
+        tell(what, count)
+        yield item
 
 
 class Lists:
     """The machines of two lists, and the numbers of their lines. Machines that the laws of verdicts make the
-    same are one."""
+    same are one. `tell` is told of the list's lines, and of the forms that are compared."""
 
-    def __init__(self, listed: Iterable[Reading]) -> None:
+    def __init__(self, listed: Iterable[Reading], tell: Tell) -> None:
         self._listed: Dict[str, int] = {}
         self._theirs: Dict[str, List[int]] = {}
-        for reading in listed:
+        self._tell = tell
+        for reading in counted(listed, "of the list read", tell):
             if reading.machine is not None:
                 self._listed.setdefault(reading.machine, reading.number)
 
@@ -29,19 +41,21 @@ class Lists:
 
     def missing(self) -> List[Placed]:
         """The machines of the list that have no line of theirs, each with its first line's number."""
-        return [(self._listed[machine], machine) for machine in _others(self._listed, self._theirs)]
+        return [(self._listed[machine], machine) for machine in self._others(self._listed, self._theirs)]
 
     def foreign(self) -> List[Placed]:
         """Their lines whose machines aren't of the list."""
-        found = _others(self._theirs, self._listed)
+        found = self._others(self._theirs, self._listed)
         return sorted((number, machine) for machine in found for number in self._theirs[machine])
 
-
-def _others(machines: Iterable[str], those: Iterable[str]) -> Iterator[str]:
-    """The machines that aren't among those, in any form."""
-    left = _left(machines, set(those))
-    forms: Set[str] = {form_of(machine).text for machine in those} if left else set()
-    return (machine for machine in left if form_of(machine).text not in forms)
+    def _others(self, machines: Iterable[str], those: Dict[str, _Item]) -> Iterator[str]:
+        """The machines that aren't among those, in any form."""
+        left = _left(machines, those)
+        forms: Set[str] = set()
+        if left:
+            forms.update(form_of(machine).text for machine in counted(those, _COMPARED, self._tell))
+        found = counted(left, _COMPARED, self._tell)
+        return (machine for machine in found if form_of(machine).text not in forms)
 
 
 def _left(machines: Iterable[str], those: Container[str]) -> List[str]:

@@ -14,8 +14,8 @@ class Judgement(enum.Enum):
     """What is said of a line that claims something of a machine.
 
     `CONFIRMED`: the checker confirms the claim, or our verdict says what the word does. `CONTRADICTED`: the
-    checker refutes the claim, or our verdict says the other. `NOT_JUDGED`: neither. `UNREADABLE`: the line has
-    no one machine, or says two things of it.
+    checker refutes the claim, or our verdict says the other. `NOT_JUDGED`: neither. `UNREADABLE`: the line
+    has no one machine, or says two things of it.
     """
 
     CONFIRMED = "confirmed"

@@ -34,8 +34,8 @@ class _Raw(io.RawIOBase):
 
 
 def lines_of(source: Source) -> Iterator[str]:
-    """The lines, as texts without newlines. Raises OSError where a path can't be opened, TypeError where it is
-    no list."""
+    """The lines, as texts without newlines. Raises OSError where a path can't be opened, TypeError where it
+    is no list."""
     if isinstance(source, (bytes, bytearray, memoryview)):
         raise TypeError("a list's bytes are given as io.BytesIO(..), and a path as a str")
     if isinstance(source, str) and "\n" in source:

@@ -27,8 +27,8 @@ def read_line(number: int, line: str) -> Optional[Reading]:
         return Reading(number, line, line)
     line = line.lstrip("\ufeff").rstrip("\r")
     if len(line) > LONGEST_LINE:
-        told = "the line has more than {:,} characters".format(LONGEST_LINE)
-        return Reading(number, line, None, reason=Reason("long", told, LONGEST_LINE + 1))
+        sentence = "the line has more than {:,} characters".format(LONGEST_LINE)
+        return Reading(number, line, None, reason=Reason("long", sentence, LONGEST_LINE + 1))
     bare = line.strip(SPACES)
     if not bare or bare.startswith(("#", "//")):
         return None
@@ -112,8 +112,8 @@ def _dotted(word: Word) -> Optional[Reason]:
 
 
 def _each(count: int, place: int) -> Reason:
-    told = "each of %d words is a machine by itself, and they may be one together" % count
-    return Reason("words", told, place)
+    sentence = "each of %d words is a machine by itself, and they may be one together" % count
+    return Reason("words", sentence, place)
 
 
 def _one(found: List[Read]) -> "List[Read] | Reason":
@@ -132,12 +132,12 @@ def _one(found: List[Read]) -> "List[Read] | Reason":
     machine = read[0][1].machine
     if others:
         other = others[0][0]
-        told = "%s beside the machine %s may be a part of it" % (shown(other.written), shown(machine))
-        return Reason("part", told, other.words[0].begin + 1)
+        sentence = "%s beside the machine %s may be a part of it" % (shown(other.written), shown(machine))
+        return Reason("part", sentence, other.words[0].begin + 1)
     for text, outcome in read:
         if outcome.machine != machine:
-            told = "two different machines: %s and %s" % (shown(machine), shown(outcome.machine))
-            return Reason("two", told, text.words[0].begin + 1)
+            sentence = "two different machines: %s and %s" % (shown(machine), shown(outcome.machine))
+            return Reason("two", sentence, text.words[0].begin + 1)
     plain = [text for text, _ in read if not text.is_address and "_" not in text.written]
     if len(plain) > 1:
         return _each(len(plain), plain[1].begin + 1)

@@ -97,8 +97,8 @@ def _no_entry(text: str, number: int, place: int, is_followed: bool) -> Reason:
     """Why a text of up to three characters is no entry."""
     whole = text + "_" if len(text) == 2 and is_followed else text
     if _LOST.fullmatch(whole):
-        told = "entry %d is %s: the %s that it writes would be lost" % (number, whole, whole[0])
-        return Reason("lost", told, place)
+        sentence = "entry %d is %s: the %s that it writes would be lost" % (number, whole, whole[0])
+        return Reason("lost", sentence, place)
     return Reason("entry", "entry %d is no entry: %s" % (number, text), place)
 
 
@@ -119,8 +119,8 @@ def _divided(entries: Group, rewritten: Set[Rewriting]) -> Outcome:
     states = [number for number in range(1, len(STATES) + 1) if count % number == 0]
     sizes = [(number, count // number) for number in states if 2 <= count // number <= MOST_SYMBOLS]
     if not sizes:
-        told = "%s can't be divided into 1 to 25 groups of 2 to 10" % counted(count, "entry", "entries")
-        return Reason("division", told, begin + 1)
+        sentence = "%s can't be divided into 1 to 25 groups of 2 to 10" % counted(count, "entry", "entries")
+        return Reason("division", sentence, begin + 1)
     outcomes: List[Outcome] = []
     for number, size in sizes:
         more = {Rewriting.UNDERSCORES} if number > 1 else set()
@@ -130,10 +130,10 @@ def _divided(entries: Group, rewritten: Set[Rewriting]) -> Outcome:
     if len(found) == 1 or len(outcomes) == 1:
         return found[0] if found else outcomes[0]
     if not found:
-        told = "no way to divide %d entries into groups makes a machine" % count
-        return Reason("division", told, begin + 1)
-    told = "%d ways to divide %d entries into groups make a machine" % (len(found), count)
-    return Reason("divisions", told, begin + 1)
+        sentence = "no way to divide %d entries into groups makes a machine" % count
+        return Reason("division", sentence, begin + 1)
+    sentence = "%d ways to divide %d entries into groups make a machine" % (len(found), count)
+    return Reason("divisions", sentence, begin + 1)
 
 
 def _machine(groups: Sequence[Group], rewritten: Set[Rewriting]) -> Outcome:
@@ -171,11 +171,11 @@ def _wrong_size(groups: Sequence[Group]) -> Union[Reason, None]:
     begin = groups[0][0][0]
     if len(lengths) > 1:
         other = next(group for group in groups if len(group) != lengths[0])
-        told = "%s and %d" % (", ".join(map(str, lengths[:-1])), lengths[-1])
-        return Reason("groups", "the groups have %s entries" % told, other[0][0] + 1)
+        numbers = "%s and %d" % (", ".join(map(str, lengths[:-1])), lengths[-1])
+        return Reason("groups", "the groups have %s entries" % numbers, other[0][0] + 1)
     if not 2 <= lengths[0] <= MOST_SYMBOLS:
-        told = "the groups have %s, not 2 to 10" % counted(lengths[0], "entry", "entries")
-        return Reason("symbols", told, begin + 1)
+        sentence = "the groups have %s, not 2 to 10" % counted(lengths[0], "entry", "entries")
+        return Reason("symbols", sentence, begin + 1)
     if len(groups) > len(STATES):
         place = groups[len(STATES)][0][0] + 1
         return Reason("states", "there are %d groups, not 1 to 25" % len(groups), place)
@@ -187,12 +187,12 @@ def _wrong_entry(entry: str, number: int, begin: int, states: int, symbols: int)
     if entry == "---":
         return None
     if int(entry[0]) >= symbols:
-        told = "entry %d writes %s, but there are %d symbols" % (number, entry[0], symbols)
-        return Reason("symbol", told, begin + 1)
+        sentence = "entry %d writes %s, but there are %d symbols" % (number, entry[0], symbols)
+        return Reason("symbol", sentence, begin + 1)
     if entry[2] in STATES[:states] + "Z":
         return None
     if entry[2] == "H" and states <= MOST_BEFORE_H:
         return Reason("halting-state", "H: the halting state is Z here", begin + 3)
     there_are = "there is 1 state" if states == 1 else "there are %d states" % states
-    told = "entry %d names state %s, but %s" % (number, entry[2], there_are)
-    return Reason("state", told, begin + 3)
+    sentence = "entry %d names state %s, but %s" % (number, entry[2], there_are)
+    return Reason("state", sentence, begin + 3)

@@ -108,7 +108,7 @@ class Reading:
 
     def __str__(self) -> str:
         if self.reason is not None:
-            told = "refused: %s, at character %d (for bb column %s); %s"
-            return told % (self.reason, self.reason.place, self.column, self.reason.advice)
+            sentence = "refused: %s, at character %d (for bb column %s); %s"
+            return sentence % (self.reason, self.reason.place, self.column, self.reason.advice)
         sentences = "; ".join(rewriting.sentence for rewriting in self.rewritten)
         return "%s: %s" % (self.machine, sentences) if sentences else str(self.machine)

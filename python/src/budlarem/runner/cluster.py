@@ -22,17 +22,17 @@ from concurrent.futures import CancelledError, Future
 from typing import Any, Callable, Deque, Dict, Mapping, Optional
 
 from .errors import RunError
-from .halves import Job, halved
+from .splitting import Job, halved
 from .tasks import Numbers, Task
 
 # Seconds between two looks at the scheduler, and how many it has to answer one.
 _OFTEN, _PATIENCE = 1.0, 10.0
-# Seconds after which a reply that dask has, and its executor doesn't give, is fetched, and a job of which dask
-# knows nothing is handed over again.
+# Seconds after which a reply that dask has, and its executor doesn't give, is fetched, and a job of which
+# dask knows nothing is handed over again.
 _SILENT = 5.0
 # Pieces under way where no worker is known.
 _LEAST = 4
-# What these log is told in sentences, or is of no use to whoever runs the command.
+# What these log is printed in sentences, or is of no use to whoever runs the command.
 _LOGGERS = ("distributed", "distributed.client", "tornado", "tornado.application")
 # dask warns of a task of more than a million bytes, as verdict lines that are checked may be.
 _LARGE = "Large object of size"
@@ -60,7 +60,7 @@ class Handed:
 
 
 class ClusterPlace:
-    """The workers of a scheduler. `security` has the files of dask's TLS options, `tell` tells a sentence.
+    """The workers of a scheduler. `security` has the files of dask's TLS options, `tell` prints a sentence.
     Raises RunError where no scheduler answers."""
 
     def __init__(self, address: str, security: Mapping[str, str], tell: Callable[[str], None]) -> None:
@@ -209,7 +209,7 @@ class ClusterPlace:
         self._miss("the scheduler at %s doesn't answer; waiting for it" % self._address)
 
     def _miss(self, text: str) -> None:
-        """Tells once what is missing."""
+        """Prints once what is missing."""
         if text != self._missing:
             self._missing, self._workers = text, 0
             self._tell(text)

@@ -21,19 +21,19 @@ from .errors import CheckError, FolderError, ListError, RunError, WordsError
 from .folder import VERDICTS, Folder, hold_apart, limits_of
 from .forms import hold_form
 from .keeping import keep_of
-from .passes import Manner, told
+from .list_run import run
+from .passes import Manner, sentence_of
 from .progress import Progress
 from .source import ListFile
 from .tasks import identity
-from .whole import run
 from .workplace import Threads, Workplace
 
 _HELP = """Decides a list of any length in pieces, on all cores of this computer or by dask's workers. FOLDER
 gets verdicts.txt, with a line for each line of LIST in its order, and summary.json. Whatever ended it, the
 same command goes on after what stands. More passes may be added at the end of the command later: they decide
 what is left. Lines are read as they are, for speed: where more than half of the first thousand would be
-refused, nothing is decided, and the first of them is told; `budlarem read` takes the machines out of a list in
-other forms."""
+refused, nothing is decided, and the first of them is printed; `budlarem read` takes the machines out of a list
+in other forms."""
 
 # dask's options of TLS, and what its client calls them.
 TLS = {
@@ -92,9 +92,9 @@ def end_at_interruption(progress: Progress, folder: str) -> None:
     }
 
     def end(number: int, frame: Optional[FrameType]) -> None:
-        told = text % (progress.cleared(), words[signal.Signals(number)], folder)
+        line = text % (progress.cleared(), words[signal.Signals(number)], folder)
         with contextlib.suppress(OSError):
-            os.write(2, told.encode("utf-8", "replace"))
+            os.write(2, line.encode("utf-8", "replace"))
         os._exit(128 + number)
 
     for number in words:
@@ -124,7 +124,7 @@ def _workplace(asked: argparse.Namespace, progress: Progress) -> Workplace:
         from .cluster import ClusterPlace
 
         security = {_SECURITY[name]: path for name, path in files.items()}
-        return ClusterPlace(asked.scheduler, security, progress.tell)
+        return ClusterPlace(asked.scheduler, security, progress.print_line)
     if files:
         raise WordsError("--tls-ca-file, --tls-cert and --tls-key are for --scheduler, which isn't given")
     count = len(os.sched_getaffinity(0)) if asked.threads is None else asked.threads
@@ -181,20 +181,22 @@ def do_run(asked: argparse.Namespace) -> int:
     try:
         return _decided(asked, passes, progress)
     except (FolderError, WordsError) as error:
-        progress.tell(str(error))
+        progress.print_line(str(error))
         return 2
     except CheckError as error:
-        progress.tell(str(error))
+        progress.print_line(str(error))
         return 1
     except ListError as error:
-        progress.tell(str(error))
+        progress.print_line(str(error))
     except RunError as error:
-        progress.tell("%s; the same command goes on after what stands" % error)
+        progress.print_line("%s; the same command goes on after what stands" % error)
     except OSError as error:
-        progress.tell("%s; the same command goes on after what stands, once that is mended" % error)
+        progress.print_line("%s; the same command goes on after what stands, once that is mended" % error)
     except Exception as error:
         # Whatever it is, it is no status that a list comes to.
-        progress.tell("%s; the same command goes on after what stands, once that is mended" % told(error))
+        progress.print_line(
+            "%s; the same command goes on after what stands, once that is mended" % sentence_of(error)
+        )
     return 3
 
 
@@ -219,5 +221,5 @@ def _decided(asked: argparse.Namespace, passes: List[Limits], progress: Progress
             source.hold_unchanged,
         )
         outcome = run(folder, source, passes, manner)
-    progress.tell("%s; %s" % (outcome, os.path.join(asked.out, VERDICTS)))
+    progress.print_line("%s; %s" % (outcome, os.path.join(asked.out, VERDICTS)))
     return 1 if outcome.counts["refused"] else 0

@@ -7,8 +7,8 @@ from typing import Iterator, Optional, Tuple
 
 from .errors import FolderError
 from .journal import Record
-from .look import Counts
 from .pieces import PassFolder
+from .reply_checks import Counts
 from .source import Cuttable
 
 # How many lines a piece has at most where nothing is said, and how many bytes: larger ones gain nothing.
@@ -18,7 +18,7 @@ MOST_BYTES = 560_000
 _ANY_SIZE = 1 << 62
 
 
-class Pace:
+class PiecePace:
     """How many lines a piece gets, such that it lasts about so many seconds: one at first, and not many more
     than a piece that was decided had. It lasts longer where so many are under way, half of which wait, that
     more than RATE would come back in a second."""
@@ -30,7 +30,7 @@ class Pace:
         self._lines, self._seconds = 0.0, 0.0
 
     def took(self, lines: int, seconds: float, width: int) -> None:
-        """Tells how long a piece took, where so many are under way."""
+        """Takes in how long a piece took, where so many are under way."""
         self._lines = self.MEMORY * self._lines + lines
         self._seconds = self.MEMORY * self._seconds + seconds
         self._largest = max(self._largest, lines)
@@ -72,7 +72,7 @@ class Cutter:
 
     def __init__(self, folder: PassFolder, list_name: str, most_lines: int, known: Optional[int]) -> None:
         self._folder, self._list_name, self._known = folder, list_name, known
-        self.pace = Pace(most_lines)
+        self.pace = PiecePace(most_lines)
 
     def pieces(self, lines: Cuttable) -> Iterator[Piece]:
         """The pieces. Raises FolderError where they aren't those that the journal was written for, RunError,

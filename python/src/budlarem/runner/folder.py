@@ -94,6 +94,11 @@ def write_whole(path: str, blocks: Iterator[bytes]) -> None:
     put_whole(path, make)
 
 
+def as_word(path: str) -> str:
+    """A path as a command line takes it: one that begins with `-` is no option there."""
+    return os.path.join(os.curdir, path) if path.startswith("-") else path
+
+
 def words_of(limits: Limits) -> str:
     """Limits as `--pass` takes them."""
     return "steps=%d,cells=%d,depth=%d,nodes=%d" % limits.numbers()
@@ -113,13 +118,13 @@ class Begun:
 
     def text(self) -> str:
         """The text of the file that says it."""
-        told = {
+        fields = {
             "passes": [words_of(limits) for limits in self.passes],
             "keep": str(self.keep),
             "list": {"name": self.list_name, "bytes": self.list_bytes, "lines": self.list_lines},
             **dataclasses.asdict(self.identity),
         }
-        body = json.dumps(told, indent=2)[1:-2]
+        body = json.dumps(fields, indent=2)[1:-2]
         size = len(_HEAD) + _SIZE + len('",') + len(body) + len(_SEALED % ("0" * 64))
         text = '%s%0*d",%s' % (_HEAD, _SIZE, size, body)
         return text + _SEALED % hash_of(text.encode())
@@ -127,31 +132,31 @@ class Begun:
     def page(self, folder: str) -> str:
         """What the files of the folder are, and with which commands it goes on."""
         is_piped = self.list_name == STANDARD_INPUT
-        listed = "-" if is_piped else self.list_name
-        words = ["budlarem", "run", listed, "--out", folder]
+        listed = "-" if is_piped else as_word(self.list_name)
+        words = ["budlarem", "run", listed, "--out", as_word(folder)]
         for limits in self.passes:
             words += ["--pass", words_of(limits)]
         if self.keep.only_left:
             words += ["--keep", str(self.keep)]
-        told = {
+        fields = {
             "list": self.list_name,
             "same": ", with the same list on standard input" if is_piped else "",
             "verdicts": "a verdict for each line of the list, in its order",
             "go_on": shlex.join(words),
-            "again": self._again(folder, [] if is_piped else ["--list", listed]),
+            "again": self._again(as_word(folder), [] if is_piped else ["--list", listed]),
             "version": self.identity.version,
             "commit": self.identity.commit,
         }
         if self.keep.only_left:
-            told["verdicts"] = "the verdicts that are kept (%s), in order" % self.keep
-        return _PAGE.substitute(told)
+            fields["verdicts"] = "the verdicts that are kept (%s), in order" % self.keep
+        return _PAGE.substitute(fields)
 
     def _again(self, folder: str, listed: Sequence[str]) -> str:
         """With which commands the verdicts are checked again, and published where all are kept."""
         check = "    " + shlex.join(["budlarem", "check", os.path.join(folder, VERDICTS)])
         if self.keep.only_left:
             return "The verdicts that are kept are checked again by\n\n%s" % check
-        archive = os.path.basename(os.path.abspath(folder)) + ".tar"
+        archive = as_word(os.path.basename(os.path.abspath(folder)) + ".tar")
         publish = shlex.join(["budlarem", "publish", archive, "--verdicts", folder, *listed])
         return "The verdicts are checked again, and published, by\n\n%s\n    %s" % (check, publish)
 
@@ -161,25 +166,25 @@ class Begun:
         anything else than what `text` gives."""
         if _is_cut(text):
             return None
-        told: Any = None
+        fields: Any = None
         try:
-            told = json.loads(text)
-            begun = cls._of(told)
+            fields = json.loads(text)
+            begun = cls._of(fields)
             if begun.text() == text:
                 return begun
         except (ValueError, TypeError, KeyError, AttributeError, RecursionError):
             pass
-        other = told.get("format", FORMAT) if isinstance(told, dict) else FORMAT
+        other = fields.get("format", FORMAT) if isinstance(fields, dict) else FORMAT
         if other != FORMAT:
             raise FolderError("it has format %.20s, which another version of this package writes" % other)
         raise FolderError("it was changed: its seal doesn't fit; put it back as it was, or remove it")
 
     @classmethod
-    def _of(cls, told: Dict[str, Any]) -> Begun:
-        passes = [limits_of(words) for words in told["passes"]]
-        identity = Identity(*(str(told[name]) for name in ("version", "commit", "library")))
-        listed = told["list"]
-        keep = keep_of([told["keep"]])
+    def _of(cls, fields: Dict[str, Any]) -> Begun:
+        passes = [limits_of(words) for words in fields["passes"]]
+        identity = Identity(*(str(fields[name]) for name in ("version", "commit", "library")))
+        listed = fields["list"]
+        keep = keep_of([fields["keep"]])
         return cls(passes, keep, identity, str(listed["name"]), listed["bytes"], listed["lines"])
 
 

@@ -42,10 +42,10 @@ def why_refused(number: int, line: str) -> str:
     if reading.reason is not None:
         return str(reading.reason)
     if reading.rewritten:
-        told = "it is to be rewritten: " + "; ".join(kind.sentence for kind in reading.rewritten)
+        why = "it is to be rewritten: " + "; ".join(kind.sentence for kind in reading.rewritten)
     else:
-        told = "it has more than the machine, " + _more(line, reading)
-    return "bb refuses it at column %s, since %s" % (column_of(line), told)
+        why = "it has more than the machine, " + _more(line, reading)
+    return "bb refuses it at column %s, since %s" % (column_of(line), why)
 
 
 def _more(line: str, reading: Reading) -> str:

@@ -10,9 +10,9 @@ from typing import Any, Dict, Iterator, List, Optional, Sequence
 from ..limits import Limits
 from .cutting import Piece
 from .errors import DeadlyError, ReplyError, RunError
-from .look import look_at_verdicts, opened, shown
-from .passes import Manner, PassRun, told
+from .passes import Manner, PassRun, sentence_of
 from .pieces import PassFolder
+from .reply_checks import look_at_verdicts, opened, shown
 from .source import Cuttable
 from .tasks import CHECK, DECIDE, check_piece, decide_piece, question
 from .workplace import Executing
@@ -89,7 +89,7 @@ class HandingRun(PassRun):
         try:
             future = self._place.submit(task, lines, self._limits.numbers())
         except Exception as error:
-            raise RunError("no piece can be handed over: %s" % told(error)) from error
+            raise RunError("no piece can be handed over: %s" % sentence_of(error)) from error
         if future in self._under_way:
             raise RunError("two pieces got one future: the executor mixes them up")
         self._under_way[future] = piece
@@ -181,10 +181,10 @@ class HandingRun(PassRun):
         if isinstance(error, ReplyError) and error.line is not None:
             first = last = piece.first + error.line
         where = self._where(first, last)
-        text = "pass %d, %s: %s" % (self._folder.number, where, told(error))
+        text = "pass %d, %s: %s" % (self._folder.number, where, sentence_of(error))
         if piece.tries >= TRIES:
             raise RunError("%s; so it was %d times" % (text, TRIES)) from error
-        self._manner.progress.tell("%s; it is tried again" % text)
+        self._manner.progress.print_line("%s; it is tried again" % text)
         self._start(piece)
 
     def _leave_out(self, piece: Piece, error: DeadlyError) -> None:
@@ -192,7 +192,7 @@ class HandingRun(PassRun):
         where = self._where(piece.first + error.line)
         line = piece.given.split(b"\n")[error.line]
         self._left_out.append("pass %d, %s: %s: %s" % (self._folder.number, where, error, shown(line)))
-        self._manner.progress.tell(self._left_out[-1])
+        self._manner.progress.print_line(self._left_out[-1])
 
 
 def _next_of(pieces: Iterator[Piece]) -> Optional[Piece]:

@@ -15,7 +15,7 @@ import zlib
 from typing import Optional, Tuple
 
 from .._errors import naming
-from .look import KINDS, Counts
+from .reply_checks import KINDS, Counts
 from .tasks import hash_of
 
 _TEXT = "%-7s %13d %9d %9d %s %15d %9d %08x %12d " + "%9d " * len(KINDS)

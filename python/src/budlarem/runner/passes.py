@@ -14,9 +14,9 @@ from .errors import CheckError, FolderError, ReplyError
 from .joining import number_in_list
 from .journal import Record
 from .keeping import Keep
-from .look import look_at_answers, look_at_verdicts
 from .pieces import PassFolder
 from .progress import Progress
+from .reply_checks import look_at_answers, look_at_verdicts
 from .source import Cuttable
 from .tasks import Identity
 from .workplace import Workplace
@@ -49,7 +49,8 @@ class PassResult:
 class Manner:
     """How the pieces of each pass are decided. `list_name` is for sentences; `hold_list` raises where the
     list isn't as it was, and is called before a piece is put down; `is_checked_here` has the checker of this
-    process confirm each verdict; `keep` says which verdict lines are kept."""
+    process confirm each verdict; `keep` says which verdict lines are kept; `seen` is given the verdict lines
+    of each piece that is decided, before any of them is dropped, by whichever thread has them."""
 
     place: Workplace
     identity: Identity
@@ -60,6 +61,7 @@ class Manner:
     is_checked_here: bool = False
     keep: Keep = Keep()
     hold_list: Callable[[], None] = lambda: None
+    seen: Callable[[bytes], None] = lambda verdicts: None
 
 
 class PassRun:
@@ -116,7 +118,7 @@ class PassRun:
                 look_at_verdicts(piece.given, kept, piece.lines)
         except ReplyError as error:
             where = "piece %d of pass %d" % (piece.index + 1, self._folder.number)
-            self._manner.progress.tell("%s is decided again: %s" % (where, error))
+            self._manner.progress.print_line("%s is decided again: %s" % (where, error))
             piece.record = None
             return False
         piece.counts = record.counts_by_kind()
@@ -137,6 +139,7 @@ class PassRun:
     def _keep(self, piece: Piece) -> None:
         """Keeps what a piece came to, or that it is confirmed now."""
         if piece.record is None and piece.written is not None:
+            self._manner.seen(piece.written)
             piece.kept = self._manner.keep.kept_of(piece.written)
             piece.record = Record.of(
                 piece.first, piece.lines, piece.given, piece.kept, piece.seconds, piece.counts
@@ -164,8 +167,8 @@ class PassRun:
             ends, behind = [end + 1 for end in ends], " of those that pass %d left" % len(self._before)
         else:
             ends = [number_in_list(self._before, end) for end in ends]
-        told = "line %d" % ends[0] if ends[0] == ends[1] else "lines %d to %d" % (ends[0], ends[1])
-        return told + behind
+        where = "line %d" % ends[0] if ends[0] == ends[1] else "lines %d to %d" % (ends[0], ends[1])
+        return where + behind
 
     def _put_down_if_due(self) -> None:
         """Puts down what is written, where it is time for it."""
@@ -201,7 +204,7 @@ class PassRun:
         return piece.is_confirmed and (record is None or not record.is_checked)
 
 
-def told(error: BaseException) -> str:
+def sentence_of(error: BaseException) -> str:
     """An error as a sentence has it."""
     if isinstance(error, ReplyError):
         return str(error)

@@ -1,4 +1,4 @@
-"""What is told while a run goes on: a line on a terminal, or one a minute elsewhere."""
+"""What is printed while a run goes on: a line on a terminal, or one a minute elsewhere."""
 
 from __future__ import annotations
 
@@ -41,7 +41,7 @@ def count_of(number: float) -> str:
 
 
 class Progress:
-    """Tells of a run on standard error, or on another stream."""
+    """Prints how a run goes, on standard error or another stream."""
 
     def __init__(self, stream: Optional[TextIO] = None) -> None:
         self._stream = sys.stderr if stream is None else stream
@@ -97,7 +97,7 @@ class Progress:
         return ", ".join(parts)
 
     def tick(self, status: str = "") -> None:
-        """Shows the line where it is time for it, and tells once of a pass that takes long."""
+        """Shows the line where it is time for it, and prints once that a pass takes long."""
         now = time.monotonic()
         if now < self._next:
             return
@@ -117,13 +117,13 @@ class Progress:
         if left is None or left < _LONG or self._is_long_told or not is_told_from:
             return
         self._is_long_told = True
-        self.tell(
+        self.print_line(
             "pass %d takes about %s, by the pace of its first %s lines"
             % (self._pass, duration(left), count_of(self._decided))
         )
 
-    def tell(self, text: str) -> None:
-        """Tells a sentence, on a line of its own."""
+    def print_line(self, text: str) -> None:
+        """Prints a sentence, on a line of its own."""
         self._write(self.cleared() + "budlarem: %s\n" % text)
         self._is_open = False
 

@@ -136,9 +136,9 @@ class PlainLines:
 
 
 def _end_of(held: bytes, begin: int, lines: int) -> Tuple[Optional[int], int]:
-    """Where so many lines end; None where there aren't so many, and then how many are left to be found behind.
-    It goes on by jumps, as long as the lines before were, which end before the last of the lines; as many
-    bytes as there are lines left can't pass that."""
+    """Where so many lines end; None where there aren't so many, and then how many are left to be found
+    behind. It goes on by jumps, as long as the lines before were, which end before the last of the lines; as
+    many bytes as there are lines left can't pass that."""
     jump = lines
     while lines > _FEW:
         if begin >= len(held):
@@ -266,9 +266,9 @@ class ListFile:
         return min((self._raw.tell() if self.is_compressed else taken) / self.size, 1.0)
 
     def first_lines(self, most: int) -> List[bytes]:
-        """Its first lines, so many at most, none longer than LONG bytes; `lines` and `blocks` give them again.
-        No lines where it pauses before so many came: what came is to be decided then. Raises what `blocks`
-        does."""
+        """Its first lines, so many at most, none longer than LONG bytes; `lines` and `blocks` give them
+        again. No lines where it pauses before so many came: what came is to be decided then. Raises what
+        `blocks` does."""
         held: List[bytes] = []
         count, size, is_paused = 0, 0, False
         while count < most and size < most * LONG and not is_paused:

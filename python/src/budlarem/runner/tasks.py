@@ -22,8 +22,8 @@ from ..limits import Limits, Plan
 Numbers = Tuple[int, int, int, int]
 # What was written for the lines, the seconds that it took, the version, the commit and the library's sha256;
 # and then the digest of the lines, what was done within which limits, and the digest of what was written.
-Reply = Tuple[bytes, float, str, str, str, str, str, str]
-Task = Callable[[bytes, Numbers], Reply]
+PieceReply = Tuple[bytes, float, str, str, str, str, str, str]
+Task = Callable[[bytes, Numbers], PieceReply]
 
 DECIDE, CHECK = "decide", "check"
 _kept = threading.local()
@@ -69,24 +69,24 @@ def _room() -> Room:
     return room
 
 
-def reply_of(asked: str, lines: bytes, written: bytes, seconds: float) -> Reply:
+def reply_of(asked: str, lines: bytes, written: bytes, seconds: float) -> PieceReply:
     """The reply to some lines, of which this was asked and for which this was written."""
     ours = identity()
-    told = (ours.version, ours.commit, ours.library, hash_of(lines), asked, hash_of(written))
-    return (written, seconds, *told)
+    about = (ours.version, ours.commit, ours.library, hash_of(lines), asked, hash_of(written))
+    return (written, seconds, *about)
 
 
-def _replied(asked: str, call: Call, lines: bytes) -> Reply:
+def _replied(asked: str, call: Call, lines: bytes) -> PieceReply:
     began, room = time.monotonic(), _room()
     call(room, lines)
     return reply_of(asked, lines, room.reply().text, time.monotonic() - began)
 
 
-def decide_piece(lines: bytes, limits: Numbers) -> Reply:
+def decide_piece(lines: bytes, limits: Numbers) -> PieceReply:
     """The verdict lines of these lines. Raises what `budlarem.decide` does."""
     return _replied(question(DECIDE, limits), deciding(Limits(*limits), Plan()), lines)
 
 
-def check_piece(lines: bytes, limits: Numbers) -> Reply:
+def check_piece(lines: bytes, limits: Numbers) -> PieceReply:
     """The checker's answers to these verdict lines. Raises what `budlarem.check` does."""
     return _replied(question(CHECK, limits), checking(Limits(*limits)), lines)

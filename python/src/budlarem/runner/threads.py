@@ -13,9 +13,9 @@ from ..engine import checking, deciding
 from ..limits import Limits, Plan
 from .cutting import Piece
 from .errors import RunError
-from .look import told_counts
 from .passes import Manner, PassRun
 from .pieces import PassFolder
+from .reply_checks import counts_by_library
 from .source import Cuttable
 from .workplace import Threads
 
@@ -94,7 +94,7 @@ class ThreadsRun(PassRun):
             self._decide_lines(room, piece.given)
             piece.seconds = time.monotonic() - began
             piece.written = room.reply().text
-            piece.counts = told_counts(piece.given, piece.written, piece.lines)
+            piece.counts = counts_by_library(piece.given, piece.written, piece.lines)
             with self._pace:
                 self._cutter.pace.took(piece.lines, piece.seconds, self._threads.width())
         if self._is_to_be_checked(piece) and piece.written is not None:

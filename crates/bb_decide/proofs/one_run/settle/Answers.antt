@@ -1,9 +1,10 @@
 use Rattle.std.proofs.Common.{Some, None, ap, ◌∙◌}
+use Rattle.std.proofs.lemmas.Result.{err_from_is_err_and}
 use Rattle.bb_sim.specs.declared.meter.Meter.{Meter}
 use Rattle.bb_decide.proofs.OneRun.{found_is_verdict, no_walk_at_halt, no_walk_beside}
 use Rattle.bb_decide.proofs.OneRun.{walk_counted}
 use Rattle.bb_decide.proofs.Costs.{off_where_not, on_where_not}
-use Rattle.bb_decide.proofs.RunsMade.{runs_counted, runs_counted_beside}
+use Rattle.bb_decide.proofs.RunsMade.{runs_before_tree, runs_counted, runs_counted_beside}
 use Rattle.bb_decide.proofs.one_run.settle.Goals as goal
 use Rattle.bb_decide.proofs.one_run.settle.Goals.{in-NoSteps, in-NoCells}
 
@@ -87,3 +88,10 @@ returns-then-not-plan-clause-verdict g c =
           let ended = rw (c.in-Ran.is, w.in-NoCells.is) at c.in_ok-verdict.ensures.ended in
           rw w.why-is (ended.0, (ended.1.0, ended.1.1, λ on. absurd (off on)))
     ]
+
+pub returns-in_err-verdict-2-clause-cut : goal.returns-in_err-verdict-2-clause-cut
+returns-in_err-verdict-2-clause-cut g c =
+    let fault = err_from_is_err_and c.from_residual-in_err-verdict-2.result
+    c.from_residual-in_err-verdict-2.ensures.1 in
+    rw fault.1 (runs_before_tree c.args.plan c.new.ensures c.in_ok-verdict.ensures.adds
+    c.backward.new.meter c.backward.ensures.within.steps)

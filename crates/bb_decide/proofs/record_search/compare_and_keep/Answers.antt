@@ -29,6 +29,8 @@ returns-then-agrees g c = record {
   side = refl;
   limit = search rules;
   memory = tt;
+  uncounted = refl;
+  cut = tt;
 }
 
 -- numbers, compared by how far from 0 their positions are
@@ -63,6 +65,8 @@ returns-then-unsigned_abs g c =
       side = refl;
       limit = search rules;
       memory = tt;
+      uncounted = refl;
+      cut = tt;
     }
 
 pub returns : goal.returns
@@ -80,4 +84,6 @@ returns g c =
       side = search rules;
       limit = search rules;
       memory = tt;
+      uncounted = refl;
+      cut = tt;
     }

@@ -14,5 +14,6 @@ returns g c =
     c.compare_and_keep.ensures.side in
     subst (λ r. LooksAtRecord g.T.Tape.GROWS c.args.records.now c.args.runner.now
     (g.T.Tape.view c.args.run.now) (g.T.Tape.view c.args.saved.now) r
-    (g.T.Tape.view c.compare_and_keep.new.saved) (Ok c.in_ok-found.found))
+    (g.T.Tape.view c.compare_and_keep.new.saved) c.args.meter.now c.compare_and_keep.new.meter
+    (Ok c.in_ok-found.found))
     (same ∙ sym c.copy_kept.ensures) c.in_ok-found.ensures

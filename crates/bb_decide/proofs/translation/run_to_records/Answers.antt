@@ -1,6 +1,7 @@
 use Rattle.std.proofs.Common.{arith, ap, refl, rules}
+use Rattle.std.proofs.lemmas.Result.{err_from_is_err_and}
 use Rattle.bb_sim.specs.declared.meter.Meter.{Meter}
-use Rattle.bb_decide.proofs.Benches.{lent_at_first, lent_on}
+use Rattle.bb_decide.proofs.Benches.{lent_at_first, lent_on, lent_uncounted}
 use Rattle.bb_decide.proofs.Counted.{counted_to, cut_after_step, cut_at_step, few_steps, has_counted, taken_over}
 use Rattle.bb_decide.proofs.Endings.{ends_where_in_Z, ends_where_stopped, seeks_and_finds, seeks_to_end, seeks_until_cut}
 use Rattle.bb_decide.proofs.Halting.{in_no_state, is_none}
@@ -9,7 +10,7 @@ use Rattle.bb_decide.proofs.Translations.{searching_at_first}
 use Rattle.bb_decide.proofs.Translations.{none_in_Z, takes_in}
 use Rattle.bb_decide.proofs.translation.run_to_records.Given as given
 use Rattle.bb_decide.proofs.translation.run_to_records.Goals as goal
-use Rattle.bb_decide.proofs.translation.run_to_records.Goals.{After-widened_side, in-Err, in-Ok-Some}
+use Rattle.bb_decide.proofs.translation.run_to_records.Goals.{After-widened_side}
 
 pub loop-moved-init : goal.loop-moved-init
 loop-moved-init g c =
@@ -90,34 +91,48 @@ look_on-requires-clause-ready g c =
     let taken = taken_in g (goal.at.look_on-requires-clause-ready g c).After-widened_side in
     is_ready here taken _ c.in-Some-widened_side.is (g.met.T.Tape.sound c.advance.new.tape)
 
--- it agrees with its partner, or there is no memory to keep it
-pub returns-in-loop-moved : goal.returns-in-loop-moved
-returns-in-loop-moved g c =
+-- the steps that were made fit the meter
+pub look_on-requires-clause-room : goal.look_on-requires-clause-room
+look_on-requires-clause-room g c =
+    let step = (taken_in g (goal.at.look_on-requires-clause-room g c).After-widened_side).step in
+    let few = step.inside.within_steps in
+    let same = ap (λ (m : Meter). m.steps) c.loop-moved.invariant.lent.meter in
+    let most = c.show_accepted.ensures.accepted.steps in
+    let room = c.requires.room in
+    omega (arith, few, same, most, room)
+
+-- no memory to keep it
+pub returns-in_err-verdict : goal.returns-in_err-verdict
+returns-in_err-verdict g c =
     let here = c.loop-moved.invariant in
     let call = c.in-Ok.ensures in
-    let taken = taken_in g (goal.at.returns-in-loop-moved g c).After-widened_side in
-    let lent = lent_on call.limit c.look_on.ensures.right_limit c.look_on.ensures.left_limit here.lent in
-    elim c.match-look_on.branch [
-      | in-Ok-Some w ↦
-          let looks = rw w.in-Ok-Some.field-0-is at w.in-Ok-Some.ensures.looks in
-          let numbers = rw w.in-Ok-Some.field-0-is at w.in-Ok-Some.ensures.numbers in
-          rw w.ended-is (seeks_and_finds lent
-          (is_found here.search taken _ _ _ _ c.in-Some-widened_side.is _ looks numbers
-          (taken_over call.stands here.lent.meter c.count_run-in-loop-moved.ensures)))
-      | in-Err w ↦
-          let memory = w.in-Err.ensures.memory in
-          rw w.ended-is (seeks_until_cut lent
-          (cut_after_step taken.step here.lent.meter c.count_run-in-loop-moved.ensures) memory)
-    ]
+    let taken = taken_in g (goal.at.returns-in_err-verdict g c).After-widened_side in
+    let looks = c.in_err-verdict.ensures in
+    let fault = err_from_is_err_and c.from_residual.result c.from_residual.ensures.1 in
+    rw fault.1 (seeks_until_cut
+    (lent_on call.limit c.look_on.ensures.right_limit c.look_on.ensures.left_limit here.lent)
+    (cut_after_step taken.step here.lent.meter looks.cut) looks.memory)
+
+pub returns-in-Some-2 : goal.returns-in-Some-2
+returns-in-Some-2 g c =
+    let here = c.loop-moved.invariant in
+    let call = c.in-Ok.ensures in
+    let taken = taken_in g (goal.at.returns-in-Some-2 g c).After-widened_side in
+    let looks = c.in_ok-verdict.ensures in
+    let lent = lent_uncounted looks.uncounted here.lent in
+    seeks_and_finds (lent_on call.limit looks.right_limit looks.left_limit lent)
+    (is_found here.search taken _ _ _ _ c.in-Some-widened_side.is _ (rw c.in-Some-2.is at looks.looks)
+    (rw c.in-Some-2.is at looks.numbers)
+    (taken_over call.stands lent.meter c.count_run-in-Some-2.ensures))
 
 pub loop-moved-preserved : goal.loop-moved-preserved
 loop-moved-preserved g c =
     let here = c.loop-moved.invariant in
     let call = c.in-Ok.ensures in
     let taken = taken_in g (goal.at.loop-moved-preserved g c).After-widened_side in
-    let looks = c.look_on.ensures in
+    let looks = c.in_ok-verdict.ensures in
     record {
       search = goes_on_from here.search taken _ _ _ _ c.in-Some-widened_side.side c.in-Some-widened_side.is
-          (rw c.in-Ok-None.field-0-is at c.in-Ok-None.ensures.looks);
-      lent = lent_on call.limit looks.right_limit looks.left_limit here.lent;
+          (rw c.in-None.is at looks.looks);
+      lent = lent_on call.limit looks.right_limit looks.left_limit (lent_uncounted looks.uncounted here.lent);
     }

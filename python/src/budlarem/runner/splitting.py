@@ -58,22 +58,22 @@ def _end_both(job: Job, halves: List[Job]) -> None:
         job.future.set_exception(error)
     else:
         replies = [half.future.result() for half in halves]
-        job.future.set_result(joined([half.lines for half in halves], replies))
+        job.future.set_result(reply_of_parts([half.lines for half in halves], replies))
 
 
-def joined(parts: List[bytes], replies: List[Any]) -> Any:
+def reply_of_parts(parts: List[bytes], replies: List[Any]) -> Any:
     """The reply to lines whose parts had these replies. One that hasn't a reply's form, isn't that of its
     part, or is of another library than the others, is given as it is; whoever looks at it sees that."""
     for lines, reply in zip(parts, replies):
-        if not _has_form(reply, lines) or _told(reply) != _told(replies[0]):
+        if not _has_form(reply, lines) or _made_by(reply) != _made_by(replies[0]):
             return reply
     written: bytes = b"".join(reply[0] for reply in replies)
     seconds: float = sum(reply[1] for reply in replies)
-    *identity, asked = _told(replies[0])
+    *identity, asked = _made_by(replies[0])
     return (written, seconds, *identity, hash_of(b"".join(parts)), asked, hash_of(written))
 
 
-def _told(reply: Any) -> Tuple[Any, ...]:
+def _made_by(reply: Any) -> Tuple[Any, ...]:
     """By what a reply was made, and what it answers."""
     return (*reply[2:5], reply[6])
 

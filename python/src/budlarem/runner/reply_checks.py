@@ -78,7 +78,7 @@ def _split(lines: bytes, count: int, what: str) -> List[bytes]:
     return parts
 
 
-def told_counts(given: bytes, verdicts: bytes, lines: int) -> Counts:
+def counts_by_library(given: bytes, verdicts: bytes, lines: int) -> Counts:
     """How many there are of each kind, among the replies of this process to so many lines."""
     if not has_call("bb_look"):
         return counts_of(verdicts, lines)
@@ -146,7 +146,7 @@ def opened(reply: object, ours: Identity, asked: str, lines: bytes) -> Tuple[byt
     what was asked of these lines. Raises ReplyError."""
     if not (isinstance(reply, tuple) and len(reply) >= 5 and isinstance(reply[0], bytes)):
         raise ReplyError("what came back is no reply, but of type %s" % type(reply).__name__)
-    theirs = Identity(*(str(told) for told in reply[2:5]))
+    theirs = Identity(*(str(part) for part in reply[2:5]))
     if theirs != ours:
         raise ReplyError("it was decided by %s; here is %s" % (theirs, ours))
     written, seconds = reply[:2]
@@ -156,11 +156,11 @@ def opened(reply: object, ours: Identity, asked: str, lines: bytes) -> Tuple[byt
     return written, seconds
 
 
-def _hold_digests(told: Tuple[object, ...], asked: str, lines: bytes, written: bytes) -> None:
+def _hold_digests(digests: Tuple[object, ...], asked: str, lines: bytes, written: bytes) -> None:
     """Raises ReplyError where a reply isn't that to what was asked of these lines, or was changed."""
-    if told[:1] != (hash_of(lines),):
+    if digests[:1] != (hash_of(lines),):
         raise ReplyError("what came back answers other lines")
-    if told[1:2] != (asked,):
-        raise ReplyError("what came back answers something else: %.200r, not %r" % (told[1:2], asked))
-    if told[2:] != (hash_of(written),):
+    if digests[1:2] != (asked,):
+        raise ReplyError("what came back answers something else: %.200r, not %r" % (digests[1:2], asked))
+    if digests[2:] != (hash_of(written),):
         raise ReplyError("what came back was changed on its way: its digest is another one's")

@@ -15,9 +15,9 @@ from .folder import SUMMARY, VERDICTS, Begun, Folder, put_whole, words_of, write
 from .handing import HandingRun
 from .joining import joined, left_by
 from .keeping import Keep
-from .look import KINDS
 from .passes import Manner, PassResult, PassRun
 from .pieces import PassFolder
+from .reply_checks import KINDS
 from .source import Cuttable, Lines, ListFile
 from .tasks import Identity
 from .threads import ThreadsRun
@@ -177,7 +177,7 @@ def summary_of(
     began: Tuple[float, float],
 ) -> Dict[str, Any]:
     """What the summary says. The run began at this time, by the wall's clock and by one that never goes
-    back, by which it is told how long it took."""
+    back, which counts its seconds."""
     seconds = time.monotonic() - began[1]
     times = [
         datetime.datetime.fromtimestamp(when, datetime.timezone.utc)

@@ -1,0 +1,62 @@
+use Rattle.std.proofs.Common.{refl, sym, ◌∙◌}
+use Rattle.std.proofs.lemmas.Bool.Decides.{Decides-eqb}
+use Rattle.std.proofs.lemmas.Slice.Eq.{slice_eq-Decides}
+use Rattle.bb_cert.specs.declared.verdict.Side.TheVariants.{L, R}
+use Rattle.bb_cert.specs.declared.verdict.Verdict.TheVariants.{Halt, Cycler, Translated, Backward, Undecided}
+use Rattle.bb_cert.specs.declared.verdict.Why.TheVariants.{Steps, Cells}
+use Rattle.bb_run.proofs.words.kind_of_words.Goals as goal
+
+pub returns-then-are_records : goal.returns-then-are_records
+returns-then-are_records c =
+    let told = c.are_records.ensures c.if-are_records.true in
+    record {
+      verdict = Translated R told.0 told.1 told.2;
+      numbers = (told.3, told.4, told.5);
+      is_text = told.6;
+      is_kind = refl;
+    }
+
+pub returns-then-are_records-2 : goal.returns-then-are_records-2
+returns-then-are_records-2 c =
+    let told = c.are_records-in-116.ensures c.if-are_records-2.true in
+    record {
+      verdict = Translated L told.0 told.1 told.2;
+      numbers = (told.3, told.4, told.5);
+      is_text = told.6;
+      is_kind = refl;
+    }
+
+pub returns-then-are_pair : goal.returns-then-are_pair
+returns-then-are_pair c =
+    let told = c.are_pair.ensures c.if-are_pair.true in
+    record { verdict = Halt told.0 told.1; numbers = (told.2, told.3); is_text = told.4; is_kind = refl }
+
+pub returns-then-are_pair-2 : goal.returns-then-are_pair-2
+returns-then-are_pair-2 c =
+    let told = c.are_pair-in-99.ensures c.if-are_pair-2.true in
+    record { verdict = Cycler told.0 told.1; numbers = (told.2, told.3); is_text = told.4; is_kind = refl }
+
+pub returns-then-are_pair-3 : goal.returns-then-are_pair-3
+returns-then-are_pair-3 c =
+    let told = c.are_pair-in-98.ensures c.if-are_pair-3.true in
+    record { verdict = Backward told.0 told.1; numbers = (told.2, told.3); is_text = told.4; is_kind = refl }
+
+pub returns-then-eq : goal.returns-then-eq
+returns-then-eq c =
+    let same = (slice_eq-Decides Decides-eqb _ _ _ c.eq.ensures).0 c.if-eq.true in
+    record {
+      verdict = Undecided Steps;
+      numbers = tt;
+      is_text = sym (same ∙ c.as_slice.ensures);
+      is_kind = refl;
+    }
+
+pub returns-then-eq-2 : goal.returns-then-eq-2
+returns-then-eq-2 c =
+    let same = (slice_eq-Decides Decides-eqb _ _ _ c.eq-in_default.ensures).0 c.if-eq-2.true in
+    record {
+      verdict = Undecided Cells;
+      numbers = tt;
+      is_text = sym (same ∙ c.as_slice-in_default.ensures);
+      is_kind = refl;
+    }

@@ -1,0 +1,158 @@
+"""What the tests of the runner share: a list of each kind of line, a run over it, and executors that answer
+wrongly or late."""
+
+from __future__ import annotations
+
+import io
+import os
+import pathlib
+import tempfile
+import unittest
+from concurrent.futures import Executor, Future
+from typing import Any, Callable, List, Sequence
+
+import budlarem
+from budlarem import Limits
+from budlarem.runner import folder as folders
+from budlarem.runner import journal, keeping, list_run, passes, pieces, progress, source, tasks, workplace
+
+
+# Two that halt, a cycler, two translated cyclers, three that small limits leave, one of which larger ones
+# decide, and two that are no machines.
+KINDS = (
+    b"1RB1LB_1LA1RZ\n------\n0RB---_0LA---\n1RA1RA\n1RB1LC_1RC1RB_1RD0LE_1LA1LD_1RZ0LA\n1rB1LB\n"
+    b"1RB0RA_1LC1LB_1RA0LB\n1RB1LB_1LA1RZ halt 6 4\n0RB1LD_0RC1RD_0RD---_1LA0RB\n"
+    b"1RB0LA_0RC---_1RD0LD_1LA1RB\n"
+)
+LIST = KINDS * 37
+# Files there need no disk, so that the tests take no time for it.
+MEMORY = "/dev/shm"
+SMALL, MIDDLE = Limits(30, 16, 3, 5), Limits(1_000, 128, 20, 100)
+PASSES = (SMALL, MIDDLE)
+
+
+def expected(given: bytes, limits: Sequence[Limits] = PASSES) -> bytes:
+    """The verdict lines of a list, by one call for each pass."""
+    lines = b"".join(budlarem.decide_bytes(given, limits[0])).splitlines(keepends=True)
+    for limit in limits[1:]:
+        left = [place for place, line in enumerate(lines) if b" undecided " in line]
+        machines = b"".join(lines[place].split()[0] + b"\n" for place in left)
+        later = b"".join(budlarem.decide_bytes(machines, limit)).splitlines(keepends=True)
+        for place, line in zip(left, later):
+            lines[place] = line
+    return b"".join(lines)
+
+
+def resealed(reply: tasks.PieceReply, written: bytes) -> tasks.PieceReply:
+    """A reply with other bytes, and the digest of these."""
+    return (written, *reply[1:7], tasks.hash_of(written))
+
+
+class Answering(Executor):
+    """An executor whose answer to a task a function changes; it is given the reply and how many came
+    before."""
+
+    def __init__(self, change: Callable[[tasks.PieceReply, int], Any]) -> None:
+        self.change, self.count = change, 0
+
+    def submit(self, function: Any, /, *given: Any, **named: Any) -> Any:
+        future: Future[Any] = Future()
+        self.count += 1
+        try:
+            future.set_result(self.change(function(*given, **named), self.count - 1))
+        except Exception as error:
+            future.set_exception(error)
+        return future
+
+
+class Late(Executor):
+    """An executor that answers when several tasks wait, the last one first."""
+
+    def __init__(self, most: int) -> None:
+        self.most = most
+        self.waiting: List[Callable[[], None]] = []
+
+    def submit(self, function: Any, /, *given: Any, **named: Any) -> Any:
+        future: Future[Any] = Future()
+        self.waiting.append(lambda: future.set_result(function(*given, **named)))
+        if len(self.waiting) == self.most:
+            while self.waiting:
+                self.waiting.pop()()
+        return future
+
+
+class Told(progress.Progress):
+    """Progress that is kept."""
+
+    def __init__(self) -> None:
+        self.kept = io.StringIO()
+        super().__init__(self.kept)
+
+
+class RunnerTest(unittest.TestCase):
+    """A list and a folder, and a run over them."""
+
+    def setUp(self) -> None:
+        kept = tempfile.TemporaryDirectory(dir=MEMORY if os.path.isdir(MEMORY) else None)
+        self.addCleanup(kept.cleanup)
+        self.top = pathlib.Path(kept.name)
+        self.list, self.out = self.top / "list.txt", self.top / "out"
+        self.list.write_bytes(LIST)
+        self.told = Told()
+        self.seen: List[bytes] = []
+
+    def run_over(
+        self,
+        executor: Any = None,
+        limits: Sequence[Limits] = PASSES,
+        most: int = 7,
+        check: bool = False,
+        path: str = "",
+        here: bool = False,
+        keep: keeping.Keep = keeping.Keep(),
+    ) -> list_run.Outcome:
+        """A run, by an executor or by two threads."""
+        place: workplace.Workplace = workplace.Threads(2)
+        if executor is not None:
+            place = workplace.ExecutorPlace(executor, 2)
+        listed = source.ListFile(path or str(self.list))
+        try:
+            opened = folders.Folder(str(self.out))
+            try:
+                manner = passes.Manner(
+                    place,
+                    tasks.identity(),
+                    self.told,
+                    listed.name,
+                    most,
+                    check,
+                    here,
+                    keep,
+                    listed.hold_unchanged,
+                    self.seen.append,
+                )
+                return list_run.run(opened, listed, limits, manner)
+            finally:
+                opened.close()
+        finally:
+            listed.close()
+
+    def verdicts(self) -> bytes:
+        return (self.out / "verdicts.txt").read_bytes()
+
+    def opened(self, limits: Sequence[Limits], keep: keeping.Keep = keeping.Keep()) -> pieces.PassFolder:
+        """The last of these passes, which is whole."""
+        top = folders.Folder(str(self.out))
+        try:
+            found = top.open_pass(limits, keep, tasks.identity())
+        finally:
+            top.close()
+        self.addCleanup(found.close)
+        found.pieces = found.journal.length()
+        return found
+
+    def records(self, limits: Sequence[Limits]) -> List[journal.Record]:
+        """What the journal of the last of these passes has."""
+        found = self.opened(limits).journal
+        records = map(found.read, range(found.length()))
+        return [record for record in records if record is not None]
