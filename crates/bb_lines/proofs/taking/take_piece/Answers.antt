@@ -1,6 +1,7 @@
 use Rattle.std.proofs.Common.{◌≡◌, ◌+◌, [], ◌∷◌, ◌++◌, length, take, drop, ◌∙◌, ap, subst, refl, append_assoc}
 use Rattle.std.proofs.Common.{arith}
 use Rattle.std.proofs.Math.Seq.{take-length}
+use Rattle.std.specs.List.{FoldsTo}
 use Rattle.bb_lines.specs.Lines.{unfinished}
 use Rattle.bb_lines.specs.inside.Progress.{HasNoNewline, none}
 use Rattle.bb_lines.proofs.Prefixes.{HasNoNewline-append, HasNoNewline-take, no_newline_before, line_split}

@@ -1,4 +1,4 @@
-use Rattle.std.proofs.Common.{◌≡◌, List, ℕ, ◌++◌, length, take}
+use Rattle.std.proofs.Common.{◌≡◌, List, ℕ, [], ◌++◌, length, take}
 use Rattle.std.specs.List.{FoldsTo}
 use Rattle.bb_lines.specs.Lines.{complete, unfinished}
 use Rattle.bb_lines.specs.inside.Progress.{prefixes, HasNoNewline}
