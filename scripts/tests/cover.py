@@ -20,11 +20,13 @@ import os
 import random
 import re
 import subprocess
+import tempfile
 from typing import Callable, List, Sequence, Tuple
 
 from machine_list import has_lister, listed
 from program import ended, joined, options, processor_time
 from tally import TOP, Tally, end_with, words
+from terminal import on_terminal
 
 COVER = os.path.join(TOP, "crates", "cover", "out", "cover")
 # States and symbols of the lists that are small.
@@ -170,6 +172,28 @@ def hold_sentences(tally: Tally, lines: List[str]) -> None:
     tally.hold("a full disk: %r" % done_full, full_told)
 
 
+def hold_terminal(tally: Tally, lines: Sequence[str]) -> None:
+    """Holds what `cover` says on a terminal alone: how far a list has come, and what failed and why."""
+    with tempfile.NamedTemporaryFile() as file:
+        file.write(joined(lines))
+        file.flush()
+        status, shown = on_terminal([COVER, *LIMITS, file.name], b"", subprocess.DEVNULL)
+        is_shown = re.match(r"\r0% 0 lines\x1b\[K(\r\d+% \d+ lines\x1b\[K)*\r\x1b\[K$", shown)
+        tally.hold("progress: status %d, %r" % (status, shown), status == 0 and is_shown)
+        with open("/dev/full", "wb") as full:
+            status, shown = on_terminal([COVER, *LIMITS, file.name], b"", full)
+        told = "cover: write failed\nstandard output: No space left on device (os error 28)\n"
+        tally.hold("a full disk: status %d, %r" % (status, shown), status == 3 and shown.endswith(told))
+    rows = {
+        "/no/such/file": "/no/such/file: No such file or directory (os error 2)\n",
+        TOP: "%s: Is a directory",
+    }
+    for path, cause in rows.items():
+        status, shown = on_terminal([COVER, *LIMITS, path], b"", subprocess.DEVNULL)
+        told = "cover: read failed\n" + (cause % path if "%s" in cause else cause)
+        tally.hold("%s: status %d, %r" % (path, status, shown), status == 3 and told in shown)
+
+
 def main() -> int:
     quick = "without four states, and with a tenth of the changes"
     asked = words(__doc__, quick=quick, machines=1_000, seed=68).parse_args()
@@ -179,6 +203,7 @@ def main() -> int:
     subprocess.run([os.path.join(TOP, "cover"), "--version"], stdout=subprocess.DEVNULL, check=True)
     lists = {size: hold_whole(tally, asked.program, *size) for size in SMALL}
     hold_sentences(tally, lists[2, 2])
+    hold_terminal(tally, lists[3, 2])
     count = asked.machines // 10 if asked.quick else asked.machines
     hold_changes(tally, lists[3, 2], count, random.Random(asked.seed))
     if not asked.quick:
