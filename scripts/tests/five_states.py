@@ -136,6 +136,16 @@ def hold_pieces(tally: Tally, program: str, top: pathlib.Path) -> None:
         tally.hold("what is left is kept: %d bytes of %d" % (len(kept), len(right)), kept == left != b"")
 
 
+def hold_merged(tally: Tally) -> None:
+    """A later pass answers what the first left, but a halt behind which the list would go on."""
+    first = [b"1RB---_1LA--- halt 2 1\n", b"1RB---_1LA1RA", b"1RB---_------", b"1RB1LA_1LA1RA"]
+    open_ones = [machine + b" undecided steps 3\n" for machine in first[1:]]
+    later = [b"1RB---_1LA1RA halt 5 3\n", b"1RB---_------ halt 5 1\n", b"1RB1LA_1LA1RA cycler 1 2\n"]
+    found = list(loaded().merged(iter([first[0], *open_ones]), iter(later)))
+    right = [first[0], later[0], open_ones[1], later[2]]
+    tally.hold("two passes are one list: %r" % found, found == right)
+
+
 def hold_shares(tally: Tally, counts: Dict[str, int]) -> None:
     """The share of each kind in the sample is about that in the whole list."""
     whole = written()["counts"]
@@ -292,6 +302,7 @@ def main() -> int:
         hold_document(tally)
         hold_refusals(tally, top)
         hold_pieces(tally, program, top / "pieces")
+        hold_merged(tally)
         hold_stream(tally, top / "three")
         hold_interruptions(tally, top / "four")
         hold_sample(tally, program, top)
