@@ -4,28 +4,12 @@ set -eu
 here=$(cd "$(dirname "$0")" && pwd)
 program=$here/crates/bb/out/bb
 
-# The crates of this project that a crate stands on.
-needs_of() {
-    sed -n "s/^$1: //p" "$here/crates.txt" | tr ' ' '\n' | grep '^bb_' || true
-}
+. "$here/scripts/lib/sources.sh"
 
 # The libraries that the program stands on, in the order of `crates.txt`.
 libraries() {
     needs=$(needs_of bb)
     sed -n 's/^\(bb_[a-z_]*\):.*/\1/p' "$here/crates.txt" | grep -Fx "$needs"
-}
-
-# Whether there is no program, or something that it is made of is newer: the code, the definitions and the
-# proofs of its crates. Edits, tests and other crates are no part of it.
-stale() {
-    [ -x "$program" ] || return 0
-    set -- "$here/crates.txt"
-    for part in bb $(needs_of bb); do
-        for folder in src specs proofs; do
-            [ ! -d "$here/crates/$part/$folder" ] || set -- "$@" "$here/crates/$part/$folder"
-        done
-    done
-    [ -n "$(find "$@" -type f ! -name 'tests*' -newer "$program" -print | head -n 1)" ]
 }
 
 # Begins `rt` with these words in a crate of this tree; its process is then in `process_CRATE`.
@@ -108,7 +92,7 @@ build() {
     trap - EXIT INT TERM
 }
 
-if stale; then
+if is_older bb "$program"; then
     build
 fi
 exec "$program" "$@"

@@ -23,11 +23,12 @@ import time
 from typing import Callable, List, NamedTuple, Optional, Sequence, Tuple
 
 HERE = os.path.dirname(os.path.abspath(__file__))
-sys.path.insert(0, os.path.join(os.path.dirname(HERE), "tests"))
+sys.path.insert(0, os.path.join(os.path.dirname(HERE), "lib"))
 
-from machine_list import listed  # noqa: E402
+from built import listed  # noqa: E402
 from machines import halting_once, uniform  # noqa: E402
 from program import (
+    MAX_CELLS,
     SIMULATION,
     begins_modulo_64,
     ended,
@@ -109,7 +110,7 @@ def cases(draw: random.Random) -> List[Case]:
         Case(f"{LIST} machines of four states", limits, four),
         Case("the same, without a step", ["--steps", "0", *limits[2:]], four),
         Case(f"{at_once}, 64 cells", ["--cells", "64", "--depth", "10"], halting),
-        Case(f"{at_once}, 67108864 cells", ["--cells", "67108864"], halting),
+        Case(f"{at_once}, {MAX_CELLS} cells", ["--cells", str(MAX_CELLS)], halting),
         Case(f"{REFUSED_BYTES} bytes of refused lines", [], refused_lines(draw)),
     ]
 

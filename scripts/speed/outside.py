@@ -22,18 +22,18 @@ from typing import Any, Callable, Iterator, List, Optional
 
 TOP = os.path.dirname(os.path.dirname(os.path.dirname(os.path.abspath(__file__))))
 sys.path.insert(0, os.path.join(TOP, "scripts", "tests"))
+sys.path.insert(0, os.path.join(TOP, "scripts", "lib"))
 sys.path.insert(0, os.path.join(TOP, "python", "src"))
 
-from library_built import LIBRARY, has_library  # noqa: E402
-from machine_list import has_lister, listed  # noqa: E402
-from program import processor_time  # noqa: E402
+from built import LIBRARY, has_library, has_lister, listed  # noqa: E402
+from program import GREATEST, LIMITS, processor_time  # noqa: E402
 from program import words_of_plan as options  # noqa: E402
 from tally import Tally, end_with, words  # noqa: E402
 
 os.environ["BB_LIBRARY"] = LIBRARY
 FOUR = {"steps": 200, "cells": 256, "depth": 20, "nodes": 1_000}
 LOWEST = {"steps": 0, "cells": 1, "depth": 0, "nodes": 0}
-MOST = {"steps": 10**12, "cells": 67_108_864, "depth": 10_000, "nodes": 10**12}
+MOST = dict(zip(LIMITS, GREATEST))
 README = b"1RB1LB_1LA1RZ\n1RA1RA\n1rB1LB\n"
 CHAMPION = "1RB1LC_1RC1RB_1RD0LE_1LA1LD_1RZ0LA"
 CHAMPION_STEPS = 47_176_870
@@ -123,10 +123,11 @@ def four_states(folder: str) -> str:
 
 def measure_node(figures: Figures, program: str, folder: str) -> None:
     """The module: its size, the list of four states, memory."""
-    from web_engine import MODULE, Engine, built
+    from built import MODULE, has_page
+    from node import Engine
 
     tally = figures.tally
-    if not tally.has("the module in Node", "node") or not built():
+    if not tally.has("the module in Node", "node") or not has_page():
         return
     engine = Engine(folder)
     if engine.about.get("unsupported"):
@@ -159,7 +160,7 @@ def measure_node(figures: Figures, program: str, folder: str) -> None:
 
 def fresh_after(folder: str, times: int) -> int:
     """The bytes that an engine holds after so many lists."""
-    from web_engine import Engine
+    from node import Engine
 
     engine = Engine(folder)
     small = {"steps": 100, "cells": 64, "depth": 20, "nodes": 100}
@@ -222,7 +223,7 @@ def measure_look(figures: Figures, program: str, folder: str) -> None:
 def page_of(folder: str, cores: Optional[int] = None) -> Iterator[Any]:
     """The page in a browser of its own."""
     from browser import Page
-    from web_engine import PAGE
+    from built import PAGE
 
     page = Page(PAGE, folder, cores=cores)
     try:
@@ -253,11 +254,11 @@ def in_page(folder: str, path: str, cores: int, longest: List[float]) -> float:
 
 def measure_page(figures: Figures, program: str, folder: str) -> None:
     """The page: its size, its first verdict, the list of four states, memory."""
+    from built import PAGE, has_page
     from page import has_selenium
-    from web_engine import PAGE, built
 
     tally = figures.tally
-    if not tally.has("the page", "chromium", "chromedriver") or not has_selenium(tally) or not built():
+    if not tally.has("the page", "chromium", "chromedriver") or not has_selenium(tally) or not has_page():
         return
     figures.head("The page `bb.html`, in Chromium, opened from the disk")
     size = os.path.getsize(PAGE)
@@ -292,12 +293,12 @@ def milliseconds(figures: Figures, what: str, seconds: float, bar: Optional[floa
 
 def measure_views(figures: Figures, program: str, folder: str) -> None:
     """Views of the five-state champion's run in the page, and what the module takes of them in Node."""
+    from built import has_page
     from page import has_selenium
     from page_times import PAUSE, end, views
-    from web_engine import built
 
     tally = figures.tally
-    if not tally.has("views", "chromium", "chromedriver", "node") or not has_selenium(tally) or not built():
+    if not tally.has("views", "chromium", "chromedriver", "node") or not has_selenium(tally) or not has_page():
         return
     longest: List[float] = []
     each: List[List[float]] = []
@@ -332,7 +333,7 @@ def measure_views(figures: Figures, program: str, folder: str) -> None:
 
 def traced_in_node(folder: str) -> float:
     """The seconds that the module takes for the lines of a view at step 10^7."""
-    from web_engine import Engine
+    from node import Engine
 
     engine = Engine(folder)
     sample = {"steps": 10_000_000, "cells": 65_536, "from": 0, "every": 18_432}
@@ -468,7 +469,7 @@ def measure_report(figures: Figures, program: str, folder: str) -> None:
 
 def measure_interruption(figures: Figures) -> None:
     """After how long SIGINT is heard, and the process has ended by it."""
-    from python import WHERE, interrupted
+    from package_beside import WHERE, interrupted
 
     for where in WHERE:
         seconds = figures.least(lambda: interrupted(where)[2])[0]

@@ -32,11 +32,10 @@ import time
 from typing import Callable, Dict, List, Sequence, Tuple
 
 HERE = os.path.dirname(os.path.abspath(__file__))
-sys.path.insert(0, os.path.join(HERE, "..", "tests"))
+sys.path[:0] = [os.path.join(HERE, "..", "lib"), os.path.join(HERE, "..", "tests")]
 
+from built import has_library, has_lister, listed  # noqa: E402
 from cluster import Cluster, changed_package, cluster  # noqa: E402
-from library_built import has_library  # noqa: E402
-from machine_list import has_lister, listed  # noqa: E402
 from machines import uniform  # noqa: E402
 from program import joined, options  # noqa: E402
 from runs import Case, environment, most_memory, words_of  # noqa: E402

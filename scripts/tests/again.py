@@ -21,10 +21,12 @@ import sys
 import tempfile
 from typing import Counter, Iterator, List, Tuple
 
-from machine_list import has_lister, listed
-from machines import mixed, seldom_halting
-from program import ended, options
-from tally import TOP, Tally, end_with, words
+sys.path.insert(0, os.path.join(os.path.dirname(os.path.dirname(os.path.abspath(__file__))), "lib"))
+
+from built import has_lister, listed  # noqa: E402
+from machines import mixed, seldom_halting  # noqa: E402
+from program import ended, options  # noqa: E402
+from tally import TOP, Tally, end_with, words  # noqa: E402
 
 AGAIN = os.path.join(TOP, "python", "src", "budlarem", "again.py")
 # What it may have of lines.

@@ -1,20 +1,10 @@
-#!/usr/bin/env python3
-"""Decides random machines with the built program, and lets it check what it wrote.
-
-    scripts/tests/closed_loop.py crates/bb/out/bb [--machines N] [--seed S]
-
-The machines come from a seed: most have 1 to 7 states and 2 symbols, the others up to 25 states and 10
-symbols. At each of some limits, every decided line must be answered `ok` and every other line `open`.
-At limits of which none is smaller, every decided machine must stay decided: with the same verdict, or as a
-cycler or a translated cycler where backward reasoning had decided it. Under each plan some machine must be
-decided. It takes some seconds. The last line is `N passed, M failed`; the status is 1 where any failed.
-"""
+"""Random machines decided by the program, whose checker has to confirm what it wrote; see `deciding.py`."""
 
 from typing import Iterator, List, Sequence, Tuple
 
 from machines import mixed
 from program import PLANS, ROWS, kind_of, options, replies
-from tally import Tally, end_with, words
+from tally import Tally
 
 Held = Iterator[Tuple[str, bool]]
 # Limits, and the verdict lines of a run within them.
@@ -59,15 +49,9 @@ def tried(program: str, machines: Sequence[str], plan: Sequence[str]) -> Held:
     yield "some machine is decided under the plan %s" % plan, some
 
 
-def main() -> int:
-    asked = words(__doc__, machines=10_000, seed=1).parse_args()
-    machines = list(mixed(asked.machines, asked.seed))
-    tally = Tally()
+def hold(tally: Tally, program: str, count: int, seed: int) -> None:
+    """Holds so many machines under each plan."""
+    machines = list(mixed(count, seed))
     for plan in PLANS:
-        for what, holds in tried(asked.program, machines, plan):
+        for what, holds in tried(program, machines, plan):
             tally.hold(what, holds)
-    return tally.end()
-
-
-if __name__ == "__main__":
-    end_with(main)

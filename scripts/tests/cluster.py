@@ -27,14 +27,17 @@ import sys
 import time
 from typing import Dict, Iterator, List, Optional, Tuple
 
-from library_built import has_library
-from runs import LONG_MACHINE, PASSES, SOURCE, Case, Process, decided, environment, expected, folder
-from runs import hold_interrupted, is_at_work, kill_often, random_list, seen
-from tally import Tally, end_with, words
+sys.path.insert(0, os.path.join(os.path.dirname(os.path.dirname(os.path.abspath(__file__))), "lib"))
+
+from built import has_library  # noqa: E402
+from program import MAX_CELLS, MAX_STEPS  # noqa: E402
+from runs import LONG_MACHINE, PASSES, SOURCE, Case, Process, decided, environment  # noqa: E402
+from runs import expected, folder, hold_interrupted, is_at_work, kill_often, random_list, seen  # noqa: E402
+from tally import Tally, end_with, words  # noqa: E402
 
 # A run of LONG_MACHINE at these limits takes seconds.
 LONG_PASS = (300_000_000, 200_000, 3, 10)
-ENDLESS_PASS = (1_000_000_000_000, 67_108_864, 3, 10)
+ENDLESS_PASS = (MAX_STEPS, MAX_CELLS, 3, 10)
 # At these limits a line costs nothing to speak of.
 QUICK_PASS = (300, 64, 3, 10)
 # How a worker ends itself at LONG_MACHINE.

@@ -1,20 +1,28 @@
 #!/usr/bin/env python3
-"""Runs the built program over command lines, with files, statuses and standard error.
+"""Runs the built program over command lines, with files, statuses and standard error, and over the examples.
 
-    scripts/tests/command_lines.py crates/bb/out/bb
+    scripts/tests/command_lines.py crates/bb/out/bb [--part PART]...
 
-It holds what no contract and no test of the gate says: that FILE is read, that a file which can't be
-opened is a failed read, and what reaches standard error. It takes a few seconds. The last line is
-`N passed, M failed`; the status is 1 where any failed. Needs Linux.
+The parts, both of which are run where none is named:
+
+- `words` holds what no contract and no test of the gate says: that FILE is read, that a file which can't be
+  opened is a failed read, and what reaches standard error.
+- `examples` runs those of `examples/`, and compares what comes out.
+
+It takes a few seconds. The last line is `N passed, M failed`; the status is 1 where any failed. Needs Linux.
 """
 
 import os
 import subprocess
+import sys
 import tempfile
 from typing import Iterator, List, Tuple, Union
 
-from program import ended
-from tally import Tally, end_with, words
+sys.path.insert(0, os.path.join(os.path.dirname(os.path.dirname(os.path.abspath(__file__))), "lib"))
+
+import examples  # noqa: E402
+from program import ended  # noqa: E402
+from tally import Tally, end_with, words  # noqa: E402
 
 MACHINES = b"1RB1LB_1LA1RZ\n0RB---_0LA---\n1RA1RA\n"
 VERDICTS = b"1RB1LB_1LA1RZ halt 6 4\n0RB---_0LA--- cycler 2 4\n1RA1RA translated R 1 2 1 1\n"
@@ -101,17 +109,27 @@ def full_output(program: str) -> bool:
     return done.returncode == 3 and done.stderr == b"bb: write failed\n"
 
 
-def main() -> int:
-    program = words(__doc__).parse_args().program
-    tally = Tally()
+def hold_words(tally: Tally, program: str) -> None:
+    """Each command line, help, and a device that is full."""
     with tempfile.TemporaryDirectory() as folder:
         for name, asked, given, status, output, error in cases(folder):
             done = subprocess.run([program, *asked], input=given, capture_output=True)
-            told = done.stderr == error if status in (0, 1, 3) else error in done.stderr
-            tally.hold(name, done.returncode == status and done.stdout == output and told)
+            said = done.stderr == error if status in (0, 1, 3) else error in done.stderr
+            tally.hold(name, done.returncode == status and done.stdout == output and said)
     for name, holds in helps(program):
         tally.hold(name, holds)
     tally.hold("a full device", full_output(program))
+
+
+PARTS = {"words": hold_words, "examples": examples.hold}
+
+
+def main() -> int:
+    asked = words(__doc__, parts=tuple(PARTS)).parse_args()
+    tally = Tally()
+    for name, hold in PARTS.items():
+        if name in (asked.part or PARTS):
+            hold(tally, asked.program)
     return tally.end()
 
 

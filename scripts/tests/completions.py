@@ -16,7 +16,9 @@ import sys
 import tempfile
 from typing import Dict, Iterator, List, Sequence, Set
 
-from tally import TOP, Tally, end_with, words
+sys.path.insert(0, os.path.join(os.path.dirname(os.path.dirname(os.path.abspath(__file__))), "lib"))
+
+from tally import TOP, Tally, end_with, words  # noqa: E402
 
 SCRIPT = os.path.join(TOP, "scripts", "completions")
 SOURCE = os.path.join(TOP, "python", "src")

@@ -17,12 +17,16 @@ seconds. The last line is `N passed, M failed`; the status is 1 where any failed
 """
 
 import itertools
+import os
 import random
+import sys
 from typing import Dict, Iterator, List, NamedTuple, Optional, Sequence, Tuple
 
-from machines import LETTERS, all_machines, entries_of, machine, table_of, text_of
-from program import PLANS, options, replies, verdict_of
-from tally import Tally, end_with, words
+sys.path.insert(0, os.path.join(os.path.dirname(os.path.dirname(os.path.abspath(__file__))), "lib"))
+
+from machines import LETTERS, all_machines, entries_of, machine, table_of, text_of  # noqa: E402
+from program import PLANS, options, replies, verdict_of  # noqa: E402
+from tally import Tally, end_with, words  # noqa: E402
 
 Entry = str
 Table = List[List[Entry]]

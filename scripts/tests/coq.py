@@ -21,14 +21,17 @@ import random
 import re
 import shutil
 import subprocess
+import sys
 import tempfile
 from typing import Callable, Dict, Iterable, Iterator, List, NamedTuple, Sequence, Tuple
 
-from claims import forged, pairs_of, refusals, tight, trees_of
-from machine_list import has_lister, listed
-from machines import all_machines, machine, mixed, seldom_halting
-from program import Ended, ended, options, replies
-from tally import TOP, Tally, end_with, words
+sys.path.insert(0, os.path.join(os.path.dirname(os.path.dirname(os.path.abspath(__file__))), "lib"))
+
+from built import has_lister, listed  # noqa: E402
+from claims import forged, pairs_of, refusals, tight, trees_of  # noqa: E402
+from machines import all_machines, machine, mixed, seldom_halting  # noqa: E402
+from program import GREATEST, Ended, ended, options, replies  # noqa: E402
+from tally import TOP, Tally, end_with, words  # noqa: E402
 
 FOLDER = os.path.join(TOP, "coq")
 CHECKER = os.path.join(FOLDER, "out", "checker")
@@ -50,7 +53,7 @@ NO_PROOFS = re.compile(
 WORDS: List[List[str]] = [
     ["--steps", "5"],
     ["--steps=+5", "--cells", "009"],
-    ["--steps=1000000000000", "--cells=67108864", "--depth=10000", "--nodes=1000000000000"],
+    options(GREATEST),
     ["--depth", "3", "--cells", "5"],
     ["--depth", "3", "--cells", "4"],
     ["--steps", "1000000000001"],

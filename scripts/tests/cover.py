@@ -20,13 +20,16 @@ import os
 import random
 import re
 import subprocess
+import sys
 import tempfile
 from typing import Callable, List, Sequence, Tuple
 
-from machine_list import has_lister, listed
-from program import ended, joined, options, processor_time
-from tally import TOP, Tally, end_with, words
-from terminal import on_terminal
+sys.path.insert(0, os.path.join(os.path.dirname(os.path.dirname(os.path.abspath(__file__))), "lib"))
+
+from built import has_lister, listed  # noqa: E402
+from program import ended, joined, options, processor_time  # noqa: E402
+from tally import TOP, Tally, end_with, words  # noqa: E402
+from terminal import on_terminal  # noqa: E402
 
 COVER = os.path.join(TOP, "crates", "cover", "out", "cover")
 # States and symbols of the lists that are small.

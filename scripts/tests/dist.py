@@ -9,11 +9,15 @@ M failed`; the status is 1 where any failed.
 """
 
 import hashlib
+import os
 import pathlib
 import subprocess
+import sys
 import tempfile
 
-from tally import TOP, Tally, end_with, words
+sys.path.insert(0, os.path.join(os.path.dirname(os.path.dirname(os.path.abspath(__file__))), "lib"))
+
+from tally import TOP, Tally, end_with, words  # noqa: E402
 
 ALWAYS = [
     "CONTENTS",

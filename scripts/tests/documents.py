@@ -17,10 +17,13 @@ import builtins
 import dataclasses
 import os
 import re
+import sys
 from typing import Dict, Iterator, List, Set, Tuple
 
-from names import Sources, read, sources_of
-from tally import PACKAGES, TOP, Tally, end_with, words
+sys.path.insert(0, os.path.join(os.path.dirname(os.path.dirname(os.path.abspath(__file__))), "lib"))
+
+from names import Sources, read, sources_of  # noqa: E402
+from tally import PACKAGES, TOP, Tally, end_with, words  # noqa: E402
 
 # What the documents name that stands elsewhere, by where it does.
 ELSEWHERE = {
@@ -29,8 +32,8 @@ ELSEWHERE = {
     " thiserror",
     "C and its library": "free malloc realloc int bool size_t",
     "the system's commands": "cut git grep rustc sh split wait",
-    "the kit": "rt requires ensures FoldsTo rattle-kit-13b rattle-kit-13f --anew --minutes --only --allow-holes"
-    " --fix-imports elim omega refl search grind rules match let else",
+    "the kit": "rt requires ensures FoldsTo rattle-kit-13b rattle-kit-13f --anew --minutes --only"
+    " --allow-holes --fix-imports elim omega refl search grind rules match let else",
     "names that the kit makes": "returns-then-steps-self returns-then-p-lt0-clause-apart count_run-requires"
     " rewritten-requires-clause-low loop-moved-init loop-moved-preserved-in_default-widened_side"
     " After-widened_side loop-x-init loop-x-preserved",

@@ -15,25 +15,29 @@ import itertools
 import os
 import random
 import shutil
+import sys
 import tempfile
 from typing import Any, Dict, Iterator, List, Tuple
 
-from machine_list import has_lister, listed
-from machines import mixed
-from program import LIMITS, ROWS, SWITCHES, ended, joined, processor_time, words_of_plan
-from run_examples import EXAMPLES, content
-from tally import TOP, Tally, end_with, words
-from web_engine import MODULE, Engine, Reply, built, documented, plan_of
+sys.path.insert(0, os.path.join(os.path.dirname(os.path.dirname(os.path.abspath(__file__))), "lib"))
+
+from built import MODULE, has_lister, has_page, listed  # noqa: E402
+from examples import EXAMPLES, content  # noqa: E402
+from machines import mixed  # noqa: E402
+from node import CallEnd, Engine, documented, plan_of  # noqa: E402
+from program import GREATEST, LIMITS, MAX_CELLS, ROWS, SWITCHES  # noqa: E402
+from program import ended, joined, processor_time, words_of_plan  # noqa: E402
+from tally import TOP, Tally, end_with, words  # noqa: E402
 
 FOUR = {"steps": 200, "cells": 256, "depth": 20, "nodes": 1_000}
 SMALL = {"steps": 100, "cells": 64, "depth": 20, "nodes": 100}
-MOST = {"steps": 1_000_000_000_000, "cells": 67_108_864, "depth": 10_000, "nodes": 1_000_000_000_000}
+MOST = dict(zip(LIMITS, GREATEST))
 README = b"1RB1LB_1LA1RZ\n1RA1RA\n1rB1LB\n"
 SIMULATION = {name: False for name in SWITCHES}
 REFUSED = [
     {"steps": 10**12 + 1},
     {"cells": 0},
-    {"cells": 67_108_865},
+    {"cells": MAX_CELLS + 1},
     {"depth": 10_001},
     {"nodes": 10**12 + 1},
     {"cells": 598},
@@ -53,7 +57,7 @@ class Held:
         """The status of the program and what it writes."""
         return ended([self.program, name, *words_of_plan(plan)], given)[:2]
 
-    def same(self, what: str, name: str, plan: Dict[str, Any], given: bytes) -> Reply:
+    def same(self, what: str, name: str, plan: Dict[str, Any], given: bytes) -> CallEnd:
         """Holds that a call's reply is the program's."""
         reply = self.engine.call(name, plan, given)
         same = (reply.status, reply.reply) == self.written(name, plan, given)
@@ -233,9 +237,9 @@ def hold_traces(held: Held, count: int, source: random.Random) -> None:
         lines = ended([held.program, *asked]).output.splitlines()
         reply = held.engine.call("samples", {**plan, "from": 50, "every": 50}, machine.encode())
         held.tally.hold("traces of %s at %s" % (machine, plan), reply.reply == sampled(lines, 50))
-    most = {"steps": 10**12, "cells": 67_108_864, "from": 0, "every": 1}
+    most = {"steps": 10**12, "cells": MAX_CELLS, "from": 0, "every": 1}
     reply = held.engine.call("trace", most, b"1RB1LB_1LA1RZ")
-    command = [held.program, "trace", "--upto=%d" % 10**12, "--cells=67108864", "1RB1LB_1LA1RZ"]
+    command = [held.program, "trace", "--upto=%d" % 10**12, "--cells=%d" % MAX_CELLS, "1RB1LB_1LA1RZ"]
     wanted = ended(command).output
     held.tally.hold("a trace at the greatest limits", (reply.status, reply.reply) == (0, wanted))
     for plan in ({"every": 0}, {"cells": 0}, {"steps": 10**12 + 1}):
@@ -301,7 +305,7 @@ def main() -> int:
     if tally.has("the engine in Node", "node"):
         if shutil.which("rt") is None and not os.path.exists(MODULE):
             tally.skip("the engine in Node: web/out/bb.wasm isn't built, and there is no kit to build it")
-        elif built():
+        elif has_page():
             size = os.path.getsize(MODULE)
             tally.hold("the module has %d bytes" % size, size <= 65_536)
             hold_all(asked.program, tally, asked.quick, asked.seed)

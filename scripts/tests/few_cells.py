@@ -1,15 +1,5 @@
-#!/usr/bin/env python3
-"""Decides machines in few cells with the built program, and works out each verdict anew.
-
-    scripts/tests/few_cells.py crates/bb/out/bb [--machines N] [--seed S]
-
-A machine of q states and k symbols has q * S * k^S configurations in S cells. With three times as many steps
-no machine may be `undecided steps`. Held against the program are all machines of two states and two
-symbols in 4 cells, and random ones of more states or symbols; each is run here, by the definitions of a run,
-a halt, a span and a cycle alone, and the program's line must be the one that follows. What is said of each
-list is the greatest second step of its cycles. It takes some seconds. The last line is `N passed, M failed`;
-the status is 1 where any failed.
-"""
+"""Machines in few cells, each of whose verdicts is worked out anew, by the definitions of a run, a halt, a
+span and a cycle alone; see `deciding.py`."""
 
 import itertools
 import random
@@ -17,7 +7,7 @@ from typing import Dict, FrozenSet, Iterator, List, Optional, Sequence, Tuple
 
 from machines import LETTERS, all_machines, seldom_halting, table_of
 from program import replies, verdict_of
-from tally import Tally, end_with, words
+from tally import Tally
 
 # A machine of two states and two symbols, and the options under which its first cycle is just found, or not.
 LATEST = "1LB1RB_1RA1LA"
@@ -112,19 +102,14 @@ def lists(count: int, seed: int) -> Iterator[Tuple[int, int, int, int, List[str]
     yield 5, 2, 12, 1_000_000, [seldom_halting(source, 5, 2) for _ in range(count // 10)]
 
 
-def main() -> int:
-    asked = words(__doc__, machines=10_000, seed=1).parse_args()
-    tally = Tally()
+def hold(tally: Tally, program: str, count: int, seed: int) -> None:
+    """Holds all machines of two states and two symbols, and so many random ones of each larger size; prints
+    the greatest second step of the cycles of each list."""
     for options, line in EDGES:
-        said = decided(asked.program, options, [LATEST])
+        said = decided(program, options, [LATEST])
         tally.hold("%s, not %s" % (line, said), said == [verdict_of(line)])
-    for states, symbols, cells, steps, machines in lists(asked.machines, asked.seed):
+    for states, symbols, cells, steps, machines in lists(count, seed):
         most = configurations(states, symbols, cells)
         name = "%d machines of %d states and %d symbols in %d cells" % (len(machines), states, symbols, cells)
-        latest = held(asked.program, tally, name, machines, steps, cells, most)
+        latest = held(program, tally, name, machines, steps, cells, most)
         print("%s: 3 * C is %d, the greatest second step %d (%s)" % (name, 3 * most, *latest))
-    return tally.end()
-
-
-if __name__ == "__main__":
-    end_with(main)

@@ -29,10 +29,11 @@ import tempfile
 import time
 from typing import Any, Dict, Iterator, List, Tuple
 
-from library_built import LIBRARY, has_library
-from machine_list import has_lister, listed
-from program import ended, options_of_pass
-from tally import TOP, Tally, end_with, heed_interruption, words
+sys.path.insert(0, os.path.join(os.path.dirname(os.path.dirname(os.path.abspath(__file__))), "lib"))
+
+from built import LIBRARY, has_library, has_lister, listed  # noqa: E402
+from program import ended, options_of_pass  # noqa: E402
+from tally import TOP, Tally, end_with, heed_interruption, words  # noqa: E402
 
 SCRIPT = os.path.join(TOP, "scripts", "five_states")
 DOCUMENTS = pathlib.Path(TOP) / "docs"

@@ -10,11 +10,14 @@ one or two minutes. The last line is `N passed, M failed`; the status is 1 where
 
 import collections
 import os
+import sys
 from typing import List, Mapping, Sequence, Tuple, Union
 
-from machine_list import LISTER, has_lister
-from program import SIMULATION, ended, joined, kind_of, processor_time, words_of_plan
-from tally import TOP, Tally, end_with, words
+sys.path.insert(0, os.path.join(os.path.dirname(os.path.dirname(os.path.abspath(__file__))), "lib"))
+
+from built import LISTER, has_lister  # noqa: E402
+from program import SIMULATION, ended, joined, kind_of, processor_time, words_of_plan  # noqa: E402
+from tally import TOP, Tally, end_with, words  # noqa: E402
 
 FIRST = {"steps": 200, "cells": 256, "depth": 20, "nodes": 1_000}
 LATER = [

@@ -1,13 +1,14 @@
 #!/usr/bin/env python3
 """Builds the library for other languages and its examples, and holds what they do against the program.
 
-    scripts/tests/library.py crates/bb/out/bb
+    scripts/tests/library.py crates/bb/out/bb [--part PART]...
 
-It runs `scripts/library`, and gcc, g++, rustc and valgrind beside; what isn't installed is skipped. The lists
-are the first 100,000 machines of four states in tree normal form, all of two states, and claims that someone
-made up; the traces those of a hundred of the machines, at every first step and every distance up to 50. It
-takes two minutes, after the proof. The last line is
-`N passed, M failed, K skipped`; the status is 1 where any failed.
+The parts, both of which are run where none is named: `calls`, and `room`, the room that the header's macros
+give for a reply, which takes a second. For `calls` it runs `scripts/library`, and gcc, g++, rustc and valgrind
+beside; what isn't installed is skipped. The lists are the first 100,000 machines of four states in tree normal
+form, all of two states, and claims that someone made up; the traces those of a hundred of the machines, at
+every first step and every distance up to 50. It takes two minutes, after the proof. The last line is `N
+passed, M failed, K skipped`; the status is 1 where any failed.
 """
 
 import os
@@ -17,9 +18,12 @@ import sys
 import tempfile
 from typing import Sequence, Tuple
 
-from machine_list import has_lister, listed
-from program import begins_modulo_64, ended, joined, replies
-from tally import TOP, Tally, end_with, words
+sys.path.insert(0, os.path.join(os.path.dirname(os.path.dirname(os.path.abspath(__file__))), "lib"))
+
+import library_room  # noqa: E402
+from built import has_lister, listed  # noqa: E402
+from program import begins_modulo_64, ended, joined, replies  # noqa: E402
+from tally import TOP, Tally, end_with, words  # noqa: E402
 
 SOURCE = os.path.join(TOP, "python", "src")
 sys.path.insert(0, SOURCE)
@@ -180,15 +184,14 @@ def is_no_machine(text: str) -> bool:
     return False
 
 
-def main() -> int:
-    program = words(__doc__).parse_args().program
-    tally = Tally()
+def hold_calls(tally: Tally, program: str) -> None:
+    """The library, and what calls it in each language."""
     if not tally.has("the library", "rt", "cc", "ar", "ld", "objcopy", "nm"):
-        return tally.end()
+        return
     status, told = output([os.path.join(TOP, "scripts", "library")])
     tally.hold("scripts/library: status %d" % status, status == 0)
     if status != 0:
-        return tally.end()
+        return
     archive, shared, _ = told.decode().splitlines()
     symbols = output(["nm", "-D", "--defined-only", shared])[1].decode().split()[2::3]
     tally.hold("libbb.so has %s" % symbols, sorted(symbols) == CALLS)
@@ -198,6 +201,19 @@ def main() -> int:
         hold_c(tally, program, archive, folder)
         hold_rust(tally, program, archive, folder)
     hold_python(tally, program, shared)
+
+
+PARTS = ("calls", "room")
+
+
+def main() -> int:
+    asked = words(__doc__, parts=PARTS).parse_args()
+    tally = Tally()
+    parts = asked.part or PARTS
+    if "room" in parts:
+        library_room.hold(tally)
+    if "calls" in parts:
+        hold_calls(tally, asked.program)
     return tally.end()
 
 

@@ -13,11 +13,14 @@ something isn't installed; the status is 1 where any failed.
 import os
 import pathlib
 import subprocess
+import sys
 import tempfile
 from typing import List, Tuple
 
-from program import ended, joined
-from tally import TOP, Tally, end_with, words
+sys.path.insert(0, os.path.join(os.path.dirname(os.path.dirname(os.path.abspath(__file__))), "lib"))
+
+from program import ended, joined  # noqa: E402
+from tally import TOP, Tally, end_with, words  # noqa: E402
 
 SCRIPT = os.path.join(TOP, "scripts", "npm")
 MACHINES = ["1RB1LB_1LA1RZ", "1RA1RA", "1rB1LB"]

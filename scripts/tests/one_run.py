@@ -1,15 +1,5 @@
-#!/usr/bin/env python3
-"""Holds the built program against the plain Rust program that simulates, then searches, each by itself.
-
-    scripts/tests/one_run.py crates/bb/out/bb [--machines N] [--seed S]
-
-The plain program is `scripts/speed/peer`, built by `rustc`. The machines come from a seed and have 1 to 25
-states and 2 to 10 symbols; each hundred of them has limits and a plan of its own, drawn at random. Both must
-write the same bytes and end with the same status, and so must the plain program where it decides in one run,
-with keys that make its fingerprint agree by chance. Each machine counts as one. It takes about a minute.
-The last line is `N passed, M failed`; the status is 1 where any failed. Where there is no `rustc`, all are
-skipped.
-"""
+"""Random machines decided by the program and by the plain Rust program that simulates, then searches, each
+by itself; see `deciding.py`."""
 
 import os
 import random
@@ -19,7 +9,7 @@ from typing import List, Sequence, Set
 
 from machines import machine
 from program import SIMULATION, ended, joined, options
-from tally import TOP, Tally, end_with, words
+from tally import TOP, Tally
 
 PEER = os.path.join(TOP, "scripts", "speed", "peer", "main.rs")
 BATCH = 100
@@ -72,19 +62,13 @@ def hold_all(tally: Tally, program: str, peer: str, count: int, seed: int) -> No
         tally.hold("some machine is %s" % kind, kind in kinds)
 
 
-def main() -> int:
-    asked = words(__doc__, machines=100_000, seed=1).parse_args()
-    tally = Tally()
-    if not tally.has("the plain program", "rustc", count=asked.machines):
-        return tally.end()
+def hold(tally: Tally, program: str, count: int, seed: int) -> None:
+    """Builds the plain program, and holds so many machines; each counts as one."""
+    if not tally.has("the plain program", "rustc", count=count):
+        return
     with tempfile.TemporaryDirectory() as room:
         peer = os.path.join(room, "peer")
         built = subprocess.run(["rustc", "-O", "-C", "codegen-units=1", "--cfg", "wide", "-o", peer, PEER])
         tally.hold("rustc builds the plain program (it must be of 1.65 or later)", built.returncode == 0)
         if built.returncode == 0:
-            hold_all(tally, asked.program, peer, asked.machines, asked.seed)
-    return tally.end()
-
-
-if __name__ == "__main__":
-    end_with(main)
+            hold_all(tally, program, peer, count, seed)

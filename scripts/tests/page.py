@@ -19,16 +19,19 @@ import http.server
 import os
 import random
 import shutil
+import sys
 import tempfile
 import threading
 import time
 
-from engine import FOUR, README, examples, forged, plans, random_machines, random_plan
-from machine_list import has_lister, listed
-from page_held import Held
-from program import SWITCHES, joined
-from tally import TOP, Tally, end_with, words
-from web_engine import MODULE, PAGE, built, documented
+sys.path.insert(0, os.path.join(os.path.dirname(os.path.dirname(os.path.abspath(__file__))), "lib"))
+
+from built import MODULE, PAGE, has_lister, has_page, listed  # noqa: E402
+from engine import FOUR, README, examples, forged, plans, random_machines, random_plan  # noqa: E402
+from node import documented  # noqa: E402
+from page_held import Held  # noqa: E402
+from program import SWITCHES, joined  # noqa: E402
+from tally import TOP, Tally, end_with, words  # noqa: E402
 
 LONG = "0RB---_0LA---"
 MOST_BYTES = 260_000
@@ -294,7 +297,7 @@ def main() -> int:
     if tally.has("the page", "chromium", "chromedriver") and has_selenium(tally):
         if shutil.which("rt") is None and not os.path.exists(PAGE):
             tally.skip("the page: web/out/bb.html isn't built, and there is no kit to build it")
-        elif built():
+        elif has_page():
             size = os.path.getsize(PAGE)
             print("the page has %d bytes" % size)
             tally.hold("the page has %d bytes" % size, size <= MOST_BYTES)

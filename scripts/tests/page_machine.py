@@ -7,7 +7,7 @@ import sys
 import time
 from typing import Any, Dict, List
 
-from library_built import has_library
+from built import has_library
 from page_held import Held
 from tally import TOP
 

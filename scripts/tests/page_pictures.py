@@ -13,11 +13,11 @@ from typing import Any, Dict, List, Tuple
 from selenium.webdriver.common.keys import Keys
 
 from machines import mixed, seldom_halting
+from node import Engine
 from page_held import HEAD, UNVISITED, Held, Row, colour, palette, pixels, traced
 from page_times import CHAMPION as CHAMPION_5
 from page_times import PAUSE, end, steps_seen, views
 from tally import TOP
-from web_engine import Engine
 
 WINDOWS = os.path.join(TOP, "scripts", "tests", "windows.mjs")
 CHAMPION = "1RB1LB_1LA0LC_1RZ1LD_1RD0RA"

@@ -15,8 +15,10 @@ import sys
 import zlib
 from typing import Dict, Iterator, List, Optional, Tuple
 
-from program import ended, kind_of, replies
-from tally import TOP, Tally, end_with, words
+sys.path.insert(0, os.path.join(os.path.dirname(os.path.dirname(os.path.abspath(__file__))), "lib"))
+
+from program import ended, kind_of, replies  # noqa: E402
+from tally import TOP, Tally, end_with, words  # noqa: E402
 
 PICTURE = os.path.join(TOP, "scripts", "tools", "picture.py")
 FOUR_STATES = "1RB1LB_1LA0LC_1RZ1LD_1RD0RA"
@@ -118,7 +120,7 @@ def refusals(program: str) -> Held:
 
 
 def first_of_readme(program: str) -> Held:
-    """The command below README's first picture, by which the picture's machine halts; it needs all its steps."""
+    """The command below README's first picture, by which its machine halts; it needs all its steps."""
     with open(os.path.join(TOP, "README.md"), encoding="utf-8") as file:
         shown = re.findall(r"!\[.*\n\n    \$ echo (\S+) \| bb decide --steps (\d+)\n    (.*)\n", file.read())
     yield "README shows a command: %s" % shown, len(shown) == 1

@@ -27,11 +27,13 @@ import tarfile
 import time
 from typing import Any, Callable, Dict, List, Optional, Sequence
 
-from library_built import has_library
-from machines import mixed
-from program import ended, joined, options
-from runs import Case, environment, folder, is_at_work, seen
-from tally import TOP, Tally, end_with, heed_interruption, words
+sys.path.insert(0, os.path.join(os.path.dirname(os.path.dirname(os.path.abspath(__file__))), "lib"))
+
+from built import has_library  # noqa: E402
+from machines import mixed  # noqa: E402
+from program import ended, joined, options  # noqa: E402
+from runs import Case, environment, folder, is_at_work, seen  # noqa: E402
+from tally import TOP, Tally, end_with, heed_interruption, words  # noqa: E402
 
 FIRST = (300, 64, 10, 100)
 PASS = "steps=300,cells=64,depth=10,nodes=100"

@@ -21,13 +21,14 @@ import sys
 import time
 from typing import Dict, Iterator, List, Sequence, Tuple
 
-from library_built import LIBRARY, has_library
-from machine_list import has_lister, listed
-from machines import mixed, uniform
-from program import Ended, ended, joined, options
-from runs import SOURCE, environment, folder
-from tally import TOP, Tally, end_with, words
-from terminal import on_terminal
+sys.path.insert(0, os.path.join(os.path.dirname(os.path.dirname(os.path.abspath(__file__))), "lib"))
+
+from built import LIBRARY, has_library, has_lister, listed  # noqa: E402
+from machines import mixed, uniform  # noqa: E402
+from program import Ended, ended, joined, options  # noqa: E402
+from runs import SOURCE, environment, folder  # noqa: E402
+from tally import TOP, Tally, end_with, words  # noqa: E402
+from terminal import on_terminal  # noqa: E402
 
 sys.path.insert(0, SOURCE)
 

@@ -20,11 +20,13 @@ import tempfile
 import time
 from typing import Callable, Dict, Iterator, List, Tuple, Union
 
-from library_built import has_library
-from machines import mixed
-from pictures import pixels
-from program import ended, options_of_pass
-from tally import TOP, Tally, end_with, heed_interruption, words
+sys.path.insert(0, os.path.join(os.path.dirname(os.path.dirname(os.path.abspath(__file__))), "lib"))
+
+from built import has_library  # noqa: E402
+from machines import mixed  # noqa: E402
+from pictures import pixels  # noqa: E402
+from program import GREATEST, ended, options, options_of_pass  # noqa: E402
+from tally import TOP, Tally, end_with, heed_interruption, words  # noqa: E402
 
 DOCUMENT = os.path.join(TOP, "docs", "recipes.md")
 # A line of a list, and the machine that is taken out of it, or why there is none; None where it isn't told
@@ -70,7 +72,6 @@ LISTS = {
 }
 # It halts after 41,709 steps.
 LONG_HALT = b"1RB0LB_1RC1LB_1LD0RE_1LD1LA_---0RD\n"
-GREATEST = ["--steps=1000000000000", "--cells=67108864", "--depth=10000", "--nodes=1000000000000"]
 CLAIMS_ELSEWHERE = b"""1RB1LB_1LA--- halt 6 4
 0RB---_0LA--- cycler 2 4
 0RB---_0LA--- backward 2 4
@@ -268,7 +269,7 @@ def wrong_claims(folder: Folder, blocks: List[str], tally: Tally) -> Held:
         place_package(folder)
         folder.write("verdicts.txt", lines)
         status, _, error = folder.run(by_package)
-        wanted = ended([folder.program, "check", *GREATEST], lines).output
+        wanted = ended([folder.program, "check", *options(GREATEST)], lines).output
         yield "the package's answers: %r" % error, (status, folder.read("answers.txt")) == (0, wanted)
 
 

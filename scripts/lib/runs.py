@@ -12,7 +12,7 @@ import tempfile
 import time
 from typing import Any, Callable, Dict, Iterator, List, Optional, Sequence
 
-from library_built import LIBRARY
+from built import LIBRARY
 from machines import mixed
 from program import LIMITS, ended, joined, options
 from tally import TOP, Tally, heed_interruption

@@ -1,14 +1,4 @@
-#!/usr/bin/python3
-"""Holds the Python package against the built program, byte for byte where there are bytes.
-
-    scripts/tests/python.py crates/bb/out/bb [--quick] [--seed S]
-
-All rows of plans and limits; random machines of 1 to 25 states and 2 to 10 symbols at random limits; claims
-of which half are forged; machines of four states by 1 and 4 threads; lines of noise; that `parse` takes just
-what the checker reads; traces and pictures; comparisons; memory over a long list; SIGINT in a list and in one
-long machine. First it runs `scripts/library`, which builds the library. It takes some minutes; `--quick`,
-with fewer machines, half a minute. The last line is `N passed, M failed`; the status is 1 where any failed.
-"""
+"""The Python package beside the program, byte for byte where there are bytes; see `package.py`."""
 
 import itertools
 import os
@@ -19,12 +9,11 @@ import sys
 import time
 from typing import Iterator, List, Sequence, Tuple
 
-from library_built import LIBRARY, has_library
-from machine_list import has_lister, listed
-from machines import mixed
-from program import PLANS, ROWS, SIMULATION, ended, joined, options
-from runs import LONG_MACHINE, PATIENCE, SOURCE, environment, is_at_work, seen
-from tally import TOP, Tally, end_with, heed_interruption, words
+from built import LIBRARY, has_lister, listed  # noqa: E402
+from machines import mixed  # noqa: E402
+from program import PLANS, ROWS, SIMULATION, ended, joined, options  # noqa: E402
+from runs import LONG_MACHINE, PATIENCE, SOURCE, environment, is_at_work, seen  # noqa: E402
+from tally import TOP, Tally, heed_interruption
 
 sys.path.insert(0, SOURCE)
 
@@ -289,23 +278,15 @@ def hold_interruption(tally: Tally) -> None:
         tally.within("SIGINT in a %s was heard, and the process ended" % where, seconds, HEARD)
 
 
-def main() -> int:
-    asked = words(__doc__, quick="fewer machines", seed=1).parse_args()
-    tally = Tally()
-    if not has_library(tally, "the Python package"):
-        return tally.end()
+def hold(tally: Tally, program: str, is_quick: bool, seed: int) -> None:
+    """Holds all of this, with fewer machines where it is to be quick."""
     os.environ["BB_LIBRARY"] = LIBRARY
-    lists = list(mixed(2_000 if asked.quick else 20_000, asked.seed))
-    hold_rows(tally, asked.program, lists)
-    hold_random(tally, asked.program, lists, asked.seed)
-    hold_noise(tally, asked.program, 2_000 if asked.quick else 20_000, asked.seed)
-    hold_four_states(tally, asked.program, 20_000 if asked.quick else 1_000_000)
-    hold_traces(tally, asked.program, lists[: 30 if asked.quick else 300])
-    hold_lists(tally, asked.program, lists[:1_000], asked.seed)
-    hold_memory(tally, 500_000 if asked.quick else 10_000_000)
+    lists = list(mixed(2_000 if is_quick else 20_000, seed))
+    hold_rows(tally, program, lists)
+    hold_random(tally, program, lists, seed)
+    hold_noise(tally, program, 2_000 if is_quick else 20_000, seed)
+    hold_four_states(tally, program, 20_000 if is_quick else 1_000_000)
+    hold_traces(tally, program, lists[: 30 if is_quick else 300])
+    hold_lists(tally, program, lists[:1_000], seed)
+    hold_memory(tally, 500_000 if is_quick else 10_000_000)
     hold_interruption(tally)
-    return tally.end()
-
-
-if __name__ == "__main__":
-    end_with(main)

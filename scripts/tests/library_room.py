@@ -1,11 +1,7 @@
-#!/usr/bin/env python3
-"""Holds the room that the macros of `include/bb.h` give for a reply, as C and as C++.
+"""The room that the macros of `include/bb.h` give for a reply, as C and as C++; see `library.py`.
 
-    scripts/tests/room.py
-
-It compiles `room.c` with the compiler's checks for undefined behaviour, and needs no library and no program.
-It takes a second. The last line is `N passed, M failed`; the status is 1 where any failed. What needs a
-compiler that isn't installed is skipped.
+It compiles `library_room.c` with the compiler's checks for undefined behaviour, and needs no library and no
+program.
 """
 
 import os
@@ -14,9 +10,9 @@ import subprocess
 import tempfile
 from typing import Iterator, Sequence, Tuple
 
-from tally import TOP, Tally, end_with, words
+from tally import TOP, Tally
 
-SOURCE = os.path.join(TOP, "scripts", "tests", "room.c")
+SOURCE = os.path.join(TOP, "scripts", "tests", "library_room.c")
 CHECKED = ["-Wall", "-Wextra", "-Werror", "-fsanitize=undefined", "-fno-sanitize-recover=undefined"]
 COMPILERS = {"C": ["gcc", "-std=c99"], "C++": ["g++", "-x", "c++"]}
 
@@ -33,16 +29,10 @@ def held(compiler: Sequence[str], made: str) -> Iterator[Tuple[str, object]]:
         yield "compiled by %s, it ends with status %d and %r" % (compiler[0], ended.returncode, told), fine
 
 
-def main() -> int:
-    words(__doc__, needs_program=False).parse_args()
-    tally = Tally()
+def hold(tally: Tally) -> None:
+    """Holds the macros, by each compiler that is installed."""
     with tempfile.TemporaryDirectory() as folder:
         for name, compiler in COMPILERS.items():
             if tally.has("the room of the macros in %s" % name, compiler[0]):
                 for what, holds in held(compiler, os.path.join(folder, "room")):
                     tally.hold(what, holds)
-    return tally.end()
-
-
-if __name__ == "__main__":
-    end_with(main)

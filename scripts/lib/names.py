@@ -22,6 +22,7 @@ OF_COQ = re.compile(r"^(?:Definition|Fixpoint|Inductive|Record|Theorem|Lemma) (\
 PROGRAMS = (
     "test",
     "bb",
+    "cover",
     "coq/build",
     "coq/theorem",
     "scripts/beside_the_gate",
@@ -235,7 +236,7 @@ def read_other(sources: Sources, path: str, text: str) -> None:
     if path.endswith(".h"):
         sources.languages["header"] |= set(re.findall(r"\w+", without_comments(text)))
     if path.endswith(".py") or path in PROGRAMS:
-        if not path.startswith("scripts/tests/"):
+        if not path.startswith(("scripts/tests/", "scripts/lib/")):
             sources.texts |= set(re.findall(r"[\w.+-]+", text))
         if not text.startswith("#!/bin/sh"):
             sources.languages["python"] |= set(names_of_python(text))

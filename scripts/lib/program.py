@@ -7,6 +7,9 @@ from typing import Iterable, List, Mapping, NamedTuple, Optional, Sequence
 
 LIMITS = ("steps", "cells", "depth", "nodes")
 SWITCHES = ("cyclers", "translated", "backward")
+# The greatest limits: of steps, cells, levels and nodes.
+GREATEST = (1_000_000_000_000, 67_108_864, 10_000, 1_000_000_000_000)
+MAX_STEPS, MAX_CELLS = GREATEST[:2]
 # The words that turn all deciders off.
 SIMULATION = ["--no-cyclers", "--no-translated", "--no-backward"]
 PLANS: List[List[str]] = [[], ["--no-backward"], ["--no-cyclers", "--no-translated"]]

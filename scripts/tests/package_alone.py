@@ -1,15 +1,5 @@
-#!/usr/bin/python3
-"""Holds the Python package by itself: its unit tests, types, formatting and doctests, and its wheel.
-
-    scripts/tests/python_package.py crates/bb/out/bb [--quick]
-
-It runs `scripts/library`, which proves and builds the library first; that takes a minute or two where it
-wasn't done before, and some seconds where it was. The unit tests run under each Python from 3.9 on that is
-found, once over the sources and once from the wheel of `scripts/wheel` alone, in an empty virtual
-environment; there `budlarem run` is held against the built program too. It takes a minute beside the library.
-With `--quick` there is no wheel, and the unit tests run once, over the sources. The last line is `N passed, M
-failed`, with `, K skipped` where something isn't installed; the status is 1 where any failed.
-"""
+"""The Python package by itself: its unit tests, types, formatting and doctests, and its wheel; see
+`package.py`."""
 
 import json
 import os
@@ -17,12 +7,14 @@ import pathlib
 import re
 import shutil
 import subprocess
+import sys
 import tempfile
 from typing import Dict, List, Mapping, Optional, Tuple
 
-from library_built import LIBRARY, has_library
-from runs import expected, words_of
-from tally import TOP, Tally, end_with, words
+from built import LIBRARY
+from commands import NEWEST_GLIBC, glibc_of
+from runs import expected, words_of  # noqa: E402
+from tally import TOP, Tally
 
 PACKAGE = pathlib.Path(TOP) / "python"
 WHEEL = re.compile(
@@ -111,7 +103,7 @@ def pythons() -> List[str]:
 def hold_sources(tally: Tally, found: List[str]) -> None:
     """Types, formatting, doctests, and the unit tests by these Pythons, over the sources."""
     if tally.has("types", "mypy"):
-        status, told = run(["mypy", "--strict", "src", "tests"])
+        status, told = run(["mypy", "--config-file", str(PACKAGE.parent / "mypy.ini"), "src", "tests"])
         tally.hold("mypy --strict: %s" % told, status == 0)
     if tally.has("formatting", "black"):
         status, told = run(["black", "--check", "--quiet", "src", "tests", "setup.py"])
@@ -135,9 +127,8 @@ def hold_symbols(tally: Tally) -> None:
     """The library asks for no newer glibc than the wheel's tag says."""
     if not tally.has("the library's symbols", "readelf"):
         return
-    told = run(["readelf", "--version-info", "--wide", LIBRARY])[1]
-    asked = {tuple(map(int, name.split("."))) for name in re.findall(r"GLIBC_([0-9.]+)", told)}
-    tally.hold("the library asks for glibc %s" % sorted(asked), asked and max(asked) <= (2, 17))
+    newest = glibc_of(LIBRARY)
+    tally.hold("the library asks for glibc %s" % (newest,), (0,) < newest <= NEWEST_GLIBC)
 
 
 def hold_wheel(tally: Tally, program: str, wheel: pathlib.Path, python: str, folder: pathlib.Path) -> None:
@@ -205,19 +196,11 @@ def hold_wheels(tally: Tally, program: str, found: List[str], folder: pathlib.Pa
         hold_wheel(tally, program, wheel, python, folder / ("environment%d" % place))
 
 
-def main() -> int:
-    asked = words(__doc__, quick="the sources alone, by one Python").parse_args()
-    tally = Tally()
-    if not has_library(tally, "the Python package"):
-        return tally.end()
-    found = ["/usr/bin/python3"] if asked.quick else pythons()
+def hold(tally: Tally, program: str, is_quick: bool) -> None:
+    """The sources, by one Python where it is to be quick; else by each that is found, and the wheel."""
+    found = ["/usr/bin/python3"] if is_quick else pythons()
     hold_sources(tally, found)
     hold_symbols(tally)
-    if not asked.quick:
+    if not is_quick:
         with tempfile.TemporaryDirectory() as name:
-            hold_wheels(tally, asked.program, found, pathlib.Path(name))
-    return tally.end()
-
-
-if __name__ == "__main__":
-    end_with(main)
+            hold_wheels(tally, program, found, pathlib.Path(name))

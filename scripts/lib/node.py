@@ -1,4 +1,4 @@
-"""The engine as WebAssembly in a process of Node, as the tests use it."""
+"""The engine as WebAssembly in a process of Node, as the checks use it."""
 
 import itertools
 import json
@@ -6,16 +6,10 @@ import os
 import subprocess
 from typing import Any, Dict, List, NamedTuple, Optional
 
+from built import MODULE
 from tally import TOP
 
 JOBS = os.path.join(TOP, "scripts", "tests", "engine.mjs")
-MODULE = os.path.join(TOP, "web", "out", "bb.wasm")
-PAGE = os.path.join(TOP, "web", "out", "bb.html")
-
-
-def built() -> bool:
-    """Whether `scripts/web` built what is newer than its sources, or could now. It tells what it does."""
-    return subprocess.run([os.path.join(TOP, "scripts", "web")], stdout=subprocess.DEVNULL).returncode == 0
 
 
 def documented(heading: str) -> str:
@@ -26,7 +20,7 @@ def documented(heading: str) -> str:
     return "".join(line[4:] + "\n" for line in lines).strip("\n") + "\n"
 
 
-class Reply(NamedTuple):
+class CallEnd(NamedTuple):
     """What a call gives: the status of the program and the bytes, or the error that it threw."""
 
     status: int
@@ -52,7 +46,7 @@ class Engine:
         told: Dict[str, Any] = json.loads(self.process.stdout.readline() or "{}")
         return told
 
-    def call(self, name: str, plan: Dict[str, Any], given: bytes, **more: int) -> Reply:
+    def call(self, name: str, plan: Dict[str, Any], given: bytes, **more: int) -> CallEnd:
         """One call, with limits and switches by name."""
         with open(self.given, "wb") as file:
             file.write(given)
@@ -62,9 +56,9 @@ class Engine:
         self.process.stdin.flush()
         told = self.line()
         if "clean" not in told:
-            return Reply(2, b"", told)
+            return CallEnd(2, b"", told)
         with open(self.out, "rb") as file:
-            return Reply(0 if told["clean"] else 1, file.read(), told)
+            return CallEnd(0 if told["clean"] else 1, file.read(), told)
 
     def end(self) -> None:
         """Ends the process."""

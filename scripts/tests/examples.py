@@ -1,19 +1,15 @@
-#!/usr/bin/env python3
-"""Runs the examples with the built program, and compares what comes out.
-
-    scripts/tests/run_examples.py crates/bb/out/bb
+"""The examples, run by the program; see `command_lines.py`.
 
 Each folder of `examples/` that has a file `command` is one: `command` has the program's words, `lines.txt`
 is its standard input (none: it is empty), `expected.txt` what it must write, and `status` the status that it
-must end with (none: 0). Words that name files are read from the top of the repository. It takes a second.
-The last line is `N passed, M failed`; the status is 1 where any failed.
+must end with (none: 0). Words that name files are read from the top of the repository.
 """
 
 import os
 from typing import Optional
 
 from program import ended
-from tally import TOP, Tally, end_with, words
+from tally import TOP, Tally
 
 EXAMPLES = os.path.join(TOP, "examples")
 
@@ -47,16 +43,10 @@ def wrong(program: str, folder: str) -> Optional[str]:
     return "%d bytes, not %d" % (len(output), len(expected))
 
 
-def main() -> int:
-    program = words(__doc__).parse_args().program
-    tally = Tally()
+def hold(tally: Tally, program: str) -> None:
+    """Runs each example."""
     for name in sorted(os.listdir(EXAMPLES)):
         folder = os.path.join(EXAMPLES, name)
         if os.path.exists(os.path.join(folder, "command")):
             found = wrong(program, folder)
             tally.hold("%s: %s" % (name, found), found is None)
-    return tally.end()
-
-
-if __name__ == "__main__":
-    end_with(main)
