@@ -62,7 +62,7 @@ def hold_windows(held: Held, count: int, seed: int) -> None:
     done = subprocess.run(["node", WINDOWS], input=given, stdout=subprocess.PIPE, text=True, check=True)
     wrong = []
     for one, line in zip(asked, done.stdout.splitlines()):
-        rows = traced(held.program, str(one["machine"]), int(one["upto"]))
+        rows = traced(held.program, one["machine"], one["upto"])
         if json.loads(line) != [[row.low, row.low + len(row.cells) - 1] for row in rows]:
             wrong.append(one)
     held.hold("visited positions of %d machines: %s" % (len(machines), wrong[:3]), not wrong)
