@@ -55,7 +55,7 @@ def hold_windows(held: Held, count: int, seed: int) -> None:
     source = random.Random(seed)
     machines = [seldom_halting(source, source.randint(2, 5), source.randint(2, 4)) for _ in range(count)]
     machines += [CHAMPION_5, LATE, TREE, *mixed(count, seed)]
-    asked = [
+    asked: List[Dict[str, Any]] = [
         {"machine": machine, "upto": source.randint(100, 4_000), "cells": 65_536} for machine in machines
     ]
     given = "".join(json.dumps(one) + "\n" for one in asked)
