@@ -96,7 +96,9 @@ def summary(states: int, symbols: int, lines: Sequence[str]) -> str:
     return "covers %s: %s" % (size, counts)
 
 
-def hold_output(tally: Tally, what: str, command: Sequence[str], given: bytes, status: int, line: str) -> None:
+def hold_output(
+    tally: Tally, what: str, command: Sequence[str], given: bytes, status: int, line: str
+) -> None:
     """Holds that `cover` ends with this status and prints this line alone."""
     done = ended(command, given)
     told = "%s: status %d, %r, %r" % (what, done.status, done.output, done.error)
