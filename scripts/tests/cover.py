@@ -21,6 +21,7 @@ import random
 import re
 import subprocess
 import sys
+import tempfile
 from typing import Callable, List, Sequence, Tuple
 
 sys.path.insert(0, os.path.join(os.path.dirname(os.path.dirname(os.path.abspath(__file__))), "lib"))
@@ -28,11 +29,12 @@ sys.path.insert(0, os.path.join(os.path.dirname(os.path.dirname(os.path.abspath(
 from built import has_lister, listed  # noqa: E402
 from program import ended, joined, options, processor_time  # noqa: E402
 from tally import TOP, Tally, end_with, words  # noqa: E402
+from terminal import on_terminal  # noqa: E402
 
 COVER = os.path.join(TOP, "crates", "cover", "out", "cover")
 # States and symbols of the lists that are small.
 SMALL = [(1, 2), (2, 2), (3, 2), (1, 3), (2, 3), (1, 4), (1, 10)]
-LARGE = [(4, 2)]
+LARGE = [(2, 4), (4, 2)]
 # Within so many steps each machine of these lists halts that leads to others.
 LIST_STEPS = 200
 LIMITS = options((LIST_STEPS, 512, 40, 1_000))
@@ -138,7 +140,7 @@ def hold_time(tally: Tally, program: str, lines: Sequence[str]) -> None:
 def hold_sentences(tally: Tally, lines: List[str]) -> None:
     """Holds what `cover` says of a list of two states that isn't as it should be, and of wrong words."""
     root, first = lines[0].split(" ")[0], lines[1].split(" ")[0]
-    rows = [
+    rows: List[Tuple[List[str], str]] = [
         ([], "line 1: a machine with no entry expected, the list ends"),
         (lines[1:], "line 1: a machine with no entry expected, found %s" % first),
         ([lines[0], ""], "line 2: it is no verdict line"),
@@ -173,6 +175,28 @@ def hold_sentences(tally: Tally, lines: List[str]) -> None:
     tally.hold("a full disk: %r" % done_full, full_told)
 
 
+def hold_terminal(tally: Tally, lines: Sequence[str]) -> None:
+    """Holds what `cover` says on a terminal alone: how far a list has come, and what failed and why."""
+    with tempfile.NamedTemporaryFile() as file:
+        file.write(joined(lines))
+        file.flush()
+        status, shown = on_terminal([COVER, *LIMITS, file.name], b"", subprocess.DEVNULL)
+        is_shown = re.match(r"\r0% 0 lines\x1b\[K(\r\d+% \d+ lines\x1b\[K)*\r\x1b\[K$", shown)
+        tally.hold("progress: status %d, %r" % (status, shown), status == 0 and is_shown)
+        with open("/dev/full", "wb") as full:
+            status, shown = on_terminal([COVER, *LIMITS, file.name], b"", full)
+        told = "cover: write failed\nstandard output: No space left on device (os error 28)\n"
+        tally.hold("a full disk: status %d, %r" % (status, shown), status == 3 and shown.endswith(told))
+    rows = {
+        "/no/such/file": "/no/such/file: No such file or directory (os error 2)\n",
+        TOP: "%s: Is a directory",
+    }
+    for path, cause in rows.items():
+        status, shown = on_terminal([COVER, *LIMITS, path], b"", subprocess.DEVNULL)
+        told = "cover: read failed\n" + (cause % path if "%s" in cause else cause)
+        tally.hold("%s: status %d, %r" % (path, status, shown), status == 3 and told in shown)
+
+
 def main() -> int:
     quick = "without four states, and with a tenth of the changes"
     asked = words(__doc__, quick=quick, machines=1_000, seed=68).parse_args()
@@ -182,11 +206,13 @@ def main() -> int:
     subprocess.run([os.path.join(TOP, "cover"), "--version"], stdout=subprocess.DEVNULL, check=True)
     lists = {size: hold_whole(tally, asked.program, *size) for size in SMALL}
     hold_sentences(tally, lists[2, 2])
+    hold_terminal(tally, lists[3, 2])
     count = asked.machines // 10 if asked.quick else asked.machines
     hold_changes(tally, lists[3, 2], count, random.Random(asked.seed))
     if not asked.quick:
         for size in LARGE:
-            hold_time(tally, asked.program, hold_whole(tally, asked.program, *size))
+            lines = hold_whole(tally, asked.program, *size)
+        hold_time(tally, asked.program, lines)
     return tally.end()
 
 

@@ -25,6 +25,7 @@ ALWAYS = [
     "bb",
     "bb.1",
     "bb.h",
+    "cover",
     "libbb.a",
     "libbb.so",
     "many_cores",

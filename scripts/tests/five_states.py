@@ -6,7 +6,8 @@
 The sample goes through the passes of the whole list, and each verdict is checked. Each count of the sample is
 held exactly, the machines that are left are decided by the program too, and the share of each kind is held to
 be that of the whole list, within what a sample allows. Of a part who takes the figures sees each verdict, and
-only what it left is kept. docs/five-states.md is held to state each figure of docs/five-states.json, which
+only what it left is kept. The verdicts of three states that are kept come as one list in order, which `cover`
+finds whole. docs/five-states.md is held to state each figure of docs/five-states.json, which
 the run over the whole list wrote. Over all machines of four states the script is interrupted, ended and
 killed, goes on each time, and gives what docs/four-states.md has; it refuses folders that aren't its own. It
 takes a minute or two, half of it for the sample. Without `rustc` it is skipped. The last line is `N passed, M
@@ -136,6 +137,16 @@ def hold_pieces(tally: Tally, program: str, top: pathlib.Path) -> None:
         tally.hold("what is left is kept: %d bytes of %d" % (len(kept), len(right)), kept == left != b"")
 
 
+def hold_merged(tally: Tally) -> None:
+    """A later pass answers what the first left, but a halt behind which the list would go on."""
+    first = [b"1RB---_1LA--- halt 2 1\n", b"1RB---_1LA1RA", b"1RB---_------", b"1RB1LA_1LA1RA"]
+    open_ones = [machine + b" undecided steps 3\n" for machine in first[1:]]
+    later = [b"1RB---_1LA1RA halt 5 3\n", b"1RB---_------ halt 5 1\n", b"1RB1LA_1LA1RA cycler 1 2\n"]
+    found = list(loaded().merged(iter([first[0], *open_ones]), iter(later)))
+    right = [first[0], later[0], open_ones[1], later[2]]
+    tally.hold("two passes are one list: %r" % found, found == right)
+
+
 def hold_shares(tally: Tally, counts: Dict[str, int]) -> None:
     """The share of each kind in the sample is about that in the whole list."""
     whole = written()["counts"]
@@ -261,6 +272,26 @@ def hold_refusals(tally: Tally, top: pathlib.Path) -> None:
         tally.hold("%s %s: status %d: %s" % (name, asked, status, told), is_right)
 
 
+def hold_stream(tally: Tally, out: pathlib.Path) -> None:
+    """The verdicts that are kept come as one list, in order: `cover` finds that it covers its size."""
+    small = ["--states", "3", "--parts", "5"]
+    status, told = ending(start(out, *small))
+    tally.hold("three states: status %d: %s" % (status, told), status == 0)
+    command = [SCRIPT, "--library", LIBRARY, "--out", str(out), *small]
+    none = ended([*command, "--stream"])
+    tally.hold("nothing is kept: %r" % none.error, none.status == 2 and b"aren't kept" in none.error)
+    kept = ["--library", LIBRARY, "--out", str(out.with_name("kept")), *small]
+    made = ended([SCRIPT, *kept, "--keep"])
+    tally.hold("kept: status %d: %r" % (made.status, made.error), made.status == 0)
+    found = ended([SCRIPT, *kept, "--stream"])
+    tally.hold("the stream: status %d: %r" % (found.status, found.error), found.status == 0)
+    covers = ended([os.path.join(TOP, "cover")], found.output)
+    is_whole = covers.output.startswith(b"covers 3 states 2 symbols: 5417 lines,")
+    tally.hold("the stream isn't whole: %r" % covers.output, is_whole)
+    alone = ended([SCRIPT, *kept, "--every", "2", "--stream"])
+    tally.hold("a part of a list: %r" % alone.error, alone.status == 2)
+
+
 def main() -> int:
     program = words(__doc__).parse_args().program
     tally = Tally()
@@ -272,6 +303,8 @@ def main() -> int:
         hold_document(tally)
         hold_refusals(tally, top)
         hold_pieces(tally, program, top / "pieces")
+        hold_merged(tally)
+        hold_stream(tally, top / "three")
         hold_interruptions(tally, top / "four")
         hold_sample(tally, program, top)
     return tally.end()

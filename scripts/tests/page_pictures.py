@@ -55,16 +55,15 @@ def hold_windows(held: Held, count: int, seed: int) -> None:
     source = random.Random(seed)
     machines = [seldom_halting(source, source.randint(2, 5), source.randint(2, 4)) for _ in range(count)]
     machines += [CHAMPION_5, LATE, TREE, *mixed(count, seed)]
-    asked = [
-        {"machine": machine, "upto": source.randint(100, 4_000), "cells": 65_536} for machine in machines
-    ]
-    given = "".join(json.dumps(one) + "\n" for one in asked)
+    asked = [(machine, source.randint(100, 4_000)) for machine in machines]
+    words = [{"machine": machine, "upto": upto, "cells": 65_536} for machine, upto in asked]
+    given = "".join(json.dumps(one) + "\n" for one in words)
     done = subprocess.run(["node", WINDOWS], input=given, stdout=subprocess.PIPE, text=True, check=True)
     wrong = []
-    for one, line in zip(asked, done.stdout.splitlines()):
-        rows = traced(held.program, str(one["machine"]), int(one["upto"]))
+    for (machine, upto), line in zip(asked, done.stdout.splitlines()):
+        rows = traced(held.program, machine, upto)
         if json.loads(line) != [[row.low, row.low + len(row.cells) - 1] for row in rows]:
-            wrong.append(one)
+            wrong.append((machine, upto))
     held.hold("visited positions of %d machines: %s" % (len(machines), wrong[:3]), not wrong)
 
 

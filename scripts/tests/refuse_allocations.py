@@ -1,5 +1,5 @@
 #!/usr/bin/env python3
-"""Refuses one allocation at a time to the built program, and says how it ends.
+"""Refuses one allocation at a time to the built program, and to `cover`, and says how it ends.
 
     scripts/tests/refuse_allocations.py crates/bb/out/bb
 
@@ -8,7 +8,7 @@ The program must then end as ever, or with status 3, a beginning of its output a
 fault. It stops at the first k that no call reaches. The last calls are those that make the tapes and the
 path, before a byte is read: where one of them is refused, nothing is written and memory is the cause.
 Those before them read the words, and there must be some. Opening FILE allocates nothing, so none of them may
-end as a failed read. It takes a few seconds. The last line is `N passed, M failed`; the status is 1
+end as a failed read. It builds `cover` where it isn't up to date. It takes a few seconds. The last line is `N passed, M failed`; the status is 1
 where any failed. Needs cc and Linux.
 """
 
@@ -21,7 +21,7 @@ from typing import Iterator, List, Mapping, Sequence, Tuple
 sys.path.insert(0, os.path.join(os.path.dirname(os.path.dirname(os.path.abspath(__file__))), "lib"))
 
 from program import Ended, ended  # noqa: E402
-from tally import Tally, end_with, words  # noqa: E402
+from tally import TOP, Tally, end_with, words  # noqa: E402
 
 REFUSER = r"""
 #define _GNU_SOURCE
@@ -73,10 +73,11 @@ CLAIMS = (
     b"0RB---_0LA--- backward 2 4\n0RB---_0LA--- cycler 2 4\n"
 )
 
-FAULTS = {b"bb: out of memory\n", b"bb: read failed\n", b"bb: write failed\n"}
+# A list of two states that ends too soon.
+BEGUN = b"------_------ halt 0 0\n0RA---_------ translated R 1 2 1 1\n"
 
-NOT_BEGUN = (3, b"", b"bb: out of memory\n")
-NOT_READ = b"bb: read failed\n"
+# What ends a program early, but for a read that failed.
+FAULTS = (b"out of memory", b"write failed")
 
 # The words, and how many allocations the tapes and the path take.
 RUNS = [
@@ -97,11 +98,24 @@ RUNS = [
     (["trace", "--upto=10"], 0),
     (["--help"], 0),
 ]
+# The same of `cover`, which takes room for a walk too.
+COVER_RUNS = [
+    (LIMITS, 4),
+    ([*LIMITS, "{begun}"], 4),
+    (["--cells=4"], 0),
+    (["--steps=x"], 0),
+    (["--help"], 0),
+]
 
 
 def run(program: str, asked: Sequence[str], environment: Mapping[str, str]) -> Ended:
     """How the program ends with these words, in this environment."""
-    return ended([program, *asked], CLAIMS if asked[0] == "check" else LINES, env=environment)
+    given = BEGUN if name_of(program) == "cover" else CLAIMS if asked[0] == "check" else LINES
+    return ended([program, *asked], given, env=environment)
+
+
+def name_of(program: str) -> str:
+    return os.path.basename(program)
 
 
 def ends_of(program: str, asked: Sequence[str], library: str, folder: str) -> List[Ended]:
@@ -117,15 +131,16 @@ def ends_of(program: str, asked: Sequence[str], library: str, folder: str) -> Li
         ends.append(end)
 
 
-def judged(ends: Sequence[Ended], fine: Ended, made: int) -> Iterator[Tuple[str, bool]]:
-    """What must hold of these ends, and whether it does."""
+def judged(name: str, ends: Sequence[Ended], fine: Ended, made: int) -> Iterator[Tuple[str, bool]]:
+    """What must hold of these ends of the program with this name, and whether it does."""
+    faults = [b"%s: %s\n" % (name.encode(), fault) for fault in FAULTS]
     asking = len(ends) - made
     yield "%d refused, %d of them for tapes and path" % (len(ends), made), asking > 0
     for k, end in enumerate(ends):
         if k >= asking:
-            holds = end == NOT_BEGUN
+            holds = end == (3, b"", faults[0])
         else:
-            faulted = end[0] == 3 and fine[1].startswith(end[1]) and end[2] in FAULTS - {NOT_READ}
+            faulted = end[0] == 3 and fine[1].startswith(end[1]) and end[2] in faults
             holds = end == fine or faulted
         yield "the %d-th: %r" % (k + 1, end), holds
 
@@ -138,18 +153,22 @@ def main() -> int:
     with tempfile.TemporaryDirectory() as folder:
         source = os.path.join(folder, "refuser.c")
         library = os.path.join(folder, "refuser.so")
-        files = {"{list}": os.path.join(folder, "list"), "{claims}": os.path.join(folder, "claims")}
-        texts = {source: REFUSER.encode(), files["{list}"]: LINES, files["{claims}"]: CLAIMS}
-        for path, text in texts.items():
-            with open(path, "wb") as file:
+        texts = {"list": LINES, "claims": CLAIMS, "begun": BEGUN}
+        for name, text in {**texts, "refuser.c": REFUSER.encode()}.items():
+            with open(os.path.join(folder, name), "wb") as file:
                 file.write(text)
+        files = {"{%s}" % name: os.path.join(folder, name) for name in texts}
         subprocess.run(["cc", "-shared", "-fPIC", "-O1", "-o", library, source, "-ldl"], check=True)
-        for asked, made in RUNS:
+        subprocess.run([os.path.join(TOP, "cover"), "--version"], stdout=subprocess.DEVNULL, check=True)
+        cover = os.path.join(TOP, "crates", "cover", "out", "cover")
+        runs = [(program, *row) for row in RUNS] + [(cover, *row) for row in COVER_RUNS]
+        for built, asked, made in runs:
             named = [files.get(word, word) for word in asked]
-            ends = ends_of(program, named, library, folder)
-            print("%s: %d allocations refused in turn" % (" ".join(asked), len(ends)))
-            for what, holds in judged(ends, run(program, named, dict(os.environ)), made):
-                tally.hold("%s: %s" % (" ".join(asked), what), holds)
+            ends = ends_of(built, named, library, folder)
+            told = "%s %s" % (name_of(built), " ".join(asked))
+            print("%s: %d allocations refused in turn" % (told, len(ends)))
+            for what, holds in judged(name_of(built), ends, run(built, named, dict(os.environ)), made):
+                tally.hold("%s: %s" % (told, what), holds)
     return tally.end()
 
 

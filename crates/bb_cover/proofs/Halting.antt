@@ -41,10 +41,10 @@ gap_of_halt table runner view stands halts gap in_state at_symbol =
     ≡ entry_of table gap.state gap.symbol =
     ap (λ x. entry_at table x (cell view.content (position_of runner))) in_state
     ∙ ap (entry_of table gap.state) (sym at_symbol) in
-    let none : followed (entry_at table (state_of runner) (cell view.content (position_of runner))) here ≡ None =
+    let none : followed (entry_at table (state_of runner) (cell view.content (position_of runner))) here
+    ≡ None =
     ap (configuration.next table) (sym same) ∙ halts.no_next in
-    let is_gap : entry_of table gap.state gap.symbol ≡ Undefined = sym entry ∙ no_step _ here none in
-    (
+    let is_gap : entry_of table gap.state gap.symbol ≡ Undefined = sym entry ∙ no_step _ here none in (
       record {
         last = here;
         exists = stands.at;

@@ -1,5 +1,5 @@
 -- Which verdicts may stand in a list, and on which `---` their machines halt.
-use Rattle.std.proofs.Common.{◌≡◌, ℕ, ◌<◌, ◌≤◌, Bool, true, false, Option, Some, None, inl, inr, refl, sym, subst}
+use Rattle.std.proofs.Common.{◌≡◌, ℕ, ◌<◌, ◌≤◌, true, false, Option, Some, None, inl, inr, refl, sym, subst}
 use Rattle.std.proofs.Common.{ap, ◌∙◌, arith}
 use Rattle.std.proofs.lemmas.Bool.{cases_lt}
 use Rattle.bb_machine.specs.Limits.{Bounds}
@@ -17,10 +17,9 @@ use Rattle.bb_cert.specs.declared.verdict.Verdict.{Verdict}
 use Rattle.bb_cert.specs.declared.verdict.Verdict.TheVariants.{Halt, Cycler, Translated, Backward, Undecided}
 use Rattle.bb_cert.specs.claims.Claim.{Claim}
 use Rattle.bb_cert.specs.checker.Answer.{Applies, IsAnswer, IsUndecided, Rule, answer_by, is_fine, rank}
-use Rattle.bb_cert.specs.checker.Answer.{undecided, too_much_named, out_of_order, too_much_needed, claim_holds, all_else}
-use Rattle.laws_of_verdicts.specs.Closed.{VerdictLine}
+use Rattle.bb_cert.specs.checker.Answer.{undecided, too_much_named, out_of_order, too_much_needed}
+use Rattle.bb_cert.specs.checker.Answer.{claim_holds, all_else}
 use Rattle.laws_of_verdicts.specs.Gap.{HaltsOnGap, HasOtherGap}
-use Rattle.laws_of_verdicts.specs.Walk.{HaltsOnOneOf}
 use Rattle.bb_cover.specs.declared.gap.Gap.{Gap}
 use Rattle.bb_cover.specs.declared.halt.Halted.{Halted}
 use Rattle.bb_cover.specs.Claims.{IsFineClaim, IsHalt, IsOneOf}
@@ -52,7 +51,7 @@ pub record OkHalt (table : Table) (bounds : Bounds) (steps score : ℕ) : Type 0
   pub few_cells : span table steps ≤ bounds.cells
 
 not_more : (n k : ℕ) → (k < n → ⊥) → n ≤ k
-not_more n k not = elim (cases_lt k n) [ | inl more ↦ absurd (not more) | inr few ↦ few ]
+not_more n k not = elim (cases_lt k n) [ inl more ↦ absurd (not more) | inr few ↦ few ]
 
 by_rule : (table : Table) (bounds : Bounds) (steps score : ℕ) (rule : Rule) → answer.Ok ≡ answer_by rule
     → Applies table bounds (Halt steps score) rule
@@ -122,7 +121,8 @@ not_fine table bounds steps score answer.Bad is not = refl
 not_fine table bounds steps score answer.Over is not = refl
 not_fine table bounds steps score answer.Open is not = absurd (never_open is.rule is.is is.applies)
   where
-    never_open : (rule : Rule) → answer.Open ≡ answer_by rule → Applies table bounds (Halt steps score) rule → ⊥
+    never_open : (rule : Rule) → answer.Open ≡ answer_by rule
+        → Applies table bounds (Halt steps score) rule → ⊥
     never_open undecided e applies = applies
     never_open too_much_named e applies = cc
     never_open out_of_order e applies = cc
@@ -188,8 +188,7 @@ to_fill table steps score (Some gap) None on one = λ state symbol halts.
     one (subst (HasOtherGap table gap.state) (sym here.1)
     (subst (λ q. HasOtherGap table q symbol) (sym here.0) halts.other))
 to_fill table steps score (Some gap) (Some found) on one =
-    subst (λ g. IsToFill (record { table = table; verdict = Halt steps score }) (Some g)) (sym one.0)
-    (
+    subst (λ g. IsToFill (record { table = table; verdict = Halt steps score }) (Some g)) (sym one.0) (
       record { steps = steps; score = score; says = refl; gap = on.0; other = one.1 },
       on.1,
     )

@@ -1,14 +1,14 @@
 -- What is left of a walk, frame by frame.
-use Rattle.std.proofs.Common.{◌≡◌, ℕ, zero, suc, ◌+◌, ◌-◌, ◌<◌, ◌≤◌, Bool, List, [], ◌∷◌, ◌++◌, length, get_or, set}
-use Rattle.std.proofs.Common.{drop, map, min, take, Option, Some, None, refl, ap, sym, subst, ◌∙◌, append_assoc, arith}
+use Rattle.std.proofs.Common.{◌≡◌, ℕ, zero, suc, ◌+◌, ◌-◌, ◌<◌, ◌≤◌, Bool, List, [], ◌∷◌, ◌++◌, length}
+use Rattle.std.proofs.Common.{get_or, set}
+use Rattle.std.proofs.Common.{drop, map, min, take, refl, ap, sym, subst, ◌∙◌, append_assoc, arith}
 use Rattle.std.proofs.Common.{length-append, add-one, ◌↔◌, IsTrue}
 use Rattle.std.proofs.Math.Seq.{drop-cons}
-use Rattle.std.proofs.lemmas.List.{append-nil, drop_all, get_or_default, length-map, length-take-le, set_at, take_all, take_more}
-use Rattle.bb_machine.specs.declared.entry.Entry.{Entry}
-use Rattle.bb_machine.specs.declared.entry.Entry.TheVariants.{Undefined, Go}
+use Rattle.std.proofs.lemmas.List.{append-nil, drop_all, get_or_default, length-take-le, set_at, take_all}
+use Rattle.std.proofs.lemmas.List.{take_more}
+use Rattle.bb_machine.specs.declared.entry.Entry.TheVariants.{Undefined}
 use Rattle.bb_machine.specs.declared.entry.Next.TheVariants.{State}
-use Rattle.bb_machine.specs.declared.machine.TheConstants.{MAX_STATES, MAX_SYMBOLS}
-use Rattle.bb_machine.specs.Machine.{Table, IsMachine, symbols_of}
+use Rattle.bb_machine.specs.Machine.{Table, IsMachine}
 use Rattle.laws_of_verdicts.specs.Closed.{with_entry}
 use Rattle.laws_of_verdicts.specs.NormalForm.{IsEmpty}
 use Rattle.laws_of_verdicts.specs.Walk.{FillsGapBy, entries_of}
@@ -20,9 +20,10 @@ use Rattle.bb_cover.specs.Asked.{IsAsking, entries}
 use Rattle.bb_cover.specs.Gaps.{IsGapOf, gaps_of}
 use Rattle.bb_cover.specs.Left.{AreFrames, IsFirst, IsFrame, IsStack, left, left_of}
 use Rattle.bb_cover.proofs.Asks.{few_entries, leads_on, some_entries}
-use Rattle.bb_cover.proofs.Tables.{filled_gaps, some_gaps}
+use Rattle.bb_cover.proofs.Tables.{filled_gaps}
 
-pub left-push : (frames : List Frame) (frame : Frame) → left (frames ++ frame ∷ []) ≡ left_of frame ++ left frames
+pub left-push : (frames : List Frame) (frame : Frame)
+    → left (frames ++ frame ∷ []) ≡ left_of frame ++ left frames
 left-push [] frame = sym (append-nil (left_of frame))
 left-push (f ∷ frames) frame =
     ap (λ l. l ++ left_of f) (left-push frames frame) ∙ append_assoc (left_of frame) (left frames) (left_of f)
@@ -97,7 +98,8 @@ first_left frames d stack some =
     record {
       frame_is = is_too;
       is = ap left (split_last frames d some) ∙ left-push (take (length frames - 1) frames) last
-          ∙ ap (λ l. l ++ left (take (length frames - 1) frames)) (left_of-next last (length frames - 1) is_too);
+          ∙ ap (λ l. l ++ left (take (length frames - 1) frames))
+          (left_of-next last (length frames - 1) is_too);
     }
 
 -- that one has one `---` less than the frame's
@@ -120,7 +122,8 @@ pub passes_within : (frames : List Frame) (d : Frame) → IsStack frames → 0 <
     < length (entries (get_or frames (length frames - 1) d).asked)
     → (new : List Frame)
     → new ≡ set frames (length frames - 1) (record (get_or frames (length frames - 1) d) {
-      next = (get_or frames (length frames - 1) d).next + 1 })
+      next = (get_or frames (length frames - 1) d).next + 1;
+    })
     → Passes frames new
 passes_within frames d stack some fits new is = by (get_or frames (length frames - 1) d) refl where
   by : (last : Frame) → get_or frames (length frames - 1) d ≡ last → Passes frames new
@@ -133,7 +136,8 @@ passes_within frames d stack some fits new is = by (get_or frames (length frames
       is ∙ ap (λ (f : Frame). set frames (length frames - 1) (record f { next = f.next + 1 })) same
       ∙ ap (λ l. set l (length frames - 1) turned) (split_last frames d some)
       ∙ set_at front (get_or frames (length frames - 1) d) [] turned (length frames - 1) long in
-      let frame_is : IsFrame (length frames - 1) last = subst (IsFrame (length frames - 1)) same first.frame_is in
+      let frame_is : IsFrame (length frames - 1) last =
+      subst (IsFrame (length frames - 1)) same first.frame_is in
       let front_are : AreFrames zero front =
       frames-front zero front (get_or frames (length frames - 1) d)
       (subst (AreFrames zero) (split_last frames d some) stack) in
@@ -174,7 +178,8 @@ passes_last frames d stack some ends new is =
     record {
       first = next_of last;
       left_was = first.is
-          ∙ ap (λ l. next_of last ∷ (map (with_entry last.machine last.gap.state last.gap.symbol) l ++ left front))
+          ∙ ap (λ l. next_of last ∷ (map (with_entry last.machine last.gap.state last.gap.symbol) l
+          ++ left front))
           (drop_all (last.next + 1) (entries last.asked) ends)
           ∙ sym (ap (λ l. next_of last ∷ left l) is);
       room = omega (arith, gaps, room, many, long, some);

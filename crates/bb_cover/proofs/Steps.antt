@@ -1,10 +1,9 @@
 -- What one line does to a walk.
-use Rattle.std.proofs.Common.{◌≡◌, ◌≢◌, ◌↔◌, ℕ, zero, suc, ◌+◌, ◌<◌, ◌≤◌, ◌⊎◌, Bool, true, false, List, [], ◌∷◌, ◌++◌}
-use Rattle.std.proofs.Common.{Option, Some, None, length, map, min, inl, inr, refl, ap, sym, subst, ◌∙◌, arith}
+use Rattle.std.proofs.Common.{◌≡◌, ◌↔◌, ℕ, ◌+◌, ◌⊎◌, Bool, true, false, List, ◌∷◌, ◌++◌}
+use Rattle.std.proofs.Common.{Option, Some, None, length, map, min, refl, ap, sym, subst, ◌∙◌, arith}
 use Rattle.std.specs.Prelude.{IsTrue, is_some}
-use Rattle.std.proofs.lemmas.List.{append-nil}
 use Rattle.bb_machine.specs.Limits.{Bounds}
-use Rattle.bb_machine.specs.Machine.{Table, IsMachine, symbols_of}
+use Rattle.bb_machine.specs.Machine.{Table, symbols_of}
 use Rattle.bb_cert.specs.declared.verdict.Verdict.{Verdict}
 use Rattle.bb_cert.specs.declared.verdict.Verdict.TheVariants.{Halt}
 use Rattle.bb_cert.specs.declared.verdict.reader.Line.TheVariants.{Claim, Refusal}
@@ -13,11 +12,10 @@ use Rattle.bb_cert.proofs.Facts.{line_unique}
 use Rattle.laws_of_verdicts.specs.Closed.{VerdictLine, with_entry}
 use Rattle.laws_of_verdicts.specs.Gap.{HaltsOnGap}
 use Rattle.laws_of_verdicts.specs.NormalForm.{IsEmpty}
-use Rattle.laws_of_verdicts.specs.Walk.{FillsGapBy, HaltsOnOneOf, IsWalk, LeadsTo, Uses, entries_of}
+use Rattle.laws_of_verdicts.specs.Walk.{FillsGapBy, HaltsOnOneOf, IsWalk, LeadsTo, entries_of}
 use Rattle.bb_cover.specs.declared.found.Stop.{Stop}
 use Rattle.bb_cover.specs.declared.gap.Gap.{Gap}
 use Rattle.bb_cover.specs.declared.list.Course.{Course}
-use Rattle.bb_cover.specs.Claims.{IsTrueLine}
 use Rattle.bb_cover.specs.Course.{Stopped, Took, TookBy, Visited}
 use Rattle.bb_cover.specs.Gaps.{IsToFill}
 use Rattle.bb_cover.specs.Left.{FillsAt}

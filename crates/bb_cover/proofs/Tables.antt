@@ -1,11 +1,11 @@
 -- Tables, entry by entry: which are the same, which have no entry, and how many `---` there are.
-use Rattle.std.proofs.Common.{◌≡◌, ℕ, zero, suc, ◌+◌, ◌*◌, ◌<◌, ◌≤◌, List, [], ◌∷◌, ◌++◌, length, get_or, set, take}
-use Rattle.std.proofs.Common.{replicate, inl, inr, refl, ap, ap₂, sym, subst, ◌∙◌, arith}
+use Rattle.std.proofs.Common.{◌≡◌, ℕ, suc, ◌+◌, ◌*◌, ◌<◌, ◌≤◌, List, [], ◌∷◌, ◌++◌, length, get_or, set, take}
+use Rattle.std.proofs.Common.{replicate, inl, inr, refl, ap, sym, ◌∙◌, arith}
 use Rattle.std.proofs.lemmas.Bool.{cases_eq, cases_lt}
-use Rattle.std.proofs.lemmas.List.{ext_get_or, length-set, get_or-set_same, get_or-set_other, get_or-replicate}
-use Rattle.std.proofs.lemmas.List.{get_or_past, length-replicate, length-take-le, take_all, take_more}
+use Rattle.std.proofs.lemmas.List.{ext_get_or, length-set, get_or-set_same, get_or-set_other}
+use Rattle.std.proofs.lemmas.List.{get_or-replicate}
+use Rattle.std.proofs.lemmas.List.{get_or_past, length-replicate, take_more}
 use Rattle.std.proofs.lemmas.List.Elements.{All-from_recursion}
-use Rattle.std.proofs.Math.Nat.{mul-le-mul_left}
 use Rattle.bb_machine.specs.declared.entry.Dir.TheVariants as dir
 use Rattle.bb_machine.specs.declared.entry.Entry.{Entry}
 use Rattle.bb_machine.specs.declared.entry.Next.{Next}
@@ -74,7 +74,8 @@ pub everywhere_empty : (table : Table) → IsMachine table
     → ((q : ℕ) → q < length table → (s : ℕ) → s < symbols_of table → entry_of table q s ≡ Undefined)
     → IsEmpty table
 everywhere_empty table machine none q s =
-    ap (λ t. entry_of t q s) (all_empty table machine none) ∙ all_gaps-none (length table) (symbols_of table) q s
+    ap (λ t. entry_of t q s) (all_empty table machine none)
+    ∙ all_gaps-none (length table) (symbols_of table) q s
 
 pub empty_is : (table : Table) → IsMachine table → IsEmpty table
     → table ≡ all_gaps (length table) (symbols_of table)
@@ -120,7 +121,6 @@ pub gaps_of_more : (gs : Table) (i : ℕ) → i < length gs
 gaps_of_more gs i inside =
     let last = gaps_of-append (take i gs) (get_or gs i [] ∷ []) in
     ap gaps_of (take_more gs i [] inside) ∙ omega (arith, last)
-
 
 -- at most as many as there are entries
 few_gaps : (n : ℕ) (gs : Table) → ((q : ℕ) → q < length gs → length (get_or gs q []) ≤ n)

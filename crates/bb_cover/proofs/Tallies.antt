@@ -1,11 +1,12 @@
 -- How many lines of each kind there are, with one line more.
-use Rattle.std.proofs.Common.{◌≡◌, ℕ, ◌+◌, ◌-◌, ◌^◌, min, Bool, true, false, cond, List, [], ◌∷◌, ◌++◌, length, refl, ap}
+use Rattle.std.proofs.Common.{◌≡◌, ℕ, ◌+◌, Bool, true, false, cond, List, [], ◌∷◌, ◌++◌, length, refl, ap}
 use Rattle.std.proofs.Common.{sym, ◌∙◌, arith, length-append}
 use Rattle.std.specs.Prelude.{count_by}
 use Rattle.std.proofs.lemmas.List.Sums.{sum_by-append}
 use Rattle.laws_of_verdicts.specs.Closed.{VerdictLine}
 use Rattle.bb_cover.specs.declared.counts.Counts.{Counts}
-use Rattle.bb_cover.specs.Counts.{AreCounts, counted, is_backward, is_cycler, is_halt, is_translated, is_undecided}
+use Rattle.bb_cover.specs.Counts.{AreCounts, counted, is_backward, is_cycler, is_halt, is_translated}
+use Rattle.bb_cover.specs.Counts.{is_undecided}
 use Rattle.bb_cover.specs.Counts.{is_wide, more_if, no_counts, saturated}
 
 more_saturated : (n : ℕ) → saturated (saturated n + 1) ≡ saturated (n + 1)

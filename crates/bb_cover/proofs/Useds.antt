@@ -6,7 +6,6 @@ use Rattle.bb_machine.specs.declared.entry.Entry.TheVariants.{Undefined, Go}
 use Rattle.bb_machine.specs.declared.entry.Next.TheVariants.{State, Halt}
 use Rattle.bb_machine.specs.Entry.{IsEntryOf}
 use Rattle.bb_machine.specs.Machine.{Table, IsMachine, entry_of, symbols_of}
-use Rattle.laws_of_verdicts.specs.NormalForm.{UsesFirst}
 use Rattle.laws_of_verdicts.specs.Walk.{Uses}
 use Rattle.bb_cover.specs.Used.{NeedsEntry, NeedsRow}
 use Rattle.bb_cover.proofs.Tables.{outside}

@@ -1,7 +1,8 @@
 -- What the lines of a list come to, from what each line did.
-use Rattle.std.proofs.Common.{◌≡◌, ◌≢◌, ◌↔◌, ℕ, zero, suc, ◌+◌, ◌<◌, ◌⊎◌, Bool, true, false, List, [], ◌∷◌, ◌++◌}
-use Rattle.std.proofs.Common.{Option, Some, None, length, replicate, inl, inr, refl, ap, sym, subst, ◌∙◌, arith}
-use Rattle.std.proofs.Common.{append_assoc, length-append}
+use Rattle.std.proofs.Common.{◌≡◌, ℕ, zero, suc, ◌+◌, ◌<◌, List, [], ◌∷◌, ◌++◌}
+use Rattle.std.proofs.Common.{Option, Some, None, length, replicate, inl, inr, refl, ap, sym, subst, ◌∙◌}
+use Rattle.std.proofs.Common.{arith}
+use Rattle.std.proofs.Common.{append_assoc}
 use Rattle.std.specs.Prelude.{Contains}
 use Rattle.std.specs.List.{FoldsTo}
 use Rattle.std.proofs.lemmas.Fn.{chained_keeps}
@@ -28,8 +29,9 @@ use Rattle.bb_cover.specs.declared.list.Cover.{Cover}
 use Rattle.bb_cover.specs.declared.list.Size.{Size}
 use Rattle.bb_cover.specs.Claims.{AreTrueLines, IsTrueLine}
 use Rattle.bb_cover.specs.Counts.{AreCounts, no_counts, saturated}
-use Rattle.bb_cover.specs.Course.{EndsTooSoon, IsAsked, IsFoundBy, IsWrong, Stopped, TookBy, Visited, size_after}
-use Rattle.bb_cover.specs.Covering.{CoversSize, DecidesSize, HasLeft, IsCover, IsFound, IsWholeWalk, IsWrongAt, StopsAt}
+use Rattle.bb_cover.specs.Course.{EndsTooSoon, IsAsked, IsFoundBy, IsWrong, Stopped, TookBy, Visited}
+use Rattle.bb_cover.specs.Course.{size_after}
+use Rattle.bb_cover.specs.Covering.{CoversSize, DecidesSize, HasLeft, IsCover, IsFound, IsWholeWalk, StopsAt}
 use Rattle.bb_cover.proofs.Judging.{fine_claim, fine_or_not}
 use Rattle.bb_cover.proofs.Steps.{goes_on, one_line}
 use Rattle.bb_cover.proofs.Tables.{empty_is}
@@ -37,8 +39,8 @@ use Rattle.bb_cover.proofs.Tallies.{next_line, none_counted, one_counted}
 
 -- true lines
 
-true_push : (bounds : Bounds) (bytes : List (List ℕ)) (lines : List VerdictLine) (b : List ℕ) (l : VerdictLine)
-    → AreTrueLines bounds bytes lines → IsTrueLine bounds b l
+true_push : (bounds : Bounds) (bytes : List (List ℕ)) (lines : List VerdictLine) (b : List ℕ)
+    (l : VerdictLine) → AreTrueLines bounds bytes lines → IsTrueLine bounds b l
     → AreTrueLines bounds (bytes ++ b ∷ []) (lines ++ l ∷ [])
 true_push bounds [] [] b l are is = (is, tt)
 true_push bounds [] (x ∷ lines) b l are is = absurd are
@@ -181,10 +183,11 @@ module _ (bounds : Bounds) (past : List (List ℕ)) (bytes : List ℕ) (old new 
       (going.lines ++ visited.line ∷ [])
   visited_left visited None walk asked left = λ tail.
       let line = visited.line in
-      let goes = goes_on line visited.gap visited.goes.more visited.goes.rest visited.to_fill visited.goes.fills
-      tail in
+      let goes = goes_on line visited.gap visited.goes.more visited.goes.rest visited.to_fill
+      visited.goes.fills tail in
       let root = empty_is line.table visited.is_true.is_line.0 asked.0 in
-      let all : (going.lines ++ line ∷ []) ++ tail ≡ line ∷ tail = ap (λ l. (l ++ line ∷ []) ++ tail) left.0 in
+      let all : (going.lines ++ line ∷ []) ++ tail ≡ line ∷ tail =
+      ap (λ l. (l ++ line ∷ []) ++ tail) left.0 in
       let here = all_gaps (length line.table) (symbols_of line.table) in (
         λ walk. subst (IsWalk (here ∷ [])) (sym all)
             (subst (λ t. IsWalk (t ∷ []) (line ∷ tail)) root
@@ -195,8 +198,8 @@ module _ (bounds : Bounds) (past : List (List ℕ)) (bytes : List ℕ) (old new 
       )
   visited_left visited (Some size) walk asked left = λ tail.
       let line = visited.line in
-      let goes = goes_on line visited.gap visited.goes.more visited.goes.rest visited.to_fill visited.goes.fills
-      tail in
+      let goes = goes_on line visited.gap visited.goes.more visited.goes.rest visited.to_fill
+      visited.goes.fills tail in
       let before = left (line ∷ tail) in
       let all = append_assoc going.lines (line ∷ []) tail in
       let root = all_gaps size.states size.symbols in (

@@ -1,5 +1,6 @@
 -- How many lines of each kind there are.
-use Rattle.std.specs.Prelude.{◌≡◌, ℕ, ◌+◌, ◌-◌, ◌^◌, ◌<◌, min, Bool, true, false, cond, nat_lt, List, count_by, length}
+use Rattle.std.specs.Prelude.{◌≡◌, ℕ, ◌+◌, ◌-◌, ◌^◌, min, Bool, true, false, cond, nat_lt, List, count_by}
+use Rattle.std.specs.Prelude.{length}
 use Rattle.bb_cert.specs.declared.verdict.Verdict.{Verdict}
 use Rattle.bb_cert.specs.declared.verdict.Verdict.TheVariants.{Halt, Cycler, Translated, Backward, Undecided}
 use Rattle.laws_of_verdicts.specs.Closed.{VerdictLine}

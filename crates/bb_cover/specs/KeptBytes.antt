@@ -1,6 +1,6 @@
 -- Why the first bytes of a line, one more than the buffer of a verdict line has, decide what it does: a law
 -- that the engine asks for. It is a proof; it stands here, since a trait's law may cite nothing of `proofs/`.
-use Rattle.std.proofs.Common.{◌≡◌, ℕ, ◌+◌, ◌<◌, ◌⊎◌, List, take, length, inl, inr, subst, arith, Option}
+use Rattle.std.proofs.Common.{◌≡◌, ℕ, ◌+◌, ◌⊎◌, List, take, length, inl, inr, subst, arith, Option}
 use Rattle.std.proofs.Common.{Some, None}
 use Rattle.std.proofs.lemmas.Bool.{cases_lt}
 use Rattle.std.proofs.lemmas.List.{take_all, length-take}
@@ -14,7 +14,7 @@ use Rattle.bb_cover.specs.declared.found.Stop.{Stop}
 use Rattle.bb_cover.specs.declared.found.Why.{Why}
 use Rattle.bb_cover.specs.declared.found.Why.TheVariants.{Unread, NotNext, Refused, TooSoon, Beyond}
 use Rattle.bb_cover.specs.declared.list.Course.{Course}
-use Rattle.bb_cover.specs.Course.{IsWrong, Stopped, TookBy, Visited}
+use Rattle.bb_cover.specs.Course.{IsWrong, TookBy}
 
 module _ (line : List ℕ) where
   -- either all bytes of a line are kept, or neither they nor the line are a verdict line

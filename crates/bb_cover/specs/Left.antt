@@ -1,7 +1,8 @@
 -- The machines that a walk has still to visit.
-use Rattle.std.specs.Prelude.{◌≡◌, ℕ, zero, suc, ◌+◌, ◌<◌, ◌≤◌, List, [], ◌∷◌, ◌++◌, drop, length, map, Option, Some, None}
+use Rattle.std.specs.Prelude.{◌≡◌, ℕ, zero, suc, ◌+◌, ◌<◌, ◌≤◌, List, [], ◌∷◌, ◌++◌, drop, length, map}
+use Rattle.std.specs.Prelude.{Option, Some, None}
 use Rattle.bb_machine.specs.declared.machine.TheConstants.{MAX_STATES, MAX_SYMBOLS}
-use Rattle.bb_machine.specs.Machine.{Table, IsMachine, symbols_of}
+use Rattle.bb_machine.specs.Machine.{Table, IsMachine}
 use Rattle.laws_of_verdicts.specs.Closed.{with_entry}
 use Rattle.laws_of_verdicts.specs.Walk.{FillsGapBy}
 use Rattle.bb_cover.specs.declared.gap.Gap.{Gap}

@@ -15,7 +15,8 @@ use bb_tape::{Memory, Tape};
 /// What becomes of a verdict.
 #[derive(Clone, Copy, Debug)]
 pub(crate) enum Judged {
-    /// The checker's answer to it is `ok` or `open`; its machine halts on this one of several `---`, if on any.
+    /// The checker's answer to it is `ok` or `open`; its machine halts on this one of several `---`, if on
+    /// any.
     Fine(Option<Gap>),
     /// The checker's answer is this one, `bad` or `over`.
     Refused(Answer),

@@ -59,8 +59,8 @@ impl Counts {
     /// Counts an undecided line, as such alone.
     fn add_undecided(&mut self, machine: &Machine)
         ensures { self.new ≡ record self.old {
-            undecided = saturated (self.old.undecided + 1);
-            wide = more_if (nat_lt 1 (gaps_of machine.now)) self.old.wide;
+          undecided = saturated (self.old.undecided + 1);
+          wide = more_if (nat_lt 1 (gaps_of machine.now)) self.old.wide;
         } }
     {
         self.undecided = self.undecided.saturating_add(1);

@@ -103,7 +103,8 @@ impl Course {
     /// Stops at the line after those that were visited.
     fn stop_for(&mut self, why: Why)
         ensures { self.new ≡ record self.old {
-            stop = Some (record { line = saturated (self.old.counts.lines + 1); why = why }) } }
+          stop = Some (record { line = saturated (self.old.counts.lines + 1); why = why });
+        } }
     {
         self.stop = Some(Stop {
             line: self.counts.lines.saturating_add(1),
@@ -111,8 +112,8 @@ impl Course {
         });
     }
 
-    /// Visits the next machine, which has this verdict, and halts on this one of several `---`, if on any. The
-    /// machine is taken where it does.
+    /// Visits the next machine, which has this verdict, and halts on this one of several `---`, if on any.
+    /// The machine is taken where it does.
     fn visit(&mut self, machine: &mut Machine, verdict: &Verdict, gap: Option<Gap>)
         requires asked { (rest : List Table) × IsAsked self.old.size self.old.walk machine.old rest }
         requires unbegun { self.old.size ≡ None → self.old.walk ≡ [] }
@@ -216,13 +217,7 @@ impl<T: Tape> Taker for Checker<'_, T> {
             self.course.stop_for(Why::NotNext);
             return Ok(());
         }
-        match judge(
-            &self.machine,
-            &verdict,
-            &self.limits,
-            self.pair,
-            self.path,
-        ) {
+        match judge(&self.machine, &verdict, &self.limits, self.pair, self.path) {
             Ok(Judged::Fine(gap)) => {
                 self.course.visit(&mut self.machine, &verdict, gap);
                 self.seen.set(self.course.counts.lines);

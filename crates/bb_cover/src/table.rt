@@ -36,14 +36,7 @@ pub(crate) fn is_with_entry(
 }
 
 /// The same of one row.
-fn is_row(
-    parent: &Machine,
-    state: u8,
-    symbol: u8,
-    entry: Entry,
-    child: &Machine,
-    row: u8,
-) -> bool
+fn is_row(parent: &Machine, state: u8, symbol: u8, entry: Entry, child: &Machine, row: u8) -> bool
     requires state { state < length parent.now }
     requires symbol { symbol < symbols_of parent.now }
     requires row { row < length parent.now }

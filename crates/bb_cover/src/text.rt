@@ -50,14 +50,7 @@ fn add_next_row(frame: &Frame, state: u8, text: &mut Text)
     for symbol in 0..frame.machine.symbols() {
         let gap = frame.gap;
         add_entry(
-            entry_with(
-                &frame.machine,
-                gap.state,
-                gap.symbol,
-                entry,
-                state,
-                symbol,
-            ),
+            entry_with(&frame.machine, gap.state, gap.symbol, entry, state, symbol),
             text,
         );
     }

@@ -81,8 +81,8 @@ impl Walk {
         )
     }
 
-    /// Begins with a machine that is visited, and goes on with those that fill the `---`, if there is one. The
-    /// machine is taken where there is.
+    /// Begins with a machine that is visited, and goes on with those that fill the `---`, if there is one.
+    /// The machine is taken where there is.
     pub(crate) fn begin(&mut self, machine: &mut Machine, gap: Option<Gap>)
         requires done { self.old ≡ [] }
         requires gap { IfSome gap (IsGapOf machine.old) }

@@ -46,8 +46,8 @@ fn asked(rt: &HostRuntime) -> Result<Asked, Stop> {
     ask(rt.alloc(), words.as_slice())
 }
 
-/// Walks along the list that is asked for, tells what it comes to, and gives the exit status. A file that can't
-/// be opened is a failed read.
+/// Walks along the list that is asked for, tells what it comes to, and gives the exit status. A file that
+/// can't be opened is a failed read.
 fn answer_request(rt: &HostRuntime, asked: &Asked) -> u8 {
     let seen = Cell::new(0);
     let (end, error) = match &asked.file {

@@ -29,11 +29,7 @@ pub struct Progress<'a> {
 impl<'a> Progress<'a> {
     /// The progress over a list of so many bytes. None where standard error is no terminal. What comes to
     /// standard output comes after it, so the two don't mix.
-    pub fn of(
-        rt: &'a HostRuntime,
-        size: Option<u64>,
-        seen: &'a Cell<u64>,
-    ) -> Option<Progress<'a>> {
+    pub fn of(rt: &'a HostRuntime, size: Option<u64>, seen: &'a Cell<u64>) -> Option<Progress<'a>> {
         if !rt.stderr().is_terminal() {
             return None;
         }

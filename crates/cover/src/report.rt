@@ -17,14 +17,15 @@ impl Display for Report<'_> {
     fn fmt<W: fmt::Write>(&self, f: &mut Formatter<W>) -> fmt::Result {
         let counts = &self.cover.counts;
         match self.cover.found {
-            Found::Covers { states, symbols } => write!(
-                f,
-                "covers {states} {} {symbols} symbols: {} lines, {} undecided, {} of them with more than one ---",
-                if states == 1 { "state" } else { "states" },
-                counts.lines,
-                counts.undecided,
-                counts.wide
-            ),
+            Found::Covers { states, symbols } => {
+                let word = if states == 1 { "state" } else { "states" };
+                write!(f, "covers {states} {word} {symbols} symbols: ")?;
+                write!(
+                    f,
+                    "{} lines, {} undecided, {} of them with more than one ---",
+                    counts.lines, counts.undecided, counts.wide
+                )
+            }
             Found::Stops(stop) => self.tell_stop(f, &stop),
         }
     }
@@ -39,11 +40,17 @@ impl Report<'_> {
             Why::Unread => write!(f, "line {line}: it is no verdict line"),
             Why::NotNext => write!(f, "line {line}: {asked} expected, found {given}"),
             Why::Refused(Answer::Over) => {
-                write!(f, "line {line}: the claim on {given} needs more than the limits")
+                write!(
+                    f,
+                    "line {line}: the claim on {given} needs more than the limits"
+                )
             }
             Why::Refused(_) => write!(f, "line {line}: the claim on {given} doesn't hold"),
             Why::TooSoon => write!(f, "line {line}: {asked} expected, the list ends"),
-            Why::Beyond => write!(f, "line {line}: no line expected, all machines were visited"),
+            Why::Beyond => write!(
+                f,
+                "line {line}: no line expected, all machines were visited"
+            ),
         }
     }
 }

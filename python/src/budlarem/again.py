@@ -14,8 +14,7 @@ import sys
 class Machine:
     """A machine, and where it is in its run: at first in state A, at position 0 of a tape of zeros. `table`
     has for a state and a symbol what is written, how far the head moves to the right, and the next state.
-    Where it has nothing, as in Z and for `---`, the machine has halted. `mirrored` exchanges left and right.
-    """
+    Where it has nothing, as in Z and for `---`, the machine has halted. `mirrored` swaps left and right."""
 
     def __init__(self, text: str, mirrored: bool) -> None:
         groups = text.split("_")

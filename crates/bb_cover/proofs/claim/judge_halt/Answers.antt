@@ -1,16 +1,15 @@
-use Rattle.std.proofs.Common.{◌<◌, refl}
-use Rattle.bb_cover.proofs.Judging.{halt_is_ok, not_there, other_score, over_halt, to_fill}
+use Rattle.std.proofs.Common.{refl}
+use Rattle.bb_cover.proofs.Judging.{halt_is_ok, not_there, to_fill}
 use Rattle.bb_cert.specs.declared.checker.answer.Answer.TheVariants.{Ok}
 use Rattle.bb_cover.proofs.claim.judge_halt.Goals as goal
 
 pub returns-clause-judged : goal.returns-clause-judged
 returns-clause-judged g c =
-    let ends = rw c.in-Some.is at c.in_ok-halted.ensures.ends in
-    (
+    let ends = rw c.in-Some.is at c.in_ok-halted.ensures.ends in (
       record {
         given = Ok;
-        is_answer = halt_is_ok c.args.machine.now c.args.limits.now c.args.steps c.args.score c.in-Some.halted ends
-            c.if-halted-score.false;
+        is_answer = halt_is_ok c.args.machine.now c.args.limits.now c.args.steps c.args.score
+            c.in-Some.halted ends c.if-halted-score.false;
         fine = refl;
       },
       to_fill c.args.machine.now c.args.steps c.args.score c.in-Some.halted.gap c.gap_to_fill.result ends.on

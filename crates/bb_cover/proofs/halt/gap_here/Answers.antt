@@ -1,4 +1,4 @@
-use Rattle.std.proofs.Common.{FitsSigned, w64, rules, ◌≡◌, refl, ap, sym, ◌∙◌, ℕ}
+use Rattle.std.proofs.Common.{FitsSigned, w64, rules, ap, ◌∙◌}
 use Rattle.std.proofs.lemmas.Int.{to_z-of_z}
 use Rattle.bb_tape.specs.Content.{cell}
 use Rattle.bb_cover.proofs.Halting.{gap_of_halt}

@@ -1,4 +1,4 @@
-use Rattle.std.proofs.Common.{◌≡◌, ◌∙◌, ap, arith, sym, subst, rules}
+use Rattle.std.proofs.Common.{◌∙◌, ap, arith, sym, subst}
 use Rattle.bb_sim.specs.declared.meter.Meter.{Meter}
 use Rattle.bb_machine.specs.Limits.{Bounds}
 use Rattle.bb_sim.specs.Run.{HaltsAt}
@@ -52,7 +52,8 @@ returns-in-Halted-clause-ends g c =
 pub returns-in-NoSteps-clause-ends : goal.returns-in-NoSteps-clause-ends
 returns-in-NoSteps-clause-ends g c halts inside =
     let on = rw c.in-NoSteps.is at c.in_ok-advance.ensures.answers in
-    on.0 (subst (HaltsAt c.args.machine.now) (sym (on.1 ∙ ap (λ (b : Bounds). b.steps) c.with_steps-limits.ensures))
+    on.0 (subst (HaltsAt c.args.machine.now)
+    (sym (on.1 ∙ ap (λ (b : Bounds). b.steps) c.with_steps-limits.ensures))
     halts)
 
 pub returns-in-NoCells-clause-ends : goal.returns-in-NoCells-clause-ends

@@ -1,4 +1,4 @@
-use Rattle.std.proofs.Common.{◌≡◌, refl}
+use Rattle.std.proofs.Common.{refl}
 use Rattle.bb_cover.proofs.Wholes.{has_come, is_cover}
 use Rattle.bb_cover.proofs.list.run_cover.Goals as goal
 

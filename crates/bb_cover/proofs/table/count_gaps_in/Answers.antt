@@ -1,4 +1,4 @@
-use Rattle.std.proofs.Common.{◌≡◌, ◌<◌, [], arith, length, get_or, ap, ◌∙◌, sym, take}
+use Rattle.std.proofs.Common.{[], arith, get_or, ap, ◌∙◌}
 use Rattle.std.proofs.lemmas.List.{take_all}
 use Rattle.bb_cover.specs.Gaps.{gap_in, gaps_in}
 use Rattle.bb_cover.proofs.Tables.{gap_in_few, gaps_in_more, group_long}
@@ -14,7 +14,8 @@ loop-symbol-preserved c =
     let this = c.count_gap-count.ensures in
     let was = here.count in
     let few = gap_in_few c.entry.result in
-    record { count = omega (arith, more, one, this, was); few = let f = here.few in omega (arith, few, this, f) }
+    let f = here.few in
+    record { count = omega (arith, more, one, this, was); few = omega (arith, few, this, f) }
 
 pub returns-clause-count : goal.returns-clause-count
 returns-clause-count c =

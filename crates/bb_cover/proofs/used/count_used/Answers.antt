@@ -1,4 +1,4 @@
-use Rattle.std.proofs.Common.{arith, below_more, ◌<◌, ◌+◌}
+use Rattle.std.proofs.Common.{arith, below_more}
 use Rattle.bb_cover.proofs.Useds.{needs_more, uses}
 use Rattle.bb_cover.proofs.used.count_used.Goals as goal
 
@@ -9,7 +9,8 @@ loop-state-preserved c =
     record {
       some = omega arith;
       some_symbol = omega arith;
-      needs = below_more _ _ (λ q h s h'. needs_more q s _ _ _ _ _ call.states call.symbols (here.needs q h s h'))
+      needs = below_more _ _
+          (λ q h s h'. needs_more q s _ _ _ _ _ call.states call.symbols (here.needs q h s h'))
           call.needs;
       least = λ n k a b all.
           let old = here.least n k a b (λ q h. all q (omega arith)) in

@@ -1,7 +1,6 @@
 use Rattle.std.proofs.Common.{◌≡◌, ◌<◌, ◌+◌, ◌++◌, ◌∷◌, [], length, arith, ap, ◌∙◌, sym, subst, map, vec_len}
 use Rattle.std.specs.Prelude.{vec_capacity}
 use Rattle.std.proofs.lemmas.Grind.{common_steps}
-use Rattle.bb_machine.specs.declared.machine.Machine.{Machine}
 use Rattle.laws_of_verdicts.specs.Closed.{with_entry}
 use Rattle.bb_cover.specs.declared.walk.Frame.{Frame}
 use Rattle.bb_cover.specs.Asked.{entries}
@@ -30,7 +29,8 @@ unfolding frame
 returns-clause-left c = (
   map (with_entry c.args.machine.now c.args.gap.state c.args.gap.symbol) (entries c.of-asked.result),
   ap left (pushed c) ∙ left-push c.args.frames.now.items (frame c),
-  fills c.args.machine.now c.is_empty.result c.of-asked.result c.args.gap c.of-asked.ensures c.is_empty.ensures,
+  fills c.args.machine.now c.is_empty.result c.of-asked.result c.args.gap c.of-asked.ensures
+      c.is_empty.ensures,
 )
 
 pub returns-clause-stack : goal.returns-clause-stack
@@ -38,6 +38,6 @@ unfolding frame
 returns-clause-stack c =
     subst IsStack (sym (pushed c))
     (frames-push 0 c.args.frames.now.items (frame c) c.requires.stack
-    (new_frame c.args.machine.now c.show_machine.ensures.machine c.is_empty.result c.of-asked.result c.args.gap
-    (0 + length c.args.frames.now.items) c.of-asked.ensures c.requires.gap
+    (new_frame c.args.machine.now c.show_machine.ensures.machine c.is_empty.result c.of-asked.result
+    c.args.gap (0 + length c.args.frames.now.items) c.of-asked.ensures c.requires.gap
     (let room = c.requires.room in omega (arith, room))))

@@ -1,6 +1,5 @@
-use Rattle.std.proofs.Common.{◌≡◌, ◌<◌, ◌-◌, length, arith, take, ap, ◌∙◌}
+use Rattle.std.proofs.Common.{◌≡◌, ◌-◌, length, arith, take}
 use Rattle.std.proofs.lemmas.Grind.{common_steps}
-use Rattle.bb_cover.specs.Left.{IsFrame}
 use Rattle.bb_cover.proofs.Lefts.{Passes, few_left, passes_by, passes_end, read_frame}
 use Rattle.bb_cover.proofs.walk.pass.Goals as goal
 use Rattle.bb_cover.proofs.walk.pass.Goals.{After-index, After-pop-passed}
@@ -42,7 +41,8 @@ returns-then-next-count-clause-stack c =
 ended : (c : After-pop-passed) → Passes c.args.frames.now.items c.pop-passed.new.self.items
 ended c =
     let at : c.len-last.result - 1 ≡ length c.args.frames.now.items - 1 = grind (arith, common_steps) in
-    let front : c.pop-passed.new.self.items ≡ take (length c.args.frames.now.items - 1) c.args.frames.now.items =
+    let front : c.pop-passed.new.self.items
+    ≡ take (length c.args.frames.now.items - 1) c.args.frames.now.items =
     grind (arith, common_steps) in
     passes_end c.args.frames.now.items (c.len-last.result - 1) at c.requires.stack c.requires.some
     c.index.result.now c.index-2.result.now c.index.ensures c.index-2.ensures

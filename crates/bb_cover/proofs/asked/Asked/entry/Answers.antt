@@ -1,5 +1,4 @@
-use Rattle.std.proofs.Common.{◌<◌, ◌≤◌, arith, subst, sym, ap, ◌∙◌}
-use Rattle.bb_machine.specs.declared.entry.Entry.{Entry}
+use Rattle.std.proofs.Common.{arith}
 use Rattle.bb_cover.proofs.Asks.{by_index_left, by_index_right, few_writes, few_places, some_width}
 use Rattle.bb_cover.proofs.asked.Asked.entry.Goals as goal
 

@@ -1,7 +1,6 @@
-use Rattle.std.proofs.Common.{◌≡◌, inl, inr, refl, ap, sym, ◌∙◌, rules}
+use Rattle.std.proofs.Common.{inl, inr, refl, ap, sym, ◌∙◌}
 use Rattle.bb_cover.specs.declared.list.Course.{Course}
 use Rattle.bb_cover.specs.declared.found.Why.TheVariants.{Unread, NotNext, Refused}
-use Rattle.laws_of_verdicts.specs.Closed.{VerdictLine}
 use Rattle.bb_cover.proofs.Steps.{took}
 use Rattle.bb_cover.proofs.list.CheckerTaker.take_line.Goals as goal
 

@@ -1,4 +1,4 @@
-use Rattle.std.proofs.Common.{arith, below_more, ◌<◌, ◌+◌}
+use Rattle.std.proofs.Common.{arith, below_more}
 use Rattle.bb_cover.proofs.Useds.{needs_more}
 use Rattle.bb_cover.proofs.used.Used.take_in_row.Goals as goal
 
@@ -10,7 +10,8 @@ loop-symbol-preserved c =
     record {
       states = omega arith;
       symbols = omega arith;
-      needs = below_more _ _ (λ s h. needs_more c.args.state s _ _ _ _ _ call.states call.symbols (here.needs s h))
+      needs = below_more _ _
+          (λ s h. needs_more c.args.state s _ _ _ _ _ call.states call.symbols (here.needs s h))
           (rw value at call.needs);
       least = λ n k all a b.
           let old = here.least n k (λ s h. all s (omega arith)) a b in

@@ -1,4 +1,4 @@
-use Rattle.std.proofs.Common.{◌≡◌, length, ap, ◌∙◌, arith}
+use Rattle.std.proofs.Common.{length, ap, ◌∙◌, arith}
 use Rattle.bb_cover.specs.declared.walk.Frame.{Frame}
 use Rattle.std.proofs.Common.{List}
 use Rattle.bb_cover.proofs.Lefts.{left_nothing}

@@ -1,7 +1,6 @@
-use Rattle.std.proofs.Common.{◌≡◌, [], ap, sym, ◌∙◌, length, arith}
+use Rattle.std.proofs.Common.{◌≡◌, ap, sym, ◌∙◌, length, arith}
 use Rattle.std.proofs.lemmas.Grind.{common_steps}
 use Rattle.std.proofs.lemmas.List.{nil_from_length}
-use Rattle.bb_cover.specs.declared.walk.Frame.{Frame}
 use Rattle.bb_cover.specs.Left.{left}
 use Rattle.bb_cover.proofs.Lefts.{left_nothing}
 use Rattle.bb_cover.proofs.walk.Walk.is_done.Goals as goal

@@ -1,6 +1,5 @@
 use Rattle.std.proofs.Common.{◌≡◌, ◌<◌, ◌-◌, ap, sym, subst, ◌∙◌, length, arith}
 use Rattle.std.proofs.lemmas.Grind.{common_steps}
-use Rattle.bb_machine.specs.Machine.{Table}
 use Rattle.laws_of_verdicts.specs.Closed.{with_entry}
 use Rattle.bb_cover.specs.Left.{IsFirst, IsFrame, left}
 use Rattle.bb_cover.proofs.Lefts.{first_is_one, head_of, next_of, read_frame}
@@ -41,18 +40,20 @@ pub returns-clause-next : goal.returns-clause-next
 returns-clause-next c is =
     let at = (goal.at.returns-clause-next c).After-index-top in
     let top = c.index-top.result.now in
-    let head = head_of c.self.inside.frames.items (c.len.result - 1) (last at) c.self.invariant.0 (some at) top
-    c.index-top.ensures in
+    let head = head_of c.self.inside.frames.items (c.len.result - 1) (last at) c.self.invariant.0 (some at)
+    top c.index-top.ensures in
     let entry = ap (with_entry top.machine top.gap.state top.gap.symbol) c.entry.ensures in
     subst (IsFirst c.args.machine.now) c.self.view_is
-    (subst (λ t. IsFirst t (left c.self.inside.frames.items)) (sym (c.is_with_entry.ensures.same is ∙ entry)) head)
+    (subst (λ t. IsFirst t (left c.self.inside.frames.items))
+    (sym (c.is_with_entry.ensures.same is ∙ entry)) head)
 
 pub returns-clause-only : goal.returns-clause-only
 returns-clause-only c next =
     let at = (goal.at.returns-clause-only c).After-index-top in
     let top = c.index-top.result.now in
-    let head = head_of c.self.inside.frames.items (c.len.result - 1) (last at) c.self.invariant.0 (some at) top
-    c.index-top.ensures in
+    let head = head_of c.self.inside.frames.items (c.len.result - 1) (last at) c.self.invariant.0 (some at)
+    top c.index-top.ensures in
     let entry = ap (with_entry top.machine top.gap.state top.gap.symbol) c.entry.ensures in
     let next_too = subst (IsFirst c.args.machine.now) (sym c.self.view_is) next in
-    c.is_with_entry.ensures.only (first_is_one c.args.machine.now (next_of top) (left c.self.inside.frames.items) next_too head ∙ sym entry)
+    c.is_with_entry.ensures.only
+    (first_is_one c.args.machine.now (next_of top) (left c.self.inside.frames.items) next_too head ∙ sym entry)
