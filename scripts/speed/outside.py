@@ -298,7 +298,11 @@ def measure_views(figures: Figures, program: str, folder: str) -> None:
     from page_times import PAUSE, end, views
 
     tally = figures.tally
-    if not tally.has("views", "chromium", "chromedriver", "node") or not has_selenium(tally) or not has_page():
+    if (
+        not tally.has("views", "chromium", "chromedriver", "node")
+        or not has_selenium(tally)
+        or not has_page()
+    ):
         return
     longest: List[float] = []
     each: List[List[float]] = []

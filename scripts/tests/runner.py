@@ -33,7 +33,8 @@ sys.path.insert(0, os.path.join(os.path.dirname(os.path.dirname(os.path.abspath(
 from built import has_library  # noqa: E402
 from program import MAX_CELLS, MAX_STEPS  # noqa: E402
 from runs import LONG_MACHINE, PASSES, Case, environment, expected, folder  # noqa: E402
-from runs import hold_interrupted, is_at_work, kill_often, killed, most_memory, random_list, seen  # noqa: E402
+from runs import hold_interrupted, is_at_work, kill_often, killed, most_memory  # noqa: E402
+from runs import random_list, seen  # noqa: E402
 from tally import Tally, end_with, words  # noqa: E402
 
 # Limits at which a line costs nothing to speak of.
