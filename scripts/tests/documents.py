@@ -66,6 +66,7 @@ ITEM_CHARACTERS = 500
 # Where the version stands.
 VERSIONS = {
     "crates/bb_command/src/command.rt": r'\.version\("([0-9.]+)"\)',
+    "crates/cover/src/command.rt": r'\.version\("([0-9.]+)"\)',
     "crates/bb/src/tests.rt": r'"bb ([0-9.]+)\\n"',
     "docs/bb.1": r'"bb ([0-9.]+)"',
     "include/bb.h": r'#define BB_VERSION "([0-9.]+)"',

@@ -88,7 +88,7 @@ fn program<'a>(alloc: Global) -> Result<Command<'a>, AllocError> {
     Command::new(alloc, "cover")
         .about("Whether a list of verdicts settles every machine of a size")
         .after_help(ABOUT)
-        .version("0.1.0")
+        .version("0.2.0")
         .arg(limit(
             alloc,
             "steps",
