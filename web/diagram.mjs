@@ -17,11 +17,12 @@ import { part, signed } from "./parts.mjs";
 import { symbolAt } from "./sample.mjs";
 import { cellsOf, closeTo, stepsOf, zoomed } from "./scale.mjs";
 
-// The room of the axes.
+// The room of the axes: where the canvas is narrow less, but for the digits of as many steps as these.
 const TOP = 22;
 const LEFT = 78;
 const LEFT_NARROW = 58;
 const NARROW = 500;
+const MANY_STEPS = 10_000_000;
 // A picture is waited for so long before the next one is begun: what was traced for it is of use.
 const PATIENCE_MILLISECONDS = 1_500;
 // A view is moved so far beyond what was visited.
@@ -69,7 +70,8 @@ export class Diagram {
   /** Where the picture stands in the canvas. */
   get area() {
     const { clientWidth: width, clientHeight: height } = this.canvas;
-    const x = width < NARROW ? LEFT_NARROW : LEFT;
+    const isShort = (this.shown?.last ?? 0) < MANY_STEPS;
+    const x = width < NARROW && isShort ? LEFT_NARROW : LEFT;
     return { x, y: TOP, width: Math.max(1, width - x), height: Math.max(1, height - TOP) };
   }
 

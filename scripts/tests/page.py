@@ -205,7 +205,7 @@ def hold_four_states(held: Held) -> None:
 def hold_phone(program: str, tally: Tally, folder: str) -> None:
     """A phone: widths, fingers, and a line that is chosen by keys."""
     from browser import Page
-    from page_access import hold_narrow
+    from page_access import hold_digits, hold_narrow
     from page_pictures import hold_fingers
 
     page = Page(PAGE, folder, 390, 844, is_phone=True)
@@ -223,6 +223,7 @@ def hold_phone(program: str, tally: Tally, folder: str) -> None:
     page.end()
     narrow = Page(PAGE, folder, 320, 640, is_phone=True)
     hold_narrow(narrow, tally, 320)
+    hold_digits(narrow, tally)
     narrow.end()
 
 

@@ -277,6 +277,18 @@ def hold_narrow(page: Any, tally: Tally, width: int) -> None:
     tally.hold("rows at %d: %s" % (width, clipped(page)), width < 390 or not clipped(page))
 
 
+def hold_digits(page: Any, tally: Tally) -> None:
+    """Beside a long run the narrow axis has room for the digits of its steps."""
+    page.open("#machine=1RB1LC_1RC1RB_1RD0LE_1LA1LD_1RZ0LA&steps=50000000")
+    page.drawn()
+    room = page.js(
+        "const pen = document.createElement('canvas').getContext('2d');"
+        "pen.font = '11px system-ui, sans-serif';"
+        "return document.getElementById('diagram').dataset.x - 8 - pen.measureText('40,000,000').width"
+    )
+    tally.hold("room beside the digits of steps: %.1f" % room, room >= 0)
+
+
 def hold_access(held: Held) -> None:
     hold_colours(held.tally)
     hold_kinds(held.tally)
