@@ -45,14 +45,14 @@ pub extern "C" fn bb_trace(
     let Ok(limits) = Limits::new(steps, cells, 0, 0) else {
         return LIMITS;
     };
-    match told(alloc, &limits, from, every, line) {
+    match traced(alloc, &limits, from, every, line) {
         Ok((lines, clean)) => give(lines.as_slice(), clean, out, count),
         Err(_) => MEMORY,
     }
 }
 
 /// The lines of some of the steps of a machine's run, and whether the limit of cells cut off nothing of it.
-fn told(
+fn traced(
     alloc: Global,
     limits: &Limits,
     from: u64,

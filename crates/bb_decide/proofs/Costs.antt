@@ -399,12 +399,7 @@ pub off_is : (test : Bool) → not test ≡ true → test ≡ false
 off_is true is = absurd cc
 off_is false is = refl
 
--- what holds of an answer, from what else holds of it
-pub if_ok_map : {A E : Type 0} (r : Result A E) (P Q : A → Type 0) → ((x : A) → P x → Q x) → IfOk r P
-    → IfOk r Q
-if_ok_map (Ok x) P Q f holds = f x holds
-if_ok_map (Err e) P Q f holds = tt
-
+-- what holds of an answer, from two things that hold of it
 pub if_ok_on : {A E : Type 0} (r : Result A E) (P Q : A → Type 0) (R : Type 0) → ((x : A) → P x → Q x → R)
     → IfOk r P → IfOk r Q → OnOk r R
 if_ok_on (Ok x) P Q R f one other = f x one other

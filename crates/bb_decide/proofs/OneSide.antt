@@ -33,7 +33,6 @@ use Rattle.bb_cert.specs.declared.verdict.Side.{Side}
 use Rattle.bb_cert.specs.declared.verdict.Verdict.{Verdict}
 use Rattle.bb_cert.specs.declared.verdict.Verdict.TheVariants.{Translated}
 use Rattle.bb_cert.specs.records.Agree.{Agree}
-use Rattle.bb_cert.specs.inside.Checks.{MakesRecord}
 use Rattle.bb_cert.specs.verdict.Extent.{IsExtent}
 use Rattle.bb_cert.specs.records.Follow.{AgreesWithKept, IsFollowed, passed, top_of, with_kept}
 use Rattle.bb_cert.specs.records.Record.{out, head_at, IsRecord}
@@ -114,7 +113,7 @@ module _ (table : Table) (n : ℕ) (runner : Runner) (run saved : TapeView) (old
   with_next = passed old (position_of runner)
 
   -- where no record is made
-  pub passes_by : (MakesRecord table old.side (n + 1) → ⊥)
+  pub passes_by : (((j : ℕ) × IsRecord table old.side j (n + 1)) → ⊥)
       → GoesOn table (steps_of runner) old.side (passed old (position_of runner)) saved
   passes_by none = record {
     searched = record {
@@ -132,7 +131,7 @@ module _ (table : Table) (n : ℕ) (runner : Runner) (run saved : TapeView) (old
     );
   }
 
-  module _ (made : MakesRecord table old.side (n + 1)) where
+  module _ (made : ((j : ℕ) × IsRecord table old.side j (n + 1))) where
     high : pos searched.followed.count <ℤ out old.side (head_at table (n + 1))
     high = farther table old.side n searched.followed.count searched.followed.top there made
 
@@ -144,7 +143,7 @@ module _ (table : Table) (n : ℕ) (runner : Runner) (run saved : TapeView) (old
     made_at = subst (IsRecord table old.side (searched.followed.count + 1)) (sym next)
         (made_next table old.side n searched.followed.count searched.followed.top there high)
 
-    makes : MakesRecord table old.side (steps_of runner)
+    makes : (j : ℕ) × IsRecord table old.side j (steps_of runner)
     makes = (searched.followed.count + 1, made_at)
 
     top_is : top_of old runner ≡ pos (searched.followed.count + 1)
@@ -249,15 +248,15 @@ pub record HasPassed (table : Table) (n : ℕ) (side : Side) (runner : Runner) (
 
 module _ {table : Table} {n : ℕ} {side : Side} {runner : Runner} {run saved : TapeView} {new : Records}
     (here : HasPassed table n side runner run saved new) where
-  pub side_passes_by : (MakesRecord table side (n + 1) → ⊥) → GoesOn table (steps_of runner) side new saved
+  pub side_passes_by : (((j : ℕ) × IsRecord table side j (n + 1)) → ⊥) → GoesOn table (steps_of runner) side new saved
   side_passes_by none = subst (λ s. GoesOn table (steps_of runner) s new saved) here.side_is
       (subst (λ r. GoesOn table (steps_of runner) here.old.side r saved) (sym here.new_is)
       (passes_by table n runner run saved here.old here.stands here.next here.searched
-      (λ made. none (subst (λ s. MakesRecord table s (n + 1)) here.side_is made))))
+      (λ made. none (subst (λ s. (j : ℕ) × IsRecord table s j (n + 1)) here.side_is made))))
 
-  module _ (made : MakesRecord table side (n + 1)) where
-    made_there : MakesRecord table here.old.side (n + 1)
-    made_there = subst (λ s. MakesRecord table s (n + 1)) (sym here.side_is) made
+  module _ (made : ((j : ℕ) × IsRecord table side j (n + 1))) where
+    made_there : (j : ℕ) × IsRecord table here.old.side j (n + 1)
+    made_there = subst (λ s. (j : ℕ) × IsRecord table s j (n + 1)) (sym here.side_is) made
 
     pub side_ready : IsSound run → IsReady new runner saved run
     side_ready sound = subst (λ r. IsReady r runner saved run) (sym here.new_is)

@@ -89,7 +89,7 @@ fn find<T: Tape>(
     ensures tapes { BenchHasCells T.view limits.now.cells bench.new }
     ensures path { depth_of bench.new.path ≡ depth_of bench.old.path }
 {
-    match search(machine, limits, plan, bench, meter)? {
+    match search_in_turn(machine, limits, plan, bench, meter)? {
         Some(verdict) => return Ok(Some(verdict)),
         None => {}
     }
@@ -100,7 +100,7 @@ fn find<T: Tape>(
 }
 
 /// What the two searches that are on find, that for cycles first.
-fn search<T: Tape>(
+fn search_in_turn<T: Tape>(
     machine: &Machine,
     limits: &Limits,
     plan: Plan,

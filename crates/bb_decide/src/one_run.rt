@@ -72,13 +72,13 @@ pub fn decide_in_one_run<T: Tape, K: Keys>(
     ensures memory { OnErr result (IsTrue T.GROWS) }
 {
     machine.show_machine();
-    let verdict = settle(machine, limits, plan, keys, bench, meter)?;
+    let verdict = find_verdict(machine, limits, plan, keys, bench, meter)?;
     Ok(verdict)
 }
 
 /// The verdict and its cost. What else its clauses say follows from the definition of a verdict.
 #[inline(always)]
-fn settle<T: Tape, K: Keys>(
+fn find_verdict<T: Tape, K: Keys>(
     machine: &Machine,
     limits: &Limits,
     plan: Plan,
@@ -105,7 +105,7 @@ fn settle<T: Tape, K: Keys>(
 {
     *meter = Meter::new();
     limits.show_accepted();
-    let outcome = match search(machine, limits, plan, keys, bench, meter)? {
+    let outcome = match search_by_plan(machine, limits, plan, keys, bench, meter)? {
         Ending::Found(verdict) => return Ok(verdict),
         Ending::Ran(outcome) => outcome,
     };
@@ -124,7 +124,7 @@ fn settle<T: Tape, K: Keys>(
 }
 
 /// What the searches that are on find, in one run where both are, and else how their run ended.
-fn search<T: Tape, K: Keys>(
+fn search_by_plan<T: Tape, K: Keys>(
     machine: &Machine,
     limits: &Limits,
     plan: Plan,

@@ -1,4 +1,4 @@
--- Going on with a run, and how many of its steps are told.
+-- Going on with a run, and how many of its steps are printed.
 use Rattle.std.proofs.Common.{◌≡◌, ◌≢◌, ℕ, ◌+◌, ◌-◌, ◌*◌, ◌/◌, ◌<◌, ◌≤◌, inl, inr, arith}
 use Rattle.std.proofs.Math.Nat.{le-div_iff_mul-le, mul-le-mul_left, mul_comm}
 use Rattle.std.proofs.lemmas.Bool.{cases_lt}
@@ -30,18 +30,18 @@ ends_within is few same last = record {
   few = omega (arith, is, few, same);
 }
 
--- later ones of the told steps come no earlier
-pub told_later : (from every a b : ℕ) → a ≤ b → from + every * a ≤ from + every * b
-told_later from every a b h = let more = mul-le-mul_left every h in omega (arith, more)
+-- later ones of the printed steps come no earlier
+pub printed_later : (from every a b : ℕ) → a ≤ b → from + every * a ≤ from + every * b
+printed_later from every a b h = let more = mul-le-mul_left every h in omega (arith, more)
 
 -- what comes earlier is an earlier one
-pub told_before : (from every a b : ℕ) → from + every * a < from + every * b → a < b
-told_before from every a b h = elim (cases_lt a b) [
+pub printed_before : (from every a b : ℕ) → from + every * a < from + every * b → a < b
+printed_before from every a b h = elim (cases_lt a b) [
   | inl less ↦ less
-  | inr wrong ↦ (let later = told_later from every b a wrong in absurd (omega (arith, h, later)))
+  | inr wrong ↦ (let later = printed_later from every b a wrong in absurd (omega (arith, h, later)))
 ]
 
--- no more steps are told up to an earlier step
+-- no more steps are printed up to an earlier step
 pub size_grows : {from every m n a b : ℕ} → m ≤ n → IsSampleSize from every m a → IsSampleSize from every n b
     → a ≤ b
 size_grows {a} {b} h first then = elim (cases_lt b a) [
@@ -59,7 +59,7 @@ size_is_unique one other =
     let down = size_grows (omega arith) other one in
     omega (arith, up, down)
 
--- how many of the told steps are up to the last
+-- how many of the printed steps are up to the last
 pub size_exists : (from every last : ℕ) → 0 < every → (count : ℕ) × IsSampleSize from every last count
 size_exists from every last some = elim (cases_lt last from) [
   | inl before ↦ (
@@ -72,10 +72,10 @@ size_exists from every last some = elim (cases_lt last from) [
     (last - from) / every + 1,
     record {
       are = λ k.
-          let told = le-div_iff_mul-le {k = every} {x = k} {y = last - from} some in
+          let printed = le-div_iff_mul-le {k = every} {x = k} {y = last - from} some in
           let turned = mul_comm k every in (
-            λ few. let inside = told.0 (omega (arith, few)) in omega (arith, inside, reached, turned),
-            λ early. let inside = told.1 (omega (arith, early, reached, turned)) in omega (arith, inside),
+            λ few. let inside = printed.0 (omega (arith, few)) in omega (arith, inside, reached, turned),
+            λ early. let inside = printed.1 (omega (arith, early, reached, turned)) in omega (arith, inside),
           );
     },
   )

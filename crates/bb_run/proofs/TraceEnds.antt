@@ -13,29 +13,29 @@ use Rattle.bb_lines.specs.Output.{Sends}
 use Rattle.bb_run.specs.Sample.{IsSampleSize, sampled_lines}
 use Rattle.bb_run.specs.Trace.{step_text, lines_text}
 use Rattle.bb_run.specs.inside.RunningOn.{EndsWithin, IsWantedBefore, StopsBefore}
-use Rattle.bb_run.proofs.SampledRuns.{told_before, told_later, size_is_unique}
+use Rattle.bb_run.proofs.SampledRuns.{printed_before, printed_later, size_is_unique}
 use Rattle.bb_lines.proofs.Facts.{AppendsPrefix-further, AppendsPrefix-more, Sends-none, Sends-trans}
 
 module _ (table : Table) (from every : ℕ) where
   lines_of : ℕ → List ℕ
   lines_of count = lines_text (sampled_lines table from every count)
 
-  -- the lines of one told step more
+  -- the lines of one printed step more
   lines-next : (n step : ℕ) → step ≡ from + every * n
       → lines_of n ++ (step_text table step ++ 10 ∷ []) ≡ lines_of (n + 1)
   unfolding lines_of
   lines-next n step is =
       let f : List ℕ → List ℕ = λ line. line ++ 10 ∷ [] in
-      let told : ℕ → List ℕ = λ k. step_text table (from + every * k) in
+      let printed : ℕ → List ℕ = λ k. step_text table (from + every * k) in
       let all : List (List ℕ) = sampled_lines table from every n in
-      let more : sampled_lines table from every (n + 1) ≡ all ++ told n ∷ [] =
-      map-range_with_len_more told 0 n n (omega arith) in
-      let one : f (told n) ++ [] ≡ f (told n) = append-nil _ in
-      let same : step_text table step ≡ told n = ap (step_text table) is in
+      let more : sampled_lines table from every (n + 1) ≡ all ++ printed n ∷ [] =
+      map-range_with_len_more printed 0 n n (omega arith) in
+      let one : f (printed n) ++ [] ≡ f (printed n) = append-nil _ in
+      let same : step_text table step ≡ printed n = ap (step_text table) is in
       ap (λ line. lines_text all ++ (line ++ 10 ∷ [])) same
-      ∙ sym (ap lines_text more ∙ flat_map-append f all (told n ∷ []) ∙ ap (λ b. lines_text all ++ b) one)
+      ∙ sym (ap lines_text more ∙ flat_map-append f all (printed n ∷ []) ∙ ap (λ b. lines_text all ++ b) one)
 
-  -- the lines of fewer told steps are the first ones
+  -- the lines of fewer printed steps are the first ones
   lines_split : (n m : ℕ) → n ≤ m
       → lines_of n ++ lines_text (drop n (sampled_lines table from every m)) ≡ lines_of m
   unfolding lines_of
@@ -47,23 +47,23 @@ module _ (table : Table) (from every : ℕ) where
       ap (λ l. lines_text l ++ lines_text (drop n all)) (sym first)
       ∙ sym (flat_map-append f (take n all) (drop n all)) ∙ ap lines_text (take-append-drop n all)
 
-  -- a beginning of the lines of fewer told steps is one of all
+  -- a beginning of the lines of fewer printed steps is one of all
   begun-more : {old new : Option (List ℕ)} (n m : ℕ) → n ≤ m → AppendsPrefix old new (lines_of n)
       → AppendsPrefix old new (lines_of m)
   begun-more {old} {new} n m h begun =
       subst (λ bytes. AppendsPrefix old new bytes) (lines_split n m h) (AppendsPrefix-more _ begun)
 
-  -- a runner stands at a step, the next one to be told is known, and the lines of those before were sent
-  pub record Told (here next : ℕ) (old new : Option (List ℕ)) (waiting : List ℕ) : Type 0 where
+  -- a runner stands at a step, the next one to be printed is known, and the lines of those before were sent
+  pub record HasPrinted (here next : ℕ) (old new : Option (List ℕ)) (waiting : List ℕ) : Type 0 where
     pub count : ℕ
     pub next_is : next ≡ from + every * count
     pub past : (k : ℕ) → k < count → from + every * k ≤ here
     pub sent : Sends old new [] waiting (lines_text (sampled_lines table from every count))
 
   -- before the first one nothing was sent
-  pub told_none : (held : Option (List ℕ)) {here : ℕ} (waiting : List ℕ) → here ≡ 0 → waiting ≡ []
-      → Told here (here + from) held held waiting
-  told_none held {here} waiting start empty = record {
+  pub printed_none : (held : Option (List ℕ)) {here : ℕ} (waiting : List ℕ) → here ≡ 0 → waiting ≡ []
+      → HasPrinted here (here + from) held held waiting
+  printed_none held {here} waiting start empty = record {
     count = 0;
     next_is = omega (arith, start);
     past = λ k wrong. absurd (omega (arith, wrong));
@@ -71,96 +71,96 @@ module _ (table : Table) (from every : ℕ) where
   }
 
   module _ {here next : ℕ} {old new : Option (List ℕ)} {waiting : List ℕ}
-      (told : Told here next old new waiting) where
-    -- between both steps no other one is told
-    told_size : (n : ℕ) → here ≤ n → n < next → IsSampleSize from every n told.count
-    told_size n after before = record {
+      (printed : HasPrinted here next old new waiting) where
+    -- between both steps no other one is printed
+    printed_size : (n : ℕ) → here ≤ n → n < next → IsSampleSize from every n printed.count
+    printed_size n after before = record {
       are = λ k. (
-        λ few. let early = told.past k few in omega (arith, early, after),
-        λ early. let next_is = told.next_is in
-            told_before from every k told.count (omega (arith, early, before, next_is)),
+        λ few. let early = printed.past k few in omega (arith, early, after),
+        λ early. let next_is = printed.next_is in
+            printed_before from every k printed.count (omega (arith, early, before, next_is)),
       );
     }
 
     -- where the run ends between both, the lines are all
-    pub told_all : {bounds : Bounds} {left n last total : ℕ} → EndsWithin table bounds here left n
+    pub printed_all : {bounds : Bounds} {left n last total : ℕ} → EndsWithin table bounds here left n
         → next ≡ here + left → IsLastInside table bounds last → IsSampleSize from every last total
         → Sends old new [] waiting (lines_text (sampled_lines table from every total))
-    told_all {bounds} {left} {n} {last} {total} end is is_last size =
+    printed_all {bounds} {left} {n} {last} {total} end is is_last size =
         let few = end.few in
         let below = end.is_last.greatest last is_last.inside in
         let above = is_last.greatest n end.is_last.inside in
         let same : n ≡ last = omega (arith, below, above) in
-        let here_size : IsSampleSize from every n told.count =
-        told_size n end.from_old (omega (arith, few, is)) in
-        let last_size : IsSampleSize from every last told.count =
-        subst (λ m. IsSampleSize from every m told.count) same here_size in
+        let here_size : IsSampleSize from every n printed.count =
+        printed_size n end.from_old (omega (arith, few, is)) in
+        let last_size : IsSampleSize from every last printed.count =
+        subst (λ m. IsSampleSize from every m printed.count) same here_size in
         subst (λ k. Sends old new [] waiting (lines_text (sampled_lines table from every k)))
-        (size_is_unique last_size size) told.sent
+        (size_is_unique last_size size) printed.sent
 
     -- where a step between both was wanted and not made, the run was left before the last one
-    pub told_early : {bounds : Bounds} {left last : ℕ} {new_then : Option (List ℕ)}
+    pub printed_early : {bounds : Bounds} {left last : ℕ} {new_then : Option (List ℕ)}
         → IsWantedBefore table bounds here left
         → next ≡ here + left → IsLastInside table bounds last
-        → Appends old new_then (lines_text (sampled_lines table from every told.count))
+        → Appends old new_then (lines_text (sampled_lines table from every printed.count))
         → StopsBefore table from every last old new_then
-    told_early {bounds} {left} {last} wanted is is_last appends =
+    printed_early {bounds} {left} {last} wanted is is_last appends =
         let few = wanted.few in
         let more = is_last.greatest (wanted.at + 1) wanted.next in
         record {
           at = wanted.at;
           before = omega (arith, more);
-          count = told.count;
-          is_size = told_size wanted.at wanted.from_old (omega (arith, few, is));
+          count = printed.count;
+          is_size = printed_size wanted.at wanted.from_old (omega (arith, few, is));
           appends = appends;
         }
 
     -- a beginning of the lines so far is one of all
-    pub told_begun : {bounds : Bounds} {last total : ℕ} {new_then : Option (List ℕ)}
+    pub printed_begun : {bounds : Bounds} {last total : ℕ} {new_then : Option (List ℕ)}
         → Inside table bounds here → IsLastInside table bounds last → IsSampleSize from every last total
-        → AppendsPrefix old new_then (lines_text (sampled_lines table from every told.count))
+        → AppendsPrefix old new_then (lines_text (sampled_lines table from every printed.count))
         → AppendsPrefix old new_then (lines_text (sampled_lines table from every total))
     unfolding lines_of
-    told_begun {bounds} {last} {total} inside is_last size begun =
+    printed_begun {bounds} {last} {total} inside is_last size begun =
         let most = is_last.greatest here inside in
-        begun-more told.count total (few_told most told.count (λ k. told.past k)) begun
+        begun-more printed.count total (few_printed most printed.count (λ k. printed.past k)) begun
       where
-        few_told : here ≤ last → (count : ℕ) → ((k : ℕ) → k < count → from + every * k ≤ here)
+        few_printed : here ≤ last → (count : ℕ) → ((k : ℕ) → k < count → from + every * k ≤ here)
             → count ≤ total
-        few_told most zero past = omega arith
-        few_told most (suc k) past =
+        few_printed most zero past = omega arith
+        few_printed most (suc k) past =
             let early = past k (omega arith) in
             let less = (size.are k).1 (omega (arith, early, most)) in
             omega (arith, less)
 
     -- at the next step its line is sent
     module _ {at : ℕ} (is : at ≡ next) where
-      pub told_next : {new_then : Option (List ℕ)} {waiting_then : List ℕ} → here ≤ at
+      pub printed_next : {new_then : Option (List ℕ)} {waiting_then : List ℕ} → here ≤ at
           → Sends new new_then waiting waiting_then (step_text table at ++ 10 ∷ [])
-          → Told at (at + every) old new_then waiting_then
+          → HasPrinted at (at + every) old new_then waiting_then
       unfolding lines_of
-      told_next {new_then} {waiting_then} after line =
-          let next_is = told.next_is in
+      printed_next {new_then} {waiting_then} after line =
+          let next_is = printed.next_is in
           record {
-            count = told.count + 1;
+            count = printed.count + 1;
             next_is = omega (arith, next_is, is);
             past = λ k few.
-                let before = told_later from every k told.count (omega (arith, few)) in
+                let before = printed_later from every k printed.count (omega (arith, few)) in
                 omega (arith, before, next_is, is);
             sent = subst (λ bytes. Sends old new_then [] waiting_then bytes)
-                (lines-next told.count at (is ∙ next_is)) (Sends-trans told.sent line);
+                (lines-next printed.count at (is ∙ next_is)) (Sends-trans printed.sent line);
           }
 
-      pub told_begun_next : {bounds : Bounds} {last total : ℕ} {new_then : Option (List ℕ)}
+      pub printed_begun_next : {bounds : Bounds} {last total : ℕ} {new_then : Option (List ℕ)}
           → Inside table bounds at → IsLastInside table bounds last → IsSampleSize from every last total
           → AppendsPrefix new new_then (waiting ++ (step_text table at ++ 10 ∷ []))
           → AppendsPrefix old new_then (lines_text (sampled_lines table from every total))
       unfolding lines_of
-      told_begun_next {bounds} {last} {total} {new_then} inside is_last size begun =
-          let next_is = told.next_is in
+      printed_begun_next {bounds} {last} {total} {new_then} inside is_last size begun =
+          let next_is = printed.next_is in
           let most = is_last.greatest at inside in
-          let less = (size.are told.count).1 (omega (arith, next_is, is, most)) in
-          let longer : AppendsPrefix old new_then (lines_of (told.count + 1)) =
-          subst (λ bytes. AppendsPrefix old new_then bytes) (lines-next told.count at (is ∙ next_is))
-          (AppendsPrefix-further told.sent _ begun) in
-          begun-more (told.count + 1) total (omega (arith, less)) longer
+          let less = (size.are printed.count).1 (omega (arith, next_is, is, most)) in
+          let longer : AppendsPrefix old new_then (lines_of (printed.count + 1)) =
+          subst (λ bytes. AppendsPrefix old new_then bytes) (lines-next printed.count at (is ∙ next_is))
+          (AppendsPrefix-further printed.sent _ begun) in
+          begun-more (printed.count + 1) total (omega (arith, less)) longer

@@ -141,10 +141,10 @@ module _ {bounds : Bounds} {from every : ℕ} {line : List ℕ} {old new : Optio
 
   begun_lines : Appends old new (lines_text (take early.stops.count lines))
   begun_lines =
-      let told : ℕ → List ℕ = λ k. step_text early.run.table (from + every * k) in
+      let printed : ℕ → List ℕ = λ k. step_text early.run.table (from + every * k) in
       let first : take early.stops.count lines ≡ sampled_lines early.run.table from every early.stops.count =
       ap (take early.stops.count) early.run.are_lines
-      ∙ take-map-range_with_len told 0 early.run.count early.stops.count few_lines in
+      ∙ take-map-range_with_len printed 0 early.run.count early.stops.count few_lines in
       subst (λ l. Appends old new (lines_text l)) (sym first) early.stops.appends
 
   first_lines : AppendsFirstLines old new lines
@@ -163,15 +163,15 @@ pub sampled_ends : {bounds : Bounds} {from every : ℕ} {line : List ℕ} (old n
 sampled_ends old new (Err Memory) ends = (ends.0, ends.1, first_lines ends.2)
 sampled_ends old new r ends = ends
 
--- from step 0 on each step is told
-all_told : (table : Table) (count : ℕ) → sampled_lines table 0 1 count ≡ step_lines table count
-all_told table zero = refl
-all_told table (suc n) =
-    let told : ℕ → List ℕ = λ k. step_text table (0 + 1 * k) in
+-- from step 0 on each step is printed
+all_printed : (table : Table) (count : ℕ) → sampled_lines table 0 1 count ≡ step_lines table count
+all_printed table zero = refl
+all_printed table (suc n) =
+    let printed : ℕ → List ℕ = λ k. step_text table (0 + 1 * k) in
     let next : suc n ≡ n + 1 = omega arith in
-    let here : told n ≡ step_text table n = ap (step_text table) (omega arith) in
-    ap (sampled_lines table 0 1) next ∙ map-range_with_len_more told 0 n n (omega arith)
-    ∙ ap (λ l. l ++ told n ∷ []) (all_told table n) ∙ ap (λ t. step_lines table n ++ t ∷ []) here
+    let here : printed n ≡ step_text table n = ap (step_text table) (omega arith) in
+    ap (sampled_lines table 0 1) next ∙ map-range_with_len_more printed 0 n n (omega arith)
+    ∙ ap (λ l. l ++ printed n ∷ []) (all_printed table n) ∙ ap (λ t. step_lines table n ++ t ∷ []) here
     ∙ sym (map-range_with_len_more (step_text table) 0 n n (omega arith)) ∙ ap (step_lines table) (sym next)
 
 -- up to a step there is one more
@@ -189,7 +189,7 @@ all_run run = record {
   of = run.of;
   last = run.last;
   is_last = run.is_last;
-  are_lines = run.are_lines ∙ all_told run.table run.count ∙ ap (step_lines run.table) (all_size run.is_size);
+  are_lines = run.are_lines ∙ all_printed run.table run.count ∙ ap (step_lines run.table) (all_size run.is_size);
 }
 
 all_trace : {bounds : Bounds} {line : List ℕ} {lines : List (List ℕ)} → IsSampledTrace bounds 0 1 line lines

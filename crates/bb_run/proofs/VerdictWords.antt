@@ -47,8 +47,8 @@ pub words_of_records : (first words numbers rest more nothing : List ℕ) (a b s
     → pair_text shift far ++ nothing ≡ more → length nothing < 1
     → first ++ records_text a b (Some (record { shift = shift; length = far })) ≡ words
 words_of_records first words numbers rest more nothing a b shift far begins is space extent none =
-    let told : 32 ∷ pair_text shift far ≡ rest =
+    let same_pair : 32 ∷ pair_text shift far ≡ rest =
     ap (λ text. 32 ∷ text) (sym (append-nil (pair_text shift far))
     ∙ ap (λ after. pair_text shift far ++ after) (sym (empty nothing none)) ∙ extent) ∙ space in
     ap (λ text. first ++ text) (sym (append_assoc (decimal a) (32 ∷ decimal b) (32 ∷ pair_text shift far))
-    ∙ ap (λ text. pair_text a b ++ text) told ∙ is) ∙ sym begins
+    ∙ ap (λ text. pair_text a b ++ text) same_pair ∙ is) ∙ sym begins

@@ -49,7 +49,7 @@ AreOfKinds (line ∷ lines) [] bytes = ⊥
 AreOfKinds (line ∷ lines) (of_kind ∷ kinds) bytes = (reply : List ℕ) × (rest : List ℕ)
     × IsOfKind of_kind line reply × AreOfKinds lines kinds rest × (bytes ≡ (reply ++ 10 ∷ []) ++ rest)
 
--- a number for each kind, by which kinds are told apart
+-- a number for each kind, by which kinds differ
 abbrev pub number_of : ReplyKind → ℕ
 number_of kind.Halt = 0
 number_of kind.Cycler = 1

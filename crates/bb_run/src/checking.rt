@@ -124,7 +124,7 @@ fn put(word: &[u8], text: &mut ArrayVec<u8, REPLY>)
     requires short { length word.now ≤ REPLY }
     ensures { text.new.items ≡ word.now }
 {
-    let _room = text.try_extend_from_slice(word);
+    text.try_extend_from_slice(word).unwrap();
 }
 
 /// Writes the answer to each verdict line of a list, `open` for each line of a refusal, and `unread` for each

@@ -47,7 +47,7 @@ impl<'a> Tally<'a> {
     pub(crate) fn read(&mut self, line: &[u8], text: &mut ArrayVec<u8, REPLY>) -> bool
         requires empty { text.old.items ≡ [] }
         ensures found { IsTrue result → IsTextOf self.new.machine line.now }
-        ensures untold { IsTrue result → text.new.items ≡ [] }
+        ensures empty { IsTrue result → text.new.items ≡ [] }
         ensures stays { IsTrue result → self.new.summary ≡ self.old.summary }
         ensures refused { IsFalse result → IsRefusal line.now text.new.items }
         ensures saw { IsFalse result
@@ -66,7 +66,7 @@ impl<'a> Tally<'a> {
     }
 
     /// Puts the line of the machine that was read and its verdict into the text, which is empty, counts it,
-    /// and tells what it cost.
+    /// and answers what it cost.
     #[inline(always)]
     pub(crate) fn reply(
         &mut self,
@@ -83,7 +83,7 @@ impl<'a> Tally<'a> {
         ensures clean { self.new.summary.clean ≡ self.old.summary.clean }
         ensures peak { self.new.summary.peak ≡ greatest_of self.old.summary.peak meter }
         ensures cost { self.new.last_cost ≡ meter.steps + meter.nodes }
-        ensures told { result ≡ self.new.last_cost }
+        ensures result { result ≡ self.new.last_cost }
     {
         lines_are_short();
         // The line is the machine's text, so it isn't written anew.

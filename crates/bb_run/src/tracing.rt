@@ -61,7 +61,7 @@ pub fn run_trace<W: Write, T: Tape>(
 }
 
 /// The same of some of the steps: `from`, `from + every` and so on, up to the last one that `run_trace`
-/// tells. A step that isn't told costs what it costs to simulate it.
+/// writes. A step that isn't written costs what it costs to simulate it.
 ///
 /// After a fault the writer is not to be used again.
 pub fn run_sampled_trace<W: Write, T: Tape>(
@@ -90,7 +90,7 @@ pub fn run_sampled_trace<W: Write, T: Tape>(
     write_trace(line, limits, from, every, tape, writer)
 }
 
-/// Writes the trace of a line, and tells of an allocation that failed that it came before the last step.
+/// Writes the trace of a line. An allocation that failed came before the last step.
 fn write_trace<W: Write, T: Tape>(
     line: &[u8],
     limits: &Limits,

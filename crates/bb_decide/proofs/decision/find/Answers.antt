@@ -31,7 +31,7 @@ returns-then-not-plan-clause-found g c =
 pub returns-then-not-plan-clause-counted : goal.returns-then-not-plan-clause-counted
 returns-then-not-plan-clause-counted g c =
     let counts = c.in_ok-verdict.ensures.counted in record {
-      searched = c.search.new.meter;
+      searched = c.search_in_turn.new.meter;
       searches = counts;
       steps = refl;
       most_cells = refl;

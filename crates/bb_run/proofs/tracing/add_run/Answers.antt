@@ -2,7 +2,7 @@ use Rattle.std.proofs.Common.{◌∙◌, arith, refl, rules}
 use Rattle.std.proofs.lemmas.Result.{err_from_is_err_and}
 use Rattle.bb_sim.proofs.Facts.{inside_here}
 use Rattle.bb_lines.proofs.Facts.{Appends-after, AppendsPrefix-after}
-use Rattle.bb_run.proofs.TraceEnds.{told_all, told_begun, told_begun_next, told_early, told_next, told_none}
+use Rattle.bb_run.proofs.TraceEnds.{printed_all, printed_begun, printed_begun_next, printed_early, printed_next, printed_none}
 use Rattle.bb_run.proofs.tracing.add_run.Goals as goal
 
 pub loop-runner-init : goal.loop-runner-init
@@ -17,7 +17,7 @@ loop-runner-init g c =
           inside_here _ _ _ _ start.stands (g.met.T.Tape.sound c.start-runner.new.tape) limit
           (omega (arith, steps));
       unmarked = c.requires.writer;
-      told = told_none _ _ _ _ _ steps c.requires.waiting;
+      printed = printed_none _ _ _ _ _ steps c.requires.waiting;
     }
 
 pub returns-in_err-add_step-in-Ok-Whole-clause-ends : goal.returns-in_err-add_step-in-Ok-Whole-clause-ends
@@ -25,14 +25,14 @@ returns-in_err-add_step-in-Ok-Whole-clause-ends g c = λ last count is_last size
     let ran = rw c.in-Ok-Whole.field-0-is at c.in-Ok-Whole.ensures.ran in
     let p = err_from_is_err_and c.from_residual.result c.from_residual.ensures.1 in
     let begun =
-    told_begun_next _ _ _ c.loop-runner.invariant.told ran.1 ran.0 is_last size
+    printed_begun_next _ _ _ c.loop-runner.invariant.printed ran.1 ran.0 is_last size
     c.in_err-add_step-in-Ok-Whole.ensures.err in
     rw (p.1, p.2, c.in_err-add_step-in-Ok-Whole.ensures.only_write) begun
 
 pub returns-in-Ok-Ended-clause-ends : goal.returns-in-Ok-Ended-clause-ends
 returns-in-Ok-Ended-clause-ends g c = λ last count is_last size.
     let ran = rw c.in-Ok-Ended.field-0-is at c.in-Ok-Ended.ensures.ran in (
-      told_all _ _ _ c.loop-runner.invariant.told ran.0 refl is_last size,
+      printed_all _ _ _ c.loop-runner.invariant.printed ran.0 refl is_last size,
       (λ _. ran.1, λ _. refl),
     )
 
@@ -40,7 +40,7 @@ pub returns-in-Ok-Cut-clause-ends : goal.returns-in-Ok-Cut-clause-ends
 returns-in-Ok-Cut-clause-ends g c = λ last count is_last size.
     let ran = rw c.in-Ok-Cut.field-0-is at c.in-Ok-Cut.ensures.ran in
     let over = ran.1 in (
-      told_all _ _ _ c.loop-runner.invariant.told ran.0 refl is_last size,
+      printed_all _ _ _ c.loop-runner.invariant.printed ran.0 refl is_last size,
       (λ wrong. cc, λ fits. absurd (omega (arith, over, fits))),
     )
 
@@ -50,15 +50,15 @@ returns-in_err-write_waiting-in-Err-clause-ends g c = λ last count is_last size
     let p = err_from_is_err_and c.from_residual-in_err-write_waiting-in-Err.result
     c.from_residual-in_err-write_waiting-in-Err.ensures.1 in
     let begun =
-    told_begun _ _ _ here.told here.inside is_last size
-    (AppendsPrefix-after here.told.sent c.in_err-write_waiting-in-Err.ensures.err) in
+    printed_begun _ _ _ here.printed here.inside is_last size
+    (AppendsPrefix-after here.printed.sent c.in_err-write_waiting-in-Err.ensures.err) in
     rw (p.1, p.2, c.in_err-write_waiting-in-Err.ensures.only_write) begun
 
 pub returns-in-Err-clause-ends : goal.returns-in-Err-clause-ends
 returns-in-Err-clause-ends g c = λ last count is_last size.
     let here = c.loop-runner.invariant in
-    told_early _ _ _ here.told c.in-Err.ensures.wanted refl is_last
-    (Appends-after here.told.sent _ c.in_ok-write_waiting-in-Err.ensures.ok)
+    printed_early _ _ _ here.printed c.in-Err.ensures.wanted refl is_last
+    (Appends-after here.printed.sent _ c.in_ok-write_waiting-in-Err.ensures.ok)
 
 pub loop-runner-preserved : goal.loop-runner-preserved
 loop-runner-preserved g c =
@@ -71,6 +71,6 @@ loop-runner-preserved g c =
       limit = call.limit ∙ here.limit;
       inside = ran.0;
       unmarked = search rules;
-      told =
-          told_next _ _ _ here.told ran.1 (omega (arith, further)) c.in_ok-add_step-in-Ok-Whole.ensures.sent;
+      printed =
+          printed_next _ _ _ here.printed ran.1 (omega (arith, further)) c.in_ok-add_step-in-Ok-Whole.ensures.sent;
     }

@@ -8,38 +8,38 @@ use Rattle.bb_run.proofs.words.kind_of_words.Goals as goal
 
 pub returns-then-are_records : goal.returns-then-are_records
 returns-then-are_records c =
-    let told = c.are_records.ensures c.if-are_records.true in
+    let words = c.are_records.ensures c.if-are_records.true in
     record {
-      verdict = Translated R told.0 told.1 told.2;
-      numbers = (told.3, told.4, told.5);
-      is_text = told.6;
+      verdict = Translated R words.0 words.1 words.2;
+      numbers = (words.3, words.4, words.5);
+      is_text = words.6;
       is_kind = refl;
     }
 
 pub returns-then-are_records-2 : goal.returns-then-are_records-2
 returns-then-are_records-2 c =
-    let told = c.are_records-in-116.ensures c.if-are_records-2.true in
+    let words = c.are_records-in-116.ensures c.if-are_records-2.true in
     record {
-      verdict = Translated L told.0 told.1 told.2;
-      numbers = (told.3, told.4, told.5);
-      is_text = told.6;
+      verdict = Translated L words.0 words.1 words.2;
+      numbers = (words.3, words.4, words.5);
+      is_text = words.6;
       is_kind = refl;
     }
 
 pub returns-then-are_pair : goal.returns-then-are_pair
 returns-then-are_pair c =
-    let told = c.are_pair.ensures c.if-are_pair.true in
-    record { verdict = Halt told.0 told.1; numbers = (told.2, told.3); is_text = told.4; is_kind = refl }
+    let words = c.are_pair.ensures c.if-are_pair.true in
+    record { verdict = Halt words.0 words.1; numbers = (words.2, words.3); is_text = words.4; is_kind = refl }
 
 pub returns-then-are_pair-2 : goal.returns-then-are_pair-2
 returns-then-are_pair-2 c =
-    let told = c.are_pair-in-99.ensures c.if-are_pair-2.true in
-    record { verdict = Cycler told.0 told.1; numbers = (told.2, told.3); is_text = told.4; is_kind = refl }
+    let words = c.are_pair-in-99.ensures c.if-are_pair-2.true in
+    record { verdict = Cycler words.0 words.1; numbers = (words.2, words.3); is_text = words.4; is_kind = refl }
 
 pub returns-then-are_pair-3 : goal.returns-then-are_pair-3
 returns-then-are_pair-3 c =
-    let told = c.are_pair-in-98.ensures c.if-are_pair-3.true in
-    record { verdict = Backward told.0 told.1; numbers = (told.2, told.3); is_text = told.4; is_kind = refl }
+    let words = c.are_pair-in-98.ensures c.if-are_pair-3.true in
+    record { verdict = Backward words.0 words.1; numbers = (words.2, words.3); is_text = words.4; is_kind = refl }
 
 pub returns-then-eq : goal.returns-then-eq
 returns-then-eq c =

@@ -2,7 +2,7 @@ use Rattle.std.proofs.Common.{arith}
 use Rattle.bb_decide.proofs.Costs.{if_ok_on, off_is, on_is}
 use Rattle.bb_decide.proofs.OneRun.{cycle_costs, if_ok_both, run_costs}
 use Rattle.bb_decide.proofs.RunsMade.{cycles_add, no_search_adds, translations_add}
-use Rattle.bb_decide.proofs.one_run.search.Goals as goal
+use Rattle.bb_decide.proofs.one_run.search_by_plan.Goals as goal
 
 pub simulate-requires-clause-room : goal.simulate-requires-clause-room
 simulate-requires-clause-room g c =

@@ -1,8 +1,8 @@
 use Rattle.bb_decide.proofs.Costs.{PassedCycles, counts_both, counts_cycles, counts_one, cycle_of_searches}
 use Rattle.bb_decide.proofs.Costs.{if_ok_on, off_where_not, on_where_not, passed_off, passed_on}
-use Rattle.bb_decide.proofs.decision.search.Given as given
-use Rattle.bb_decide.proofs.decision.search.Goals as goal
-use Rattle.bb_decide.proofs.decision.search.Goals.{then-plan+in_ok-verdict+in-None, else-plan}
+use Rattle.bb_decide.proofs.decision.search_in_turn.Given as given
+use Rattle.bb_decide.proofs.decision.search_in_turn.Goals as goal
+use Rattle.bb_decide.proofs.decision.search_in_turn.Goals.{then-plan+in_ok-verdict+in-None, else-plan}
 
 pub returns-in-Some-clause-found : goal.returns-in-Some-clause-found
 returns-in-Some-clause-found g c =

@@ -5,8 +5,8 @@ use Rattle.bb_decide.proofs.OneRun.{found_is_verdict, no_walk_at_halt, no_walk_b
 use Rattle.bb_decide.proofs.OneRun.{walk_counted}
 use Rattle.bb_decide.proofs.Costs.{off_where_not, on_where_not}
 use Rattle.bb_decide.proofs.RunsMade.{runs_before_tree, runs_counted, runs_counted_beside}
-use Rattle.bb_decide.proofs.one_run.settle.Goals as goal
-use Rattle.bb_decide.proofs.one_run.settle.Goals.{in-NoSteps, in-NoCells}
+use Rattle.bb_decide.proofs.one_run.find_verdict.Goals as goal
+use Rattle.bb_decide.proofs.one_run.find_verdict.Goals.{in-NoSteps, in-NoCells}
 
 pub returns-in-Found-clause-verdict : goal.returns-in-Found-clause-verdict
 returns-in-Found-clause-verdict g c =
@@ -35,10 +35,10 @@ returns-in-Some-clause-walk g c =
     elim c.match-outcome.branch [
       | in-NoSteps w ↦
           let ended = rw (c.in-Ran.is, w.in-NoSteps.is) at c.in_ok-verdict.ensures.ended in
-          walk_counted _ _ _ (Some c.in-Some.verdict) c.search.new.meter _ ended.0.0 ended.1 on found counted
+          walk_counted _ _ _ (Some c.in-Some.verdict) c.search_by_plan.new.meter _ ended.0.0 ended.1 on found counted
       | in-NoCells w ↦
           let ended = rw (c.in-Ran.is, w.in-NoCells.is) at c.in_ok-verdict.ensures.ended in
-          walk_counted _ _ _ (Some c.in-Some.verdict) c.search.new.meter _ ended.0.0 ended.1 on found counted
+          walk_counted _ _ _ (Some c.in-Some.verdict) c.search_by_plan.new.meter _ ended.0.0 ended.1 on found counted
     ]
 
 pub returns-in-None-clause-walk : goal.returns-in-None-clause-walk
@@ -49,10 +49,10 @@ returns-in-None-clause-walk g c =
     elim c.match-outcome.branch [
       | in-NoSteps w ↦
           let ended = rw (c.in-Ran.is, w.in-NoSteps.is) at c.in_ok-verdict.ensures.ended in
-          walk_counted _ _ _ None c.search.new.meter _ ended.0.0 ended.1 on found counted
+          walk_counted _ _ _ None c.search_by_plan.new.meter _ ended.0.0 ended.1 on found counted
       | in-NoCells w ↦
           let ended = rw (c.in-Ran.is, w.in-NoCells.is) at c.in_ok-verdict.ensures.ended in
-          walk_counted _ _ _ None c.search.new.meter _ ended.0.0 ended.1 on found counted
+          walk_counted _ _ _ None c.search_by_plan.new.meter _ ended.0.0 ended.1 on found counted
     ]
 
 pub returns-in-Found-clause-counted : goal.returns-in-Found-clause-counted
