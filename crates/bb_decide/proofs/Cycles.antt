@@ -1,98 +1,111 @@
 -- What the search for cycles has found, step by step.
-use Rattle.std.proofs.Common.{◌≡◌, ℕ, ◌+◌, ◌<◌, ◌≤◌, ◌↔◌, inl, inr, Bool, true, false, IsTrue, refl}
+use Rattle.std.proofs.Common.{◌≡◌, ℕ, ◌+◌, ◌*◌, ◌<◌, ◌≤◌, ◌↔◌, inl, inr, Bool, true, false, IsTrue, refl}
 use Rattle.std.proofs.Common.{subst, arith}
-use Rattle.std.proofs.Math.Nat.{one-le-pow}
-use Rattle.std.proofs.lemmas.Bool.{cases_lt}
 use Rattle.bb_machine.specs.Limits.{Bounds}
 use Rattle.bb_machine.specs.Machine.{Table}
-use Rattle.bb_machine.specs.declared.entry.Next.TheVariants.{Halt}
 use Rattle.bb_tape.specs.TapeView.{TapeView}
 use Rattle.bb_sim.specs.declared.meter.Meter.{Meter}
 use Rattle.bb_sim.specs.declared.runner.Runner.{Runner}
-use Rattle.bb_sim.specs.Runner.{Stands, state_of, steps_of}
-use Rattle.bb_sim.proofs.Facts.{HasStepped, RunsWithin, ends_in_Z}
+use Rattle.bb_sim.specs.declared.simulation.Outcome.{Outcome}
+use Rattle.bb_sim.specs.Runner.{Stands, steps_of}
+use Rattle.bb_sim.specs.Span.{Inside}
 use Rattle.bb_cert.specs.claims.Repeat.{Same}
 use Rattle.bb_cert.proofs.Facts.{AreAlike, alike_of_same, no_repeat_at_once, same_of_alike}
 use Rattle.bb_decide.specs.Partner.{IsKept, IsPartner}
 use Rattle.bb_decide.specs.Cycle.{HasNoCycle, IsCycle, IsFirstCycle}
+use Rattle.bb_decide.specs.inside.Step.{EndsRun, HasMoved}
 use Rattle.bb_decide.proofs.Halting.{no_pair_in_Z}
-use Rattle.bb_decide.proofs.Partners.{kept_below, partner_is_unique}
+use Rattle.bb_decide.proofs.Partners.{is_kept_one, kept_at_first, kept_below, keeps_next, keeps_on}
+use Rattle.bb_decide.proofs.SoFar.{none_earlier, none_inside, none_so_far}
 
 -- the search has come to where a runner stands: the partner of the next step is kept, and no step up to here
 -- is a cycle
 pub record IsSearching (table : Table) (bounds : Bounds) (runner kept : Runner) (view view_kept : TapeView)
-    (first meter : Meter) : Type 0 where
-  pub run : RunsWithin table bounds runner view first meter
+    : Type 0 where
+  pub stands : Stands table runner view
+  pub within : steps_of runner ≤ bounds.steps
   pub kept_stands : Stands table kept view_kept
   pub partner : IsKept (steps_of kept) (steps_of runner)
   pub none : (a t : ℕ) → t ≤ steps_of runner → IsCycle table bounds a t → ⊥
 
+pub searching_at_first : {table : Table} {bounds : Bounds} {runner kept : Runner} {view view_kept : TapeView}
+    → Stands table runner view → steps_of runner ≡ 0 → Stands table kept view_kept → steps_of kept ≡ 0
+    → IsSearching table bounds runner kept view view_kept
+searching_at_first stands zero kept_stands kept_zero = record {
+  stands = stands;
+  within = omega (arith, zero);
+  kept_stands = kept_stands;
+  partner = rw (kept_zero, zero) kept_at_first;
+  none = λ a t few cycle. let below = cycle.partner.below in omega (arith, few, below, zero);
+}
+
 -- after a step
 module _ {table : Table} {bounds : Bounds} {before after kept : Runner}
-    {view_before view_after view_kept : TapeView} {first meter_before meter : Meter}
-    (here : IsSearching table bounds before kept view_before view_kept first meter_before)
-    (step : HasStepped table bounds before after view_after first meter) where
+    {view_before view_after view_kept : TapeView}
+    (here : IsSearching table bounds before kept view_before view_kept)
+    (moved : HasMoved table before after view_after) (inside : Inside table bounds (steps_of after)) where
   pub kept_earlier : steps_of kept < steps_of after
-  kept_earlier = rw step.next (kept_below (steps_of kept) (steps_of before) here.partner)
+  kept_earlier = rw moved.next (kept_below (steps_of kept) (steps_of before) here.partner)
 
   -- where it has the configuration of what is kept, that is its partner: it isn't the start
-  pub kept_partner : Same table (steps_of kept) (steps_of after) → IsPartner (steps_of kept) (steps_of after)
+  kept_partner : Same table (steps_of kept) (steps_of after) → IsPartner (steps_of kept) (steps_of after)
   kept_partner same = elim here.partner [
     | inl start ↦
         let zeroth : steps_of kept ≡ steps_of before = omega (arith, start.0, start.1) in
         absurd (no_repeat_at_once table (steps_of before)
-        (subst (λ m. Same table m (steps_of before + 1)) zeroth (rw step.next at same)))
-    | inr partner ↦ rw step.next partner
+        (subst (λ m. Same table m (steps_of before + 1)) zeroth (rw moved.next at same)))
+    | inr partner ↦ rw moved.next partner
   ]
 
   -- it is the first cycle
   pub first_cycle : Same table (steps_of kept) (steps_of after)
       → IsFirstCycle table bounds (steps_of kept) (steps_of after)
   first_cycle same = record {
-    cycle = record { partner = kept_partner same; inside = step.inside; same = same };
-    first = λ b u other. elim (cases_lt (steps_of before) u) [
-      | inl past ↦ let next = step.next in omega (arith, past, next)
-      | inr few ↦ absurd (here.none b u few other)
-    ];
+    cycle = record { partner = kept_partner same; inside = inside; same = same };
+    first = λ b u other. none_earlier (IsCycle table bounds b) moved.next (here.none b) u other;
   }
 
-  -- what is_same tells of the two
-  pub comes_again : {told : Bool} → IsTrue told ↔ AreAlike after view_after kept view_kept → told ≡ true
+  -- what is_same answers of the two
+  pub comes_again : {answer : Bool} → IsTrue answer ↔ AreAlike after view_after kept view_kept → answer ≡ true
       → Same table (steps_of kept) (steps_of after)
-  comes_again tells is = same_of_alike step.run.stands here.kept_stands (tells.0 is)
+  comes_again tells is = same_of_alike moved.stands here.kept_stands (tells.0 is)
 
-  apart : {told : Bool} → IsTrue told ↔ AreAlike after view_after kept view_kept → told ≡ false
+  pub apart : {answer : Bool} → IsTrue answer ↔ AreAlike after view_after kept view_kept → answer ≡ false
       → Same table (steps_of kept) (steps_of after) → ⊥
-  apart tells isnt same = let is = tells.1 (alike_of_same step.run.stands here.kept_stands same) in cc
+  apart tells isnt same = let is = tells.1 (alike_of_same moved.stands here.kept_stands same) in cc
 
-  -- no step up to it is one, where it has another configuration
-  pub none_next : (Same table (steps_of kept) (steps_of after) → ⊥) → (a t : ℕ) → t ≤ steps_of after
-      → IsCycle table bounds a t → ⊥
-  none_next differs a t few cycle = elim (cases_lt (steps_of before) t) [
-    | inr earlier ↦ here.none a t earlier cycle
-    | inl past ↦
-        let now : t ≡ steps_of after = let next = step.next in omega (arith, past, few, next) in
-        by_kept here.partner (subst (IsCycle table bounds a) now cycle)
-  ] where
-    by_kept : IsKept (steps_of kept) (steps_of before) → IsCycle table bounds a (steps_of after) → ⊥
-    by_kept (inl start) found =
-        let partner = found.partner in
-        let some = one-le-pow partner.exponent 2 (omega arith) in
-        let is = partner.is_power in
-        let low = partner.below in
-        let next = step.next in
-        omega (arith, start.0, start.1, some, is, low, next)
-    by_kept (inr partner) found =
-        let kept_one : IsPartner (steps_of kept) (steps_of after) = rw step.next partner in
-        differs (subst (λ m. Same table m (steps_of after))
-        (partner_is_unique a (steps_of kept) (steps_of after) found.partner kept_one) found.same)
+  -- where it has another one, the search goes on: what is kept is the next step's partner, or this step is
+  module _ (differs : Same table (steps_of kept) (steps_of after) → ⊥) where
+    none_next : (a t : ℕ) → t ≤ steps_of after → IsCycle table bounds a t → ⊥
+    none_next a = none_so_far (IsCycle table bounds a) moved.next (here.none a) (λ now.
+        differs (subst (λ m. Same table m (steps_of after)) (is_kept_one here.partner moved.next now.partner)
+        now.same))
 
-  pub no_cycle_next : {told : Bool} → IsTrue told ↔ AreAlike after view_after kept view_kept → told ≡ false
-      → (a t : ℕ) → t ≤ steps_of after → IsCycle table bounds a t → ⊥
-  no_cycle_next tells isnt = none_next (apart tells isnt)
+    pub goes_on : steps_of after < 2 * steps_of kept
+        → IsSearching table bounds after kept view_after view_kept
+    goes_on few = record {
+      stands = moved.stands;
+      within = inside.within_steps;
+      kept_stands = here.kept_stands;
+      partner = rw moved.next (keeps_on _ _ here.partner (let next = moved.next in omega (arith, next, few)));
+      none = none_next;
+    }
 
-  -- in Z it has
-  pub no_cycle_in_Z : state_of after ≡ Halt → HasNoCycle table bounds
-  no_cycle_in_Z halts a t cycle = none_next (λ same. no_pair_in_Z table after view_after step.run.stands halts
-      (steps_of kept) same.here same.here kept_earlier same.at_first same.at_second refl) a t
-      ((ends_in_Z step halts).last.greatest t cycle.inside) cycle
+    pub keeps_this : {view : TapeView} → 2 * steps_of kept ≤ steps_of after → Stands table after view
+        → IsSearching table bounds after after view_after view
+    keeps_this many stands = record {
+      stands = moved.stands;
+      within = inside.within_steps;
+      kept_stands = stands;
+      partner = rw moved.next (keeps_next _ _ here.partner (let next = moved.next in omega (arith, next, many)));
+      none = none_next;
+    }
+
+pub no_cycle_at_end : {table : Table} {bounds : Bounds} {before after kept : Runner}
+    {view_before view view_kept : TapeView} {first meter : Meter} {outcome : Outcome}
+    → IsSearching table bounds before kept view_before view_kept
+    → EndsRun table bounds before after view first meter outcome → HasNoCycle table bounds
+no_cycle_at_end {table} {bounds} {after = after} {view = view} here ended a t cycle =
+    none_inside (IsCycle table bounds a) ended (here.none a) (λ halts now.
+    no_pair_in_Z table after view ended.stands halts a now.same.here now.same.here now.partner.below
+    now.same.at_first now.same.at_second refl) t cycle.inside cycle

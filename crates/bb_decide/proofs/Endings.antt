@@ -1,87 +1,94 @@
 -- How the run of a search ends, as a simulation does or with what was found, and what is promised of it then.
-use Rattle.std.proofs.Common.{◌≡◌, ℕ, ℤ, Bool, IfOk, IsTrue, OnErr, Ok, Err, Option, Some, None, Result, refl, ap}
+use Rattle.std.proofs.Common.{◌≡◌, ℕ, ◌+◌, ℤ, Bool, inl, inr, IsTrue, Ok, Err, Option, Some, None, Result, refl, ap}
 use Rattle.bb_machine.specs.declared.entry.Next.TheVariants.{Halt}
 use Rattle.bb_machine.specs.Limits.{Bounds}
 use Rattle.bb_machine.specs.Machine.{Table}
 use Rattle.bb_tape.specs.Content.{score}
 use Rattle.bb_tape.specs.TapeView.{TapeView}
 use Rattle.bb_tape.specs.declared.tape.Memory.{Memory}
-use Rattle.bb_sim.specs.CellsBetween.{cells_between}
 use Rattle.bb_sim.specs.declared.meter.Meter.{Meter}
 use Rattle.bb_sim.specs.declared.runner.Moved.{Moved}
 use Rattle.bb_sim.specs.declared.runner.Moved.TheVariants.{Halted, NoCells, NoSteps, Stepped}
 use Rattle.bb_sim.specs.declared.runner.Runner.{Runner}
 use Rattle.bb_sim.specs.declared.simulation.Outcome.{Outcome}
-use Rattle.bb_sim.specs.Meter.{CountsPart, IsWithinRun, counted}
+use Rattle.bb_sim.specs.Meter.{CountsRun, CountsTo, IsWithinRun}
 use Rattle.bb_sim.specs.Outcome.{IsOutcome}
 use Rattle.bb_sim.specs.Run.{Never}
-use Rattle.bb_sim.specs.Runner.{Answers, Moves, Reaches, Stands, high_of, low_of, state_of, steps_of}
-use Rattle.bb_sim.proofs.Facts.{HasStepped, IsEnd, RunsWithin, ends_in_Z, ends_stopped, halted_end}
-use Rattle.bb_sim.proofs.Facts.{halts_in_Z, no_halt_inside, wide_at_end}
+use Rattle.bb_sim.specs.Runner.{Answers, Moves, Reaches, Stands, state_of, steps_of}
+use Rattle.bb_sim.specs.Span.{Inside, IsLastInside}
+use Rattle.bb_sim.proofs.Facts.{count_is_within, halted_end, halts_in_Z, halts_last, no_halt_inside, wide_at_end}
 use Rattle.bb_cert.specs.declared.verdict.Verdict.{Verdict}
 use Rattle.bb_cert.specs.claims.Claim.{Claim}
 use Rattle.bb_cert.specs.verdict.Verdict.{HasNumbers}
-use Rattle.bb_decide.specs.Cycle.{CountsSearch}
+use Rattle.bb_decide.specs.Cycle.{CountsSearch, HasNoCycle}
+use Rattle.bb_decide.specs.OneRun.{IsStoppedAt}
+use Rattle.bb_decide.specs.Translation.{FindsTranslation, HasNoTranslation}
 use Rattle.bb_decide.specs.declared.bench.Bench.{Bench}
 use Rattle.bb_decide.specs.declared.ending.Ending.{Ending}
 use Rattle.bb_decide.specs.declared.ending.Ending.TheVariants.{Found, Ran}
-use Rattle.bb_decide.specs.inside.Ending.{Seeks, TellsEnd, WatchPromised, Watches, WatchesRun}
+use Rattle.bb_decide.specs.inside.Ending.{Seeks, TellsEnd, WatchesRun}
+use Rattle.bb_decide.specs.inside.Step.{EndsRun, StepsOn, TakesOver}
 use Rattle.bb_decide.proofs.Benches.{IsAsLent}
-use Rattle.bb_decide.proofs.Counted.{HasCut, counted_to, counts_on, taken_over}
+use Rattle.bb_decide.proofs.Counted.{HasCut, taken_over}
 
--- nothing was found: the run has ended as a simulation does, and the meter has taken it over
-pub record HasEnded (table : Table) (bounds : Bounds) (n : ℕ) (first meter : Meter) (outcome : Outcome)
-    : Type 0 where
-  pub run : IsEnd table bounds n first meter
-  pub is_outcome : IsOutcome table bounds outcome
+-- where a call of `advance` left a runner, whose run a meter took over
+module _ {table : Table} {bounds : Bounds} {old new : Runner} {view_old view : TapeView}
+    {other_old other first meter : Meter} {outcome : Outcome} (stands : Stands table new view)
+    (takes_over : TakesOver new first meter) where
+  ended : IsLastInside table bounds (steps_of new) → new ≡ old → IsOutcome table bounds outcome
+      → EndsRun table bounds old new view first meter outcome
+  ended last same is_outcome = record {
+    stands = stands;
+    last = last;
+    no_further = inl (ap steps_of same);
+    is_outcome = is_outcome;
+    counts = taken_over stands takes_over;
+  }
 
--- where a call doesn't step
-module _ {table : Table} {bounds : Bounds} {old new : Runner} {view_old view_new : TapeView}
-    {first meter_old : Meter} (run : RunsWithin table bounds old view_old first meter_old)
-    (stands : Stands table new view_new) (meter : Meter) where
-  ran_as : (moved : Moved) → (moved ≡ Stepped → ⊥) → Answers table bounds (steps_of old) moved
-      → Reaches table bounds new view_new moved
-      → Moves table old new view_old view_new meter_old meter moved → (outcome : Outcome)
-      → TellsEnd moved (steps_of new) (score view_new.content) outcome → IsOutcome table bounds outcome
-  ran_as Halted apart asked reaches moves outcome is =
-      rw is (halted_end stands reaches.inside (rw (ap steps_of moves.runner) asked) _ _ refl refl)
-  ran_as NoSteps apart asked reaches moves outcome is =
-      let last = (ends_stopped run stands meter NoSteps apart reaches moves).last in
-      rw is (no_halt_inside _ _ _ last.inside last asked.0, rw (← asked.1) last.inside.within_cells)
-  ran_as NoCells apart asked reaches moves outcome is =
-      let last = (ends_stopped run stands meter NoCells apart reaches moves).last in
-      rw is (no_halt_inside _ _ _ last.inside last asked.0, wide_at_end _ _ _ last.inside asked.2 asked.1)
-  ran_as Stepped apart asked reaches moves outcome is = let same : Stepped ≡ Stepped = refl in
-      absurd (apart same)
+  -- it didn't step
+  pub ends_where_stopped : (moved : Moved) → (moved ≡ Stepped → ⊥) → Answers table bounds (steps_of old) moved
+      → Reaches table bounds new view moved
+      → Moves table old new view_old view other_old other moved
+      → TellsEnd moved (steps_of new) (score view.content) outcome
+      → EndsRun table bounds old new view first meter outcome
+  ends_where_stopped Halted apart answers last stays is = ended last stays.runner
+      (rw is (halted_end stands last.inside (rw (ap steps_of stays.runner) answers) _ _ refl refl))
+  ends_where_stopped NoSteps apart answers last stays is =
+      let here : Answers table bounds (steps_of new) NoSteps = rw (ap steps_of stays.runner) answers in
+      ended last stays.runner
+      (rw is (no_halt_inside _ _ _ last.inside last here.0, rw (← here.1) last.inside.within_cells))
+  ends_where_stopped NoCells apart answers last stays is =
+      let here : Answers table bounds (steps_of new) NoCells = rw (ap steps_of stays.runner) answers in
+      ended last stays.runner
+      (rw is (no_halt_inside _ _ _ last.inside last here.0, wide_at_end _ _ _ last.inside here.2 here.1))
+  ends_where_stopped Stepped apart answers reaches moves is =
+      let same : Stepped ≡ Stepped = refl in absurd (apart same)
 
-pub ends_where_stopped : {table : Table} {bounds : Bounds} {old new : Runner} {view_old view_new : TapeView}
-    {first here meter : Meter} {moved : Moved} {outcome : Outcome}
-    → RunsWithin table bounds old view_old first (counted_to table first old) → Stands table new view_new
-    → (other_old other_new : Meter) → (moved ≡ Stepped → ⊥) → Answers table bounds (steps_of old) moved
-    → Reaches table bounds new view_new moved
-    → Moves table old new view_old view_new other_old other_new moved → here ≡ first
-    → meter ≡ counted here (steps_of new) (cells_between (low_of new) (high_of new))
-    → TellsEnd moved (steps_of new) (score view_new.content) outcome
-    → HasEnded table bounds (steps_of old) first meter outcome
-ends_where_stopped {moved = moved} run stands _ _ apart answers reaches moves same takes_over told =
-    let counts = counts_on run stands _ _ moved moves in
-    record {
-      run = rw (taken_over stands same takes_over) (ends_stopped run stands _ moved apart reaches counts);
-      is_outcome = ran_as run stands _ moved apart answers reaches counts _ told;
-    }
+  -- it stepped into Z
+  pub ends_in_Z : state_of new ≡ Halt → Inside table bounds (steps_of new) → steps_of new ≡ steps_of old + 1
+      → TellsEnd Halted (steps_of new) (score view.content) outcome
+      → EndsRun table bounds old new view first meter outcome
+  ends_in_Z halts inside next is =
+      let stops = halts_in_Z table new view stands halts in
+      record {
+        stands = stands;
+        last = halts_last table bounds (steps_of new) inside stops;
+        no_further = inr (halts, next);
+        is_outcome = rw is (halted_end stands inside stops _ _ refl refl);
+        counts = taken_over stands takes_over;
+      }
 
--- where a step goes into Z
-pub ends_where_in_Z : {table : Table} {bounds : Bounds} {old new : Runner} {view : TapeView}
-    {first here meter : Meter} {outcome : Outcome}
-    → HasStepped table bounds old new view first (counted_to table first new) → state_of new ≡ Halt
-    → here ≡ first → meter ≡ counted here (steps_of new) (cells_between (low_of new) (high_of new))
-    → TellsEnd Halted (steps_of new) (score view.content) outcome
-    → HasEnded table bounds (steps_of new) first meter outcome
-ends_where_in_Z {table} {bounds} {old} {new} {view} step halts same takes_over told = record {
-  run = rw (taken_over step.run.stands same takes_over) (ends_in_Z step halts);
-  is_outcome = rw told (halted_end step.run.stands step.inside
-      (halts_in_Z table new view step.run.stands halts) _ _ refl refl);
-}
+-- what is promised of the step then
+module _ {grows : Bool} {table : Table} {bounds : Bounds} {old new : Runner} {view_old view : TapeView}
+    {first meter : Meter} (limit : view.limit ≡ view_old.limit) where
+  pub step_ends : {outcome : Outcome} → EndsRun table bounds old new view first meter outcome
+      → StepsOn grows table bounds old new view_old view first meter (Ok (Some outcome))
+  step_ends end = record { goes_on = end; cut = tt; within = tt; memory = tt; limit = limit }
+
+  pub step_is_cut : {fault : Memory} → HasCut table bounds first meter → IsTrue grows
+      → StepsOn grows table bounds old new view_old view first meter (Err fault)
+  step_is_cut cut memory =
+      record { goes_on = tt; cut = cut.part; within = cut.within; memory = memory; limit = limit }
 
 -- what a search finds
 pub record IsFound (Finds : Option Verdict → Type 0) (table : Table) (bounds : Bounds) (first meter : Meter)
@@ -96,15 +103,24 @@ pub record IsFound (Finds : Option Verdict → Type 0) (table : Table) (bounds :
 module _ {T : Type 0} {view : T → TapeView} {grows : Bool} {table : Table} {bounds : Bounds}
     {old new : Bench T} {first here meter : Meter} (lent : IsAsLent view bounds.cells old new first here)
   where
-    pub seeks_to_end : {Finds : Option Verdict → Type 0} {n : ℕ} {outcome : Outcome}
-        → HasEnded table bounds n first meter outcome → Finds None
+    ran : {before after : Runner} {run : TapeView} {outcome : Outcome}
+        → EndsRun table bounds before after run here meter outcome
+        → CountsRun table bounds first meter × IsWithinRun bounds first meter
+    ran {after = after} ends =
+        let counts : CountsTo table (steps_of after) first meter = rw lent.meter at ends.counts in (
+          record { last = steps_of after; is_last = ends.last; counts = counts },
+          count_is_within table bounds (steps_of after) first meter ends.last.inside counts,
+        )
+
+    pub seeks_to_end : {Finds : Option Verdict → Type 0} {before after : Runner} {run : TapeView}
+        {outcome : Outcome} → EndsRun table bounds before after run here meter outcome → Finds None
         → Seeks Finds grows view table bounds old new first meter (Ok (Ran outcome))
-    seeks_to_end ended none = record {
+    seeks_to_end ends none = let is = ran ends in record {
       found = none;
-      ran = ended.is_outcome;
-      counted = ended.run.counted;
+      ran = ends.is_outcome;
+      counted = is.0;
       cut = tt;
-      within = ended.run.within;
+      within = is.1;
       never = tt;
       promised = record { claim = tt; numbers = tt; memory = tt };
       tapes = lent.tapes;
@@ -112,9 +128,9 @@ module _ {T : Type 0} {view : T → TapeView} {grows : Bool} {table : Table} {bo
     }
 
     pub seeks_and_finds : {Finds : Option Verdict → Type 0} {verdict : Verdict}
-        → IsFound Finds table bounds first meter verdict
+        → IsFound Finds table bounds here meter verdict
         → Seeks Finds grows view table bounds old new first meter (Ok (Found verdict))
-    seeks_and_finds is = record {
+    seeks_and_finds found = let is = rw lent.meter at found in record {
       found = is.found;
       ran = tt;
       counted = is.counted;
@@ -127,34 +143,68 @@ module _ {T : Type 0} {view : T → TapeView} {grows : Bool} {table : Table} {bo
     }
 
     pub seeks_until_cut : {Finds : Option Verdict → Type 0} {fault : Memory}
-        → HasCut table bounds first meter → IsTrue grows
+        → HasCut table bounds here meter → IsTrue grows
         → Seeks Finds grows view table bounds old new first meter (Err fault)
-    seeks_until_cut cut memory = record {
+    seeks_until_cut cut memory = let is = rw lent.meter at cut in record {
       found = tt;
       ran = tt;
       counted = tt;
-      cut = cut.part;
-      within = cut.within;
+      cut = is.part;
+      within = is.within;
       never = tt;
       promised = record { claim = tt; numbers = tt; memory = memory };
       tapes = lent.tapes;
       path = lent.path;
     }
 
-    pub watches : {key : ℤ → ℕ} {result : Result (Option Ending) Memory}
-        → IfOk result (Watches table bounds key first meter)
-        → OnErr result (CountsPart table bounds first meter) → IsWithinRun bounds first meter
-        → WatchPromised table grows result → WatchesRun grows view table bounds key old new first meter result
-    watches watched cut within promised = record {
-      watched = watched;
-      cut = cut;
-      within = within;
-      promised = promised;
+    -- the watched run, where it wasn't stopped
+    module _ {key : ℤ → ℕ} (unstopped : (n : ℕ) → IsStoppedAt key table bounds n → ⊥) where
+      pub watches_to_end : {before after : Runner} {run : TapeView} {outcome : Outcome}
+          → EndsRun table bounds before after run here meter outcome → HasNoTranslation table bounds
+          → HasNoCycle table bounds
+          → WatchesRun grows view table bounds key old new first meter (Ok (Some (Ran outcome)))
+      watches_to_end ends no_record no_cycle = let is = ran ends in record {
+        watched = (no_record, is.0, ends.is_outcome, no_cycle, unstopped);
+        cut = tt;
+        within = is.1;
+        promised = record { claim = tt; numbers = tt; memory = tt };
+        tapes = lent.tapes;
+        path = lent.path;
+      }
+
+      pub watches_and_finds : {verdict : Verdict}
+          → IsFound (FindsTranslation table bounds) table bounds here meter verdict
+          → WatchesRun grows view table bounds key old new first meter (Ok (Some (Found verdict)))
+      watches_and_finds found = let is = rw lent.meter at found in record {
+        watched = (is.found, is.counted, unstopped);
+        cut = tt;
+        within = is.within;
+        promised = record { claim = is.claim; numbers = is.numbers; memory = tt };
+        tapes = lent.tapes;
+        path = lent.path;
+      }
+
+    pub watches_to_stop : {key : ℤ → ℕ} (n : ℕ) → IsStoppedAt key table bounds n
+        → CountsTo table n here meter
+        → WatchesRun grows view table bounds key old new first meter (Ok None)
+    watches_to_stop n stopped counted =
+        let counts : CountsTo table n first meter = rw lent.meter at counted in
+        record {
+          watched = (n, stopped, counts);
+          cut = tt;
+          within = count_is_within table bounds n first meter stopped.inside counts;
+          promised = record { claim = tt; numbers = tt; memory = tt };
+          tapes = lent.tapes;
+          path = lent.path;
+        }
+
+    pub watches_until_cut : {key : ℤ → ℕ} {fault : Memory} → HasCut table bounds here meter → IsTrue grows
+        → WatchesRun grows view table bounds key old new first meter (Err fault)
+    watches_until_cut cut memory = let is = rw lent.meter at cut in record {
+      watched = tt;
+      cut = is.part;
+      within = is.within;
+      promised = record { claim = tt; numbers = tt; memory = memory };
       tapes = lent.tapes;
       path = lent.path;
     }
-
-    pub watches_until_cut : {key : ℤ → ℕ} {fault : Memory} → HasCut table bounds first meter → IsTrue grows
-        → WatchesRun grows view table bounds key old new first meter (Err fault)
-    watches_until_cut cut memory =
-        watches tt cut.part cut.within (record { claim = tt; numbers = tt; memory = memory })

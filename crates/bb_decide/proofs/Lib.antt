@@ -15,6 +15,7 @@ pub mod Partners
 pub mod Refused
 pub mod RunsMade
 pub mod SmallLimits
+pub mod SoFar
 pub mod Sure
 pub mod Translations
 pub mod Verdicts

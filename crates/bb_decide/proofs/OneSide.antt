@@ -47,10 +47,10 @@ use Rattle.bb_cert.proofs.Facts.{
 use Rattle.bb_cert.proofs.Facts.{followed_at_first, followed_farther, followed_nearer, head_at-is, keeps}
 use Rattle.bb_cert.proofs.Facts.{made_next, nearer_on, number_narrow, numbered, record_has_one_step}
 use Rattle.bb_cert.proofs.Facts.{records_in_order, stands_on, stays}
-use Rattle.bb_decide.specs.inside.Follow.{Compares, IsReady, IsSearched, KeepsByTurn}
+use Rattle.bb_decide.specs.inside.Follow.{Compares, IsReady, IsSearched, KeepsByTurn, TellsAgreement}
 use Rattle.bb_decide.specs.Partner.{IsKept, IsPartner}
 use Rattle.bb_decide.specs.Translation.{AgreesWithPartner}
-use Rattle.bb_decide.proofs.Partners.{kept_at_first, kept_below, keeps_next, keeps_on, partner_is_unique}
+use Rattle.bb_decide.proofs.Partners.{is_kept_one, kept_at_first, kept_below, keeps_next, keeps_on}
 
 one_number : (i j : ℕ) (p : ℤ) → p ≡ pos i → p ≡ pos j → i ≡ j
 one_number i j p a b = omega (arith, ints, a, b)
@@ -68,16 +68,6 @@ some_partner : (n k : ℕ) → IsKept n k → 0 < n → IsPartner n (k + 1)
 some_partner n k (inl first) some = let none = first.1 in absurd (omega (arith, some, none))
 some_partner n k (inr partner) some = partner
 
--- the first record has no partner
-some_kept : (n k p : ℕ) → IsKept n k → IsPartner p (k + 1) → IsPartner n (k + 1)
-some_kept n k p (inl first) partner =
-    let below = partner.below in
-    let is = partner.is_power in
-    let power = one-le-pow partner.exponent 2 (omega arith) in
-    let none = first.0 in
-    absurd (omega (arith, below, is, power, none))
-some_kept n k p (inr kept) partner = kept
-
 -- at the start there is no record
 pub searched_at_first : (table : Table) (records : Records) (saved : TapeView)
     → position_of records.kept ≡ pos 0 → IsSearched table 0 records saved
@@ -91,14 +81,6 @@ pub record GoesOn (table : Table) (n : ℕ) (side : Side) (new : Records) (saved
   pub searched : IsSearched table n new saved
   pub side_is : new.side ≡ side
   pub none : (a : ℕ) → AgreesWithPartner table side a n → ⊥
-
--- a verdict tells a record that agrees with its partner, made at this step, and how the two lie
-pub record EndsWith (table : Table) (side : Side) (n : ℕ) (verdict : Verdict) : Type 0 where
-  pub first : ℕ
-  pub extent : Extent
-  pub is : verdict ≡ Translated side first n (Some extent)
-  pub pair : AgreesWithPartner table side first n
-  pub lies : IsExtent table side first n extent
 
 module _ (table : Table) (n : ℕ) (runner : Runner) (run saved : TapeView) (old : Records)
     (stands : Stands table runner run) (next : steps_of runner ≡ n + 1)
@@ -186,10 +168,7 @@ module _ (table : Table) (n : ℕ) (runner : Runner) (run saved : TapeView) (old
         (stands_on table old.side pair.second_number (steps_of runner) pair.second_record)
         (stands_on table old.side (searched.followed.count + 1) (steps_of runner) made_at) in
         let partner = subst (IsPartner pair.first_number) second pair.partner in
-        let kept = some_kept searched.followed.number searched.followed.count pair.first_number
-        searched.partner partner in
-        let number = partner_is_unique pair.first_number searched.followed.number
-        (searched.followed.count + 1) partner kept in
+        let number = is_kept_one searched.partner refl partner in
         let first = subst (λ j. IsRecord table old.side j a) number pair.first_record in
         let some = first.positive in
         let step = record_has_one_step table old.side searched.followed.number a (steps_of old.kept) first
@@ -201,10 +180,11 @@ module _ (table : Table) (n : ℕ) (runner : Runner) (run saved : TapeView) (old
     module _ (new : Records) (new_saved : TapeView) where
       pub ends_with : (verdict : Verdict)
           → Compares (passed old (position_of runner)) runner run saved new new_saved (Some verdict)
-          → EndsWith table old.side (steps_of runner) verdict
+          → TellsAgreement table (steps_of runner) verdict
       ends_with verdict is =
           let some = numbered table runner run saved with_next stands known makes is.0.0 in
           record {
+            side = old.side;
             first = steps_of old.kept;
             extent = is.1.extent;
             is = is.1.is;
@@ -264,12 +244,11 @@ module _ {table : Table} {n : ℕ} {side : Side} {runner : Runner} {run saved : 
 
     pub side_ends : (looked : Records) (looked_saved : TapeView) (verdict : Verdict)
         → Compares new runner run saved looked looked_saved (Some verdict)
-        → EndsWith table side (steps_of runner) verdict
+        → TellsAgreement table (steps_of runner) verdict
     side_ends looked looked_saved verdict is =
-        subst (λ s. EndsWith table s (steps_of runner) verdict) here.side_is
-        (ends_with table n runner run saved here.old here.stands here.next here.searched made_there looked
+        ends_with table n runner run saved here.old here.stands here.next here.searched made_there looked
         looked_saved verdict
-        (subst (λ r. Compares r runner run saved looked looked_saved (Some verdict)) here.new_is is))
+        (subst (λ r. Compares r runner run saved looked looked_saved (Some verdict)) here.new_is is)
 
     pub side_goes_on : (looked : Records) (looked_saved : TapeView)
         → Compares new runner run saved looked looked_saved None → looked.side ≡ new.side

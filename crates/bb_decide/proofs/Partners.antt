@@ -1,6 +1,6 @@
 -- Powers of two below a number, and the one that is kept while a search goes on.
 use Rattle.std.proofs.Common.{◌≡◌, ℕ, ◌+◌, ◌*◌, ◌^◌, ◌<◌, ◌≤◌, inl, inr, refl, sym, ◌∙◌, ap, add-one, arith}
-use Rattle.std.proofs.Math.Nat.{pow-succ'}
+use Rattle.std.proofs.Math.Nat.{one-le-pow, pow-succ'}
 use Rattle.std.proofs.Math.Pow.{pow_mono}
 use Rattle.std.proofs.lemmas.Bool.{cases_lt}
 use Rattle.bb_decide.specs.Partner.{IsKept, IsPartner}
@@ -67,3 +67,12 @@ partner_is_unique p q j first second = elim (cases_lt first.exponent second.expo
       let most = one.greatest in
       let below = other.below in
       omega (arith, grows, twice, is_one, is_other, most, below)
+
+-- the partner of the next step is what is kept: step 1 has none
+pub is_kept_one : {k n m p : ℕ} → IsKept k n → m ≡ n + 1 → IsPartner p m → p ≡ k
+is_kept_one (inl first) next partner =
+    let some = one-le-pow partner.exponent 2 (omega arith) in
+    let is = partner.is_power in
+    let below = partner.below in
+    absurd (omega (arith, first.0, first.1, some, is, below, next))
+is_kept_one {k} {n} {m} {p} (inr kept) next partner = partner_is_unique p k m partner (rw next kept)

@@ -3,3 +3,4 @@ pub mod Follow
 pub mod Search
 pub mod Ending
 pub mod Prints
+pub mod Step

@@ -13,10 +13,10 @@ ghost use Rattle.bb_decide.specs.inside.Ending.{Seeks};
 ghost use Rattle.bb_decide.specs.Sure.{FindsRepeats};
 
 use crate::bench::Bench;
-use crate::ending::{Ending, count_run, outcome_of};
+use crate::ending::{Ending, count_run, step_on};
 use bb_cert::{Verdict, is_same};
 use bb_machine::{Limits, Machine};
-use bb_sim::{Meter, Moved, Runner};
+use bb_sim::{Meter, Runner};
 use bb_tape::{Memory, Tape, TapeFault};
 
 /// The pair of the first step, from step 2 on, whose configuration is that of its partner, the greatest power
@@ -87,24 +87,10 @@ fn run_to_cycle<T: Tape>(
     let mut kept = Runner::start(machine, &mut bench.right);
     let mut next_kept = 0;
     loop {
-        let mut uncounted = Meter::new();
-        let Ok(moved) = runner.advance(machine, &mut bench.run, limits, &mut uncounted) else {
-            count_run(meter, runner);
-            return Err(Memory);
-        };
-        match moved {
-            Moved::Stepped => {}
-            moved => {
-                count_run(meter, runner);
-                return Ok(Ending::Ran(outcome_of(moved, runner, &bench.run)));
-            }
+        match step_on(machine, &mut runner, &mut bench.run, limits, meter)? {
+            Some(outcome) => return Ok(Ending::Ran(outcome)),
+            None => {}
         }
-        // Z is never met twice, so this step can't be a repeat: the run ends.
-        let Some(_) = runner.state() else {
-            count_run(meter, runner);
-            let outcome = outcome_of(Moved::Halted, runner, &bench.run);
-            return Ok(Ending::Ran(outcome));
-        };
         if is_same(&runner, &bench.run, &kept, &bench.right) {
             count_run(meter, runner);
             return Ok(Ending::Found(Verdict::Cycler {

@@ -1,24 +1,22 @@
 //! The search for records that agree.
-ghost use Rattle.std.specs.Prelude.{◌≡◌, ◌+◌, ◌*◌, ◌<◌, ◌≤◌, ◌^◌, IfOk, IfSome, IsTrue, OnErr};
-ghost use Rattle.bb_sim.specs.Runner.{steps_of};
+ghost use Rattle.std.specs.Prelude.{◌≡◌, ◌*◌, ◌≤◌, IfOk, IfSome, IsTrue, OnErr};
 ghost use Rattle.bb_sim.specs.Meter.{CountsPart, IsWithinRun};
 ghost use Rattle.bb_sim.specs.Run.{Never};
 ghost use Rattle.bb_cert.specs.claims.Claim.{Claim};
 ghost use Rattle.bb_cert.specs.verdict.Verdict.{HasNumbers};
 ghost use Rattle.bb_decide.specs.Bench.{BenchHasCells};
 ghost use Rattle.bb_decide.specs.Cycle.{CountsSearch};
-ghost use Rattle.bb_decide.specs.inside.Follow.{IsReady, Looks, TakesOver, on_side};
 ghost use Rattle.bb_decide.specs.inside.Ending.{Seeks};
 ghost use Rattle.bb_decide.specs.Sure.{FindsAgreeingRecords};
 ghost use Rattle.bb_decide.specs.Translation.{FindsTranslation};
 
 use crate::bench::Bench;
-use crate::ending::{Ending, count_run, outcome_of};
-use crate::record_search::look_at_record;
-use bb_cert::records::{Records, widened_side};
+use crate::ending::{Ending, step_on};
+use crate::record_search::take_in;
+use bb_cert::records::Records;
 use bb_cert::{Side, Verdict};
 use bb_machine::{Limits, Machine};
-use bb_sim::{Meter, Moved, Runner};
+use bb_sim::{Meter, Runner};
 use bb_tape::{Memory, Tape};
 
 /// The first record of either side, from record 2 on, that agrees with its partner, the record of that side
@@ -87,80 +85,24 @@ fn run_to_records<T: Tape>(
     let mut right = Records::new(Side::R, runner);
     let mut left = Records::new(Side::L, runner);
     loop {
-        let cells = runner.cells();
-        let mut uncounted = Meter::new();
-        let Ok(moved) = runner.advance(machine, &mut bench.run, limits, &mut uncounted) else {
-            count_run(meter, runner);
-            return Err(Memory);
-        };
-        match moved {
-            Moved::Stepped => {}
-            moved => {
-                count_run(meter, runner);
-                return Ok(Ending::Ran(outcome_of(moved, runner, &bench.run)));
-            }
+        let before = runner;
+        match step_on(machine, &mut runner, &mut bench.run, limits, meter)? {
+            Some(outcome) => return Ok(Ending::Ran(outcome)),
+            None => {}
         }
-        // Z is never met twice, so this step can't be a repeat: the run ends.
-        let Some(_) = runner.state() else {
-            count_run(meter, runner);
-            let outcome = outcome_of(Moved::Halted, runner, &bench.run);
-            return Ok(Ending::Ran(outcome));
-        };
-        right.pass(runner.position());
-        left.pass(runner.position());
-        // A record is made exactly where the window becomes wider.
-        let Some(side) = widened_side(&runner, cells) else {
-            continue;
-        };
-        match look_on(
-            side,
+        match take_in(
+            machine,
+            &before,
+            &runner,
             &mut right,
             &mut left,
-            &runner,
             &bench.run,
             &mut bench.right,
             &mut bench.left,
             meter,
         )? {
-            Some(verdict) => {
-                count_run(meter, runner);
-                return Ok(Ending::Found(verdict));
-            }
+            Some(verdict) => return Ok(Ending::Found(verdict)),
             None => {}
         }
-    }
-}
-
-/// Looks at the record that the runner has just made on a side. Where there is no memory to keep it, the meter
-/// takes the run over.
-#[inline(always)]
-pub(crate) fn look_on<T: Tape>(
-    side: Side,
-    right: &mut Records,
-    left: &mut Records,
-    runner: &Runner,
-    run: &T,
-    saved_right: &mut T,
-    saved_left: &mut T,
-    meter: &mut Meter,
-) -> Result<Option<Verdict>, Memory>
-    requires right_limit { (T.view saved_right.old).limit ≡ (T.view run.now).limit }
-    requires left_limit { (T.view saved_left.old).limit ≡ (T.view run.now).limit }
-    requires ready { IsReady (on_side side right.old left.old) runner.now
-        (on_side side (T.view saved_right.old) (T.view saved_left.old)) (T.view run.now) }
-    requires room { meter.old.steps + steps_of runner.now < 2 ^ 64 }
-    ensures looks { IfOk result (Looks side runner.now (T.view run.now) right.old left.old
-        (T.view saved_right.old) (T.view saved_left.old) right.new left.new
-        (T.view saved_right.new) (T.view saved_left.new)) }
-    ensures numbers { IfOk result (λ found. IfSome found HasNumbers) }
-    ensures right_limit { (T.view saved_right.new).limit ≡ (T.view saved_right.old).limit }
-    ensures left_limit { (T.view saved_left.new).limit ≡ (T.view saved_left.old).limit }
-    ensures memory { OnErr result (IsTrue T.GROWS) }
-    ensures uncounted { IfOk result (λ found. meter.new ≡ meter.old) }
-    ensures cut { OnErr result (TakesOver runner.now meter.old meter.new) }
-{
-    match side {
-        Side::R => look_at_record(right, runner, run, saved_right, meter),
-        Side::L => look_at_record(left, runner, run, saved_left, meter),
     }
 }

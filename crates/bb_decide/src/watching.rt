@@ -5,14 +5,14 @@ ghost use Rattle.bb_decide.specs.Bench.{BenchHasCells};
 ghost use Rattle.bb_decide.specs.inside.Ending.{WatchesRun};
 
 use crate::bench::Bench;
-use crate::ending::{Ending, count_run, outcome_of};
+use crate::ending::{Ending, count_run, step_on};
 use crate::fingerprint::rewritten;
 use crate::keys::Keys;
-use crate::translation::look_on;
+use crate::record_search::take_in;
 use bb_cert::Side;
-use bb_cert::records::{Records, widened_side};
+use bb_cert::records::Records;
 use bb_machine::{Limits, Machine};
-use bb_sim::{Meter, Moved, Runner};
+use bb_sim::{Meter, Runner};
 use bb_tape::{Memory, Tape};
 
 /// The fingerprint of the run's tape, and that of the configuration that is kept: the partner of the next
@@ -112,27 +112,13 @@ fn run_watched<T: Tape, K: Keys>(
     let mut left = Records::new(Side::L, runner);
     let mut prints = Prints::new(runner);
     loop {
-        let cells = runner.cells();
-        let position = runner.position();
+        let before = runner;
+        let position = before.position();
         let old = bench.run.read_inside(position);
-        let mut uncounted = Meter::new();
-        let Ok(moved) = runner.advance(machine, &mut bench.run, limits, &mut uncounted) else {
-            count_run(meter, runner);
-            return Err(Memory);
-        };
-        match moved {
-            Moved::Stepped => {}
-            moved => {
-                count_run(meter, runner);
-                return Ok(Some(Ending::Ran(outcome_of(moved, runner, &bench.run))));
-            }
+        match step_on(machine, &mut runner, &mut bench.run, limits, meter)? {
+            Some(outcome) => return Ok(Some(Ending::Ran(outcome))),
+            None => {}
         }
-        // Z is never met twice, so this step can't be a repeat: the run ends.
-        let Some(_) = runner.state() else {
-            count_run(meter, runner);
-            let outcome = outcome_of(Moved::Halted, runner, &bench.run);
-            return Ok(Some(Ending::Ran(outcome)));
-        };
         let new = bench.run.read_inside(position);
         prints.print = rewritten(prints.print, keys, position, old, new);
         if prints.are_as_kept(&runner) {
@@ -140,26 +126,18 @@ fn run_watched<T: Tape, K: Keys>(
             return Ok(None);
         }
         prints.keep_in_turn(&runner);
-        right.pass(runner.position());
-        left.pass(runner.position());
-        // A record is made exactly where the window becomes wider.
-        let Some(side) = widened_side(&runner, cells) else {
-            continue;
-        };
-        match look_on(
-            side,
+        match take_in(
+            machine,
+            &before,
+            &runner,
             &mut right,
             &mut left,
-            &runner,
             &bench.run,
             &mut bench.right,
             &mut bench.left,
             meter,
         )? {
-            Some(verdict) => {
-                count_run(meter, runner);
-                return Ok(Some(Ending::Found(verdict)));
-            }
+            Some(verdict) => return Ok(Some(Ending::Found(verdict))),
             None => {}
         }
     }

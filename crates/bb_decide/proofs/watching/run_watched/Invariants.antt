@@ -1,21 +1,18 @@
 use Rattle.std.proofs.Common.{◌-◌}
 use Rattle.bb_sim.specs.Runner.{steps_of}
 use Rattle.bb_decide.proofs.Benches.{IsAsLent}
-use Rattle.bb_decide.proofs.Counted.{counted_to}
 use Rattle.bb_decide.proofs.Translations.{IsSearching}
 use Rattle.bb_decide.proofs.Watched.{IsWatched}
 use Rattle.bb_decide.proofs.watching.run_watched.Given as goal
 
 -- no record up to where the runner stands agrees with its partner, and no step up to there is a cycle
-abbrev pub invariant-loop-moved : goal.invariant-loop-moved
-invariant-loop-moved g l = record {
+abbrev pub invariant-LOOP : goal.invariant-LOOP
+invariant-LOOP g l = record {
   search : IsSearching l.machine l.limits l.runner (g.T.Tape.view l.bench.run) l.right l.left
-      (g.T.Tape.view l.bench.right) (g.T.Tape.view l.bench.left) l.fn.meter
-      (counted_to l.machine l.fn.meter l.runner);
-  watched : IsWatched l.machine l.limits (g.K.Keys.key_of l.keys) l.runner (g.T.Tape.view l.bench.run) l.prints
-      l.fn.meter (counted_to l.machine l.fn.meter l.runner);
+      (g.T.Tape.view l.bench.right) (g.T.Tape.view l.bench.left);
+  watched : IsWatched l.machine l.limits (g.K.Keys.key_of l.keys) l.runner (g.T.Tape.view l.bench.run) l.prints;
   lent : IsAsLent g.T.Tape.view l.limits.cells l.fn.bench l.bench l.fn.meter l.meter;
 }
 
-abbrev pub decreases-loop-moved : goal.decreases-loop-moved
-decreases-loop-moved g l = l.limits.steps - steps_of l.runner
+abbrev pub decreases-LOOP : goal.decreases-LOOP
+decreases-LOOP g l = l.limits.steps - steps_of l.runner

@@ -1,0 +1,66 @@
+use Rattle.std.proofs.Common.{arith, refl}
+use Rattle.bb_decide.proofs.Counted.{cut_at_step, few_steps}
+use Rattle.bb_decide.proofs.Endings.{ends_in_Z, ends_where_stopped, step_ends, step_is_cut}
+use Rattle.bb_decide.proofs.Halting.{in_no_state, not_in_Z}
+use Rattle.bb_decide.proofs.ending.step_on.Goals as goal
+
+pub count_run-requires-in_default-moved : goal.count_run-requires-in_default-moved
+count_run-requires-in_default-moved g c =
+    let few = few_steps c.args.machine.now c.args.limits.now c.advance.new.self
+    (g.T.Tape.view c.advance.new.tape) _ c.in-Ok.ensures.reaches in
+    let most = c.show_accepted.ensures.accepted.steps in
+    let room = c.requires.room in
+    omega (arith, few, most, room)
+
+pub returns-in_default-moved : goal.returns-in_default-moved
+returns-in_default-moved g c =
+    let call = c.in-Ok.ensures in
+    step_ends c.advance.ensures.limit
+    (ends_where_stopped call.stands c.count_run-in_default-moved.ensures _ c.in_default-moved.not-Stepped
+    call.answers call.reaches call.moves c.outcome_of.ensures)
+
+-- no memory for a step
+pub returns-in_default : goal.returns-in_default
+returns-in_default g c =
+    let call = c.in_default.ensures in
+    step_is_cut c.advance.ensures.limit
+    (cut_at_step c.args.runner.now c.advance.new.self c.advance.ensures.before call.wanted call.unmade call.window
+    c.count_run.ensures) call.memory
+
+-- a step into Z ends the run
+pub returns-in_default-state : goal.returns-in_default-state
+returns-in_default-state g c =
+    let call = c.in-Ok.ensures in
+    let reaches = rw c.in-Stepped.is at call.reaches in
+    let moves = rw c.in-Stepped.is at call.moves in
+    let halts = in_no_state _ _ c.state.ensures c.in_default-state.not-Some in
+    step_ends c.advance.ensures.limit
+    (ends_in_Z call.stands c.count_run-in_default-state.ensures halts reaches.0 moves.0
+    c.outcome_of-outcome.ensures)
+
+pub returns : goal.returns
+returns g c =
+    let call = c.in-Ok.ensures in
+    let reaches = rw c.in-Stepped.is at call.reaches in
+    let moves = rw c.in-Stepped.is at call.moves in
+    let few = reaches.0.within_steps in
+    let most = c.show_accepted.ensures.accepted.steps in
+    let room = c.requires.room in
+    record {
+      goes_on = (
+        record {
+          view_before = _;
+          stood = c.requires.stands;
+          stands = call.stands;
+          next = moves.0;
+          running = not_in_Z c.in-Some.ensures;
+        },
+        reaches.0,
+        refl,
+        omega (arith, few, most, room),
+      );
+      cut = tt;
+      within = tt;
+      memory = tt;
+      limit = c.advance.ensures.limit;
+    }
