@@ -44,6 +44,23 @@ no_walk_counted Made table bounds meter levels nodes never = record {
   not_made = λ not_made. (levels, nodes);
 }
 
+-- what is made in other words costs the same
+if_made_as : {One Other : Type 0} {Cost : ℕ → Type 0} {n : ℕ} → (One → Other) → (Other → One)
+    → StepsIfMade One Cost n → StepsIfMade Other Cost n
+if_made_as on back (inl made) = inl (on made.0, made.1)
+if_made_as on back (inr not_made) = inr (λ made. not_made.0 (back made), not_made.1)
+
+-- where the machine doesn't halt, the walk is made where it is reached
+pub walk_where_nowhere : (table : Table) (bounds : Bounds) (plan : Plan) {meter : Meter}
+    → HaltsNowhere table bounds → CountsWalk (ReachesWalk table bounds plan) table bounds meter
+    → CountsWalk (MakesWalk table bounds plan) table bounds meter
+walk_where_nowhere table bounds plan nowhere walk = record {
+  of_tree = λ made levels nodes tree. walk.of_tree (made.1, made.2, made.3) levels nodes tree;
+  within_levels = walk.within_levels;
+  within_nodes = walk.within_nodes;
+  not_made = λ not_made. walk.not_made (λ made. not_made (nowhere, made.0, made.1, made.2));
+}
+
 module _ {table : Table} {bounds : Bounds} (plan : Plan) {begin mid : Meter} (zero : begin ≡ zero_meter)
     (run : CountsRun table bounds begin mid) where
   simulated : Simulated table bounds mid
@@ -97,30 +114,52 @@ module _ {table : Table} {bounds : Bounds} (plan : Plan) {begin mid : Meter} (ze
           run = s.last;
           is_run = s.is_last;
           cycles = counts.cycles;
-          is_cycles = where_nowhere (IsTrue plan.cyclers)
-              (CycleSteps table bounds) counts.cycles counts.is_cycles;
+          is_cycles = if_made_as (λ on. (nowhere, on)) (λ made. made.1) counts.is_cycles;
           translations = counts.translations;
-          is_translations = elim counts.is_translations [
-            | inl made ↦ inl ((nowhere, made.0.0, made.0.1), made.1)
-            | inr not_made ↦ inr (λ made. not_made.0 (made.1, made.2), not_made.1)
-          ];
+          is_translations = if_made_as (λ on. (nowhere, on.0, on.1)) (λ made. (made.1, made.2))
+              counts.is_translations;
           sum = omega (arith, ran, steps, same_steps);
         };
         last = s.last;
         is_last = s.is_last;
         most_cells = omega (arith, seen, above, below, same_cells);
-        walk = record {
-          of_tree = λ made levels nodes tree. deciders.walk.of_tree
-              (made.1, made.2, made.3) levels nodes tree;
-          within_levels = deciders.walk.within_levels;
-          within_nodes = deciders.walk.within_nodes;
-          not_made = λ not_made. deciders.walk.not_made (λ made. not_made (nowhere, made.0, made.1, made.2));
-        };
-      } where
-        where_nowhere : (On : Type 0) (Cost : ℕ → Type 0) (n : ℕ) → StepsIfMade On Cost n
-            → StepsIfMade (HaltsNowhere table bounds × On) Cost n
-        where_nowhere On Cost n (inl made) = inl ((nowhere, made.0), made.1)
-        where_nowhere On Cost n (inr not_made) = inr (λ made. not_made.0 made.1, not_made.1)
+        walk = walk_where_nowhere table bounds plan nowhere deciders.walk;
+      }
+
+-- ---- what one search makes
+
+-- it made the steps that it costs, and they were counted
+pub record Makes (table : Table) (Cost : ℕ → Type 0) (old new : Meter) : Type 0 where
+  pub steps : ℕ
+  pub is_steps : Cost steps
+  pub counts : CountsTo table steps old new
+
+module _ (table : Table) (bounds : Bounds) {old new : Meter} where
+  pub makes_cycles : (found : Option Verdict) → FindsCycle table bounds found
+      → CountsSearch table bounds old new found → Makes table (CycleSteps table bounds) old new
+  makes_cycles None none counts =
+      record { steps = counts.last; is_steps = inr (none, counts.is_last); counts = counts.counts }
+  makes_cycles (Some (Cycler first second)) finds counts =
+      record { steps = second; is_steps = inl (first, finds); counts = counts }
+  makes_cycles (Some verdict) finds counts = absurd finds
+
+  pub makes_translations : (found : Option Verdict) → FindsTranslation table bounds found
+      → CountsSearch table bounds old new found → Makes table (TranslationSteps table bounds) old new
+  makes_translations None none counts =
+      record { steps = counts.last; is_steps = inr (none, counts.is_last); counts = counts.counts }
+  makes_translations (Some (Translated side first second extent)) finds counts =
+      record { steps = second; is_steps = inl (side, first, finds.0); counts = counts }
+  makes_translations (Some verdict) finds counts = absurd finds
+
+-- the last of them is inside
+module _ (table : Table) (bounds : Bounds) where
+  pub cycle_step_inside : (n : ℕ) → CycleSteps table bounds n → Inside table bounds n
+  cycle_step_inside n (inl found) = found.1.cycle.inside
+  cycle_step_inside n (inr none) = none.1.inside
+
+  pub translation_step_inside : (n : ℕ) → TranslationSteps table bounds n → Inside table bounds n
+  translation_step_inside n (inl found) = found.2.translation.inside
+  translation_step_inside n (inr none) = none.1.inside
 
 -- ---- what the searches have counted
 
@@ -183,35 +222,25 @@ module _ (table : Table) (bounds : Bounds) where
         adds_nothing old new same;
   }
 
-  cycles_searched : (Made : Type 0) (found : Option Verdict) (old new : Meter) → Made
+  searched : {Made : Type 0} {Cost : ℕ → Type 0} {old new : Meter} → Made → Makes table Cost old new
+      → ((n : ℕ) → Cost n → Inside table bounds n) → Searched Made Cost old new
+  searched {old = old} {new = new} made makes inside = record {
+    steps = makes.steps;
+    is_steps = inl (made, makes.is_steps);
+    adds = adds_run makes.steps old new (inside makes.steps makes.is_steps) makes.counts;
+  }
+
+  cycles_searched : {Made : Type 0} {old new : Meter} (found : Option Verdict) → Made
       → CountsSearch table bounds old new found
       → FindsCycle table bounds found → Searched Made (CycleSteps table bounds) old new
-  cycles_searched Made None old new made counts none = record {
-    steps = counts.last;
-    is_steps = inl (made, inr (none, counts.is_last));
-    adds = adds_run counts.last old new counts.is_last.inside counts.counts;
-  }
-  cycles_searched Made (Some (Cycler first second)) old new made counts finds = record {
-    steps = second;
-    is_steps = inl (made, inl (first, finds));
-    adds = adds_run second old new finds.cycle.inside counts;
-  }
-  cycles_searched Made (Some verdict) old new made counts finds = absurd finds
+  cycles_searched found made counts finds =
+      searched made (makes_cycles table bounds found finds counts) (cycle_step_inside table bounds)
 
-  translations_searched : (Made : Type 0) (found : Option Verdict) (old new : Meter) → Made
+  translations_searched : {Made : Type 0} {old new : Meter} (found : Option Verdict) → Made
       → CountsSearch table bounds old new found → FindsTranslation table bounds found
       → Searched Made (TranslationSteps table bounds) old new
-  translations_searched Made None old new made counts none = record {
-    steps = counts.last;
-    is_steps = inl (made, inr (none, counts.is_last));
-    adds = adds_run counts.last old new counts.is_last.inside counts.counts;
-  }
-  translations_searched Made (Some (Translated side first second extent)) old new made counts finds = record {
-    steps = second;
-    is_steps = inl (made, inl (side, first, finds.0));
-    adds = adds_run second old new finds.0.translation.inside counts;
-  }
-  translations_searched Made (Some verdict) old new made counts finds = absurd finds
+  translations_searched found made counts finds =
+      searched made (makes_translations table bounds found finds counts) (translation_step_inside table bounds)
 
 -- no cycle was found, or none was searched for
 pub record PassedCycles (table : Table) (bounds : Bounds) (plan : Plan) (old new : Meter) : Type 0 where
@@ -229,7 +258,7 @@ module _ {table : Table} {bounds : Bounds} {plan : Plan} {old new : Meter} where
       → CountsSearch table bounds old new None → PassedCycles table bounds plan old new
   passed_on on none counts = record {
     passes = λ _. none;
-    searched = cycles_searched table bounds (IsTrue plan.cyclers) None old new on counts none;
+    searched = cycles_searched table bounds None on counts none;
   }
 
   pub passed_off : plan.cyclers ≡ false → new ≡ old → PassedCycles table bounds plan old new
@@ -255,9 +284,8 @@ module _ {table : Table} {bounds : Bounds} {plan : Plan} {old new : Meter} where
   pub counts_both : {mid : Meter} → PassedCycles table bounds plan old mid → IsTrue plan.translated
       → (found : Option Verdict) → FindsTranslation table bounds found
       → CountsSearch table bounds mid new found → SearchesCount table bounds plan old new
-  counts_both {mid} passed on found finds counted = counts passed
-      (translations_searched table bounds (PassesCycles table bounds plan × IsTrue plan.translated) found mid
-      new (passed.passes, on) counted finds)
+  counts_both passed on found finds counted =
+      counts passed (translations_searched table bounds found (passed.passes, on) counted finds)
 
   pub counts_one : PassedCycles table bounds plan old new → (IsTrue plan.translated → ⊥)
       → SearchesCount table bounds plan old new
@@ -269,7 +297,7 @@ module _ {table : Table} {bounds : Bounds} {plan : Plan} {old new : Meter} where
   pub counts_cycles : (verdict : Verdict) → IsTrue plan.cyclers → FindsCycle table bounds (Some verdict)
       → CountsSearch table bounds old new (Some verdict) → SearchesCount table bounds plan old new
   counts_cycles verdict on finds counted =
-      let one = cycles_searched table bounds (IsTrue plan.cyclers) (Some verdict) old new on counted finds in
+      let one = cycles_searched table bounds (Some verdict) on counted finds in
       record {
         cycles = one.steps;
         is_cycles = one.is_steps;

@@ -32,7 +32,7 @@ use Rattle.bb_decide.specs.Verdict.{IsVerdict}
 use Rattle.bb_decide.specs.Cost.{CountsWalk, MakesWalk}
 use Rattle.bb_decide.specs.inside.Search.{SearchesFind}
 use Rattle.bb_decide.proofs.Translations.{pair_agrees}
-use Rattle.bb_decide.proofs.Costs.{counts_walk, no_walk_counted, not_reached}
+use Rattle.bb_decide.proofs.Costs.{counts_walk, no_walk_counted, not_reached, walk_where_nowhere}
 
 module _ (table : Table) (bounds : Bounds) where
   -- where records agree, no configuration comes again
@@ -248,13 +248,8 @@ module _ (table : Table) (bounds : Bounds) (plan : Plan) where
       → SearchesFind table bounds plan None → IsTrue plan.backward → FindsTree table bounds found
       → CountsTree bounds old new found → CountsWalk (MakesWalk table bounds plan) table bounds new
   walk_counted found old new nowhere passes on finds counts =
-      let walk = counts_walk table bounds plan passes found old new on finds counts in
-      record {
-        of_tree = λ made levels nodes tree. walk.of_tree (made.1, made.2, made.3) levels nodes tree;
-        within_levels = walk.within_levels;
-        within_nodes = walk.within_nodes;
-        not_made = λ not_made. walk.not_made (λ made. not_made (nowhere, made.0, made.1, made.2));
-      }
+      walk_where_nowhere table bounds plan nowhere
+      (counts_walk table bounds plan passes found old new on finds counts)
 
 -- where the limits end a run, the machine halts nowhere inside
 pub halts_nowhere : (table : Table) (bounds : Bounds) (outcome : Outcome) → IsOutcome table bounds outcome

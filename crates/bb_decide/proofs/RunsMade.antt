@@ -22,7 +22,7 @@ use Rattle.bb_decide.specs.declared.ending.Ending.{Ending}
 use Rattle.bb_decide.specs.declared.ending.Ending.TheVariants.{Found, Ran}
 use Rattle.bb_decide.specs.inside.Ending.{AddsRuns, RanAs, Watches, found_of, is_settled}
 use Rattle.bb_decide.specs.Laws.{RunsAreUnique}
-use Rattle.bb_decide.proofs.Costs.{walk_keeps}
+use Rattle.bb_decide.proofs.Costs.{makes_cycles, makes_translations, walk_keeps}
 use Rattle.bb_decide.proofs.OneRun.{halts_nowhere}
 use Rattle.bb_decide.proofs.Verdicts.{cycle_steps_are_one, steps_if_made_are_one, translation_steps_are_one}
 
@@ -64,31 +64,6 @@ adds_more {table} {count} {latest} n {old} {mid} {new} before counts =
       steps = omega (arith, more, steps);
       most_cells = omega (arith, wider, cells, both);
     }
-
--- ---- what one search makes
-
--- it made the steps that it costs, and they were counted
-pub record Makes (table : Table) (Cost : ℕ → Type 0) (old new : Meter) : Type 0 where
-  pub steps : ℕ
-  pub is_steps : Cost steps
-  pub counts : CountsTo table steps old new
-
-module _ (table : Table) (bounds : Bounds) {old new : Meter} where
-  pub makes_cycles : (found : Option Verdict) → FindsCycle table bounds found
-      → CountsSearch table bounds old new found → Makes table (CycleSteps table bounds) old new
-  makes_cycles None none counts =
-      record { steps = counts.last; is_steps = inr (none, counts.is_last); counts = counts.counts }
-  makes_cycles (Some (Cycler first second)) finds counts =
-      record { steps = second; is_steps = inl (first, finds); counts = counts }
-  makes_cycles (Some verdict) finds counts = absurd finds
-
-  makes_translations : (found : Option Verdict) → FindsTranslation table bounds found
-      → CountsSearch table bounds old new found → Makes table (TranslationSteps table bounds) old new
-  makes_translations None none counts =
-      record { steps = counts.last; is_steps = inr (none, counts.is_last); counts = counts.counts }
-  makes_translations (Some (Translated side first second extent)) finds counts =
-      record { steps = second; is_steps = inl (side, first, finds.0); counts = counts }
-  makes_translations (Some verdict) finds counts = absurd finds
 
 -- ---- what the searches that are on make
 

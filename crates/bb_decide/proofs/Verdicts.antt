@@ -23,6 +23,7 @@ use Rattle.bb_decide.specs.Verdict.{IsVerdict}
 use Rattle.bb_decide.specs.Laws.{VerdictIsUnique, StepsAreBounded, StepsAreUnique}
 use Rattle.bb_decide.specs.Cost.{CycleSteps, MakesCycleSearch, MakesTranslationSearch, StepsIfMade}
 use Rattle.bb_decide.specs.Cost.{TranslationSteps}
+use Rattle.bb_decide.proofs.Costs.{cycle_step_inside, translation_step_inside}
 use Rattle.bb_decide.proofs.KnownOfVerdicts.{asked_before, cyclers_are_on, extent_is_told, is_first_agreement}
 use Rattle.bb_decide.proofs.KnownOfVerdicts.{is_first_cycle, is_halt_within, is_tree, no_halt_within}
 use Rattle.bb_decide.proofs.KnownOfVerdicts.{passes_cycles, passes_translations, passes_trees}
@@ -194,17 +195,9 @@ pub steps_are_bounded : StepsAreBounded
 steps_are_bounded table bounds plan steps is =
     let run = is.is_run.inside.within_steps in
     let cycles = few_if_made (MakesCycleSearch table bounds plan) (CycleSteps table bounds) bounds.steps
-    few_cycle_steps
-    is.cycles is.is_cycles in
+    (λ n made. (cycle_step_inside table bounds n made).within_steps) is.cycles is.is_cycles in
     let translations = few_if_made (MakesTranslationSearch table bounds plan) (TranslationSteps table bounds)
-    bounds.steps few_translation_steps is.translations is.is_translations in
+    bounds.steps (λ n made. (translation_step_inside table bounds n made).within_steps) is.translations
+    is.is_translations in
     let sum = is.sum in
     omega (arith, run, cycles, translations, sum)
-  where
-    few_cycle_steps : (n : ℕ) → CycleSteps table bounds n → n ≤ bounds.steps
-    few_cycle_steps n (inl found) = found.1.cycle.inside.within_steps
-    few_cycle_steps n (inr none) = none.1.inside.within_steps
-
-    few_translation_steps : (n : ℕ) → TranslationSteps table bounds n → n ≤ bounds.steps
-    few_translation_steps n (inl found) = found.2.translation.inside.within_steps
-    few_translation_steps n (inr none) = none.1.inside.within_steps

@@ -11,7 +11,7 @@ ghost use Rattle.bb_cert.specs.verdict.Verdict.{HasNumbers};
 ghost use Rattle.bb_decide.specs.Bench.{BenchHasCells};
 ghost use Rattle.bb_decide.specs.FewCells.{DecidesFewCells};
 ghost use Rattle.bb_decide.specs.inside.Search.{DecidersCount, DecidersFind, IsPromised};
-ghost use Rattle.bb_decide.specs.inside.Search.{IsWithinDeciders, IsWithinSearches};
+ghost use Rattle.bb_decide.specs.inside.Search.{IsWithinDeciders, IsWithinRuns};
 ghost use Rattle.bb_decide.specs.inside.Search.{SearchesCount, SearchesFind};
 ghost use Rattle.bb_decide.specs.Sure.{KeepsEarlier};
 ghost use Rattle.bb_decide.specs.Verdict.{IsVerdict};
@@ -111,7 +111,7 @@ fn search_in_turn<T: Tape>(
     requires room { meter.old.steps ≤ limits.now.steps }
     ensures found { IfOk result (SearchesFind machine.now limits.now plan) }
     ensures counted { OnOk result (SearchesCount machine.now limits.now plan meter.old meter.new) }
-    ensures within { IsWithinSearches limits.now meter.old meter.new }
+    ensures within { IsWithinRuns 2 limits.now meter.old meter.new }
     ensures promised { IsPromised machine.now T.GROWS result }
     ensures tapes { BenchHasCells T.view limits.now.cells bench.new }
     ensures path { bench.new.path ≡ bench.old.path }

@@ -13,7 +13,7 @@ ghost use Rattle.bb_decide.specs.FewCells.{DecidesFewCells};
 ghost use Rattle.bb_decide.specs.Fingerprint.{CostsWhatItNames};
 ghost use Rattle.bb_decide.specs.OneRun.{BreaksOff, CountsRefused, CountsRuns};
 ghost use Rattle.bb_decide.specs.inside.Ending.{AddsRuns, EndingCosts, EndsBoth, EndsPromised, EndsSearches};
-ghost use Rattle.bb_decide.specs.inside.Ending.{IsWithinThreeRuns};
+ghost use Rattle.bb_decide.specs.inside.Search.{IsWithinRuns};
 ghost use Rattle.bb_decide.specs.Sure.{KeepsEarlier};
 ghost use Rattle.bb_decide.specs.Verdict.{IsVerdict};
 ghost use Rattle.bb_decide.specs.Cost.{CountsWalk, IsWithinCost, MakesWalk};
@@ -141,7 +141,7 @@ fn search_by_plan<T: Tape, K: Keys>(
         plan.translated meter.new.steps) }
     ensures costs { IfOk result
         (EndingCosts (K.key_of keys.now) machine.now limits.now meter.new.steps) }
-    ensures within { IsWithinThreeRuns limits.now meter.old meter.new }
+    ensures within { IsWithinRuns 3 limits.now meter.old meter.new }
     ensures promised { EndsPromised machine.now T.GROWS result }
     ensures tapes { BenchHasCells T.view limits.now.cells bench.new }
     ensures path { bench.new.path ≡ bench.old.path }
@@ -178,7 +178,7 @@ fn search_both<T: Tape, K: Keys>(
         (BreaksOff (K.key_of keys.now) machine.now limits.now true true meter.new.steps) }
     ensures costs { IfOk result
         (EndingCosts (K.key_of keys.now) machine.now limits.now meter.new.steps) }
-    ensures within { IsWithinThreeRuns limits.now meter.old meter.new }
+    ensures within { IsWithinRuns 3 limits.now meter.old meter.new }
     ensures promised { EndsPromised machine.now T.GROWS result }
     ensures tapes { BenchHasCells T.view limits.now.cells bench.new }
     ensures path { bench.new.path ≡ bench.old.path }

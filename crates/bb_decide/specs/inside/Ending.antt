@@ -125,13 +125,6 @@ EndsBoth table bounds (Found (Undecided why)) = ⊥
 EndsBoth table bounds (Ran outcome) =
     IsOutcome table bounds outcome × HasNoCycle table bounds × HasNoTranslation table bounds
 
--- no more than three runs within bounds
-pub record IsWithinThreeRuns (bounds : Bounds) (old new : Meter) : Type 0 where
-  pub steps : new.steps ≤ old.steps + 3 * bounds.steps
-  pub most_cells : new.most_cells ≤ max old.most_cells bounds.cells
-  pub nodes : new.nodes ≡ old.nodes
-  pub most_levels : new.most_levels ≡ old.most_levels
-
 -- the runs that are made with these searches on were counted: their steps, and the span at the last step of any
 pub record AddsRuns (key : ℤ → ℕ) (table : Table) (bounds : Bounds) (cyclers translated : Bool)
     (old new : Meter) : Type 0 where

@@ -56,9 +56,9 @@ pub record SearchesCount (table : Table) (bounds : Bounds) (plan : Plan) (old ne
       (TranslationSteps table bounds) translations
   pub adds : Adds table bounds (cycles + translations) old new
 
--- and no more than two runs within bounds
-pub record IsWithinSearches (bounds : Bounds) (old new : Meter) : Type 0 where
-  pub steps : new.steps ≤ old.steps + 2 * bounds.steps
+-- no more than so many runs within bounds
+pub record IsWithinRuns (count : ℕ) (bounds : Bounds) (old new : Meter) : Type 0 where
+  pub steps : new.steps ≤ old.steps + count * bounds.steps
   pub most_cells : new.most_cells ≤ max old.most_cells bounds.cells
   pub nodes : new.nodes ≡ old.nodes
   pub most_levels : new.most_levels ≡ old.most_levels
@@ -89,7 +89,7 @@ pub record DecidersCount (table : Table) (bounds : Bounds) (plan : Plan) (old ne
   pub most_cells : new.most_cells ≡ searched.most_cells
   pub walk : CountsWalk (ReachesWalk table bounds plan) table bounds new
 
--- and no more than two runs and a walk within bounds
+-- no more than two runs and a walk within bounds
 pub record IsWithinDeciders (bounds : Bounds) (old new : Meter) : Type 0 where
   pub steps : new.steps ≤ old.steps + 2 * bounds.steps
   pub most_cells : new.most_cells ≤ max old.most_cells bounds.cells
