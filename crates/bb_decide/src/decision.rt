@@ -55,9 +55,32 @@ pub fn decide<T: Tape>(
     ensures path { depth_of bench.new.path ≡ depth_of bench.old.path }
     ensures memory { OnErr result (IsTrue T.GROWS) }
 {
+    machine.show_machine();
+    let verdict = verdict_in_turn(machine, limits, plan, bench, meter)?;
+    Ok(verdict)
+}
+
+/// The verdict and its cost. What else the clauses of [`decide`] say follows from the definition of a verdict.
+#[inline(always)]
+fn verdict_in_turn<T: Tape>(
+    machine: &Machine,
+    limits: &Limits,
+    plan: Plan,
+    bench: &mut Bench<T>,
+    meter: &mut Meter,
+) -> Result<Verdict, Memory>
+    requires tapes { BenchHasCells T.view limits.now.cells bench.old }
+    requires path { depth_of bench.old.path ≡ limits.now.depth }
+    ensures verdict { IfOk result (IsVerdict machine.now limits.now plan) }
+    ensures numbers { IfOk result HasNumbers }
+    ensures counted { OnOk result (CountsCost machine.now limits.now plan meter.new) }
+    ensures within { IsWithinCost limits.now meter.new }
+    ensures tapes { BenchHasCells T.view limits.now.cells bench.new }
+    ensures path { depth_of bench.new.path ≡ depth_of bench.old.path }
+    ensures memory { OnErr result (IsTrue T.GROWS) }
+{
     *meter = Meter::new();
     limits.show_accepted();
-    machine.show_machine();
     let why = match simulate(machine, &mut bench.run, limits, meter)? {
         Outcome::Halt { steps, score } => return Ok(Verdict::Halt { steps, score }),
         Outcome::NoSteps => Why::Steps,

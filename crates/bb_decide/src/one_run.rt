@@ -72,13 +72,13 @@ pub fn decide_in_one_run<T: Tape, K: Keys>(
     ensures memory { OnErr result (IsTrue T.GROWS) }
 {
     machine.show_machine();
-    let verdict = find_verdict(machine, limits, plan, keys, bench, meter)?;
+    let verdict = verdict_in_one_run(machine, limits, plan, keys, bench, meter)?;
     Ok(verdict)
 }
 
 /// The verdict and its cost. What else its clauses say follows from the definition of a verdict.
 #[inline(always)]
-fn find_verdict<T: Tape, K: Keys>(
+fn verdict_in_one_run<T: Tape, K: Keys>(
     machine: &Machine,
     limits: &Limits,
     plan: Plan,

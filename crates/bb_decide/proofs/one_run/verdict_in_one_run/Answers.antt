@@ -5,8 +5,11 @@ use Rattle.bb_decide.proofs.OneRun.{found_is_verdict, no_walk_at_halt, no_walk_b
 use Rattle.bb_decide.proofs.OneRun.{walk_counted}
 use Rattle.bb_decide.proofs.Costs.{off_where_not, on_where_not}
 use Rattle.bb_decide.proofs.RunsMade.{runs_before_tree, runs_counted, runs_counted_beside}
-use Rattle.bb_decide.proofs.one_run.find_verdict.Goals as goal
-use Rattle.bb_decide.proofs.one_run.find_verdict.Goals.{in-NoSteps, in-NoCells}
+use Rattle.bb_sim.specs.Outcome.{HaltsNowhere}
+use Rattle.bb_decide.specs.inside.Search.{SearchesFind}
+use Rattle.bb_decide.proofs.one_run.verdict_in_one_run.Given as given
+use Rattle.bb_decide.proofs.one_run.verdict_in_one_run.Goals as goal
+use Rattle.bb_decide.proofs.one_run.verdict_in_one_run.Goals.{After-backward, in-NoSteps, in-NoCells}
 
 pub returns-in-Found-clause-verdict : goal.returns-in-Found-clause-verdict
 returns-in-Found-clause-verdict g c =
@@ -27,33 +30,29 @@ returns-in-Halt-clause-walk g c =
     (within.most_levels ∙ ap (λ (m : Meter). m.most_levels) c.new.ensures)
     (within.nodes ∙ ap (λ (m : Meter). m.nodes) c.new.ensures)
 
+-- a limit ended the run, and nothing was found
+open_yet : (g : given.Over) (c : After-backward g) → HaltsNowhere c.args.machine.now c.args.limits.now
+    × SearchesFind c.args.machine.now c.args.limits.now c.args.plan None
+open_yet g c = elim c.match-outcome.branch [
+  | in-NoSteps w ↦
+      let ended = rw (c.in-Ran.is, w.in-NoSteps.is) at c.in_ok-verdict.ensures.ended in (ended.0.0, ended.1)
+  | in-NoCells w ↦
+      let ended = rw (c.in-Ran.is, w.in-NoCells.is) at c.in_ok-verdict.ensures.ended in (ended.0.0, ended.1)
+]
+
 pub returns-in-Some-clause-walk : goal.returns-in-Some-clause-walk
 returns-in-Some-clause-walk g c =
-    let on = on_where_not _ c.if-not-plan.false in
-    let found = rw c.in-Some.is at c.in_ok-verdict-2.ensures.found in
-    let counted = rw c.in-Some.is at c.in_ok-verdict-2.ensures.counted in
-    elim c.match-outcome.branch [
-      | in-NoSteps w ↦
-          let ended = rw (c.in-Ran.is, w.in-NoSteps.is) at c.in_ok-verdict.ensures.ended in
-          walk_counted _ _ _ (Some c.in-Some.verdict) c.search_by_plan.new.meter _ ended.0.0 ended.1 on found counted
-      | in-NoCells w ↦
-          let ended = rw (c.in-Ran.is, w.in-NoCells.is) at c.in_ok-verdict.ensures.ended in
-          walk_counted _ _ _ (Some c.in-Some.verdict) c.search_by_plan.new.meter _ ended.0.0 ended.1 on found counted
-    ]
+    let open_here = open_yet g (goal.at.returns-in-Some-clause-walk g c).After-backward in
+    walk_counted _ _ _ (Some c.in-Some.verdict) c.search_by_plan.new.meter _ open_here.0 open_here.1
+    (on_where_not _ c.if-not-plan.false) (rw c.in-Some.is at c.in_ok-verdict-2.ensures.found)
+    (rw c.in-Some.is at c.in_ok-verdict-2.ensures.counted)
 
 pub returns-in-None-clause-walk : goal.returns-in-None-clause-walk
 returns-in-None-clause-walk g c =
-    let on = on_where_not _ c.if-not-plan.false in
-    let found = rw c.in-None.is at c.in_ok-verdict-2.ensures.found in
-    let counted = rw c.in-None.is at c.in_ok-verdict-2.ensures.counted in
-    elim c.match-outcome.branch [
-      | in-NoSteps w ↦
-          let ended = rw (c.in-Ran.is, w.in-NoSteps.is) at c.in_ok-verdict.ensures.ended in
-          walk_counted _ _ _ None c.search_by_plan.new.meter _ ended.0.0 ended.1 on found counted
-      | in-NoCells w ↦
-          let ended = rw (c.in-Ran.is, w.in-NoCells.is) at c.in_ok-verdict.ensures.ended in
-          walk_counted _ _ _ None c.search_by_plan.new.meter _ ended.0.0 ended.1 on found counted
-    ]
+    let open_here = open_yet g (goal.at.returns-in-None-clause-walk g c).After-backward in
+    walk_counted _ _ _ None c.search_by_plan.new.meter _ open_here.0 open_here.1
+    (on_where_not _ c.if-not-plan.false) (rw c.in-None.is at c.in_ok-verdict-2.ensures.found)
+    (rw c.in-None.is at c.in_ok-verdict-2.ensures.counted)
 
 pub returns-in-Found-clause-counted : goal.returns-in-Found-clause-counted
 returns-in-Found-clause-counted g c =
