@@ -139,14 +139,8 @@ pub fails_at_end : (line : List ℕ) (lines : List (List ℕ)) (bytes : List ℕ
     → HasNoReply (line ∷ lines) bytes
 fails_at_end line lines bytes none reply rest form is = none_within reply rest bytes none is
 
--- then the bytes are no replies to the lines
-pub no_replies : (lines : List (List ℕ)) (bytes : List ℕ) → HasNoReply lines bytes
-    → AreReplies HasForm lines bytes → ⊥
-no_replies [] bytes fails are = fails are
-no_replies (line ∷ lines) bytes fails are = fails are.0 are.1 are.2 are.4
-
 -- after a reply to a line there are those to the others
-pub others_are : (line : List ℕ) (lines : List (List ℕ)) (reply rest bytes : List ℕ) → HasNoNewline line
+others_are : (line : List ℕ) (lines : List (List ℕ)) (reply rest bytes : List ℕ) → HasNoNewline line
     → HasNoNewline reply → (reply ++ 10 ∷ []) ++ rest ≡ bytes → AreReplies HasForm (line ∷ lines) bytes
     → AreReplies HasForm lines rest
 others_are line lines reply rest bytes none none_too is are =
@@ -155,7 +149,7 @@ others_are line lines reply rest bytes none none_too is are =
 
 -- ---- kinds
 
-pub are_replies : (lines : List (List ℕ)) (kinds : List ReplyKind) (bytes : List ℕ)
+are_replies : (lines : List (List ℕ)) (kinds : List ReplyKind) (bytes : List ℕ)
     → AreOfKinds lines kinds bytes → AreReplies HasForm lines bytes
 are_replies [] [] bytes are = are
 are_replies [] (k ∷ kinds) bytes are = absurd are
@@ -172,7 +166,7 @@ as_many (line ∷ lines) (k ∷ kinds) bytes are =
     let others = as_many lines kinds are.1 are.3 in omega arith
 
 -- one reply more
-pub one_more : (lines : List (List ℕ)) (kinds : List ReplyKind) (bytes line reply : List ℕ) (k : ReplyKind)
+one_more : (lines : List (List ℕ)) (kinds : List ReplyKind) (bytes line reply : List ℕ) (k : ReplyKind)
     → AreOfKinds lines kinds bytes → IsOfKind k line reply
     → AreOfKinds (lines ++ line ∷ []) (kinds ++ k ∷ []) (bytes ++ (reply ++ 10 ∷ []))
 one_more [] [] bytes line reply k are is =
@@ -242,7 +236,7 @@ count_first of_kind k kinds =
     sum_by-append (λ other. cond (number_of other == number_of of_kind) 1 0) (k ∷ []) kinds
 
 -- all kinds together
-pub sum_is_length : (kinds : List ReplyKind) → sum_of (counts_of kinds) ≡ length kinds
+sum_is_length : (kinds : List ReplyKind) → sum_of (counts_of kinds) ≡ length kinds
 sum_is_length [] = refl
 sum_is_length (k ∷ kinds) =
     let all = counts_of (k ∷ kinds) in
@@ -263,41 +257,91 @@ sum_is_length (k ∷ kinds) =
 
 -- ---- ends
 
-module _ (all first : List (List ℕ)) (bytes answered : List ℕ) (kinds : List ReplyKind) (count : ℕ)
-    (are : AreOfKinds first kinds answered) (is_count : count ≡ length first) where
-  -- where nothing is left, all lines are answered
-  pub all_counted : (counts : KindCounts) → counts ≡ counts_of kinds → first ++ [] ≡ all
-      → answered ++ [] ≡ bytes → CountsReplies all bytes counts count
-  all_counted counts are_counts lines_end bytes_end =
-      let many = as_many first kinds answered are in
-      let sum = sum_is_length kinds in
-      let firsts : first ≡ all = sym (append-nil first) ∙ lines_end in
-      let answers : answered ≡ bytes = sym (append-nil answered) ∙ bytes_end in
-      record {
-        kinds = kinds;
-        are_replies = rw (← firsts, ← answers) are;
-        are_counts = are_counts;
-        is_sum = rw are_counts (is_count ∙ sym many ∙ sym sum);
-        is_count = is_count ∙ ap length firsts;
-      }
+-- the first lines are answered by the beginning of the replies; what is left is still to be looked at
+pub record IsLooked (all left : List (List ℕ)) (bytes bytes_left : List ℕ) (count : ℕ) : Type 0 where
+  pub first : List (List ℕ)
+  pub kinds : List ReplyKind
+  pub answered : List ℕ
+  pub are_lines : first ++ left ≡ all
+  pub are_bytes : answered ++ bytes_left ≡ bytes
+  pub are_of_kinds : AreOfKinds first kinds answered
+  pub is_count : count ≡ length first
+  pub only : AreReplies HasForm all bytes → AreReplies HasForm left bytes_left
 
-  pub all_replied : first ++ [] ≡ all → answered ++ [] ≡ bytes → AreReplies HasForm all bytes
-  all_replied lines_end bytes_end =
-      let firsts : first ≡ all = sym (append-nil first) ∙ lines_end in
-      let answers : answered ≡ bytes = sym (append-nil answered) ∙ bytes_end in
-      rw (← firsts, ← answers) (are_replies first kinds answered are)
+pub looked_at_none : (all : List (List ℕ)) (bytes : List ℕ) → IsLooked all all bytes bytes 0
+looked_at_none all bytes = record {
+  first = [];
+  kinds = [];
+  answered = [];
+  are_lines = refl;
+  are_bytes = refl;
+  are_of_kinds = refl;
+  is_count = refl;
+  only = λ are. are;
+}
 
-  -- where there is no reply to the next line, it is the first without
-  pub stops_here : (others : List (List ℕ)) (left : List ℕ) → first ++ others ≡ all → answered ++ left ≡ bytes
-      → HasNoReply others left → IsFirstWithout all bytes count
-  stops_here others left are_lines are_bytes fails = record {
-    first = first;
-    others = others;
-    are_lines = are_lines;
-    is_count = is_count;
-    answered = answered;
-    left = left;
-    are_bytes = are_bytes;
-    are_replies = are_replies first kinds answered are;
-    fails = fails;
+module _ {all left : List (List ℕ)} {bytes bytes_left : List ℕ} {count : ℕ}
+    (here : IsLooked all left bytes bytes_left count) where
+  -- one line more
+  pub looked_on : (line : List ℕ) (others : List (List ℕ)) (reply rest : List ℕ) (k : ReplyKind)
+      → left ≡ line ∷ others → HasNoNewline line → HasNoNewline reply → (reply ++ 10 ∷ []) ++ rest ≡ bytes_left
+      → IsOfKind k line reply → IsLooked all others bytes rest (count + 1)
+  looked_on line others reply rest k cut none none_too cut_too is = record {
+    first = here.first ++ line ∷ [];
+    kinds = here.kinds ++ k ∷ [];
+    answered = here.answered ++ (reply ++ 10 ∷ []);
+    are_lines = append_assoc here.first (line ∷ []) others ∙ ap (λ more. here.first ++ more) (sym cut)
+        ∙ here.are_lines;
+    are_bytes = append_assoc here.answered (reply ++ 10 ∷ []) rest
+        ∙ ap (λ more. here.answered ++ more) cut_too ∙ here.are_bytes;
+    are_of_kinds = one_more here.first here.kinds here.answered line reply k here.are_of_kinds is;
+    is_count = omega (arith, here.is_count, length-append here.first (line ∷ []));
+    only = λ are. others_are line others reply rest bytes_left none none_too cut_too
+        (subst (λ more. AreReplies HasForm more bytes_left) cut (here.only are));
   }
+
+  -- where nothing is left, all lines are answered
+  module _ (no_line : left ≡ []) (no_byte : bytes_left ≡ []) where
+    firsts : here.first ≡ all
+    firsts = sym (append-nil here.first) ∙ (rw no_line at here.are_lines)
+
+    answers : here.answered ≡ bytes
+    answers = sym (append-nil here.answered) ∙ (rw no_byte at here.are_bytes)
+
+    pub all_counted : (counts : KindCounts) → counts ≡ counts_of here.kinds → CountsReplies all bytes counts count
+    all_counted counts are_counts =
+        let many = as_many here.first here.kinds here.answered here.are_of_kinds in
+        let sum = sum_is_length here.kinds in
+        record {
+          kinds = here.kinds;
+          are_replies = rw (← firsts, ← answers) here.are_of_kinds;
+          are_counts = are_counts;
+          is_sum = rw are_counts (here.is_count ∙ sym many ∙ sym sum);
+          is_count = here.is_count ∙ ap length firsts;
+        }
+
+    pub all_replied : AreReplies HasForm all bytes
+    all_replied =
+        rw (← firsts, ← answers) (are_replies here.first here.kinds here.answered here.are_of_kinds)
+
+  -- where there is no reply to the next line, it is the first without, and the bytes are no replies
+  module _ (fails : HasNoReply left bytes_left) where
+    pub stops_here : IsFirstWithout all bytes count
+    stops_here = record {
+      first = here.first;
+      others = left;
+      are_lines = here.are_lines;
+      is_count = here.is_count;
+      answered = here.answered;
+      left = bytes_left;
+      are_bytes = here.are_bytes;
+      are_replies = are_replies here.first here.kinds here.answered here.are_of_kinds;
+      fails = fails;
+    }
+
+    pub no_replies : AreReplies HasForm all bytes → ⊥
+    no_replies are = none_left left bytes_left fails (here.only are) where
+      none_left : (lines : List (List ℕ)) (rest : List ℕ) → HasNoReply lines rest → AreReplies HasForm lines rest
+          → ⊥
+      none_left [] rest none are = none are
+      none_left (line ∷ lines) rest none are = none are.0 are.1 are.2 are.4

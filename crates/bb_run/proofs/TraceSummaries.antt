@@ -22,29 +22,9 @@ use Rattle.bb_run.specs.Sample.{AppendsFirstLines, IsSampledRun, IsSampledTrace,
 use Rattle.bb_run.specs.Sample.{sampled_lines}
 use Rattle.bb_run.specs.Trace.{step_lines, step_text, lines_text, AppendsSomeLines, IsRunTrace, IsTrace}
 use Rattle.bb_run.specs.Trace.{IsTraceSummary, IsUncut}
-use Rattle.bb_run.specs.inside.RunningOn.{EndsEarly, StopsBefore}
+use Rattle.bb_run.specs.inside.RunningOn.{AddedEnds, EndsEarly, RunEnds, WaitsWith, WrittenEnds}
 use Rattle.bb_run.proofs.SampledRuns.{size_grows, size_is_unique}
 use Rattle.bb_lines.proofs.Facts.{AppendsPrefix-more}
-
--- how a trace that was added ends
-abbrev pub IsAdded : Bounds → ℕ → ℕ → List ℕ → Option (List ℕ) → Option (List ℕ) → List ℕ
-    → Result Bool Fault → Type 0
-IsAdded bounds from every line old new waiting r =
-    (lines : List (List ℕ)) × IsSampledTrace bounds from every line lines × MatchEnd r
-    (λ whole. Sends old new [] waiting (lines_text lines) × (IsTrue whole ↔ IsUncut bounds line))
-    (EndsEarly bounds from every line old new lines)
-    ⊥
-    (AppendsPrefix old new (lines_text lines))
-
--- how one of a machine that was added ends
-abbrev RunEnds : Bounds → ℕ → ℕ → Table → ℕ → ℕ → Option (List ℕ) → Option (List ℕ) → List ℕ
-    → Result Bool Fault → Type 0
-RunEnds bounds from every table last count old new waiting r = MatchEnd r
-    (λ whole. Sends old new [] waiting (lines_text (sampled_lines table from every count))
-    × (IsTrue whole ↔ (span table bounds.steps ≤ bounds.cells)))
-    (StopsBefore table from every last old new)
-    ⊥
-    (AppendsPrefix old new (lines_text (sampled_lines table from every count)))
 
 module _ {bounds : Bounds} {line : List ℕ} where
   -- what is said by the machine's table is said by the line
@@ -61,7 +41,7 @@ module _ {bounds : Bounds} {from every : ℕ} {line : List ℕ} where
       → IsLastInside table bounds last → IsSampleSize from every last count
       → (old new : Option (List ℕ)) (waiting : List ℕ) → (r : Result Bool Fault)
       → RunEnds bounds from every table last count old new waiting r
-      → IsAdded bounds from every line old new waiting r
+      → AddedEnds bounds from every line old new waiting r
   added_run one {table} of {last} {count} is_last size old new waiting r ends =
       (sampled_lines table from every count, inl run, by_line r ends)
     where
@@ -77,10 +57,7 @@ module _ {bounds : Bounds} {from every : ℕ} {line : List ℕ} where
       }
 
       by_line : (r : Result Bool Fault) → RunEnds bounds from every table last count old new waiting r
-          → MatchEnd r (λ whole. Sends old new [] waiting (lines_text (sampled_lines table from every count))
-          × (IsTrue whole ↔ IsUncut bounds line))
-          (EndsEarly bounds from every line old new (sampled_lines table from every count)) ⊥
-          (AppendsPrefix old new (lines_text (sampled_lines table from every count)))
+          → WaitsWith bounds from every line old new waiting (sampled_lines table from every count) r
       by_line (Ok whole) ends = (ends.0, uncut one of whole ends.1)
       by_line (Err Memory) ends = record { run = run; stops = ends }
       by_line r ends = ends
@@ -97,7 +74,7 @@ module _ {bounds : Bounds} {from every : ℕ} {line : List ℕ} where
 
     pub added_refusal : {old new : Option (List ℕ)} {waiting : List ℕ}
         → Sends old new [] waiting (refusal_text column ++ 10 ∷ [])
-        → IsAdded bounds from every line old new waiting (Ok false)
+        → AddedEnds bounds from every line old new waiting (Ok false)
     added_refusal {old} {new} {waiting} added = (
       refusal_text column ∷ [],
       refused,
@@ -109,22 +86,12 @@ module _ {bounds : Bounds} {from every : ℕ} {line : List ℕ} where
     )
 
     pub failed_refusal : {old new : Option (List ℕ)} (waiting : List ℕ) → AppendsPrefix old new []
-        → IsAdded bounds from every line old new waiting (Err Write)
+        → AddedEnds bounds from every line old new waiting (Err Write)
     failed_refusal waiting front = (
       refusal_text column ∷ [],
       refused,
       AppendsPrefix-more (lines_text (refusal_text column ∷ [])) front,
     )
-
--- how a written trace ends
-abbrev pub WrittenEnds : Bounds → ℕ → ℕ → List ℕ → Option (List ℕ) → Option (List ℕ) → Result Summary Fault
-    → Type 0
-WrittenEnds bounds from every line old new r =
-    (lines : List (List ℕ)) × IsSampledTrace bounds from every line lines × MatchEnd r
-    (λ summary. Appends old new (lines_text lines) × IsTraceSummary bounds line summary)
-    (EndsEarly bounds from every line old new lines)
-    ⊥
-    (AppendsPrefix old new (lines_text lines))
 
 -- where it stops early, the first of the lines are written
 module _ {bounds : Bounds} {from every : ℕ} {line : List ℕ} {old new : Option (List ℕ)}

@@ -16,7 +16,7 @@ ghost use Rattle.bb_lines.specs.Watched.{is_marked, watched_inner};
 ghost use Rattle.bb_run.specs.Ends.{TraceEnds};
 ghost use Rattle.bb_run.specs.Sample.{IsSampledTrace, IsSampleSize, SampledEnds, sampled_lines};
 ghost use Rattle.bb_run.specs.Trace.{IsTraceSummary, IsUncut, cells_text, head_text, lines_text, step_text};
-ghost use Rattle.bb_run.specs.inside.RunningOn.{EndsEarly, RunsOn, StopsBefore};
+ghost use Rattle.bb_run.specs.inside.RunningOn.{AddedEnds, RunEnds, RunsOn, WrittenEnds};
 
 use crate::summary::Summary;
 use arrayvec::ArrayVec;
@@ -102,13 +102,8 @@ fn write_trace<W: Write, T: Tape>(
     requires every { 0 < every }
     requires tape { (T.view tape.old).limit ≡ limits.now.cells }
     requires writer { is_marked writer.old ≡ false }
-    ensures ends { let held = W.contents (watched_inner writer.old) in
-        let held_then = W.contents (watched_inner writer.new) in
-        (lines : List (List ℕ)) × IsSampledTrace limits.now from every line.now lines × MatchEnd result
-        (λ summary. Appends held held_then (lines_text lines) × IsTraceSummary limits.now line.now summary)
-        (EndsEarly limits.now from every line.now held held_then lines)
-        ⊥
-        (AppendsPrefix held held_then (lines_text lines)) }
+    ensures ends { WrittenEnds limits.now from every line.now
+        (W.contents (watched_inner writer.old)) (W.contents (watched_inner writer.new)) result }
     ensures memory { result ≡ Err Fault.Memory → IsTrue T.GROWS }
     ensures read { result ≢ Err Fault.Read }
     ensures write { (result ≡ Err Fault.Write) ↔ (is_marked writer.new ≡ true) }
@@ -137,14 +132,8 @@ fn add_trace<W: Write, T: Tape>(
     requires tape { (T.view tape.old).limit ≡ limits.now.cells }
     requires writer { is_marked writer.old ≡ false }
     requires waiting { waiting.old.items ≡ [] }
-    ensures ends { let held = W.contents (watched_inner writer.old) in
-        let held_then = W.contents (watched_inner writer.new) in
-        (lines : List (List ℕ)) × IsSampledTrace limits.now from every line.now lines × MatchEnd result
-        (λ whole. Sends held held_then [] waiting.new.items (lines_text lines)
-        × (IsTrue whole ↔ IsUncut limits.now line.now))
-        (EndsEarly limits.now from every line.now held held_then lines)
-        ⊥
-        (AppendsPrefix held held_then (lines_text lines)) }
+    ensures ends { AddedEnds limits.now from every line.now (W.contents (watched_inner writer.old))
+        (W.contents (watched_inner writer.new)) waiting.new.items result }
     ensures memory { result ≡ Err Fault.Memory → IsTrue T.GROWS }
     ensures read { result ≢ Err Fault.Read }
     ensures write { (result ≡ Err Fault.Write) ↔ (is_marked writer.new ≡ true) }
@@ -196,16 +185,10 @@ fn add_run<W: Write, T: Tape>(
     requires tape { (T.view tape.old).limit ≡ limits.now.cells }
     requires writer { is_marked writer.old ≡ false }
     requires waiting { waiting.old.items ≡ [] }
-    ensures ends { let held = W.contents (watched_inner writer.old) in
-        let held_then = W.contents (watched_inner writer.new) in
-        (last count : ℕ) → IsLastInside machine.now limits.now last → IsSampleSize from every last count
-        → MatchEnd result
-        (λ whole. Sends held held_then [] waiting.new.items
-        (lines_text (sampled_lines machine.now from every count))
-        × (IsTrue whole ↔ (span machine.now limits.now.steps ≤ limits.now.cells)))
-        (StopsBefore machine.now from every last held held_then)
-        ⊥
-        (AppendsPrefix held held_then (lines_text (sampled_lines machine.now from every count))) }
+    ensures ends { (last count : ℕ) → IsLastInside machine.now limits.now last
+        → IsSampleSize from every last count → RunEnds limits.now from every machine.now last count
+        (W.contents (watched_inner writer.old)) (W.contents (watched_inner writer.new)) waiting.new.items
+        result }
     ensures memory { result ≡ Err Fault.Memory → IsTrue T.GROWS }
     ensures read { result ≢ Err Fault.Read }
     ensures write { (result ≡ Err Fault.Write) ↔ (is_marked writer.new ≡ true) }

@@ -1,6 +1,6 @@
 -- How far a call goes on with a run, and what a sampled trace has sent where it stops early. This project's
 -- own.
-use Rattle.std.specs.Prelude.{◌≡◌, ℕ, ◌+◌, ◌<◌, ◌≤◌, Bool, IfOk, IsTrue, List, OnErr, OnOk, Option, Result}
+use Rattle.std.specs.Prelude.{◌≡◌, ℕ, ◌+◌, ◌<◌, ◌≤◌, ◌↔◌, Bool, IfOk, IsTrue, List, [], OnErr, OnOk, Option, Result}
 use Rattle.std.specs.Io.KnownBytes.{Appends}
 use Rattle.bb_machine.specs.Limits.{Bounds}
 use Rattle.bb_machine.specs.Machine.{Table}
@@ -9,10 +9,14 @@ use Rattle.bb_tape.specs.declared.tape.Memory.{Memory}
 use Rattle.bb_sim.specs.declared.runner.Runner.{Runner}
 use Rattle.bb_sim.specs.Runner.{Stands, steps_of}
 use Rattle.bb_sim.specs.Span.{span, Inside, IsLastInside}
+use Rattle.bb_lines.specs.declared.fault.Fault.{Fault}
+use Rattle.bb_lines.specs.Ends.{AppendsPrefix, MatchEnd}
+use Rattle.bb_lines.specs.Output.{Sends}
+use Rattle.bb_run.specs.declared.summary.Summary.{Summary}
 use Rattle.bb_run.specs.declared.tracing.RanOn.{RanOn}
 use Rattle.bb_run.specs.declared.tracing.RanOn.TheVariants.{Whole, Ended, Cut}
-use Rattle.bb_run.specs.Sample.{IsSampledRun, IsSampleSize, sampled_lines}
-use Rattle.bb_run.specs.Trace.{lines_text}
+use Rattle.bb_run.specs.Sample.{IsSampledRun, IsSampledTrace, IsSampleSize, sampled_lines}
+use Rattle.bb_run.specs.Trace.{IsTraceSummary, IsUncut, lines_text}
 
 -- from step `old` on it went to the last step inside, which is less than so many steps away
 pub record EndsWithin (table : Table) (bounds : Bounds) (old count new : ℕ) : Type 0 where
@@ -64,3 +68,38 @@ pub record EndsEarly (bounds : Bounds) (from every : ℕ) (line : List ℕ) (old
     (lines : List (List ℕ)) : Type 0 where
   pub run : IsSampledRun bounds from every line lines
   pub stops : StopsBefore run.table from every run.last old new
+
+-- how a trace ends that is written: with its lines, or early
+abbrev pub WrittenEnds : Bounds → ℕ → ℕ → List ℕ → Option (List ℕ) → Option (List ℕ) → Result Summary Fault
+    → Type 0
+WrittenEnds bounds from every line old new end =
+    (lines : List (List ℕ)) × IsSampledTrace bounds from every line lines × MatchEnd end
+    (λ summary. Appends old new (lines_text lines) × IsTraceSummary bounds line summary)
+    (EndsEarly bounds from every line old new lines)
+    ⊥
+    (AppendsPrefix old new (lines_text lines))
+
+-- how one with these lines ends, the last of which wait to be written
+abbrev pub WaitsWith : Bounds → ℕ → ℕ → List ℕ → Option (List ℕ) → Option (List ℕ) → List ℕ → List (List ℕ)
+    → Result Bool Fault → Type 0
+WaitsWith bounds from every line old new waiting lines end = MatchEnd end
+    (λ whole. Sends old new [] waiting (lines_text lines) × (IsTrue whole ↔ IsUncut bounds line))
+    (EndsEarly bounds from every line old new lines)
+    ⊥
+    (AppendsPrefix old new (lines_text lines))
+
+-- how that of a line ends
+abbrev pub AddedEnds : Bounds → ℕ → ℕ → List ℕ → Option (List ℕ) → Option (List ℕ) → List ℕ
+    → Result Bool Fault → Type 0
+AddedEnds bounds from every line old new waiting end = (lines : List (List ℕ))
+    × IsSampledTrace bounds from every line lines × WaitsWith bounds from every line old new waiting lines end
+
+-- how that of a machine ends, whose run has its last step here
+abbrev pub RunEnds : Bounds → ℕ → ℕ → Table → ℕ → ℕ → Option (List ℕ) → Option (List ℕ) → List ℕ
+    → Result Bool Fault → Type 0
+RunEnds bounds from every table last count old new waiting end = MatchEnd end
+    (λ whole. Sends old new [] waiting (lines_text (sampled_lines table from every count))
+    × (IsTrue whole ↔ (span table bounds.steps ≤ bounds.cells)))
+    (StopsBefore table from every last old new)
+    ⊥
+    (AppendsPrefix old new (lines_text (sampled_lines table from every count)))
