@@ -55,12 +55,28 @@ pub fn decide<T: Tape>(
     ensures path { depth_of bench.new.path ≡ depth_of bench.old.path }
     ensures memory { OnErr result (IsTrue T.GROWS) }
 {
-    machine.show_machine();
     let verdict = verdict_in_turn(machine, limits, plan, bench, meter)?;
+    show_verdict(machine, limits, plan, &verdict);
     Ok(verdict)
 }
 
-/// The verdict and its cost. What else the clauses of [`decide`] say follows from the definition of a verdict.
+/// Says what follows from the definition of a verdict, where a proof uses it. It does nothing.
+#[inline(always)]
+pub(crate) fn show_verdict(machine: &Machine, limits: &Limits, plan: Plan, verdict: &Verdict)
+    requires verdict { IsVerdict machine.now limits.now plan verdict.now }
+    requires numbers { HasNumbers verdict.now }
+    ensures earlier { KeepsEarlier machine.now limits.now plan verdict.now }
+    ensures few_cells { DecidesFewCells machine.now limits.now plan verdict.now }
+    ensures claim { Claim machine.now verdict.now }
+    ensures never { SaysNever verdict.now → Never machine.now }
+    ensures confirmed { (IsUndecided verdict.now → ⊥)
+        → IsAnswer machine.now limits.now verdict.now Answer.Ok }
+    ensures line { IsLineOf (Line.Claim machine.now verdict.now) (line_text machine.now verdict.now) }
+{
+    machine.show_machine();
+}
+
+/// The verdict and its cost.
 #[inline(always)]
 fn verdict_in_turn<T: Tape>(
     machine: &Machine,

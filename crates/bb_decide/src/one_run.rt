@@ -20,6 +20,7 @@ ghost use Rattle.bb_decide.specs.Cost.{CountsWalk, IsWithinCost, MakesWalk};
 
 use crate::bench::Bench;
 use crate::cycle::seek_cycle;
+use crate::decision::show_verdict;
 use crate::ending::Ending;
 use crate::keys::Keys;
 use crate::reasoning::backward;
@@ -71,12 +72,12 @@ pub fn decide_in_one_run<T: Tape, K: Keys>(
     ensures path { depth_of bench.new.path ≡ depth_of bench.old.path }
     ensures memory { OnErr result (IsTrue T.GROWS) }
 {
-    machine.show_machine();
     let verdict = verdict_in_one_run(machine, limits, plan, keys, bench, meter)?;
+    show_verdict(machine, limits, plan, &verdict);
     Ok(verdict)
 }
 
-/// The verdict and its cost. What else its clauses say follows from the definition of a verdict.
+/// The verdict and its cost.
 #[inline(always)]
 fn verdict_in_one_run<T: Tape, K: Keys>(
     machine: &Machine,

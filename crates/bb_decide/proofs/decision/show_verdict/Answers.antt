@@ -3,29 +3,29 @@ use Rattle.bb_cert.proofs.Facts.{claims_never_halt}
 use Rattle.bb_decide.proofs.Claims.{verdicts_are_confirmed, verdicts_hold}
 use Rattle.bb_decide.proofs.FewCells.{few_cells_are_decided}
 use Rattle.bb_decide.proofs.Sure.{larger_limits_keep}
-use Rattle.bb_decide.proofs.one_run.decide_in_one_run.Goals as goal
+use Rattle.bb_decide.proofs.decision.show_verdict.Goals as goal
 
 pub returns-clause-earlier : goal.returns-clause-earlier
-returns-clause-earlier g c = λ lower earlier within is.
+returns-clause-earlier c = λ lower earlier within is.
     larger_limits_keep c.args.machine.now lower c.args.limits.now c.args.plan earlier _
-    c.show_machine.ensures.machine within is c.in_ok-verdict.ensures.verdict
+    c.show_machine.ensures.machine within is c.requires.verdict
 
 pub returns-clause-few_cells : goal.returns-clause-few_cells
-returns-clause-few_cells g c =
+returns-clause-few_cells c =
     few_cells_are_decided c.args.machine.now c.args.limits.now c.args.plan _ c.show_machine.ensures.machine
-    c.in_ok-verdict.ensures.verdict
+    c.requires.verdict
 
 pub returns-clause-claim : goal.returns-clause-claim
-returns-clause-claim g c =
-    verdicts_hold c.args.machine.now c.args.limits.now c.args.plan _ c.in_ok-verdict.ensures.verdict
+returns-clause-claim c =
+    verdicts_hold c.args.machine.now c.args.limits.now c.args.plan _ c.requires.verdict
 
 pub returns-clause-never : goal.returns-clause-never
-returns-clause-never g c = λ says.
-    claims_never_halt _ _ c.show_machine.ensures.machine says (returns-clause-claim g c)
+returns-clause-never c = λ says.
+    claims_never_halt _ _ c.show_machine.ensures.machine says (returns-clause-claim c)
 
 pub returns-clause-confirmed : goal.returns-clause-confirmed
-returns-clause-confirmed g c =
-    verdicts_are_confirmed c.args.machine.now c.args.limits.now c.args.plan _ c.in_ok-verdict.ensures.verdict
+returns-clause-confirmed c =
+    verdicts_are_confirmed c.args.machine.now c.args.limits.now c.args.plan _ c.requires.verdict
 
 pub returns-clause-line : goal.returns-clause-line
-returns-clause-line g c = (c.show_machine.ensures.machine, c.in_ok-verdict.ensures.numbers, refl)
+returns-clause-line c = (c.show_machine.ensures.machine, c.requires.numbers, refl)
