@@ -14,24 +14,9 @@ use Rattle.bb_decide.specs.Keys.{spread}
 use Rattle.bb_decide.specs.OneRun.{CountsRuns}
 use Rattle.bb_decide.specs.Sure.{IsFoundByRun, NoneIsSmaller}
 use Rattle.bb_decide.specs.Verdict.{IsVerdict}
-use Rattle.bb_decide.proofs.Facts.{verdict_is_unique}
+use Rattle.bb_decide.proofs.Facts.{inside_upper, verdict_is_unique}
 use Rattle.bb_c.specs.Cost.{CostsInTwoTries, CountsTries, FindsNothing, few_bounds, first_steps}
 use Rattle.bb_c.specs.Cost.{AreRunSteps, without_trees}
-
--- a step within small limits is one within larger ones
-larger : {table : Table} {lower upper : Bounds} {n : ℕ} → NoneIsSmaller lower upper → Inside table lower n
-    → Inside table upper n
-larger bounds inside =
-    let steps = bounds.steps in
-    let cells = bounds.cells in
-    let few = inside.within_steps in
-    let narrow = inside.within_cells in
-    record {
-      here = inside.here;
-      exists = inside.exists;
-      within_steps = omega (arith, steps, few);
-      within_cells = omega (arith, cells, narrow);
-    }
 
 -- what agrees up to a step within limits agrees up to a later one within larger limits
 later : {key : ℤ → ℕ} {table : Table} {lower upper : Bounds} {n : ℕ} (m : ℕ) → n ≤ m
@@ -40,7 +25,7 @@ later m more bounds chance = record {
   first = chance.first;
   second = chance.second;
   alike = chance.alike;
-  inside = larger bounds chance.inside;
+  inside = inside_upper _ _ _ bounds _ chance.inside;
   no_later = let early = chance.no_later in omega (arith, early, more);
   differ = chance.differ;
 }

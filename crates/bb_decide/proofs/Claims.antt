@@ -2,41 +2,27 @@
 use Rattle.std.proofs.Common.{ℕ, ◌<◌, ◌≤◌, ◌⊎◌, inl, inr, refl, arith}
 use Rattle.bb_machine.specs.Limits.{Bounds}
 use Rattle.bb_machine.specs.Machine.{Table}
-use Rattle.bb_cert.specs.declared.verdict.Side.{Side}
 use Rattle.bb_cert.specs.declared.verdict.Verdict.{Verdict}
 use Rattle.bb_cert.specs.declared.verdict.Verdict.TheVariants.{Halt, Cycler, Translated, Backward, Undecided}
 use Rattle.bb_cert.specs.checker.Answer.{Applies, IsOutOfOrder, IsUndecided, NamesTooMuch, NeedsTooMuch}
 use Rattle.bb_cert.specs.checker.Answer.{Rule, rank}
 use Rattle.bb_cert.specs.checker.Answer.{undecided, too_much_named, out_of_order, too_much_needed}
 use Rattle.bb_cert.specs.checker.Answer.{claim_holds}
-use Rattle.bb_cert.proofs.Facts.{records_in_order, told_is_said}
+use Rattle.bb_cert.proofs.Facts.{told_is_said}
 use Rattle.bb_machine.specs.declared.plan.Plan.{Plan}
 use Rattle.bb_decide.specs.Laws.{VerdictsAreConfirmed, VerdictsHold}
-use Rattle.bb_decide.specs.Translation.{AgreesWithPartner}
 use Rattle.bb_decide.specs.Verdict.{IsVerdict}
 use Rattle.bb_decide.proofs.KnownOfVerdicts.{extent_is_told, has_score, is_first_agreement, is_first_cycle}
 use Rattle.bb_decide.proofs.KnownOfVerdicts.{is_halt_within, is_tree}
-
--- the record that agrees with its partner is the later one
-later : (table : Table) (side : Side) (a b : ℕ) → AgreesWithPartner table side a b → a < b
-later table side a b pair =
-    (records_in_order table side pair.first_number pair.second_number a b pair.first_record
-    pair.second_record).0 pair.partner.below
+use Rattle.bb_decide.proofs.Translations.{pair_agrees}
 
 pub verdicts_hold : VerdictsHold
 verdicts_hold table bounds plan (Halt steps score) is = ((is_halt_within plan is).halts, has_score plan is)
 verdicts_hold table bounds plan (Cycler first second) is =
     let cycle = (is_first_cycle plan is).cycle in (cycle.partner.below, cycle.same)
 verdicts_hold table bounds plan (Translated side first second extent) is =
-    let pair = (is_first_agreement plan extent is).translation.pair in (
-      record {
-        in_order = later table side first second pair;
-        first_number = pair.first_number;
-        second_number = pair.second_number;
-        first_record = pair.first_record;
-        second_record = pair.second_record;
-        agree = pair.agree;
-      },
+    (
+      pair_agrees table side first second (is_first_agreement plan extent is).translation.pair,
       told_is_said table side first second extent (extent_is_told plan extent is),
     )
 verdicts_hold table bounds plan (Backward levels nodes) is =
@@ -48,7 +34,8 @@ module _ (table : Table) (bounds : Bounds) (plan : Plan) where
   in_order (Cycler first second) is not =
       let below = (is_first_cycle plan is).cycle.partner.below in omega (arith, below, not)
   in_order (Translated side first second extent) is not =
-      let below = later table side first second (is_first_agreement plan extent is).translation.pair in
+      let pair = pair_agrees table side first second (is_first_agreement plan extent is).translation.pair in
+      let below = pair.in_order in
       omega (arith, below, not)
   in_order verdict is not = not
 

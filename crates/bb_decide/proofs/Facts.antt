@@ -6,5 +6,5 @@ pub use Rattle.bb_decide.proofs.KnownOfVerdicts.{is_first_cycle, is_halt_within,
 pub use Rattle.bb_decide.proofs.KnownOfVerdicts.{passes_all, trees_are_on, walk_is_made}
 pub use Rattle.bb_decide.proofs.OneRun.{found_is_verdict}
 pub use Rattle.bb_decide.proofs.RunsMade.{runs_are_unique}
-pub use Rattle.bb_decide.proofs.SmallLimits.{small_limits_decide}
+pub use Rattle.bb_decide.proofs.SmallLimits.{inside_upper, small_limits_decide}
 pub use Rattle.bb_decide.proofs.Verdicts.{verdict_is_unique, steps_are_bounded, steps_are_unique}

@@ -166,13 +166,7 @@ module _ (table : Table) (bounds : Bounds) where
   settled_ends (Ran outcome) settled found ran = absurd cc
   settled_ends (Found verdict) settled found ran = absurd found
 
-  -- else it found none
-  pub open_finds_none : (ending : Ending) → is_settled ending ≡ false → FindsCycle table bounds (found_of ending)
-      → HasNoCycle table bounds
-  open_finds_none (Ran outcome) settled found = found
-  open_finds_none (Found verdict) settled found = absurd cc
-
-  -- and then the one for records
+  -- else it found none, and then the one for records
   pub both_end : HasNoCycle table bounds → (ending : Ending) → FindsTranslation table bounds (found_of ending)
       → RanAs table bounds ending → EndsBoth table bounds ending
   both_end nowhere (Found (Translated side first second extent)) found ran = (nowhere, found.0, found.1)

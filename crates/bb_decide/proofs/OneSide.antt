@@ -52,7 +52,7 @@ use Rattle.bb_decide.specs.Partner.{IsKept, IsPartner}
 use Rattle.bb_decide.specs.Translation.{AgreesWithPartner}
 use Rattle.bb_decide.proofs.Partners.{is_kept_one, kept_at_first, kept_below, keeps_next, keeps_on}
 
-one_number : (i j : ℕ) (p : ℤ) → p ≡ pos i → p ≡ pos j → i ≡ j
+pub one_number : (i j : ℕ) (p : ℤ) → p ≡ pos i → p ≡ pos j → i ≡ j
 one_number i j p a b = omega (arith, ints, a, b)
 
 twice : (n k : ℕ) (p q : ℤ) → p ≡ pos n → q ≡ pos (k + 1) → (pos 2 *ℤ p) ≤ℤ q → 2 * n ≤ k + 1

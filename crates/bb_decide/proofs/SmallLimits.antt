@@ -19,7 +19,7 @@ use Rattle.bb_decide.proofs.OneRun.{found_is_verdict, no_cycle_beside}
 
 module _ (table : Table) (lower upper : Bounds) (within : NoneIsSmaller lower upper) where
   -- what is inside the smaller limits is inside the larger ones
-  inside_upper : (n : ℕ) → Inside table lower n → Inside table upper n
+  pub inside_upper : (n : ℕ) → Inside table lower n → Inside table upper n
   inside_upper n inside =
       let few = inside.within_steps in
       let narrow = inside.within_cells in

@@ -28,6 +28,7 @@ use Rattle.bb_decide.proofs.KnownOfVerdicts.{asked_before, cyclers_are_on, exten
 use Rattle.bb_decide.proofs.KnownOfVerdicts.{is_first_cycle, is_halt_within, is_tree, no_halt_within}
 use Rattle.bb_decide.proofs.KnownOfVerdicts.{passes_cycles, passes_translations, passes_trees}
 use Rattle.bb_decide.proofs.KnownOfVerdicts.{translated_are_on, trees_are_on}
+use Rattle.bb_decide.proofs.OneSide.{one_number}
 use Rattle.bb_decide.proofs.Partners.{partner_is_unique}
 
 -- there is one first cycle
@@ -44,9 +45,6 @@ module _ (table : Table) (bounds : Bounds) (a t b u : ℕ) (one : IsFirstCycle t
       partner_is_unique a b u (rw (← first_cycle_is_one) one.cycle.partner) other.cycle.partner
 
 -- there is one first record that agrees with its partner: of one side, and with one partner
-one_number : (i j : ℕ) (p : ℤ) → p ≡ pos i → p ≡ pos j → i ≡ j
-one_number i j p a b = omega (arith, ints, a, b)
-
 module _ (table : Table) (bounds : Bounds) where
   first_translation_is_one : (s r : Side) (a b c d : ℕ) → IsFirstTranslation table bounds s a b
       → IsFirstTranslation table bounds r c d → b ≡ d

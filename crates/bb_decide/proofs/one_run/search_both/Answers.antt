@@ -1,9 +1,9 @@
 use Rattle.std.proofs.Common.{sym, ◌∙◌}
 use Rattle.std.proofs.lemmas.Result.{err_from_is_err_and}
-use Rattle.bb_decide.proofs.OneRun.{both_end, chance_costs, exact_costs, if_ok_both, open_finds_none}
+use Rattle.bb_decide.proofs.OneRun.{both_end, chance_costs, exact_costs, if_ok_both}
 use Rattle.bb_decide.proofs.OneRun.{settled_ends, watched_costs, watched_ends}
 use Rattle.bb_decide.proofs.Costs.{if_ok_on}
-use Rattle.bb_decide.proofs.RunsMade.{open_adds, settled_adds, watched_adds}
+use Rattle.bb_decide.proofs.RunsMade.{both_open, open_adds, settled_adds, watched_adds}
 use Rattle.bb_decide.proofs.Refused.{breaks_in_cycles, breaks_in_records, on_err_map}
 use Rattle.bb_decide.proofs.one_run.search_both.Goals as goal
 
@@ -29,17 +29,17 @@ returns-then-is_settled-clause-costs g c =
 
 pub returns-clause-ended : goal.returns-clause-ended
 returns-clause-ended g c =
-    let none = open_finds_none _ _ c.in_ok-ending-2.ending (sym c.is_settled.ensures ∙ c.if-is_settled.false)
-    c.in_ok-ending-2.ensures.found in
-    if_ok_both c.seek_translation.result _ _ _ (both_end _ _ none) c.seek_translation.ensures.found
+    let none = both_open c.in_ok-ending-2.ending (sym c.is_settled.ensures ∙ c.if-is_settled.false)
+    c.in_ok-ending-2.ensures.found c.in_ok-ending-2.ensures.ran in
+    if_ok_both c.seek_translation.result _ _ _ (both_end _ _ none.1) c.seek_translation.ensures.found
     c.seek_translation.ensures.ran
 
 pub returns-clause-costs : goal.returns-clause-costs
 returns-clause-costs g c =
     let watched = rw c.in-None.is at c.in_ok-ending.ensures.watched in
-    let none = open_finds_none _ _ c.in_ok-ending-2.ending (sym c.is_settled.ensures ∙ c.if-is_settled.false)
-    c.in_ok-ending-2.ensures.found in
-    if_ok_both c.seek_translation.result _ _ _ (chance_costs watched.1 none c.seek_translation.new.meter.steps)
+    let none = both_open c.in_ok-ending-2.ending (sym c.is_settled.ensures ∙ c.if-is_settled.false)
+    c.in_ok-ending-2.ensures.found c.in_ok-ending-2.ensures.ran in
+    if_ok_both c.seek_translation.result _ _ _ (chance_costs watched.1 none.1 c.seek_translation.new.meter.steps)
     c.seek_translation.ensures.found c.seek_translation.ensures.ran
 
 pub returns-in-Some-clause-adds : goal.returns-in-Some-clause-adds
