@@ -75,7 +75,8 @@ module _ (table : Table) (lower upper : Bounds) (plan : Plan) (smaller : NoneIsS
 
   -- a try in which a run finds nothing costs no more than its limit
   costs_limit : (steps : ℕ) (verdict : Verdict) → (IsFoundByRun verdict → ⊥)
-      → CostsWhatItNames spread table lower steps verdict → (AgreesByChance spread table lower lower.steps → ⊥)
+      → CostsWhatItNames spread table lower steps verdict
+      → (AgreesByChance spread table lower lower.steps → ⊥)
       → steps ≤ lower.steps
   costs_limit steps (Backward levels nodes) apart costs none = costs none
   costs_limit steps (Undecided why) apart costs none = costs none
@@ -105,12 +106,14 @@ module _ (table : Table) (lower upper : Bounds) (plan : Plan) (smaller : NoneIsS
 
 -- ---- how many steps were counted
 
-run_steps : {table : Table} {bounds : Bounds} {plan : Plan} {meter : Meter} → CountsRuns spread table bounds plan meter
+run_steps : {table : Table} {bounds : Bounds} {plan : Plan} {meter : Meter}
+    → CountsRuns spread table bounds plan meter
     → AreRunSteps table bounds plan meter.steps
 run_steps counts = record { latest = counts.latest; runs = counts.runs }
 
 -- by one try, where the cells are few
-pub counts_one_try : (table : Table) (bounds : Bounds) (plan : Plan) (meter : Meter) (result : Result Verdict Memory)
+pub counts_one_try : (table : Table) (bounds : Bounds) (plan : Plan) (meter : Meter)
+    (result : Result Verdict Memory)
     → bounds.cells ≤ 1024 → OnOk result (CountsRuns spread table bounds plan meter)
     → OnOk result (CountsTries table bounds plan meter.steps)
 counts_one_try table bounds plan meter (Ok verdict) few counts = inl (few, run_steps counts)
@@ -119,7 +122,8 @@ counts_one_try table bounds plan meter (Err memory) few counts = tt
 module _ (table : Table) (lower upper : Bounds) (plan : Plan) (many : 1024 < upper.cells)
     (few : lower ≡ few_bounds upper) where
   -- by the first of two
-  pub counts_first_try : (verdict : Verdict) (meter : Meter) → IsVerdict table lower (without_trees plan) verdict
+  pub counts_first_try : (verdict : Verdict) (meter : Meter)
+      → IsVerdict table lower (without_trees plan) verdict
       → IsFoundByRun verdict → CountsRuns spread table lower (without_trees plan) meter
       → CountsTries table upper plan meter.steps
   counts_first_try verdict meter is found counts = inr (inl (

@@ -240,7 +240,8 @@ module _ (table : Table) (bounds : Bounds) where
       → CountsSearch table bounds old new found → FindsTranslation table bounds found
       → Searched Made (TranslationSteps table bounds) old new
   translations_searched found made counts finds =
-      searched made (makes_translations table bounds found finds counts) (translation_step_inside table bounds)
+      searched made (makes_translations table bounds found finds counts)
+          (translation_step_inside table bounds)
 
 -- no cycle was found, or none was searched for
 pub record PassedCycles (table : Table) (bounds : Bounds) (plan : Plan) (old new : Meter) : Type 0 where
@@ -346,7 +347,8 @@ walk_of_none Made table bounds old new within none made =
     }
 
 -- a walk keeps both steps and cells
-pub walk_keeps : (bounds : Bounds) (found : Option Verdict) (old new : Meter) → CountsTree bounds old new found
+pub walk_keeps : (bounds : Bounds) (found : Option Verdict) (old new : Meter)
+    → CountsTree bounds old new found
     → (new.steps ≡ old.steps) × (new.most_cells ≡ old.most_cells)
 walk_keeps bounds None old new counts = (counts.steps, counts.most_cells)
 walk_keeps bounds (Some (Backward h k)) old new counts =

@@ -97,7 +97,8 @@ module _ {table : Table} {bounds : Bounds} {before after kept : Runner}
       stands = moved.stands;
       within = inside.within_steps;
       kept_stands = stands;
-      partner = rw moved.next (keeps_next _ _ here.partner (let next = moved.next in omega (arith, next, many)));
+      partner = rw moved.next (keeps_next _ _ here.partner 
+          (let next = moved.next in omega (arith, next, many)));
       none = none_next;
     }
 

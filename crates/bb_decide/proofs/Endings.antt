@@ -1,5 +1,6 @@
 -- How the run of a search ends, as a simulation does or with what was found, and what is promised of it then.
-use Rattle.std.proofs.Common.{◌≡◌, ℕ, ◌+◌, ℤ, Bool, inl, inr, IsTrue, Ok, Err, Option, Some, None, Result, refl, ap}
+use Rattle.std.proofs.Common.{◌≡◌, ℕ, ◌+◌, ℤ, Bool, inl, inr, IsTrue, Ok, Err, Option, Some, None, Result}
+use Rattle.std.proofs.Common.{refl, ap}
 use Rattle.bb_machine.specs.declared.entry.Next.TheVariants.{Halt}
 use Rattle.bb_machine.specs.Limits.{Bounds}
 use Rattle.bb_machine.specs.Machine.{Table}
@@ -16,7 +17,8 @@ use Rattle.bb_sim.specs.Outcome.{IsOutcome}
 use Rattle.bb_sim.specs.Run.{Never}
 use Rattle.bb_sim.specs.Runner.{Answers, Moves, Reaches, Stands, state_of, steps_of}
 use Rattle.bb_sim.specs.Span.{Inside, IsLastInside}
-use Rattle.bb_sim.proofs.Facts.{count_is_within, halted_end, halts_in_Z, halts_last, no_halt_inside, wide_at_end}
+use Rattle.bb_sim.proofs.Facts.{count_is_within, halted_end, halts_in_Z, halts_last, no_halt_inside}
+use Rattle.bb_sim.proofs.Facts.{wide_at_end}
 use Rattle.bb_cert.specs.declared.verdict.Verdict.{Verdict}
 use Rattle.bb_cert.specs.claims.Claim.{Claim}
 use Rattle.bb_cert.specs.verdict.Verdict.{HasNumbers}

@@ -1,5 +1,6 @@
 -- What one watched run means for the verdict, and what it costs.
-use Rattle.std.proofs.Common.{◌≡◌, ℕ, ◌+◌, ◌<◌, ◌≤◌, inl, inr, Some, None, IsTrue, true, false, Option, ℤ, refl, ap, sym}
+use Rattle.std.proofs.Common.{◌≡◌, ℕ, ◌+◌, ◌<◌, ◌≤◌, inl, inr, Some, None, IsTrue, true, false, Option, ℤ}
+use Rattle.std.proofs.Common.{refl, ap, sym}
 use Rattle.std.proofs.Common.{◌∙◌, arith}
 use Rattle.std.specs.Prelude.{IfOk, Result}
 use Rattle.std.proofs.Common.{Ok, Err}
@@ -18,7 +19,8 @@ use Rattle.bb_sim.proofs.Facts.{halts_last}
 use Rattle.bb_cert.specs.declared.verdict.Side.{Side}
 use Rattle.bb_cert.specs.declared.verdict.Verdict.{Verdict}
 use Rattle.bb_cert.specs.declared.verdict.Verdict.TheVariants.{Cycler, Translated}
-use Rattle.bb_cert.proofs.Facts.{agreeing_records_never_halt, agreeing_records_never_repeat, repeats_never_halt}
+use Rattle.bb_cert.proofs.Facts.{agreeing_records_never_halt, agreeing_records_never_repeat}
+use Rattle.bb_cert.proofs.Facts.{repeats_never_halt}
 use Rattle.bb_decide.specs.declared.ending.Ending.{Ending}
 use Rattle.bb_decide.specs.declared.ending.Ending.TheVariants.{Found, Ran}
 use Rattle.bb_decide.specs.Cycle.{CountsSearch, FindsCycle, HasNoCycle, IsCycle}
@@ -36,7 +38,8 @@ use Rattle.bb_decide.proofs.Costs.{counts_walk, no_walk_counted, not_reached, wa
 
 module _ (table : Table) (bounds : Bounds) where
   -- where records agree, no configuration comes again
-  pub no_cycle_beside : (side : Side) (a b : ℕ) → IsFirstTranslation table bounds side a b → HasNoCycle table bounds
+  pub no_cycle_beside : (side : Side) (a b : ℕ) → IsFirstTranslation table bounds side a b
+      → HasNoCycle table bounds
   no_cycle_beside side a b first c d cycle =
       agreeing_records_never_repeat table side a b c d (pair_agrees table side a b first.translation.pair)
       cycle.partner.below cycle.same
@@ -49,7 +52,8 @@ module _ (table : Table) (bounds : Bounds) where
 
   -- no step inside is later than the step that an outcome names
   named_by_outcome : (outcome : Outcome) → IsOutcome table bounds outcome → (n : ℕ) → Inside table bounds n
-      → (n ≤ named_step bounds (verdict_of_outcome outcome)) × (n ≤ most_steps bounds (verdict_of_outcome outcome))
+      → (n ≤ named_step bounds (verdict_of_outcome outcome))
+          × (n ≤ most_steps bounds (verdict_of_outcome outcome))
   named_by_outcome (outcomes.Halt steps score) is n inside =
       let no_later = (halts_last table bounds steps is.0.inside is.0.halts).greatest n inside in
       (no_later, no_later)

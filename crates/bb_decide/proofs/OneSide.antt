@@ -228,7 +228,8 @@ pub record HasPassed (table : Table) (n : ℕ) (side : Side) (runner : Runner) (
 
 module _ {table : Table} {n : ℕ} {side : Side} {runner : Runner} {run saved : TapeView} {new : Records}
     (here : HasPassed table n side runner run saved new) where
-  pub side_passes_by : (((j : ℕ) × IsRecord table side j (n + 1)) → ⊥) → GoesOn table (steps_of runner) side new saved
+  pub side_passes_by : (((j : ℕ) × IsRecord table side j (n + 1)) → ⊥)
+      → GoesOn table (steps_of runner) side new saved
   side_passes_by none = subst (λ s. GoesOn table (steps_of runner) s new saved) here.side_is
       (subst (λ r. GoesOn table (steps_of runner) here.old.side r saved) (sym here.new_is)
       (passes_by table n runner run saved here.old here.stands here.next here.searched

@@ -56,7 +56,8 @@ adds_more : {table : Table} {count latest : ℕ} (n : ℕ) {old mid new : Meter}
     → CountsTo table n mid new → Adds table (count + n) (max latest n) old new
 adds_more {table} {count} {latest} n {old} {mid} {new} before counts =
     let more : new.steps ≡ mid.steps + n = ap (λ (m : Meter). m.steps) counts in
-    let wider : new.most_cells ≡ max mid.most_cells (span table n) = ap (λ (m : Meter). m.most_cells) counts in
+    let wider : new.most_cells ≡ max mid.most_cells (span table n) =
+        ap (λ (m : Meter). m.most_cells) counts in
     let steps = before.steps in
     let cells = before.most_cells in
     let both = widest table latest n in
@@ -172,7 +173,8 @@ module _ {key : ℤ → ℕ} {table : Table} {bounds : Bounds} {n : ℕ} (stoppe
 -- ---- what a decision has counted, from a meter that was begun at 0
 
 module _ {key : ℤ → ℕ} {table : Table} {bounds : Bounds} (plan : Plan) {begin mid : Meter}
-    (zero : begin ≡ zero_meter) (adds : AddsRuns key table bounds plan.cyclers plan.translated begin mid) where
+    (zero : begin ≡ zero_meter) (adds : AddsRuns key table bounds plan.cyclers plan.translated begin mid)
+  where
   pub runs_counted : CountsRuns key table bounds plan mid
   runs_counted =
       let no_steps : begin.steps ≡ 0 = ap (λ (m : Meter). m.steps) zero in

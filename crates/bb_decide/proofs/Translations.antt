@@ -23,7 +23,8 @@ use Rattle.bb_cert.proofs.Facts.{MakesJust, agreeing_records_never_halt, makes_j
 use Rattle.bb_cert.proofs.Facts.{records_in_order, starts}
 use Rattle.bb_decide.proofs.Halting.{no_pair_in_Z}
 use Rattle.bb_decide.specs.Translation.{AgreesWithPartner, FindsTranslation, HasNoTranslation, IsTranslation}
-use Rattle.bb_decide.specs.inside.Follow.{AreSearched, IsReady, IsSearched, Looks, LooksAtStep, TellsAgreement}
+use Rattle.bb_decide.specs.inside.Follow.{AreSearched, IsReady, IsSearched, Looks, LooksAtStep}
+use Rattle.bb_decide.specs.inside.Follow.{TellsAgreement}
 use Rattle.bb_decide.specs.inside.Follow.{on_side}
 use Rattle.bb_decide.specs.inside.Step.{EndsRun, HasMoved}
 use Rattle.bb_decide.proofs.Counted.{taken_over}
@@ -152,7 +153,8 @@ module _ {table : Table} {n : ℕ} {after : Runner} {view saved_right saved_left
     {right left : Records} {widened : Option Side} {meter : Meter}
     (taken : IsTakenIn table n after view right left saved_right saved_left widened) where
   -- a step that makes no record
-  pub looks_at_none : widened ≡ None → LooksAtStep table after right left saved_right saved_left meter meter None
+  pub looks_at_none : widened ≡ None
+      → LooksAtStep table after right left saved_right saved_left meter meter None
   looks_at_none is =
       let makes = rw is at taken.makes in
       looked (side_passes_by taken.on_right (makes R)) (side_passes_by taken.on_left (makes L))

@@ -108,7 +108,8 @@ module _ (table : Table) (bounds : Bounds) (plan : Plan) where
   found_before (Cycler first second) b one other later = passes_cycles table bounds plan b other later
       (cyclers_are_on plan one) first second (is_first_cycle plan one).cycle
   found_before (Translated side first second extent) b one other later =
-      passes_translations table bounds plan b other later (translated_are_on plan extent one) side first second
+      passes_translations table bounds plan b other later
+          (translated_are_on plan extent one) side first second
       (is_first_agreement plan extent one).translation
   found_before (Backward levels nodes) b one other later =
       (passes_trees table bounds plan b other later (trees_are_on plan one)).nowhere levels nodes
@@ -155,7 +156,8 @@ module _ (table : Table) (bounds : Bounds) where
   cycle_steps_are_one n m (inr none) (inl other) = absurd (none.0 other.0 m other.1.cycle)
   cycle_steps_are_one n m (inr one) (inr other) = last_step_is_unique table bounds n m one.1 other.1
 
-  pub translation_steps_are_one : (n m : ℕ) → TranslationSteps table bounds n → TranslationSteps table bounds m
+  pub translation_steps_are_one : (n m : ℕ) → TranslationSteps table bounds n
+      → TranslationSteps table bounds m
       → n ≡ m
   translation_steps_are_one n m (inl one) (inl other) =
       first_translation_is_one table bounds one.0 other.0 one.1 n other.1 m one.2 other.2

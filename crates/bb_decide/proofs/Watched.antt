@@ -1,5 +1,6 @@
 -- What the watched run knows of fingerprints, step by step.
-use Rattle.std.proofs.Common.{◌≡◌, ◌≢◌, ℕ, suc, ◌+◌, ◌*◌, ◌≤◌, inl, inr, Some, ℤ, pos, ◌≤ℤ◌, neg_ℤ, refl, ap, sym}
+use Rattle.std.proofs.Common.{◌≡◌, ◌≢◌, ℕ, suc, ◌+◌, ◌*◌, ◌≤◌, inl, inr, Some, ℤ, pos, ◌≤ℤ◌, neg_ℤ, refl, ap}
+use Rattle.std.proofs.Common.{sym}
 use Rattle.std.proofs.lemmas.Bool.{cases_lt}
 use Rattle.std.proofs.Common.{subst, ◌∙◌, Bool, false, FitsSigned, IsTrue, add-one, arith, of_z, to_z, w64}
 use Rattle.std.proofs.lemmas.Int.{ints, to_z-of_z}
@@ -39,9 +40,9 @@ use Rattle.bb_decide.proofs.Halting.{no_pair_in_Z}
 use Rattle.bb_decide.proofs.Partners.{is_kept_one}
 use Rattle.bb_decide.proofs.SoFar.{none_earlier, none_inside, none_so_far}
 
--- the run has come to where a runner stands, not in Z: the fingerprint is that of its tape; the other is that of
--- a tape on which the kept runner stood, the partner of the next step; no step up to here is a cycle, or looks
--- as its partner does
+-- the run has come to where a runner stands, not in Z: the fingerprint is that of its tape; the other is that
+-- of a tape on which the kept runner stood, the partner of the next step; no step up to here is a cycle, or
+-- looks as its partner does
 pub record IsWatched (table : Table) (bounds : Bounds) (key : ℤ → ℕ) (runner : Runner) (view : TapeView)
     (prints : Prints) : Type 0 where
   pub kept_view : TapeView
@@ -193,7 +194,8 @@ module _ {table : Table} {bounds : Bounds} {key : ℤ → ℕ} {before after : R
           alike.1 ∙ ap position_of (sym kept_same),
         )
 
-    kept_is_partner : position_of old.kept ≡ position_of after → IsPartner (steps_of old.kept) (steps_of after)
+    kept_is_partner : position_of old.kept ≡ position_of after
+        → IsPartner (steps_of old.kept) (steps_of after)
     kept_is_partner head = elim here.search.partner [
       | inl start ↦
           let zeroth : steps_of old.kept ≡ steps_of before = omega (arith, start.0, start.1) in
@@ -223,7 +225,8 @@ module _ {table : Table} {bounds : Bounds} {key : ℤ → ℕ} {before after : R
     -- where they differ, no step up to this one looks as its partner does
     pub none_alike_next : (AreAsKept printed after → ⊥) → (p t : ℕ) → t ≤ steps_of after
         → LooksAsPartner key table p t → ⊥
-    none_alike_next differs p = none_so_far (LooksAsPartner key table p) moved.next (here.none_alike p) (λ now.
+    none_alike_next differs p = none_so_far (LooksAsPartner key table p) moved.next
+        (here.none_alike p) (λ now.
         differs (as_kept (subst (λ m. LooksAsPartner key table m (steps_of after))
         (is_kept_one here.search.partner moved.next now.partner) now)))
 
@@ -259,7 +262,8 @@ module _ {table : Table} {bounds : Bounds} {key : ℤ → ℕ} {before after : R
           running = moved.running;
         })
 
-    -- where they are the same, the run is stopped: what is kept is the partner, since the head moves at step 1
+    -- where they are the same, the run is stopped: what is kept is the partner, since the head moves at step
+    -- 1
     pub stopped : ((side : Side) (a b : ℕ) → b ≤ steps_of before → IsTranslation table bounds side a b → ⊥)
         → AreAsKept printed after → IsStoppedAt key table bounds (steps_of after)
     stopped none same = record {

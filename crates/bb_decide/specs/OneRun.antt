@@ -21,7 +21,8 @@ pub record IsStoppedAt (key : ℤ → ℕ) (table : Table) (bounds : Bounds) (s 
   pub first : (p t : ℕ) → LooksAsPartner key table p t → s ≤ t
   pub no_record : (side : Side) (a b : ℕ) → b < s → IsTranslation table bounds side a b → ⊥
 
--- where it isn't stopped, it alone is made: up to the first record that agrees with its partner, or as a whole
+-- where it isn't stopped, it alone is made: up to the first record that agrees with its partner, or as a
+-- whole
 abbrev pub RunsOnce : (ℤ → ℕ) → Table → Bounds → ℕ → ℕ → Type 0
 RunsOnce key table bounds steps latest = ((s : ℕ) → IsStoppedAt key table bounds s → ⊥)
     × TranslationSteps table bounds steps × (latest ≡ steps)
@@ -39,9 +40,9 @@ pub record RunsAgain (key : ℤ → ℕ) (table : Table) (bounds : Bounds) (step
   pub sum : steps ≡ stop + (cycles + translations)
   pub is_latest : latest ≡ max stop (max cycles translations)
 
--- so many steps are made in all, the last of any run being `latest`, where the search for cycles is on or not,
--- and that for records that agree: with neither a whole run, with one the steps of that search, and only with
--- both do fingerprints count
+-- so many steps are made in all, the last of any run being `latest`, where the search for cycles is on or
+-- not, and that for records that agree: with neither a whole run, with one the steps of that search, and only
+-- with both do fingerprints count
 abbrev pub MakesRuns : (ℤ → ℕ) → Table → Bounds → (cyclers translated : Bool) → ℕ → ℕ → Type 0
 MakesRuns key table bounds false false steps latest = IsLastInside table bounds steps × (latest ≡ steps)
 MakesRuns key table bounds true false steps latest = CycleSteps table bounds steps × (latest ≡ steps)
@@ -57,12 +58,13 @@ pub record CountsRuns (key : ℤ → ℕ) (table : Table) (bounds : Bounds) (pla
     pub runs : MakesRuns key table bounds plan.cyclers plan.translated meter.steps latest
     pub most_cells : meter.most_cells ≡ span table latest
 
--- so many steps were made before the run that was refused memory, where both searches are on: none, if it is the
--- watched run; those up to where that was stopped, if it is the search for cycles; and those of that search too,
--- which found nothing, if it is the one for records
+-- so many steps were made before the run that was refused memory, where both searches are on: none, if it is
+-- the watched run; those up to where that was stopped, if it is the search for cycles; and those of that
+-- search too, which found nothing, if it is the one for records
 abbrev pub StepsBefore : (ℤ → ℕ) → Table → Bounds → ℕ → Type 0
 StepsBefore key table bounds before = (before ≡ 0) ⊎ IsStoppedAt key table bounds before
-    ⊎ ((stop cycles : ℕ) × IsStoppedAt key table bounds stop × HaltsNowhere table bounds × HasNoCycle table bounds
+    ⊎ ((stop cycles : ℕ) × IsStoppedAt key table bounds stop × HaltsNowhere table bounds
+        × HasNoCycle table bounds
     × CycleSteps table bounds cycles × (before ≡ stop + cycles))
 
 -- the same with these searches on: a run of one search alone is the first

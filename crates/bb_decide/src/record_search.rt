@@ -2,7 +2,8 @@
 ghost use Rattle.std.specs.Prelude.{◌≡◌, ◌+◌, ◌<◌, ◌^◌, IfOk, IfSome, IsTrue, OnErr};
 ghost use Rattle.bb_sim.specs.Runner.{steps_of};
 ghost use Rattle.bb_cert.specs.verdict.Verdict.{HasNumbers};
-ghost use Rattle.bb_decide.specs.inside.Follow.{AreSearched, IsReady, Looks, LooksAtRecord, LooksAtStep, on_side};
+ghost use Rattle.bb_decide.specs.inside.Follow.{AreSearched, IsReady, Looks, LooksAtRecord, LooksAtStep};
+ghost use Rattle.bb_decide.specs.inside.Follow.{on_side};
 ghost use Rattle.bb_decide.specs.inside.Step.{HasMoved, TakesOver};
 
 use crate::ending::count_run;
@@ -12,9 +13,9 @@ use bb_machine::Machine;
 use bb_sim::{Meter, Runner};
 use bb_tape::{Memory, Tape};
 
-/// Takes in, for both sides, the step that a runner has just made, and looks at the record that it makes of one,
-/// if it does. The verdict where that agrees with its partner: then the meter takes the run over, as it does where
-/// there is no memory to keep the record.
+/// Takes in, for both sides, the step that a runner has just made, and looks at the record that it makes of
+/// one, if it does. The verdict where that agrees with its partner: then the meter takes the run over, as it
+/// does where there is no memory to keep the record.
 #[inline(always)]
 pub fn take_in<T: Tape>(
     machine: &Machine,
@@ -64,8 +65,8 @@ pub fn take_in<T: Tape>(
     }
 }
 
-/// Looks at the record that the runner has just made on a side. Where there is no memory to keep it, the meter
-/// takes the run over.
+/// Looks at the record that the runner has just made on a side. Where there is no memory to keep it, the
+/// meter takes the run over.
 #[inline(always)]
 fn look_on<T: Tape>(
     side: Side,

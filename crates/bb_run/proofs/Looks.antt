@@ -284,7 +284,8 @@ module _ {all left : List (List ℕ)} {bytes bytes_left : List ℕ} {count : ℕ
     (here : IsLooked all left bytes bytes_left count) where
   -- one line more
   pub looked_on : (line : List ℕ) (others : List (List ℕ)) (reply rest : List ℕ) (k : ReplyKind)
-      → left ≡ line ∷ others → HasNoNewline line → HasNoNewline reply → (reply ++ 10 ∷ []) ++ rest ≡ bytes_left
+      → left ≡ line ∷ others → HasNoNewline line → HasNoNewline reply
+          → (reply ++ 10 ∷ []) ++ rest ≡ bytes_left
       → IsOfKind k line reply → IsLooked all others bytes rest (count + 1)
   looked_on line others reply rest k cut none none_too cut_too is = record {
     first = here.first ++ line ∷ [];
@@ -308,7 +309,8 @@ module _ {all left : List (List ℕ)} {bytes bytes_left : List ℕ} {count : ℕ
     answers : here.answered ≡ bytes
     answers = sym (append-nil here.answered) ∙ (rw no_byte at here.are_bytes)
 
-    pub all_counted : (counts : KindCounts) → counts ≡ counts_of here.kinds → CountsReplies all bytes counts count
+    pub all_counted : (counts : KindCounts) → counts ≡ counts_of here.kinds
+        → CountsReplies all bytes counts count
     all_counted counts are_counts =
         let many = as_many here.first here.kinds here.answered here.are_of_kinds in
         let sum = sum_is_length here.kinds in
@@ -341,7 +343,8 @@ module _ {all left : List (List ℕ)} {bytes bytes_left : List ℕ} {count : ℕ
 
     pub no_replies : AreReplies HasForm all bytes → ⊥
     no_replies are = none_left left bytes_left fails (here.only are) where
-      none_left : (lines : List (List ℕ)) (rest : List ℕ) → HasNoReply lines rest → AreReplies HasForm lines rest
+      none_left : (lines : List (List ℕ)) (rest : List ℕ) → HasNoReply lines rest
+          → AreReplies HasForm lines rest
           → ⊥
       none_left [] rest none are = none are
       none_left (line ∷ lines) rest none are = none are.0 are.1 are.2 are.4

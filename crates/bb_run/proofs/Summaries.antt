@@ -17,7 +17,8 @@ use Rattle.bb_decide.specs.Cost.{CountsWalk, DecisionSteps, IsWithinCost, MakesW
 use Rattle.bb_decide.specs.Keys.{spread}
 use Rattle.bb_decide.specs.OneRun.{MakesRuns}
 use Rattle.bb_decide.specs.Verdict.{IsVerdict}
-use Rattle.bb_decide.proofs.Facts.{is_tree, runs_are_unique, steps_are_bounded, steps_are_unique, walk_is_made}
+use Rattle.bb_decide.proofs.Facts.{is_tree, runs_are_unique, steps_are_bounded, steps_are_unique}
+use Rattle.bb_decide.proofs.Facts.{walk_is_made}
 use Rattle.bb_lines.specs.declared.fault.Fault.{Fault}
 use Rattle.bb_lines.specs.declared.fault.Fault.TheVariants.{Memory}
 use Rattle.bb_lines.specs.Ends.{ListEnds}
@@ -152,8 +153,10 @@ module _ (one : TextsDiffer) {bounds : Bounds} {plan : Plan} {Counts : Table →
         more : (past : List (List ℕ)) (old : Summary) (line : List ℕ) (new : Summary)
             → IsSummed bounds plan Steps Cells past old → SawLine Counts old line new
             → IsSummed bounds plan Steps Cells (past ++ line ∷ []) new
-        more past old line new before (cost, inl machine) = machine_summed past line old new cost before machine
-        more past old line new before (cost, inr refusal) = refusal_summed past line old new cost before refusal
+        more past old line new before (cost, inl machine) =
+            machine_summed past line old new cost before machine
+        more past old line new before (cost, inr refusal) =
+            refusal_summed past line old new cost before refusal
 
 module _ (one : TextsDiffer) (bounds : Bounds) (plan : Plan) where
   counts_cost : CountsOnce bounds plan (CountsExactly bounds plan) (AreStepsOf bounds plan) (IsSpanOf bounds)

@@ -156,7 +156,8 @@ all_run run = record {
   of = run.of;
   last = run.last;
   is_last = run.is_last;
-  are_lines = run.are_lines ∙ all_printed run.table run.count ∙ ap (step_lines run.table) (all_size run.is_size);
+  are_lines = run.are_lines ∙ all_printed run.table run.count
+      ∙ ap (step_lines run.table) (all_size run.is_size);
 }
 
 all_trace : {bounds : Bounds} {line : List ℕ} {lines : List (List ℕ)} → IsSampledTrace bounds 0 1 line lines

@@ -125,7 +125,8 @@ EndsBoth table bounds (Found (Undecided why)) = ⊥
 EndsBoth table bounds (Ran outcome) =
     IsOutcome table bounds outcome × HasNoCycle table bounds × HasNoTranslation table bounds
 
--- the runs that are made with these searches on were counted: their steps, and the span at the last step of any
+-- the runs that are made with these searches on were counted: their steps, and the span at the last step of
+-- any
 pub record AddsRuns (key : ℤ → ℕ) (table : Table) (bounds : Bounds) (cyclers translated : Bool)
     (old new : Meter) : Type 0 where
   pub count : ℕ

@@ -44,8 +44,8 @@ pub record TellsAgreement (table : Table) (n : ℕ) (verdict : Verdict) : Type 0
   pub pair : AgreesWithPartner table side first n
   pub lies : IsExtent table side first n extent
 
--- both sides have taken in the step where a runner stands: a record that it makes agrees with its partner, and
--- the meter takes the run over; else none does, and the records are known up to there
+-- both sides have taken in the step where a runner stands: a record that it makes agrees with its partner,
+-- and the meter takes the run over; else none does, and the records are known up to there
 abbrev pub LooksAtStep : Table → Runner → Records → Records → TapeView → TapeView → Meter → Meter
     → Option Verdict → Type 0
 LooksAtStep table runner right left saved_right saved_left old new (Some verdict) =

@@ -1,6 +1,7 @@
 -- What the next step of a search's run comes to, as the functions of this crate tell one another; no public
 -- contract cites it.
-use Rattle.std.specs.Prelude.{◌≡◌, ◌≢◌, ◌+◌, ◌<◌, ◌^◌, ◌⊎◌, Bool, IfOk, IsTrue, OnErr, Option, Some, None, Result}
+use Rattle.std.specs.Prelude.{◌≡◌, ◌≢◌, ◌+◌, ◌<◌, ◌^◌, ◌⊎◌, Bool, IfOk, IsTrue, OnErr, Option, Some, None}
+use Rattle.std.specs.Prelude.{Result}
 use Rattle.bb_machine.specs.declared.entry.Next.TheVariants.{Halt}
 use Rattle.bb_machine.specs.Limits.{Bounds}
 use Rattle.bb_machine.specs.Machine.{Table}
@@ -17,7 +18,8 @@ use Rattle.bb_sim.specs.Span.{Inside, IsLastInside}
 
 -- a meter takes over what a runner has run
 abbrev pub TakesOver : Runner → Meter → Meter → Type 0
-TakesOver runner old new = new ≡ counted old (steps_of runner) (cells_between (low_of runner) (high_of runner))
+TakesOver runner old new = new ≡ counted old (steps_of runner) (cells_between (low_of runner)
+    (high_of runner))
 
 -- a runner has made a step from where it stood, not into Z
 pub record HasMoved (table : Table) (old new : Runner) (view : TapeView) : Type 0 where

@@ -35,7 +35,8 @@ pub returns-in-Some : goal.returns-in-Some
 returns-in-Some g c =
     let here = c.LOOP.invariant in
     let ended = rw c.in-Some.is at c.in_ok-outcome.ensures.goes_on in
-    seeks_to_end (lent_on c.step_on.ensures.limit refl refl here.lent) ended (no_cycle_at_end here.search ended)
+    seeks_to_end (lent_on c.step_on.ensures.limit refl refl here.lent) ended
+        (no_cycle_at_end here.search ended)
 
 pub count_run-requires-then-is_same : goal.count_run-requires-then-is_same
 count_run-requires-then-is_same g c = (rw c.in-None.is at c.in_ok-outcome.ensures.goes_on).3
@@ -48,7 +49,8 @@ returns-then-is_same g c =
     let earlier = kept_earlier here.search step.0 step.1 in
     let counts = taken_over step.0.stands c.count_run-then-is_same.ensures in
     seeks_and_finds (lent_on c.step_on.ensures.limit refl refl (lent_uncounted step.2 here.lent)) (record {
-      found = rw (c.steps.ensures, c.steps-then-is_same.ensures) (first_cycle here.search step.0 step.1 again);
+      found = rw (c.steps.ensures, c.steps-then-is_same.ensures)
+          (first_cycle here.search step.0 step.1 again);
       counted = rw c.steps-then-is_same.ensures counts;
       within = count_is_within _ _ _ _ _ step.1 counts;
       never = repeats_never_halt _ _ _ earlier again;

@@ -1,6 +1,7 @@
 use Rattle.std.proofs.Common.{refl, rules}
 use Rattle.bb_decide.proofs.Halting.{is_none}
-use Rattle.bb_decide.proofs.Translations.{IsTakenIn, is_ready, looks_at_none, looks_at_one, takes_in, tells_pair}
+use Rattle.bb_decide.proofs.Translations.{IsTakenIn, is_ready, looks_at_none, looks_at_one, takes_in}
+use Rattle.bb_decide.proofs.Translations.{tells_pair}
 use Rattle.bb_sim.specs.Runner.{steps_of}
 use Rattle.bb_decide.proofs.record_search.take_in.Given as given
 use Rattle.bb_decide.proofs.record_search.take_in.Goals as goal
@@ -28,7 +29,8 @@ look_on-requires-clause-ready g c =
 pub returns-in-Some-2-clause-looks : goal.returns-in-Some-2-clause-looks
 returns-in-Some-2-clause-looks g c =
     let call = c.in_ok-verdict.ensures in (
-      tells_pair (taken g (goal.at.returns-in-Some-2-clause-looks g c).After-widened_side) _ _ _ _ _ c.in-Some.is _
+      tells_pair (taken g (goal.at.returns-in-Some-2-clause-looks g c).After-widened_side) _ _ _ _ _
+          c.in-Some.is _
           (rw c.in-Some-2.is at call.looks),
       rw c.in-Some-2.is at call.numbers,
       rw call.uncounted at c.count_run.ensures,

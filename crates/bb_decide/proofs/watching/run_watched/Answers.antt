@@ -6,7 +6,8 @@ use Rattle.bb_decide.proofs.Counted.{cut_after_step, taken_over}
 use Rattle.bb_decide.proofs.Cycles.{no_cycle_at_end}
 use Rattle.bb_decide.proofs.Endings.{watches_and_finds, watches_to_end, watches_to_stop, watches_until_cut}
 use Rattle.bb_decide.proofs.Translations.{goes_on, is_found, none_at_end, searching_at_first}
-use Rattle.bb_decide.proofs.Watched.{IsReadable, not_both, not_stopped_at_end, not_stopped_at_record, print_known}
+use Rattle.bb_decide.proofs.Watched.{IsReadable, not_both, not_stopped_at_end, not_stopped_at_record}
+use Rattle.bb_decide.proofs.Watched.{print_known}
 use Rattle.bb_decide.proofs.Watched.{readable_here, still_inside, stopped, watched_at_first, watched_on}
 use Rattle.bb_decide.proofs.watching.run_watched.Given as given
 use Rattle.bb_decide.proofs.watching.run_watched.Goals as goal
@@ -50,7 +51,8 @@ read_inside-old-requires g c =
 pub read_inside-new-requires : goal.read_inside-new-requires
 read_inside-new-requires g c =
     let here = c.LOOP.invariant in
-    still_inside here.search.stands here.watched.running (rw c.in-None.is at c.in_ok-outcome.ensures.goes_on).0
+    still_inside here.search.stands here.watched.running
+        (rw c.in-None.is at c.in_ok-outcome.ensures.goes_on).0
     (search rules) c.position-position.ensures
 
 pub rewritten-requires-clause-low : goal.rewritten-requires-clause-low

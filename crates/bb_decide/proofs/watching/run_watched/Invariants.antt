@@ -10,7 +10,8 @@ abbrev pub invariant-LOOP : goal.invariant-LOOP
 invariant-LOOP g l = record {
   search : IsSearching l.machine l.limits l.runner (g.T.Tape.view l.bench.run) l.right l.left
       (g.T.Tape.view l.bench.right) (g.T.Tape.view l.bench.left);
-  watched : IsWatched l.machine l.limits (g.K.Keys.key_of l.keys) l.runner (g.T.Tape.view l.bench.run) l.prints;
+  watched : IsWatched l.machine l.limits (g.K.Keys.key_of l.keys) l.runner
+      (g.T.Tape.view l.bench.run) l.prints;
   lent : IsAsLent g.T.Tape.view l.limits.cells l.fn.bench l.bench l.fn.meter l.meter;
 }
 

@@ -26,7 +26,8 @@ pub returns-in_default-first_reply-clause-first : goal.returns-in_default-first_
 returns-in_default-first_reply-clause-first c = stops_here c.loop-line.invariant.looked_at (none_at_end c)
 
 pub returns-in_default-first_reply-clause-no_replies : goal.returns-in_default-first_reply-clause-no_replies
-returns-in_default-first_reply-clause-no_replies c = no_replies c.loop-line.invariant.looked_at (none_at_end c)
+returns-in_default-first_reply-clause-no_replies c = no_replies c.loop-line.invariant.looked_at
+    (none_at_end c)
 
 -- nor where the bytes up to the newline are none
 none_here : (c : goal.In_default-kind_of_reply)

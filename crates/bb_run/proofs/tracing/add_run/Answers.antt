@@ -2,7 +2,8 @@ use Rattle.std.proofs.Common.{◌∙◌, arith, refl, rules}
 use Rattle.std.proofs.lemmas.Result.{err_from_is_err_and}
 use Rattle.bb_sim.proofs.Facts.{inside_here}
 use Rattle.bb_lines.proofs.Facts.{Appends-after, AppendsPrefix-after}
-use Rattle.bb_run.proofs.TraceEnds.{printed_all, printed_begun, printed_begun_next, printed_early, printed_next, printed_none}
+use Rattle.bb_run.proofs.TraceEnds.{printed_all, printed_begun, printed_begun_next, printed_early}
+use Rattle.bb_run.proofs.TraceEnds.{printed_next, printed_none}
 use Rattle.bb_run.proofs.tracing.add_run.Goals as goal
 
 pub loop-runner-init : goal.loop-runner-init
@@ -72,5 +73,6 @@ loop-runner-preserved g c =
       inside = ran.0;
       unmarked = search rules;
       printed =
-          printed_next _ _ _ here.printed ran.1 (omega (arith, further)) c.in_ok-add_step-in-Ok-Whole.ensures.sent;
+          printed_next _ _ _ here.printed ran.1 (omega (arith, further))
+              c.in_ok-add_step-in-Ok-Whole.ensures.sent;
     }

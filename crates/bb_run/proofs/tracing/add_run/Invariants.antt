@@ -5,8 +5,8 @@ use Rattle.bb_lines.specs.Watched.{is_marked, watched_inner}
 use Rattle.bb_run.proofs.TraceEnds.{HasPrinted}
 use Rattle.bb_run.proofs.tracing.add_run.Given as goal
 
--- the runner stands inside the limits, so many steps before the next one that is printed, and the lines of those
--- before are sent
+-- the runner stands inside the limits, so many steps before the next one that is printed, and the lines of
+-- those before are sent
 abbrev pub invariant-loop-runner : goal.invariant-loop-runner
 invariant-loop-runner g l = record {
   stands : Stands l.machine l.runner (g.T.Tape.view l.tape);

@@ -8,38 +8,38 @@ use Rattle.bb_run.proofs.words.kind_of_words.Goals as goal
 
 pub returns-then-are_records : goal.returns-then-are_records
 returns-then-are_records c =
-    let words = c.are_records.ensures c.if-are_records.true in
+    let pair = c.are_records.ensures c.if-are_records.true in
     record {
-      verdict = Translated R words.0 words.1 words.2;
-      numbers = (words.3, words.4, words.5);
-      is_text = words.6;
+      verdict = Translated R pair.0 pair.1 pair.2;
+      numbers = (pair.3, pair.4, pair.5);
+      is_text = pair.6;
       is_kind = refl;
     }
 
 pub returns-then-are_records-2 : goal.returns-then-are_records-2
 returns-then-are_records-2 c =
-    let words = c.are_records-in-116.ensures c.if-are_records-2.true in
+    let pair = c.are_records-in-116.ensures c.if-are_records-2.true in
     record {
-      verdict = Translated L words.0 words.1 words.2;
-      numbers = (words.3, words.4, words.5);
-      is_text = words.6;
+      verdict = Translated L pair.0 pair.1 pair.2;
+      numbers = (pair.3, pair.4, pair.5);
+      is_text = pair.6;
       is_kind = refl;
     }
 
 pub returns-then-are_pair : goal.returns-then-are_pair
 returns-then-are_pair c =
-    let words = c.are_pair.ensures c.if-are_pair.true in
-    record { verdict = Halt words.0 words.1; numbers = (words.2, words.3); is_text = words.4; is_kind = refl }
+    let pair = c.are_pair.ensures c.if-are_pair.true in
+    record { verdict = Halt pair.0 pair.1; numbers = (pair.2, pair.3); is_text = pair.4; is_kind = refl }
 
 pub returns-then-are_pair-2 : goal.returns-then-are_pair-2
 returns-then-are_pair-2 c =
-    let words = c.are_pair-in-99.ensures c.if-are_pair-2.true in
-    record { verdict = Cycler words.0 words.1; numbers = (words.2, words.3); is_text = words.4; is_kind = refl }
+    let pair = c.are_pair-in-99.ensures c.if-are_pair-2.true in
+    record { verdict = Cycler pair.0 pair.1; numbers = (pair.2, pair.3); is_text = pair.4; is_kind = refl }
 
 pub returns-then-are_pair-3 : goal.returns-then-are_pair-3
 returns-then-are_pair-3 c =
-    let words = c.are_pair-in-98.ensures c.if-are_pair-3.true in
-    record { verdict = Backward words.0 words.1; numbers = (words.2, words.3); is_text = words.4; is_kind = refl }
+    let pair = c.are_pair-in-98.ensures c.if-are_pair-3.true in
+    record { verdict = Backward pair.0 pair.1; numbers = (pair.2, pair.3); is_text = pair.4; is_kind = refl }
 
 pub returns-then-eq : goal.returns-then-eq
 returns-then-eq c =
