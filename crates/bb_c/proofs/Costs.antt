@@ -40,12 +40,6 @@ costs_one_try table bounds plan steps verdict costs none =
     inl (costs (λ chance. none (later (max (named_step bounds verdict) (first_steps bounds)) (omega arith)
     (same_bounds bounds) chance)))
 
-pub if_one_try : (table : Table) (bounds : Bounds) (plan : Plan) (steps : ℕ) (result : Result Verdict Memory)
-    → IfOk result (CostsWhatItNames spread table bounds steps)
-    → IfOk result (CostsInTwoTries table bounds plan steps)
-if_one_try table bounds plan steps (Ok verdict) costs = costs_one_try table bounds plan steps verdict costs
-if_one_try table bounds plan steps (Err memory) costs = tt
-
 -- no test is both true and false
 pub not_both : {b : Bool} → IsTrue b → b ≡ false → ⊥
 not_both is not = cc
@@ -112,12 +106,9 @@ run_steps : {table : Table} {bounds : Bounds} {plan : Plan} {meter : Meter}
 run_steps counts = record { latest = counts.latest; runs = counts.runs }
 
 -- by one try, where the cells are few
-pub counts_one_try : (table : Table) (bounds : Bounds) (plan : Plan) (meter : Meter)
-    (result : Result Verdict Memory)
-    → bounds.cells ≤ 1024 → OnOk result (CountsRuns spread table bounds plan meter)
-    → OnOk result (CountsTries table bounds plan meter.steps)
-counts_one_try table bounds plan meter (Ok verdict) few counts = inl (few, run_steps counts)
-counts_one_try table bounds plan meter (Err memory) few counts = tt
+pub counts_one_try : {table : Table} {bounds : Bounds} {plan : Plan} {meter : Meter} → bounds.cells ≤ 1024
+    → CountsRuns spread table bounds plan meter → CountsTries table bounds plan meter.steps
+counts_one_try few counts = inl (few, run_steps counts)
 
 module _ (table : Table) (lower upper : Bounds) (plan : Plan) (many : 1024 < upper.cells)
     (few : lower ≡ few_bounds upper) where

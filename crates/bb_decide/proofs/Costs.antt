@@ -430,10 +430,10 @@ off_is true is = absurd cc
 off_is false is = refl
 
 -- what holds of an answer, from two things that hold of it
-pub if_ok_on : {A E : Type 0} (r : Result A E) (P Q : A → Type 0) (R : Type 0) → ((x : A) → P x → Q x → R)
-    → IfOk r P → IfOk r Q → OnOk r R
-if_ok_on (Ok x) P Q R f one other = f x one other
-if_ok_on (Err e) P Q R f one other = tt
+pub if_ok_both : {A E : Type 0} (r : Result A E) (P Q R : A → Type 0) → ((x : A) → P x → Q x → R x)
+    → IfOk r P → IfOk r Q → IfOk r R
+if_ok_both (Ok x) P Q R f one other = f x one other
+if_ok_both (Err e) P Q R f one other = tt
 
 -- the verdict, where the machine doesn't halt inside the bounds and a decider has found it
 pub verdict_of_deciders : (table : Table) (bounds : Bounds) (plan : Plan) (verdict : Verdict)

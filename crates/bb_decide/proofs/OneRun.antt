@@ -2,8 +2,6 @@
 use Rattle.std.proofs.Common.{◌≡◌, ℕ, ◌+◌, ◌<◌, ◌≤◌, inl, inr, Some, None, IsTrue, true, false, Option, ℤ}
 use Rattle.std.proofs.Common.{refl, ap, sym}
 use Rattle.std.proofs.Common.{◌∙◌, arith}
-use Rattle.std.specs.Prelude.{IfOk, Result}
-use Rattle.std.proofs.Common.{Ok, Err}
 use Rattle.std.proofs.lemmas.Bool.{cases_lt}
 use Rattle.bb_machine.specs.Limits.{Bounds}
 use Rattle.bb_machine.specs.Machine.{Table}
@@ -200,12 +198,6 @@ module _ (table : Table) (bounds : Bounds) where
       (λ on. absurd (off on), translated, found.0, found.1)
   translated_on plan off translated (Ran outcome) found ran = (ran, (λ on. absurd (off on), λ on. found))
   translated_on plan off translated (Found verdict) found ran = absurd found
-
--- what holds of an answer, from two things that hold of it
-pub if_ok_both : {A E : Type 0} (r : Result A E) (P Q R : A → Type 0) → ((x : A) → P x → Q x → R x)
-    → IfOk r P → IfOk r Q → IfOk r R
-if_ok_both (Ok x) P Q R f one other = f x one other
-if_ok_both (Err e) P Q R f one other = tt
 
 module _ (table : Table) (bounds : Bounds) (plan : Plan) where
   nowhere_of_never : Never table → HaltsNowhere table bounds

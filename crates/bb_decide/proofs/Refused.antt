@@ -1,6 +1,5 @@
 -- What one decision has counted where one of its runs is refused memory.
 use Rattle.std.proofs.Common.{◌≡◌, ℕ, ◌+◌, Bool, true, false, inl, inr, ℤ, refl, ap, arith}
-use Rattle.std.proofs.Common.{OnErr, Ok, Err, Result}
 use Rattle.bb_machine.specs.Limits.{Bounds}
 use Rattle.bb_machine.specs.Machine.{Table}
 use Rattle.bb_sim.specs.declared.meter.Meter.{Meter}
@@ -10,10 +9,6 @@ use Rattle.bb_decide.specs.OneRun.{BreaksOff, IsStoppedAt, RunsBefore}
 use Rattle.bb_decide.specs.declared.ending.Ending.{Ending}
 use Rattle.bb_decide.specs.inside.Ending.{RanAs, found_of, is_settled}
 use Rattle.bb_decide.proofs.RunsMade.{both_open, makes_cycles}
-
-pub on_err_map : {A E : Type 0} (r : Result A E) (P Q : Type 0) → (P → Q) → OnErr r P → OnErr r Q
-on_err_map (Ok x) P Q f holds = tt
-on_err_map (Err e) P Q f holds = f holds
 
 module _ {key : ℤ → ℕ} {table : Table} {bounds : Bounds} where
   -- after runs that made so many steps

@@ -1,16 +1,18 @@
 use Rattle.std.proofs.Common.{◌≡◌, ◌<◌, ◌≤◌, rules}
+use Rattle.std.proofs.lemmas.Result.{IfOk-weaker, on_ok_weaker}
 use Rattle.bb_c.proofs.Costs.{costs_both_tries, costs_first_try, counts_both_tries, counts_first_try}
-use Rattle.bb_c.proofs.Costs.{counts_one_try, if_one_try, not_both}
+use Rattle.bb_c.proofs.Costs.{counts_one_try, costs_one_try, not_both}
 use Rattle.bb_c.proofs.deciding.verdict_on.Goals as goal
 
 pub returns-then-cells-le-FEW_CELLS-clause-bound : goal.returns-then-cells-le-FEW_CELLS-clause-bound
 returns-then-cells-le-FEW_CELLS-clause-bound c =
-    if_one_try _ c.args.limits.now c.args.plan _ _ c.verdict_within.ensures.bound
+    IfOk-weaker c.verdict_within.result _ _ (costs_one_try _ c.args.limits.now c.args.plan _)
+    c.verdict_within.ensures.bound
 
 pub returns-then-cells-le-FEW_CELLS-clause-counted : goal.returns-then-cells-le-FEW_CELLS-clause-counted
 returns-then-cells-le-FEW_CELLS-clause-counted c =
     let few : c.args.limits.now.cells ≤ 1024 = search rules in
-    counts_one_try _ c.args.limits.now c.args.plan _ _ few c.verdict_within.ensures.counted
+    on_ok_weaker c.verdict_within.result (counts_one_try few) c.verdict_within.ensures.counted
 
 pub returns-then-is_found_by_run-clause-bound : goal.returns-then-is_found_by_run-clause-bound
 returns-then-is_found_by_run-clause-bound c =

@@ -1,5 +1,5 @@
 use Rattle.std.proofs.Common.{refl, ◌∙◌}
-use Rattle.bb_decide.proofs.Costs.{counts_all, counts_searches, if_ok_on, no_walk_counted, off_where_not}
+use Rattle.bb_decide.proofs.Costs.{counts_all, counts_searches, if_ok_both, no_walk_counted, off_where_not}
 use Rattle.bb_decide.proofs.Costs.{on_where_not, search_of_all}
 use Rattle.bb_decide.proofs.decision.find.Goals as goal
 
@@ -18,7 +18,7 @@ returns-in-Some-clause-counted g c =
 pub returns-clause-counted : goal.returns-clause-counted
 returns-clause-counted g c =
     let passes = rw c.in-None.is at c.in_ok-verdict.ensures.found in
-    if_ok_on c.backward.result _ _ _
+    if_ok_both c.backward.result _ _ _
     (λ found. counts_all c.args.machine.now c.args.limits.now c.args.plan passes found _ _ _
     c.in_ok-verdict.ensures.counted (on_where_not _ c.if-not-plan.false)) c.backward.ensures.found
     c.backward.ensures.counted

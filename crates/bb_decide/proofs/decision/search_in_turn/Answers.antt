@@ -1,5 +1,5 @@
 use Rattle.bb_decide.proofs.Costs.{PassedCycles, counts_both, counts_cycles, counts_one, cycle_of_searches}
-use Rattle.bb_decide.proofs.Costs.{if_ok_on, off_where_not, on_where_not, passed_off, passed_on}
+use Rattle.bb_decide.proofs.Costs.{if_ok_both, off_where_not, on_where_not, passed_off, passed_on}
 use Rattle.bb_decide.proofs.decision.search_in_turn.Given as given
 use Rattle.bb_decide.proofs.decision.search_in_turn.Goals as goal
 use Rattle.bb_decide.proofs.decision.search_in_turn.Goals.{then-plan+in_ok-verdict+in-None, else-plan}
@@ -43,5 +43,5 @@ returns-clause-counted g c =
           rw w.meter-is (passed_on w.if-plan.true found counted)
       | else-plan w ↦ passed_off w.if-plan.false w.meter-is
     ] in
-    if_ok_on c.translated.result _ _ _ (counts_both passed (on_where_not _ c.if-not-plan.false))
+    if_ok_both c.translated.result _ _ _ (counts_both passed (on_where_not _ c.if-not-plan.false))
     c.translated.ensures.found c.translated.ensures.counted

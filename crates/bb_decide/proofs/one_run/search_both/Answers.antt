@@ -1,10 +1,10 @@
 use Rattle.std.proofs.Common.{sym, ◌∙◌}
-use Rattle.std.proofs.lemmas.Result.{err_from_is_err_and}
-use Rattle.bb_decide.proofs.OneRun.{both_end, chance_costs, exact_costs, if_ok_both}
+use Rattle.std.proofs.lemmas.Result.{err_from_is_err_and, on_err_weaker}
+use Rattle.bb_decide.proofs.OneRun.{both_end, chance_costs, exact_costs}
 use Rattle.bb_decide.proofs.OneRun.{settled_ends, watched_costs, watched_ends}
-use Rattle.bb_decide.proofs.Costs.{if_ok_on}
+use Rattle.bb_decide.proofs.Costs.{if_ok_both}
 use Rattle.bb_decide.proofs.RunsMade.{both_open, open_adds, settled_adds, watched_adds}
-use Rattle.bb_decide.proofs.Refused.{breaks_in_cycles, breaks_in_records, on_err_map}
+use Rattle.bb_decide.proofs.Refused.{breaks_in_cycles, breaks_in_records}
 use Rattle.bb_decide.proofs.one_run.search_both.Goals as goal
 
 pub returns-in-Some-clause-ended : goal.returns-in-Some-clause-ended
@@ -57,7 +57,7 @@ returns-then-is_settled-clause-adds g c =
 pub returns-clause-adds : goal.returns-clause-adds
 returns-clause-adds g c =
     let watched = rw c.in-None.is at c.in_ok-ending.ensures.watched in
-    if_ok_on c.seek_translation.result _ _ _
+    if_ok_both c.seek_translation.result _ _ _
     (open_adds watched.1 watched.2 _ c.in_ok-ending-2.ending 
     (sym c.is_settled.ensures ∙ c.if-is_settled.false)
     c.in_ok-ending-2.ensures.found c.in_ok-ending-2.ensures.ran c.in_ok-ending-2.ensures.counted)
@@ -73,7 +73,7 @@ returns-in_err-ending-2-clause-cut g c =
 pub returns-clause-cut : goal.returns-clause-cut
 returns-clause-cut g c =
     let watched = rw c.in-None.is at c.in_ok-ending.ensures.watched in
-    on_err_map c.seek_translation.result _ _
+    on_err_weaker c.seek_translation.result
     (breaks_in_records watched.1 _ c.requires.steps watched.2 _ c.in_ok-ending-2.ending
     (sym c.is_settled.ensures ∙ c.if-is_settled.false) c.in_ok-ending-2.ensures.found
     c.in_ok-ending-2.ensures.ran c.in_ok-ending-2.ensures.counted _)

@@ -1,6 +1,5 @@
 use Rattle.std.proofs.Common.{◌∙◌}
-use Rattle.std.specs.Prelude.{Result, Ok, Err, OnOk}
-use Rattle.std.proofs.lemmas.Result.{err_from_is_err_and, on_err_weaker}
+use Rattle.std.proofs.lemmas.Result.{err_from_is_err_and, on_err_weaker, on_ok_weaker}
 use Rattle.bb_lines.proofs.Facts.{AppendsPrefix-more}
 use Rattle.bb_run.proofs.Traces.{step_text-is, AppendsPrefix-line, AppendsPrefix-end, Sends-line}
 use Rattle.bb_run.proofs.tracing.add_step.Goals as goal
@@ -16,10 +15,6 @@ returns-in_err-add_cells-clause-err g c =
     c.from_residual-in_err-add_cells.ensures.1 in
     let parts = step_text-is c.requires.stands (c.as_slice.ensures.value ∙ c.head_of.ensures.text) in
     rw p.1 (AppendsPrefix-line parts c.in_ok-add.ensures.sent c.in_err-add_cells.ensures.err)
-
-on_ok_weaker : {T E P Q : Type 0} (r : Result T E) → (P → Q) → OnOk r P → OnOk r Q
-on_ok_weaker (Ok a) f p = f p
-on_ok_weaker (Err e) f p = p
 
 pub returns-clause-sent : goal.returns-clause-sent
 returns-clause-sent g c =
