@@ -40,10 +40,6 @@ costs_one_try table bounds plan steps verdict costs none =
     inl (costs (λ chance. none (later (max (named_step bounds verdict) (first_steps bounds)) (omega arith)
     (same_bounds bounds) chance)))
 
--- no test is both true and false
-pub not_both : {b : Bool} → IsTrue b → b ≡ false → ⊥
-not_both is not = cc
-
 module _ (table : Table) (lower upper : Bounds) (plan : Plan) (smaller : NoneIsSmaller lower upper) where
   named_as : (verdict : Verdict) → IsFoundByRun verdict → named_step lower verdict ≡ named_step upper verdict
   named_as (Backward levels nodes) found = absurd found

@@ -412,23 +412,6 @@ module _ (table : Table) (bounds : Bounds) (plan : Plan) where
   search_of_all (Translated side first second extent) found = found
   search_of_all verdict found = absurd found
 
--- a test that was turned round
-pub on_where_not : (test : Bool) → not test ≡ false → IsTrue test
-on_where_not true is = refl
-on_where_not false is = absurd cc
-
-pub off_where_not : (test : Bool) → not test ≡ true → IsTrue test → ⊥
-off_where_not true is on = cc
-off_where_not false is on = cc
-
-pub on_is : (test : Bool) → not test ≡ false → test ≡ true
-on_is true is = refl
-on_is false is = absurd cc
-
-pub off_is : (test : Bool) → not test ≡ true → test ≡ false
-off_is true is = absurd cc
-off_is false is = refl
-
 -- what holds of an answer, from two things that hold of it
 pub if_ok_both : {A E : Type 0} (r : Result A E) (P Q R : A → Type 0) → ((x : A) → P x → Q x → R x)
     → IfOk r P → IfOk r Q → IfOk r R

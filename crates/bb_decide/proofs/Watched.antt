@@ -93,10 +93,6 @@ heads_apart table n c d at_c at_d same =
     moved_apart L p is = omega (arith, ints, is)
     moved_apart R p is = omega (arith, ints, is)
 
--- no test is both true and false
-pub not_both : {b : Bool} → IsTrue b → b ≡ false → ⊥
-not_both is not = cc
-
 -- the symbol of a cell fits, and its position is small
 pub record IsReadable (view : TapeView) (p : ℤ) : Type 0 where
   pub inside : IsInside view p

@@ -1,6 +1,7 @@
+use Rattle.std.proofs.lemmas.Bool.{both_ways, not-true, not-false}
 use Rattle.std.proofs.Common.{refl, ◌∙◌}
-use Rattle.bb_decide.proofs.Costs.{counts_all, counts_searches, if_ok_both, no_walk_counted, off_where_not}
-use Rattle.bb_decide.proofs.Costs.{on_where_not, search_of_all}
+use Rattle.bb_decide.proofs.Costs.{counts_all, counts_searches, if_ok_both, no_walk_counted}
+use Rattle.bb_decide.proofs.Costs.{search_of_all}
 use Rattle.bb_decide.proofs.decision.find.Goals as goal
 
 pub returns-in-Some-clause-found : goal.returns-in-Some-clause-found
@@ -20,13 +21,13 @@ returns-clause-counted g c =
     let passes = rw c.in-None.is at c.in_ok-verdict.ensures.found in
     if_ok_both c.backward.result _ _ _
     (λ found. counts_all c.args.machine.now c.args.limits.now c.args.plan passes found _ _ _
-    c.in_ok-verdict.ensures.counted (on_where_not _ c.if-not-plan.false)) c.backward.ensures.found
+    c.in_ok-verdict.ensures.counted (not-false _ c.if-not-plan.false)) c.backward.ensures.found
     c.backward.ensures.counted
 
 pub returns-then-not-plan-clause-found : goal.returns-then-not-plan-clause-found
 returns-then-not-plan-clause-found g c =
     let passes = rw c.in-None.is at c.in_ok-verdict.ensures.found in
-    (passes.0, passes.1, λ on. absurd (off_where_not _ c.if-not-plan.true on))
+    (passes.0, passes.1, λ on. absurd (both_ways _ (not-true _ c.if-not-plan.true) on))
 
 pub returns-then-not-plan-clause-counted : goal.returns-then-not-plan-clause-counted
 returns-then-not-plan-clause-counted g c =
@@ -36,5 +37,5 @@ returns-then-not-plan-clause-counted g c =
       steps = refl;
       most_cells = refl;
       walk = no_walk_counted _ _ _ _ (counts.adds.most_levels ∙ c.requires.most_levels)
-          (counts.adds.nodes ∙ c.requires.nodes) (λ made. off_where_not _ c.if-not-plan.true made.2);
+          (counts.adds.nodes ∙ c.requires.nodes) (λ made. both_ways _ (not-true _ c.if-not-plan.true) made.2);
     }

@@ -1,5 +1,6 @@
+use Rattle.std.proofs.lemmas.Bool.{both_ways, not-true, not-false}
 use Rattle.bb_decide.proofs.Costs.{PassedCycles, counts_both, counts_cycles, counts_one, cycle_of_searches}
-use Rattle.bb_decide.proofs.Costs.{if_ok_both, off_where_not, on_where_not, passed_off, passed_on}
+use Rattle.bb_decide.proofs.Costs.{if_ok_both, passed_off, passed_on}
 use Rattle.bb_decide.proofs.decision.search_in_turn.Given as given
 use Rattle.bb_decide.proofs.decision.search_in_turn.Goals as goal
 use Rattle.bb_decide.proofs.decision.search_in_turn.Goals.{then-plan+in_ok-verdict+in-None, else-plan}
@@ -27,11 +28,11 @@ passed g c = elim c.if-plan.branch [
 
 pub returns-then-not-plan-clause-found : goal.returns-then-not-plan-clause-found
 returns-then-not-plan-clause-found g c =
-    ((passed g c).passes, λ on. absurd (off_where_not _ c.if-not-plan.true on))
+    ((passed g c).passes, λ on. absurd (both_ways _ (not-true _ c.if-not-plan.true) on))
 
 pub returns-then-not-plan-clause-counted : goal.returns-then-not-plan-clause-counted
 returns-then-not-plan-clause-counted g c =
-    counts_one (passed g c) (off_where_not _ c.if-not-plan.true)
+    counts_one (passed g c) (both_ways _ (not-true _ c.if-not-plan.true))
 
 pub returns-clause-counted : goal.returns-clause-counted
 returns-clause-counted g c =
@@ -43,5 +44,5 @@ returns-clause-counted g c =
           rw w.meter-is (passed_on w.if-plan.true found counted)
       | else-plan w ↦ passed_off w.if-plan.false w.meter-is
     ] in
-    if_ok_both c.translated.result _ _ _ (counts_both passed (on_where_not _ c.if-not-plan.false))
+    if_ok_both c.translated.result _ _ _ (counts_both passed (not-false _ c.if-not-plan.false))
     c.translated.ensures.found c.translated.ensures.counted

@@ -1,5 +1,6 @@
+use Rattle.std.proofs.lemmas.Bool.{not-true, not-false}
 use Rattle.std.proofs.Common.{arith}
-use Rattle.bb_decide.proofs.Costs.{if_ok_both, off_is, on_is}
+use Rattle.bb_decide.proofs.Costs.{if_ok_both}
 use Rattle.bb_decide.proofs.OneRun.{cycle_costs, run_costs}
 use Rattle.bb_decide.proofs.RunsMade.{cycles_add, no_search_adds, translations_add}
 use Rattle.bb_decide.proofs.one_run.search_by_plan.Goals as goal
@@ -27,21 +28,21 @@ returns-then-not-plan-3-clause-costs g c =
 
 pub returns-then-not-plan-2-clause-adds : goal.returns-then-not-plan-2-clause-adds
 returns-then-not-plan-2-clause-adds g c =
-    rw (off_is _ c.if-not-plan.true, off_is _ c.if-not-plan-2.true)
+    rw (not-true _ c.if-not-plan.true, not-true _ c.if-not-plan-2.true)
     (no_search_adds _ _ _ c.in_ok-outcome.ensures.counted)
 
 pub returns-then-not-plan-clause-adds : goal.returns-then-not-plan-clause-adds
 returns-then-not-plan-clause-adds g c =
-    rw (off_is _ c.if-not-plan.true, on_is _ c.if-not-plan-2.false)
+    rw (not-true _ c.if-not-plan.true, not-false _ c.if-not-plan-2.false)
     (if_ok_both c.seek_cycle.result _ _ _ (cycles_add _ _ _) c.seek_cycle.ensures.found
     c.seek_cycle.ensures.counted)
 
 pub returns-then-not-plan-3-clause-adds : goal.returns-then-not-plan-3-clause-adds
 returns-then-not-plan-3-clause-adds g c =
-    rw (on_is _ c.if-not-plan.false, off_is _ c.if-not-plan-3.true)
+    rw (not-false _ c.if-not-plan.false, not-true _ c.if-not-plan-3.true)
     (if_ok_both c.seek_translation.result _ _ _ (translations_add _ _ _) c.seek_translation.ensures.found
     c.seek_translation.ensures.counted)
 
 pub returns-clause-adds : goal.returns-clause-adds
 returns-clause-adds g c =
-    rw (on_is _ c.if-not-plan.false, on_is _ c.if-not-plan-3.false) c.search_both.ensures.adds
+    rw (not-false _ c.if-not-plan.false, not-false _ c.if-not-plan-3.false) c.search_both.ensures.adds

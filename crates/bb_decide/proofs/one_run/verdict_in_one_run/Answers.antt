@@ -1,9 +1,9 @@
+use Rattle.std.proofs.lemmas.Bool.{both_ways, not-true, not-false}
 use Rattle.std.proofs.Common.{Some, None, ap, ◌∙◌}
 use Rattle.std.proofs.lemmas.Result.{err_from_is_err_and}
 use Rattle.bb_sim.specs.declared.meter.Meter.{Meter}
 use Rattle.bb_decide.proofs.OneRun.{found_is_verdict, no_walk_at_halt, no_walk_beside}
 use Rattle.bb_decide.proofs.OneRun.{walk_counted}
-use Rattle.bb_decide.proofs.Costs.{off_where_not, on_where_not}
 use Rattle.bb_decide.proofs.RunsMade.{runs_before_tree, runs_counted, runs_counted_beside}
 use Rattle.bb_sim.specs.Outcome.{HaltsNowhere}
 use Rattle.bb_decide.specs.inside.Search.{SearchesFind}
@@ -44,14 +44,14 @@ pub returns-in-Some-clause-walk : goal.returns-in-Some-clause-walk
 returns-in-Some-clause-walk g c =
     let open_here = open_yet g (goal.at.returns-in-Some-clause-walk g c).After-backward in
     walk_counted _ _ _ (Some c.in-Some.verdict) c.search_by_plan.new.meter _ open_here.0 open_here.1
-    (on_where_not _ c.if-not-plan.false) (rw c.in-Some.is at c.in_ok-verdict-2.ensures.found)
+    (not-false _ c.if-not-plan.false) (rw c.in-Some.is at c.in_ok-verdict-2.ensures.found)
     (rw c.in-Some.is at c.in_ok-verdict-2.ensures.counted)
 
 pub returns-in-None-clause-walk : goal.returns-in-None-clause-walk
 returns-in-None-clause-walk g c =
     let open_here = open_yet g (goal.at.returns-in-None-clause-walk g c).After-backward in
     walk_counted _ _ _ None c.search_by_plan.new.meter _ open_here.0 open_here.1
-    (on_where_not _ c.if-not-plan.false) (rw c.in-None.is at c.in_ok-verdict-2.ensures.found)
+    (not-false _ c.if-not-plan.false) (rw c.in-None.is at c.in_ok-verdict-2.ensures.found)
     (rw c.in-None.is at c.in_ok-verdict-2.ensures.counted)
 
 pub returns-in-Found-clause-counted : goal.returns-in-Found-clause-counted
@@ -78,7 +78,7 @@ returns-in-None-clause-counted g c =
 
 pub returns-then-not-plan-clause-verdict : goal.returns-then-not-plan-clause-verdict
 returns-then-not-plan-clause-verdict g c =
-    let off = off_where_not _ c.if-not-plan.true in
+    let off = both_ways _ (not-true _ c.if-not-plan.true) in
     elim c.match-outcome.branch [
       | in-NoSteps w ↦
           let ended = rw (c.in-Ran.is, w.in-NoSteps.is) at c.in_ok-verdict.ensures.ended in

@@ -1,3 +1,4 @@
+use Rattle.std.proofs.lemmas.Bool.{both_ways}
 use Rattle.std.proofs.Common.{refl, rules, ◌≡◌}
 use Rattle.std.proofs.lemmas.Result.{err_from_is_err_and}
 use Rattle.bb_decide.specs.Fingerprint.{fingerprint}
@@ -6,7 +7,7 @@ use Rattle.bb_decide.proofs.Counted.{cut_after_step, taken_over}
 use Rattle.bb_decide.proofs.Cycles.{no_cycle_at_end}
 use Rattle.bb_decide.proofs.Endings.{watches_and_finds, watches_to_end, watches_to_stop, watches_until_cut}
 use Rattle.bb_decide.proofs.Translations.{goes_on, is_found, none_at_end, searching_at_first}
-use Rattle.bb_decide.proofs.Watched.{IsReadable, not_both, not_stopped_at_end, not_stopped_at_record}
+use Rattle.bb_decide.proofs.Watched.{IsReadable, not_stopped_at_end, not_stopped_at_record}
 use Rattle.bb_decide.proofs.Watched.{print_known}
 use Rattle.bb_decide.proofs.Watched.{readable_here, still_inside, stopped, watched_at_first, watched_on}
 use Rattle.bb_decide.proofs.watching.run_watched.Given as given
@@ -119,7 +120,7 @@ returns-in-Some-2 g c =
     (lent_uncounted step.2 here.lent))
     (not_stopped_at_record here.watched step.0 step.1 refl
     (print g (goal.at.returns-in-Some-2 g c).After-rewritten)
-    (λ same. not_both (c.are_as_kept.ensures.1 same) c.if-are_as_kept.false) looks.0)
+    (λ same. both_ways _ c.if-are_as_kept.false (c.are_as_kept.ensures.1 same)) looks.0)
     (is_found here.search step.0 step.1 looks)
 
 pub LOOP-preserved : goal.LOOP-preserved
@@ -132,7 +133,7 @@ LOOP-preserved g c =
       search = goes_on here.search step.0 step.1 looks;
       watched = watched_on here.watched step.0 step.1 refl
           (print g (goal.at.LOOP-preserved g c).After-rewritten)
-          (λ same. not_both (c.are_as_kept.ensures.1 same) c.if-are_as_kept.false) c.keep_in_turn.ensures;
+          (λ same. both_ways _ c.if-are_as_kept.false (c.are_as_kept.ensures.1 same)) c.keep_in_turn.ensures;
       lent = lent_on c.step_on.ensures.limit call.right_limit call.left_limit
           (lent_uncounted looks.2 (lent_uncounted step.2 here.lent));
     }
