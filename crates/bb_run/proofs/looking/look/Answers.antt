@@ -1,5 +1,6 @@
 use Rattle.std.proofs.Common.{◌≡◌, ℕ, List, [], ◌∷◌, length, rules, refl, sym, ◌∙◌, ap, subst, arith}
 use Rattle.std.proofs.lemmas.Bool.{eq-eqb, eqb-true, false≢true}
+use Rattle.std.proofs.lemmas.List.{nil_from_length}
 use Rattle.bb_lines.specs.Lines.{lines}
 use Rattle.bb_run.specs.Look.{HasNoReply}
 use Rattle.bb_run.proofs.Looks.{all_counted, all_replied, as_many, fails_at_end, fails_here, looked_at_none}
@@ -81,20 +82,16 @@ returns-then-not-is_empty-clause-first c = stops_here c.loop-line.invariant.look
 pub returns-then-not-is_empty-clause-no_replies : goal.returns-then-not-is_empty-clause-no_replies
 returns-then-not-is_empty-clause-no_replies c = no_replies c.loop-line.invariant.looked_at (none_left c)
 
-empty : (bytes : List ℕ) → length bytes ≡ 0 → bytes ≡ []
-empty [] is = refl
-empty (byte ∷ bytes) is = absurd (omega arith)
-
 pub returns-clause-replies : goal.returns-clause-replies
 returns-clause-replies c =
     all_replied c.loop-line.invariant.looked_at (ap lines c.in_default.ensures ∙ lines_of_none)
-    (empty c.loop-line.replies_left.now
+    (nil_from_length c.loop-line.replies_left.now
     (eqb-true (length c.loop-line.replies_left.now) 0 (sym c.is_empty.ensures ∙ c.if-not-is_empty.false)))
 
 pub returns-clause-counts : goal.returns-clause-counts
 returns-clause-counts c =
     let here = c.loop-line.invariant in
     all_counted here.looked_at (ap lines c.in_default.ensures ∙ lines_of_none)
-    (empty c.loop-line.replies_left.now
+    (nil_from_length c.loop-line.replies_left.now
     (eqb-true (length c.loop-line.replies_left.now) 0 (sym c.is_empty.ensures ∙ c.if-not-is_empty.false)))
     _ here.are_counts
