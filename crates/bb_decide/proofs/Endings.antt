@@ -67,10 +67,10 @@ module _ {table : Table} {bounds : Bounds} {old new : Runner} {view_old view : T
       let same : Stepped ≡ Stepped = refl in absurd (apart same)
 
   -- it stepped into Z
-  pub ends_in_Z : state_of new ≡ Halt → Inside table bounds (steps_of new) → steps_of new ≡ steps_of old + 1
+  pub ends_into_Z : state_of new ≡ Halt → Inside table bounds (steps_of new) → steps_of new ≡ steps_of old + 1
       → TellsEnd Halted (steps_of new) (score view.content) outcome
       → EndsRun table bounds old new view first meter outcome
-  ends_in_Z halts inside next is =
+  ends_into_Z halts inside next is =
       let stops = halts_in_Z table new view stands halts in
       record {
         stands = stands;

@@ -1,6 +1,6 @@
 use Rattle.std.proofs.Common.{arith, refl}
 use Rattle.bb_decide.proofs.Counted.{cut_at_step, few_steps}
-use Rattle.bb_decide.proofs.Endings.{ends_in_Z, ends_where_stopped, step_ends, step_is_cut}
+use Rattle.bb_decide.proofs.Endings.{ends_into_Z, ends_where_stopped, step_ends, step_is_cut}
 use Rattle.bb_decide.proofs.Halting.{in_no_state, not_in_Z}
 use Rattle.bb_decide.proofs.ending.step_on.Goals as goal
 
@@ -35,7 +35,7 @@ returns-in_default-state g c =
     let moves = rw c.in-Stepped.is at call.moves in
     let halts = in_no_state _ _ c.state.ensures c.in_default-state.not-Some in
     step_ends c.advance.ensures.limit
-    (ends_in_Z call.stands c.count_run-in_default-state.ensures halts reaches.0 moves.0
+    (ends_into_Z call.stands c.count_run-in_default-state.ensures halts reaches.0 moves.0
     c.outcome_of-outcome.ensures)
 
 pub returns : goal.returns
