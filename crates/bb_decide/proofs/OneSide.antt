@@ -203,14 +203,13 @@ module _ (table : Table) (n : ℕ) (runner : Runner) (run saved : TapeView) (old
         by_turn : KeepsByTurn with_next runner run saved new new_saved
             → IsSearched table (steps_of runner) new new_saved
         by_turn (inl kept) =
-            subst (λ r. IsSearched table (steps_of runner) r new_saved) (sym kept.1)
-            (subst (IsSearched table (steps_of runner) (with_kept with_next runner)) (sym kept.2) (record {
+            rw (kept.1, kept.2) (record {
               followed = keeps table runner run saved with_next stands known makes;
               partner = keeps_next searched.followed.number searched.followed.count searched.partner
                   (twice _ _ _ _ searched.followed.number_is top_is kept.0);
-            }))
+            })
         by_turn (inr stayed) =
-            subst (λ r. IsSearched table (steps_of runner) r new_saved) (sym stayed.1) (record {
+            rw stayed.1 (record {
               followed = stays table runner run saved with_next stands known makes new_saved stayed.2;
               partner = keeps_on searched.followed.number searched.followed.count searched.partner
                   (short _ _ _ _ searched.followed.number_is top_is stayed.0);

@@ -34,8 +34,7 @@ module _ (line : List ℕ) (s t : Table) (v w : Verdict) (first : IsLineOf (Clai
   -- so it has no two answers
   pub one_answer : (bounds : Bounds) (a b : Answer) → IsAnswer s bounds v a → IsAnswer t bounds w b → a ≡ b
   one_answer bounds a b is_a is_b =
-      let moved = subst (λ (x : Table). IsAnswer x bounds v a) one_table is_a in
-      answer_is_unique t bounds w a b (subst (λ (x : Verdict). IsAnswer t bounds x a) one_verdict moved) is_b
+      answer_is_unique t bounds w a b (rw (← one_table, ← one_verdict) is_a) is_b
 
 -- a claim's line gets the word of its answer, a refusal's `open`
 pub answered : (bounds : Bounds) (line : List ℕ) (table : Table) (verdict : Verdict) (given : Answer)

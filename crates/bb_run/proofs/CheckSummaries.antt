@@ -159,5 +159,5 @@ module _ {D : Type 0} (bounds : D → Bounds) (summary : D → Summary) (cost : 
       more past d line e before saw = (
         saw.0 ∙ before.0,
         line_summed (bounds a) past line (summary d) (summary e) (cost e) before.1
-            (subst (λ (l : Bounds). CheckSaw l (summary d) line (summary e) (cost e)) before.0 saw.1),
+            (rw (← before.0) saw.1),
       )

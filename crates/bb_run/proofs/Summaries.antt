@@ -259,12 +259,7 @@ module _ {D : Type 0} (Counts : Bounds → Plan → Table → Meter → Type 0) 
       more past d line e before saw = (
         saw.0 ∙ before.0,
         saw.1 ∙ before.1,
-        FoldsTo-push _ _ past _ line _ before.2 (
-          cost e,
-          subst (λ (p : Plan). SawBy (Counts (bounds a) p) (summary d) line (summary e) (cost e)) before.1
-              (subst (λ (l : Bounds). SawBy (Counts l (plan d)) (summary d) line (summary e) (cost e))
-              before.0 saw.2),
-        ),
+        FoldsTo-push _ _ past _ line _ before.2 (cost e, rw (← before.0, ← before.1) saw.2),
       )
 
 -- a list that ends so with one kind of summary ends so with each kind that follows

@@ -39,6 +39,5 @@ returns-in-Some-2-clause-looks g c =
 pub returns-in-None-clause-looks : goal.returns-in-None-clause-looks
 returns-in-None-clause-looks g c =
     let call = c.in_ok-verdict.ensures in
-    let looks = looks_at_one (taken g (goal.at.returns-in-None-clause-looks g c).After-widened_side) _ _ _ _ _
-    c.in-Some.is (rw c.in-None.is at call.looks) in
-    (looks.0, looks.1, call.uncounted)
+    rw call.uncounted (looks_at_one (taken g (goal.at.returns-in-None-clause-looks g c).After-widened_side)
+    _ _ _ _ _ c.in-Some.is (rw c.in-None.is at call.looks))
