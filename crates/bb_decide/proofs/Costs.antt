@@ -408,9 +408,8 @@ module _ (table : Table) (bounds : Bounds) (plan : Plan) where
 
   pub search_of_all : (verdict : Verdict) → SearchesFind table bounds plan (Some verdict)
       → DecidersFind table bounds plan (Some verdict)
-  search_of_all (Cycler first second) found = found
-  search_of_all (Translated side first second extent) found = found
-  search_of_all verdict found = absurd found
+  search_of_all (Backward levels nodes) found = absurd found
+  search_of_all verdict found = found
 
 -- what holds of an answer, from two things that hold of it
 pub if_ok_both : {A E : Type 0} (r : Result A E) (P Q R : A → Type 0) → ((x : A) → P x → Q x → R x)

@@ -5,7 +5,7 @@ use Rattle.bb_machine.specs.Limits.{Bounds}
 use Rattle.bb_machine.specs.Machine.{Table}
 use Rattle.bb_sim.specs.declared.meter.Meter.{Meter}
 use Rattle.bb_cert.specs.declared.verdict.Verdict.{Verdict}
-use Rattle.bb_cert.specs.declared.verdict.Verdict.TheVariants.{Halt, Cycler, Translated, Backward, Undecided}
+use Rattle.bb_cert.specs.declared.verdict.Verdict.TheVariants.{Backward}
 use Rattle.bb_cert.specs.tree.Tree.{Back, EndsNowhere}
 use Rattle.bb_cert.specs.tree.WalkMeter.{IsWithinWalk, walked}
 
@@ -17,10 +17,7 @@ HasNoTree table bounds = EndsNowhere table bounds.depth bounds.nodes
 abbrev pub FindsTree : Table → Bounds → Option Verdict → Type 0
 FindsTree table bounds None = HasNoTree table bounds
 FindsTree table bounds (Some (Backward levels nodes)) = Back table bounds levels nodes
-FindsTree table bounds (Some (Halt steps score)) = ⊥
-FindsTree table bounds (Some (Cycler first second)) = ⊥
-FindsTree table bounds (Some (Translated side first second extent)) = ⊥
-FindsTree table bounds (Some (Undecided why)) = ⊥
+FindsTree table bounds (Some verdict) = ⊥
 
 -- a meter whose nodes and levels are begun at 0
 abbrev pub without_nodes : Meter → Meter
@@ -30,7 +27,4 @@ without_nodes meter = record meter { nodes = 0; most_levels = 0 }
 abbrev pub CountsTree : Bounds → Meter → Meter → Option Verdict → Type 0
 CountsTree bounds old new None = IsWithinWalk bounds.depth bounds.nodes (without_nodes old) new
 CountsTree bounds old new (Some (Backward levels nodes)) = new ≡ walked (without_nodes old) levels nodes
-CountsTree bounds old new (Some (Halt steps score)) = ⊥
-CountsTree bounds old new (Some (Cycler first second)) = ⊥
-CountsTree bounds old new (Some (Translated side first second extent)) = ⊥
-CountsTree bounds old new (Some (Undecided why)) = ⊥
+CountsTree bounds old new (Some verdict) = ⊥

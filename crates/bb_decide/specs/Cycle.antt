@@ -7,7 +7,7 @@ use Rattle.bb_sim.specs.declared.meter.Meter.{Meter}
 use Rattle.bb_sim.specs.Meter.{CountsTo, CountsRun}
 use Rattle.bb_sim.specs.Span.{Inside}
 use Rattle.bb_cert.specs.declared.verdict.Verdict.{Verdict}
-use Rattle.bb_cert.specs.declared.verdict.Verdict.TheVariants.{Halt, Cycler, Translated, Backward, Undecided}
+use Rattle.bb_cert.specs.declared.verdict.Verdict.TheVariants.{Cycler, Translated}
 use Rattle.bb_cert.specs.claims.Repeat.{Same}
 use Rattle.bb_decide.specs.Partner.{IsPartner}
 
@@ -30,16 +30,11 @@ pub record IsFirstCycle (table : Table) (bounds : Bounds) (a t : ℕ) : Type 0 w
 abbrev pub FindsCycle : Table → Bounds → Option Verdict → Type 0
 FindsCycle table bounds None = HasNoCycle table bounds
 FindsCycle table bounds (Some (Cycler first second)) = IsFirstCycle table bounds first second
-FindsCycle table bounds (Some (Halt steps score)) = ⊥
-FindsCycle table bounds (Some (Translated side first second extent)) = ⊥
-FindsCycle table bounds (Some (Backward levels nodes)) = ⊥
-FindsCycle table bounds (Some (Undecided why)) = ⊥
+FindsCycle table bounds (Some verdict) = ⊥
 
 -- the run was counted to the second step of the pair, or as a whole
 abbrev pub CountsSearch : Table → Bounds → Meter → Meter → Option Verdict → Type 0
 CountsSearch table bounds old new None = CountsRun table bounds old new
 CountsSearch table bounds old new (Some (Cycler first second)) = CountsTo table second old new
 CountsSearch table bounds old new (Some (Translated side first second extent)) = CountsTo table second old new
-CountsSearch table bounds old new (Some (Halt steps score)) = ⊥
-CountsSearch table bounds old new (Some (Backward levels nodes)) = ⊥
-CountsSearch table bounds old new (Some (Undecided why)) = ⊥
+CountsSearch table bounds old new (Some verdict) = ⊥

@@ -9,7 +9,7 @@ use Rattle.bb_sim.specs.Configuration.{Configuration}
 use Rattle.bb_sim.specs.Run.{conf}
 use Rattle.bb_sim.specs.Span.{Inside}
 use Rattle.bb_cert.specs.declared.verdict.Verdict.{Verdict}
-use Rattle.bb_cert.specs.declared.verdict.Verdict.TheVariants.{Halt, Cycler, Translated, Backward, Undecided}
+use Rattle.bb_cert.specs.declared.verdict.Verdict.TheVariants.{Halt, Cycler, Translated}
 use Rattle.bb_decide.specs.Partner.{IsPartner}
 
 -- the sum of the first n of f 0, f 1 and so on
@@ -54,16 +54,14 @@ abbrev pub named_step : Bounds → Verdict → ℕ
 named_step bounds (Halt steps score) = steps
 named_step bounds (Cycler first second) = second
 named_step bounds (Translated side first second extent) = second
-named_step bounds (Backward levels nodes) = bounds.steps
-named_step bounds (Undecided why) = bounds.steps
+named_step bounds verdict = bounds.steps
 
 -- how many steps it may cost to find: for a cycler twice the step that it names
 abbrev pub most_steps : Bounds → Verdict → ℕ
 most_steps bounds (Halt steps score) = steps
 most_steps bounds (Cycler first second) = 2 * second
 most_steps bounds (Translated side first second extent) = second
-most_steps bounds (Backward levels nodes) = bounds.steps
-most_steps bounds (Undecided why) = bounds.steps
+most_steps bounds verdict = bounds.steps
 
 -- a verdict cost no more steps than what it names allows, unless configurations up to there agree by chance
 abbrev pub CostsWhatItNames : (ℤ → ℕ) → Table → Bounds → ℕ → Verdict → Type 0

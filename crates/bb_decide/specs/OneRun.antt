@@ -70,9 +70,7 @@ StepsBefore key table bounds before = (before ≡ 0) ⊎ IsStoppedAt key table b
 -- the same with these searches on: a run of one search alone is the first
 abbrev pub RunsBefore : (ℤ → ℕ) → Table → Bounds → (cyclers translated : Bool) → ℕ → Type 0
 RunsBefore key table bounds true true before = StepsBefore key table bounds before
-RunsBefore key table bounds false false before = before ≡ 0
-RunsBefore key table bounds true false before = before ≡ 0
-RunsBefore key table bounds false true before = before ≡ 0
+RunsBefore key table bounds cyclers translated before = before ≡ 0
 
 -- where a run is refused memory, the steps before it are counted and its own, the last of which is inside
 pub record BreaksOff (key : ℤ → ℕ) (table : Table) (bounds : Bounds) (cyclers translated : Bool) (steps : ℕ)

@@ -23,12 +23,9 @@ pub record IsLeastPower (power first second : ℕ) : Type 0 where
 
 -- a pair is found, and its second step is no later than this
 abbrev pub IsFoundBy : ℕ → Option Verdict → Type 0
-IsFoundBy latest None = ⊥
 IsFoundBy latest (Some (Cycler first second)) = second ≤ latest
 IsFoundBy latest (Some (Translated side first second extent)) = second ≤ latest
-IsFoundBy latest (Some (Halt steps score)) = ⊥
-IsFoundBy latest (Some (Backward levels nodes)) = ⊥
-IsFoundBy latest (Some (Undecided why)) = ⊥
+IsFoundBy latest found = ⊥
 
 -- where the configuration of step a comes again p steps later, and step `power + p` is inside, a pair is
 -- found, no later than there
@@ -54,18 +51,14 @@ pub record NoneIsSmaller (lower upper : Bounds) : Type 0 where
 abbrev pub IsPair : Verdict → Type 0
 IsPair (Cycler first second) = Unit {0}
 IsPair (Translated side first second extent) = Unit {0}
-IsPair (Halt steps score) = ⊥
-IsPair (Backward levels nodes) = ⊥
-IsPair (Undecided why) = ⊥
+IsPair verdict = ⊥
 
 -- what a verdict is later: the same, if it is a halt or a pair; a tree may become a pair, and anything may
 -- come of an undecided one
 abbrev pub StaysAs : Verdict → Verdict → Type 0
-StaysAs (Halt steps score) later = later ≡ Halt steps score
-StaysAs (Cycler first second) later = later ≡ Cycler first second
-StaysAs (Translated side first second extent) later = later ≡ Translated side first second extent
 StaysAs (Backward levels nodes) later = (later ≡ Backward levels nodes) ⊎ IsPair later
 StaysAs (Undecided why) later = Unit {0}
+StaysAs earlier later = later ≡ earlier
 
 -- a verdict is what those by the same plan within limits none of which is greater become
 abbrev pub KeepsEarlier : Table → Bounds → Plan → Verdict → Type 0
@@ -77,5 +70,4 @@ abbrev pub IsFoundByRun : Verdict → Type 0
 IsFoundByRun (Halt steps score) = Unit {0}
 IsFoundByRun (Cycler first second) = Unit {0}
 IsFoundByRun (Translated side first second extent) = Unit {0}
-IsFoundByRun (Backward levels nodes) = ⊥
-IsFoundByRun (Undecided why) = ⊥
+IsFoundByRun verdict = ⊥

@@ -6,7 +6,7 @@ use Rattle.bb_machine.specs.Machine.{Table}
 use Rattle.bb_sim.specs.Span.{Inside}
 use Rattle.bb_cert.specs.declared.verdict.Side.{Side}
 use Rattle.bb_cert.specs.declared.verdict.Verdict.{Verdict}
-use Rattle.bb_cert.specs.declared.verdict.Verdict.TheVariants.{Halt, Cycler, Translated, Backward, Undecided}
+use Rattle.bb_cert.specs.declared.verdict.Verdict.TheVariants.{Translated}
 use Rattle.bb_cert.specs.records.Agree.{Agree}
 use Rattle.bb_cert.specs.verdict.Extent.{TellsExtent}
 use Rattle.bb_cert.specs.records.Record.{IsRecord}
@@ -41,7 +41,4 @@ abbrev pub FindsTranslation : Table → Bounds → Option Verdict → Type 0
 FindsTranslation table bounds None = HasNoTranslation table bounds
 FindsTranslation table bounds (Some (Translated side first second extent)) =
     IsFirstTranslation table bounds side first second × TellsExtent table side first second extent
-FindsTranslation table bounds (Some (Halt steps score)) = ⊥
-FindsTranslation table bounds (Some (Cycler first second)) = ⊥
-FindsTranslation table bounds (Some (Backward levels nodes)) = ⊥
-FindsTranslation table bounds (Some (Undecided why)) = ⊥
+FindsTranslation table bounds (Some verdict) = ⊥

@@ -44,10 +44,9 @@ HasForm line reply = (of_kind : ReplyKind) × IsOfKind of_kind line reply
 -- each reply
 abbrev pub AreOfKinds : List (List ℕ) → List ReplyKind → List ℕ → Type 0
 AreOfKinds [] [] bytes = bytes ≡ []
-AreOfKinds [] (of_kind ∷ kinds) bytes = ⊥
-AreOfKinds (line ∷ lines) [] bytes = ⊥
 AreOfKinds (line ∷ lines) (of_kind ∷ kinds) bytes = (reply : List ℕ) × (rest : List ℕ)
     × IsOfKind of_kind line reply × AreOfKinds lines kinds rest × (bytes ≡ (reply ++ 10 ∷ []) ++ rest)
+AreOfKinds lines kinds bytes = ⊥
 
 -- a number for each kind, by which kinds differ
 abbrev pub number_of : ReplyKind → ℕ

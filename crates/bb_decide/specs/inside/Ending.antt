@@ -20,7 +20,7 @@ use Rattle.bb_sim.specs.Outcome.{IsOutcome}
 use Rattle.bb_sim.specs.Run.{Never}
 use Rattle.bb_sim.specs.Span.{span}
 use Rattle.bb_cert.specs.declared.verdict.Verdict.{Verdict}
-use Rattle.bb_cert.specs.declared.verdict.Verdict.TheVariants.{Halt, Cycler, Translated, Backward, Undecided}
+use Rattle.bb_cert.specs.declared.verdict.Verdict.TheVariants.{Halt, Cycler, Translated, Undecided}
 use Rattle.bb_cert.specs.declared.verdict.Why.TheVariants as why
 use Rattle.bb_decide.specs.Bench.{BenchHasCells}
 use Rattle.bb_decide.specs.declared.bench.Bench.{Bench}
@@ -41,8 +41,7 @@ found_of (Ran outcome) = None
 abbrev pub is_settled : Ending → Bool
 is_settled (Found verdict) = true
 is_settled (Ran (outcomes.Halt steps score)) = true
-is_settled (Ran outcomes.NoSteps) = false
-is_settled (Ran outcomes.NoCells) = false
+is_settled (Ran outcome) = false
 
 -- what each search promises of its result: what it finds is claimed rightly and has numbers that fit a line,
 -- and it fails only for memory, on tapes that may grow
@@ -119,9 +118,7 @@ EndsBoth table bounds (Found (Cycler first second)) = IsFirstCycle table bounds 
 EndsBoth table bounds (Found (Translated side first second extent)) =
     HasNoCycle table bounds × IsFirstTranslation table bounds side first second
     × TellsExtent table side first second extent
-EndsBoth table bounds (Found (Halt steps score)) = ⊥
-EndsBoth table bounds (Found (Backward levels nodes)) = ⊥
-EndsBoth table bounds (Found (Undecided why)) = ⊥
+EndsBoth table bounds (Found verdict) = ⊥
 EndsBoth table bounds (Ran outcome) =
     IsOutcome table bounds outcome × HasNoCycle table bounds × HasNoTranslation table bounds
 

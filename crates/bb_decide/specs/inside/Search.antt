@@ -8,7 +8,7 @@ use Rattle.bb_tape.specs.declared.tape.Memory.{Memory}
 use Rattle.bb_sim.specs.declared.meter.Meter.{Meter}
 use Rattle.bb_sim.specs.Span.{span, IsLastInside}
 use Rattle.bb_cert.specs.declared.verdict.Verdict.{Verdict}
-use Rattle.bb_cert.specs.declared.verdict.Verdict.TheVariants.{Halt, Cycler, Translated, Backward, Undecided}
+use Rattle.bb_cert.specs.declared.verdict.Verdict.TheVariants.{Cycler, Translated, Backward}
 use Rattle.bb_cert.specs.claims.Claim.{Claim}
 use Rattle.bb_cert.specs.verdict.Extent.{TellsExtent}
 use Rattle.bb_cert.specs.verdict.Verdict.{HasNumbers}
@@ -34,9 +34,7 @@ SearchesFind table bounds plan (Some (Cycler first second)) =
 SearchesFind table bounds plan (Some (Translated side first second extent)) =
     PassesCycles table bounds plan × IsTrue plan.translated
     × IsFirstTranslation table bounds side first second × TellsExtent table side first second extent
-SearchesFind table bounds plan (Some (Halt steps score)) = ⊥
-SearchesFind table bounds plan (Some (Backward levels nodes)) = ⊥
-SearchesFind table bounds plan (Some (Undecided why)) = ⊥
+SearchesFind table bounds plan (Some verdict) = ⊥
 
 -- so many steps were counted, and no window beyond that of a run within bounds
 pub record Adds (table : Table) (bounds : Bounds) (count : ℕ) (old new : Meter) : Type 0 where
@@ -66,15 +64,10 @@ pub record IsWithinRuns (count : ℕ) (bounds : Bounds) (old new : Meter) : Type
 -- what the deciders that are on find, in their order
 abbrev pub DecidersFind : Table → Bounds → Plan → Option Verdict → Type 0
 DecidersFind table bounds plan None = PassesAll table bounds plan
-DecidersFind table bounds plan (Some (Cycler first second)) =
-    SearchesFind table bounds plan (Some (Cycler first second))
-DecidersFind table bounds plan (Some (Translated side first second extent)) =
-    SearchesFind table bounds plan (Some (Translated side first second extent))
 DecidersFind table bounds plan (Some (Backward levels nodes)) =
     PassesCycles table bounds plan × PassesTranslations table bounds plan × IsTrue plan.backward
     × Back table bounds levels nodes
-DecidersFind table bounds plan (Some (Halt steps score)) = ⊥
-DecidersFind table bounds plan (Some (Undecided why)) = ⊥
+DecidersFind table bounds plan (Some verdict) = SearchesFind table bounds plan (Some verdict)
 
 -- backward reasoning is on, and the searches that are on found nothing
 abbrev pub ReachesWalk : Table → Bounds → Plan → Type 0
