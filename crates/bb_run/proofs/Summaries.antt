@@ -26,6 +26,7 @@ use Rattle.bb_run.specs.declared.summary.Summary.{Summary}
 use Rattle.bb_run.specs.Seen.{CountsExactly, CountsInOneRun, SawBy, SawLine, SawLines, SawMachine, SawRefusal}
 use Rattle.bb_run.specs.Seen.{none_seen}
 use Rattle.bb_run.specs.Summary.{AreRunStepsOf, AreStepsOf, AreTreesWithin, IsOneRunSummary, IsPeak}
+use Rattle.bb_run.specs.Summary.{IsSummed}
 use Rattle.bb_run.specs.Summary.{IsRunSpanOf, IsSpanOf, IsSummary, IsTreeOf}
 use Rattle.bb_run.proofs.Peaks.{IsPeak-over, IsPeak-past, all_more, clean_more}
 
@@ -65,15 +66,6 @@ record CountsOnce (bounds : Bounds) (plan : Plan) (Counts : Table → Meter → 
       → (n : ℕ) → Cells line n → n ≡ meter.most_cells
   machine_of_steps : {line : List ℕ} (n : ℕ) → Steps line n → IsMachineLine line
   machine_of_cells : {line : List ℕ} (n : ℕ) → Cells line n → IsMachineLine line
-
--- what the lines so far come to, whichever way it is counted
-record IsSummed (bounds : Bounds) (plan : Plan) (Steps Cells : List ℕ → ℕ → Type 0) (lines : List (List ℕ))
-    (summary : Summary) : Type 0 where
-  clean : IsTrue summary.clean ↔ AllByRecursion IsMachineLine lines
-  steps : IsPeak Steps lines summary.peak.steps
-  cells : IsPeak Cells lines summary.peak.most_cells
-  trees : AreTreesWithin bounds plan lines summary.peak.most_levels summary.peak.nodes
-  within : IsWithinCost bounds summary.peak
 
 module _ (one : TextsDiffer) {bounds : Bounds} {plan : Plan} {Counts : Table → Meter → Type 0}
     {Steps Cells : List ℕ → ℕ → Type 0} (once : CountsOnce bounds plan Counts Steps Cells) where
@@ -218,25 +210,12 @@ module _ (one : TextsDiffer) (bounds : Bounds) (plan : Plan) where
   -- a run is summed up
   pub summed : (lines : List (List ℕ)) (summary : Summary)
       → SawLines (CountsExactly bounds plan) lines summary → IsSummary bounds plan lines summary
-  summed lines summary saw = let all = lines_summed one counts_cost lines summary saw in record {
-    clean = all.clean;
-    peak_steps = all.steps;
-    peak_cells = all.cells;
-    trees = all.trees;
-    within_levels = all.within.most_levels;
-    within_nodes = all.within.nodes;
-  }
+  summed = lines_summed one counts_cost
 
   -- so is one that decides each machine in one run
   pub summed_in_one_run : (lines : List (List ℕ)) (summary : Summary)
       → SawLines (CountsInOneRun bounds plan) lines summary → IsOneRunSummary bounds plan lines summary
-  summed_in_one_run lines summary saw = let all = lines_summed one counts_runs lines summary saw in record {
-    clean = all.clean;
-    peak_steps = all.steps;
-    peak_cells = all.cells;
-    trees = all.trees;
-    within = all.within;
-  }
+  summed_in_one_run = lines_summed one counts_runs
 
 -- what a decider's lines do to its summary, whatever else it has
 module _ {D : Type 0} (Counts : Bounds → Plan → Table → Meter → Type 0) (bounds : D → Bounds)

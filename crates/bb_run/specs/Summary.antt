@@ -64,23 +64,21 @@ pub record IsPeak (Count : List ℕ → ℕ → Type 0) (lines : List (List ℕ)
   pub bound : AllByRecursion (λ line. (n : ℕ) → Count line n → n ≤ peak) lines
   pub reached : (peak ≡ 0) ⊎ SomeHas Count lines peak
 
--- `clean` says that each line is a machine's text; the peaks are those of the machines' steps and spans;
--- those of levels and nodes are within the bounds, and no less than those of each tree that is a verdict
-pub record IsSummary (bounds : Bounds) (plan : Plan) (lines : List (List ℕ)) (summary : Summary)
-    : Type 0 where
+-- `clean` says that each line is a machine's text; the peaks are those of the lines' steps and cells, however
+-- they are counted; those of levels and nodes are no less than those of each tree that is a verdict; and none is
+-- more than deciding a machine may cost
+pub record IsSummed (bounds : Bounds) (plan : Plan) (Steps Cells : List ℕ → ℕ → Type 0)
+    (lines : List (List ℕ)) (summary : Summary) : Type 0 where
   pub clean : IsTrue summary.clean ↔ AllByRecursion IsMachineLine lines
-  pub peak_steps : IsPeak (AreStepsOf bounds plan) lines summary.peak.steps
-  pub peak_cells : IsPeak (IsSpanOf bounds) lines summary.peak.most_cells
-  pub trees : AreTreesWithin bounds plan lines summary.peak.most_levels summary.peak.nodes
-  pub within_levels : summary.peak.most_levels ≤ bounds.depth
-  pub within_nodes : summary.peak.nodes ≤ bounds.nodes
-
--- the same where each machine is decided in one run: the peaks are those of the steps and spans of the runs
--- that were made
-pub record IsOneRunSummary (bounds : Bounds) (plan : Plan) (lines : List (List ℕ)) (summary : Summary)
-    : Type 0 where
-  pub clean : IsTrue summary.clean ↔ AllByRecursion IsMachineLine lines
-  pub peak_steps : IsPeak (AreRunStepsOf bounds plan) lines summary.peak.steps
-  pub peak_cells : IsPeak (IsRunSpanOf bounds plan) lines summary.peak.most_cells
+  pub steps : IsPeak Steps lines summary.peak.steps
+  pub cells : IsPeak Cells lines summary.peak.most_cells
   pub trees : AreTreesWithin bounds plan lines summary.peak.most_levels summary.peak.nodes
   pub within : IsWithinCost bounds summary.peak
+
+-- counted are the machines' steps and spans
+abbrev pub IsSummary : Bounds → Plan → List (List ℕ) → Summary → Type 0
+IsSummary bounds plan = IsSummed bounds plan (AreStepsOf bounds plan) (IsSpanOf bounds)
+
+-- where each machine is decided in one run, those of the runs that were made
+abbrev pub IsOneRunSummary : Bounds → Plan → List (List ℕ) → Summary → Type 0
+IsOneRunSummary bounds plan = IsSummed bounds plan (AreRunStepsOf bounds plan) (IsRunSpanOf bounds plan)
