@@ -41,27 +41,20 @@ costs_one_try table bounds plan steps verdict costs none =
     (same_bounds bounds) chance)))
 
 module _ (table : Table) (lower upper : Bounds) (plan : Plan) (smaller : NoneIsSmaller lower upper) where
-  named_as : (verdict : Verdict) → IsFoundByRun verdict → named_step lower verdict ≡ named_step upper verdict
-  named_as (Backward levels nodes) found = absurd found
-  named_as (Undecided why) found = absurd found
-  named_as verdict found = refl
-
-  named_alike : (verdict : Verdict) → IsFoundByRun verdict → (steps : ℕ)
-      → CostsWhatItNames spread table lower steps verdict
-      → (AgreesByChance spread table lower (named_step lower verdict) → ⊥) → steps ≤ most_steps upper verdict
-  named_alike (Backward levels nodes) found steps costs none = absurd found
-  named_alike (Undecided why) found steps costs none = absurd found
-  named_alike verdict found steps costs none = costs none
+  named_alike : (verdict : Verdict) → IsFoundByRun verdict
+      → (named_step lower verdict ≡ named_step upper verdict)
+      × (most_steps lower verdict ≡ most_steps upper verdict)
+  named_alike (Backward levels nodes) found = absurd found
+  named_alike (Undecided why) found = absurd found
+  named_alike verdict found = (refl, refl)
 
   -- what a run finds names the same step within all limits
   pub costs_first_try : (steps : ℕ) (verdict : Verdict) → IsFoundByRun verdict
       → CostsWhatItNames spread table lower steps verdict → CostsInTwoTries table upper plan steps verdict
-  costs_first_try steps (Backward levels nodes) found costs none = absurd found
-  costs_first_try steps (Undecided why) found costs none = absurd found
   costs_first_try steps verdict found costs none =
-      inl (named_alike verdict found steps costs (λ chance. none
-      (later (max (named_step upper verdict) (first_steps upper))
-      (omega (arith, named_as verdict found)) smaller chance)))
+      let same = named_alike verdict found in
+      inl (rw (← same.1) (costs (λ chance. none (later (max (named_step upper verdict) (first_steps upper))
+      (omega (arith, same.0)) smaller chance))))
 
   -- a try in which a run finds nothing costs no more than its limit
   costs_limit : (steps : ℕ) (verdict : Verdict) → (IsFoundByRun verdict → ⊥)
