@@ -26,9 +26,7 @@ taken_over {table} {runner} stands {first} is =
 pub few_steps : (table : Table) (bounds : Bounds) (runner : Runner) (view : TapeView) (moved : Moved)
     → Reaches table bounds runner view moved → steps_of runner ≤ bounds.steps
 few_steps table bounds runner view Stepped reaches = reaches.0.within_steps
-few_steps table bounds runner view Halted last = last.inside.within_steps
-few_steps table bounds runner view NoSteps last = last.inside.within_steps
-few_steps table bounds runner view NoCells last = last.inside.within_steps
+few_steps table bounds runner view moved last = last.inside.within_steps
 
 -- a run that was refused memory was counted up to where it stands, within bounds
 pub record HasCut (table : Table) (bounds : Bounds) (first meter : Meter) : Type 0 where

@@ -29,9 +29,7 @@ module _ {key : ℤ → ℕ} {table : Table} {bounds : Bounds} where
   pub breaks_at_once : (cyclers translated : Bool) (old new : Meter) → old.steps ≡ 0
       → CountsPart table bounds old new → BreaksOff key table bounds cyclers translated new.steps
   breaks_at_once true true old new zero part = breaks 0 (inl refl) old new zero part
-  breaks_at_once false false old new zero part = breaks 0 refl old new zero part
-  breaks_at_once true false old new zero part = breaks 0 refl old new zero part
-  breaks_at_once false true old new zero part = breaks 0 refl old new zero part
+  breaks_at_once cyclers translated old new zero part = breaks 0 refl old new zero part
 
   -- after the watched run was stopped
   module _ {n : ℕ} (stopped : IsStoppedAt key table bounds n) (old : Meter) {first : Meter}

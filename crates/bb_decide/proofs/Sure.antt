@@ -88,11 +88,6 @@ larger_limits_keep table lower upper plan (Backward levels nodes) (Halt n ones) 
     let tree = is_tree plan a in
     absurd ((clear_trees_never_halt table levels nodes machine tree.ends tree.clear).never n
     (is_halt_within plan b).halts)
-larger_limits_keep table lower upper plan (Backward levels nodes) (Cycler first second) machine within a b =
-    inr tt
-larger_limits_keep table lower upper plan (Backward levels nodes) (Translated side first second extent)
-    machine within a b =
-    inr tt
 larger_limits_keep table lower upper plan (Backward levels nodes) (Backward h k) machine within a b =
     let same = tree_has_one_end table h k levels nodes (is_tree plan b).ends (is_tree plan a).ends in
     let levels_same = same.0 in
@@ -101,6 +96,7 @@ larger_limits_keep table lower upper plan (Backward levels nodes) (Backward h k)
 larger_limits_keep table lower upper plan (Backward levels nodes) (Undecided why) machine within a b =
     absurd (((passes_all plan why b).2 (trees_are_on plan a)).nowhere levels nodes
     (tree_upper table lower upper within levels nodes (is_tree plan a)))
+larger_limits_keep table lower upper plan (Backward levels nodes) pair machine within a b = inr tt
 larger_limits_keep table lower upper plan (Undecided why) later machine within a b = tt
 larger_limits_keep table lower upper plan earlier later machine within a b =
     verdict_is_unique table upper plan later earlier b
