@@ -15,7 +15,7 @@ use Rattle.bb_decide.specs.Partner.{IsKept, IsPartner}
 use Rattle.bb_decide.specs.Cycle.{HasNoCycle, IsCycle, IsFirstCycle}
 use Rattle.bb_decide.specs.inside.Step.{EndsRun, HasMoved}
 use Rattle.bb_decide.proofs.Halting.{no_pair_in_Z}
-use Rattle.bb_decide.proofs.Partners.{is_kept_one, kept_at_first, kept_below, keeps_next, keeps_on}
+use Rattle.bb_decide.proofs.Partners.{is_kept_one, is_partner, kept_at_first, kept_below, keeps_next, keeps_on}
 use Rattle.bb_decide.proofs.SoFar.{none_earlier, none_inside, none_so_far}
 
 -- the search has come to where a runner stands: the partner of the next step is kept, and no step up to here
@@ -49,13 +49,8 @@ module _ {table : Table} {bounds : Bounds} {before after kept : Runner}
 
   -- where it has the configuration of what is kept, that is its partner: it isn't the start
   kept_partner : Same table (steps_of kept) (steps_of after) → IsPartner (steps_of kept) (steps_of after)
-  kept_partner same = elim here.partner [
-    | inl start ↦
-        let zeroth : steps_of kept ≡ steps_of before = omega (arith, start.0, start.1) in
-        absurd (no_repeat_at_once table (steps_of before)
-        (subst (λ m. Same table m (steps_of before + 1)) zeroth (rw moved.next at same)))
-    | inr partner ↦ rw moved.next partner
-  ]
+  kept_partner same = is_partner here.partner moved.next (λ zeroth. no_repeat_at_once table (steps_of before)
+      (subst (λ m. Same table m (steps_of before + 1)) zeroth (rw moved.next at same)))
 
   -- it is the first cycle
   pub first_cycle : Same table (steps_of kept) (steps_of after)

@@ -76,3 +76,8 @@ is_kept_one (inl first) next partner =
     let below = partner.below in
     absurd (omega (arith, first.0, first.1, some, is, below, next))
 is_kept_one {k} {n} {m} {p} (inr kept) next partner = partner_is_unique p k m partner (rw next kept)
+
+-- what is kept is its partner, but before the first step
+pub is_partner : {k n m : ℕ} → IsKept k n → m ≡ n + 1 → (k ≡ n → ⊥) → IsPartner k m
+is_partner (inl first) next apart = absurd (apart (omega (arith, first.0, first.1)))
+is_partner (inr kept) next apart = rw next kept

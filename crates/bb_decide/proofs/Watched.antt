@@ -37,7 +37,7 @@ use Rattle.bb_decide.specs.Translation.{IsTranslation}
 use Rattle.bb_decide.proofs.Cycles as cycles
 use Rattle.bb_decide.proofs.Fingerprints.{print-blank}
 use Rattle.bb_decide.proofs.Halting.{no_pair_in_Z}
-use Rattle.bb_decide.proofs.Partners.{is_kept_one}
+use Rattle.bb_decide.proofs.Partners.{is_kept_one, is_partner}
 use Rattle.bb_decide.proofs.SoFar.{none_earlier, none_inside, none_so_far}
 
 -- the run has come to where a runner stands, not in Z: the fingerprint is that of its tape; the other is that
@@ -192,14 +192,10 @@ module _ {table : Table} {bounds : Bounds} {key : ℤ → ℕ} {before after : R
 
     kept_is_partner : position_of old.kept ≡ position_of after
         → IsPartner (steps_of old.kept) (steps_of after)
-    kept_is_partner head = elim here.search.partner [
-      | inl start ↦
-          let zeroth : steps_of old.kept ≡ steps_of before = omega (arith, start.0, start.1) in
-          let kept_at = rw zeroth at here.search.kept_stands.at in
-          let after_at = rw moved.next at moved.stands.at in
-          absurd (heads_apart table (steps_of before) _ _ kept_at after_at head)
-      | inr partner ↦ rw moved.next partner
-    ]
+    kept_is_partner head = is_partner here.search.partner moved.next (λ zeroth.
+        let kept_at = rw zeroth at here.search.kept_stands.at in
+        let after_at = rw moved.next at moved.stands.at in
+        heads_apart table (steps_of before) _ _ kept_at after_at head)
 
     as_kept : LooksAsPartner key table (steps_of old.kept) (steps_of after) → AreAsKept printed after
     as_kept looks =
