@@ -124,7 +124,7 @@ fn find<T: Tape>(
     ensures found { IfOk result (DecidersFind machine.now limits.now plan) }
     ensures counted { OnOk result (DecidersCount machine.now limits.now plan meter.old meter.new) }
     ensures within { IsWithinDeciders limits.now meter.old meter.new }
-    ensures promised { IsPromised machine.now T.GROWS result }
+    ensures promised { IsPromised (λ found. found) machine.now T.GROWS result }
     ensures tapes { BenchHasCells T.view limits.now.cells bench.new }
     ensures path { depth_of bench.new.path ≡ depth_of bench.old.path }
 {
@@ -151,7 +151,7 @@ fn search_in_turn<T: Tape>(
     ensures found { IfOk result (SearchesFind machine.now limits.now plan) }
     ensures counted { OnOk result (SearchesCount machine.now limits.now plan meter.old meter.new) }
     ensures within { IsWithinRuns 2 limits.now meter.old meter.new }
-    ensures promised { IsPromised machine.now T.GROWS result }
+    ensures promised { IsPromised (λ found. found) machine.now T.GROWS result }
     ensures tapes { BenchHasCells T.view limits.now.cells bench.new }
     ensures path { bench.new.path ≡ bench.old.path }
 {

@@ -12,8 +12,8 @@ ghost use Rattle.bb_decide.specs.Bench.{BenchHasCells};
 ghost use Rattle.bb_decide.specs.FewCells.{DecidesFewCells};
 ghost use Rattle.bb_decide.specs.Fingerprint.{CostsWhatItNames};
 ghost use Rattle.bb_decide.specs.OneRun.{BreaksOff, CountsRefused, CountsRuns};
-ghost use Rattle.bb_decide.specs.inside.Ending.{AddsRuns, EndingCosts, EndsBoth, EndsPromised, EndsSearches};
-ghost use Rattle.bb_decide.specs.inside.Search.{IsWithinRuns};
+ghost use Rattle.bb_decide.specs.inside.Ending.{AddsRuns, EndingCosts, EndsBoth, EndsSearches, found_of};
+ghost use Rattle.bb_decide.specs.inside.Search.{IsPromised, IsWithinRuns};
 ghost use Rattle.bb_decide.specs.Sure.{KeepsEarlier};
 ghost use Rattle.bb_decide.specs.Verdict.{IsVerdict};
 ghost use Rattle.bb_decide.specs.Cost.{CountsWalk, IsWithinCost, MakesWalk};
@@ -143,7 +143,7 @@ fn search_by_plan<T: Tape, K: Keys>(
     ensures costs { IfOk result
         (EndingCosts (K.key_of keys.now) machine.now limits.now meter.new.steps) }
     ensures within { IsWithinRuns 3 limits.now meter.old meter.new }
-    ensures promised { EndsPromised machine.now T.GROWS result }
+    ensures promised { IsPromised found_of machine.now T.GROWS result }
     ensures tapes { BenchHasCells T.view limits.now.cells bench.new }
     ensures path { bench.new.path ≡ bench.old.path }
 {
@@ -180,7 +180,7 @@ fn search_both<T: Tape, K: Keys>(
     ensures costs { IfOk result
         (EndingCosts (K.key_of keys.now) machine.now limits.now meter.new.steps) }
     ensures within { IsWithinRuns 3 limits.now meter.old meter.new }
-    ensures promised { EndsPromised machine.now T.GROWS result }
+    ensures promised { IsPromised found_of machine.now T.GROWS result }
     ensures tapes { BenchHasCells T.view limits.now.cells bench.new }
     ensures path { bench.new.path ≡ bench.old.path }
 {

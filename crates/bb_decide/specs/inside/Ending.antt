@@ -30,12 +30,17 @@ use Rattle.bb_decide.specs.Cycle.{CountsSearch, HasNoCycle, IsFirstCycle}
 use Rattle.bb_decide.specs.Fingerprint.{CostsWhatItNames}
 use Rattle.bb_decide.specs.OneRun.{IsStoppedAt, MakesRuns}
 use Rattle.bb_decide.specs.Translation.{FindsTranslation, HasNoTranslation, IsFirstTranslation}
-use Rattle.bb_decide.specs.inside.Search.{SearchesFind}
+use Rattle.bb_decide.specs.inside.Search.{IsPromised, SearchesFind}
 
 -- what a search has found, if anything
 abbrev pub found_of : Ending → Option Verdict
 found_of (Found verdict) = Some verdict
 found_of (Ran outcome) = None
+
+-- what the watched run has found; nothing where it was stopped
+abbrev pub found_watching : Option Ending → Option Verdict
+found_watching None = None
+found_watching (Some ending) = found_of ending
 
 -- something was found, or the machine halts
 abbrev pub is_settled : Ending → Bool
@@ -43,21 +48,7 @@ is_settled (Found verdict) = true
 is_settled (Ran (outcomes.Halt steps score)) = true
 is_settled (Ran outcome) = false
 
--- what each search promises of its result: what it finds is claimed rightly and has numbers that fit a line,
--- and it fails only for memory, on tapes that may grow
-pub record EndsPromised (table : Table) (grows : Bool) (result : Result Ending Memory) : Type 0 where
-  pub claim : IfOk result (λ ending. IfSome (found_of ending) (Claim table))
-  pub numbers : IfOk result (λ ending. IfSome (found_of ending) HasNumbers)
-  pub memory : OnErr result (IsTrue grows)
-
--- what the watched run promises of its result
-pub record WatchPromised (table : Table) (grows : Bool) (result : Result (Option Ending) Memory)
-    : Type 0 where
-  pub claim : IfOk result (λ found. IfSome found (λ ending. IfSome (found_of ending) (Claim table)))
-  pub numbers : IfOk result (λ found. IfSome found (λ ending. IfSome (found_of ending) HasNumbers))
-  pub memory : OnErr result (IsTrue grows)
-
--- the outcome that is told where a call of `advance` did this, after so many steps with so many cells not 0
+-- the outcome that is answered where a call of `advance` did this, after so many steps with so many cells not 0
 abbrev pub TellsEnd : Moved → ℕ → ℕ → Outcome → Type 0
 TellsEnd NoSteps steps ones outcome = outcome ≡ outcomes.NoSteps
 TellsEnd NoCells steps ones outcome = outcome ≡ outcomes.NoCells
@@ -91,7 +82,7 @@ pub record Seeks {T : Type 0} (Finds : Option Verdict → Type 0) (grows : Bool)
   pub cut : OnErr result (CountsPart table bounds old new)
   pub within : IsWithinRun bounds old new
   pub never : IfOk result (λ ending. IfSome (found_of ending) (λ verdict. Never table))
-  pub promised : EndsPromised table grows result
+  pub promised : IsPromised found_of table grows result
   pub tapes : BenchHasCells view bounds.cells bench_new
   pub path : bench_new.path ≡ bench_old.path
 
@@ -102,7 +93,7 @@ pub record WatchesRun {T : Type 0} (grows : Bool) (view : T → TapeView) (table
   pub watched : IfOk result (Watches table bounds key old new)
   pub cut : OnErr result (CountsPart table bounds old new)
   pub within : IsWithinRun bounds old new
-  pub promised : WatchPromised table grows result
+  pub promised : IsPromised found_watching table grows result
   pub tapes : BenchHasCells view bounds.cells bench_new
   pub path : bench_new.path ≡ bench_old.path
 

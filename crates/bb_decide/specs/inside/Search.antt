@@ -19,11 +19,12 @@ use Rattle.bb_decide.specs.Translation.{IsFirstTranslation}
 use Rattle.bb_decide.specs.Verdict.{PassesAll, PassesCycles, PassesTranslations}
 use Rattle.bb_decide.specs.Cost.{CountsWalk, CycleSteps, StepsIfMade, TranslationSteps}
 
--- what each search promises of its result: what it finds is claimed rightly and has numbers that fit a line,
--- and it fails only for memory, on tapes that may grow
-pub record IsPromised (table : Table) (grows : Bool) (result : Result (Option Verdict) Memory) : Type 0 where
-  pub claim : IfOk result (λ found. IfSome found (Claim table))
-  pub numbers : IfOk result (λ found. IfSome found HasNumbers)
+-- what each search promises of its result: what it has found is claimed rightly and has numbers that fit a
+-- line, and it fails only for memory, on tapes that may grow
+pub record IsPromised {A : Type 0} (found_in : A → Option Verdict) (table : Table) (grows : Bool)
+    (result : Result A Memory) : Type 0 where
+  pub claim : IfOk result (λ answer. IfSome (found_in answer) (Claim table))
+  pub numbers : IfOk result (λ answer. IfSome (found_in answer) HasNumbers)
   pub memory : OnErr result (IsTrue grows)
 
 -- what the two searches find, that for cycles first
