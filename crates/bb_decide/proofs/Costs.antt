@@ -1,7 +1,7 @@
 -- What deciding a machine has counted.
-use Rattle.std.proofs.Common.{◌≡◌, ℕ, ◌+◌, max, Bool, true, false, not, IsTrue, Option, Some, None}
+use Rattle.std.proofs.Common.{◌≡◌, ℕ, ◌+◌, max, false, IsTrue, Option, Some, None}
 use Rattle.std.proofs.Common.{Result, Ok, Err, inl, inr, refl, ap, ◌∙◌, arith}
-use Rattle.std.specs.Prelude.{IfOk, OnOk}
+use Rattle.std.specs.Prelude.{IfOk}
 use Rattle.bb_machine.specs.Limits.{Bounds}
 use Rattle.bb_machine.specs.Machine.{Table}
 use Rattle.bb_sim.specs.declared.meter.Meter.{Meter}
@@ -45,10 +45,10 @@ no_walk_counted Made table bounds meter levels nodes never = record {
 }
 
 -- what is made in other words costs the same
-if_made_as : {One Other : Type 0} {Cost : ℕ → Type 0} {n : ℕ} → (One → Other) → (Other → One)
+if_made_as : {One Other : Type 0} (Cost : ℕ → Type 0) {n : ℕ} → (One → Other) → (Other → One)
     → StepsIfMade One Cost n → StepsIfMade Other Cost n
-if_made_as on back (inl made) = inl (on made.0, made.1)
-if_made_as on back (inr not_made) = inr (λ made. not_made.0 (back made), not_made.1)
+if_made_as Cost on back (inl made) = inl (on made.0, made.1)
+if_made_as Cost on back (inr not_made) = inr (λ made. not_made.0 (back made), not_made.1)
 
 -- where the machine doesn't halt, the walk is made where it is reached
 pub walk_where_nowhere : (table : Table) (bounds : Bounds) (plan : Plan) {meter : Meter}
@@ -114,10 +114,11 @@ module _ {table : Table} {bounds : Bounds} (plan : Plan) {begin mid : Meter} (ze
           run = s.last;
           is_run = s.is_last;
           cycles = counts.cycles;
-          is_cycles = if_made_as (λ on. (nowhere, on)) (λ made. made.1) counts.is_cycles;
+          is_cycles = if_made_as (CycleSteps table bounds) (λ on. (nowhere, on)) (λ made. made.1)
+              counts.is_cycles;
           translations = counts.translations;
-          is_translations = if_made_as (λ on. (nowhere, on.0, on.1)) (λ made. (made.1, made.2))
-              counts.is_translations;
+          is_translations = if_made_as (TranslationSteps table bounds) (λ on. (nowhere, on.0, on.1))
+              (λ made. (made.1, made.2)) counts.is_translations;
           sum = omega (arith, ran, steps, same_steps);
         };
         last = s.last;

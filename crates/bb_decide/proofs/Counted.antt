@@ -5,7 +5,7 @@ use Rattle.bb_machine.specs.Machine.{Table}
 use Rattle.bb_tape.specs.TapeView.{TapeView}
 use Rattle.bb_sim.specs.declared.meter.Meter.{Meter}
 use Rattle.bb_sim.specs.declared.runner.Moved.{Moved}
-use Rattle.bb_sim.specs.declared.runner.Moved.TheVariants.{Halted, NoCells, NoSteps, Stepped}
+use Rattle.bb_sim.specs.declared.runner.Moved.TheVariants.{Stepped}
 use Rattle.bb_sim.specs.declared.runner.Runner.{Runner}
 use Rattle.bb_sim.specs.CellsBetween.{cells_between}
 use Rattle.bb_sim.specs.Meter.{CountsPart, CountsTo, IsWithinRun, counted}
@@ -16,8 +16,8 @@ use Rattle.bb_decide.specs.inside.Step.{TakesOver}
 
 -- the meter that takes the run over
 pub taken_over : {table : Table} {runner : Runner} {view : TapeView} → Stands table runner view
-    → {first new : Meter} → TakesOver runner first new → CountsTo table (steps_of runner) first new
-taken_over {table} {runner} stands {first} is =
+    → (first : Meter) {new : Meter} → TakesOver runner first new → CountsTo table (steps_of runner) first new
+taken_over {table} {runner} stands first is =
     let low = ap (λ p. cells_between p (high_of runner)) stands.low in
     let high = ap (λ p. cells_between (least (counted_head table) (steps_of runner)) p) stands.high in
     is ∙ ap (λ n. counted first (steps_of runner) n) (low ∙ high)
@@ -69,7 +69,7 @@ pub cut_after_step : {table : Table} {bounds : Bounds} {runner : Runner} {view :
     {first meter : Meter} → Stands table runner view → Inside table bounds (steps_of runner)
     → TakesOver runner first meter → HasCut table bounds first meter
 cut_after_step {table} {bounds} {runner} {first = first} {meter = meter} stands inside is =
-    let counts = taken_over stands is in
+    let counts = taken_over stands first is in
     let cells : meter.most_cells ≡ max first.most_cells (span table (steps_of runner)) =
     ap (λ (m : Meter). m.most_cells) counts in
     record {

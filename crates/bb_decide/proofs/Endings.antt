@@ -1,5 +1,5 @@
 -- How the run of a search ends, as a simulation does or with what was found, and what is promised of it then.
-use Rattle.std.proofs.Common.{◌≡◌, ℕ, ◌+◌, ℤ, Bool, inl, inr, IsTrue, Ok, Err, Option, Some, None, Result}
+use Rattle.std.proofs.Common.{◌≡◌, ℕ, ◌+◌, ℤ, Bool, inl, inr, IsTrue, Ok, Err, Option, Some, None}
 use Rattle.std.proofs.Common.{refl, ap}
 use Rattle.bb_machine.specs.declared.entry.Next.TheVariants.{Halt}
 use Rattle.bb_machine.specs.Limits.{Bounds}
@@ -26,7 +26,6 @@ use Rattle.bb_decide.specs.Cycle.{CountsSearch, HasNoCycle}
 use Rattle.bb_decide.specs.OneRun.{IsStoppedAt}
 use Rattle.bb_decide.specs.Translation.{FindsTranslation, HasNoTranslation}
 use Rattle.bb_decide.specs.declared.bench.Bench.{Bench}
-use Rattle.bb_decide.specs.declared.ending.Ending.{Ending}
 use Rattle.bb_decide.specs.declared.ending.Ending.TheVariants.{Found, Ran}
 use Rattle.bb_decide.specs.inside.Ending.{Seeks, TellsEnd, WatchesRun}
 use Rattle.bb_decide.specs.inside.Step.{EndsRun, StepsOn, TakesOver}
@@ -34,9 +33,8 @@ use Rattle.bb_decide.proofs.Benches.{IsAsLent}
 use Rattle.bb_decide.proofs.Counted.{HasCut, taken_over}
 
 -- where a call of `advance` left a runner, whose run a meter took over
-module _ {table : Table} {bounds : Bounds} {old new : Runner} {view_old view : TapeView}
-    {other_old other first meter : Meter} {outcome : Outcome} (stands : Stands table new view)
-    (takes_over : TakesOver new first meter) where
+module _ {table : Table} {bounds : Bounds} {old new : Runner} {view : TapeView} {first meter : Meter}
+    {outcome : Outcome} (stands : Stands table new view) (takes_over : TakesOver new first meter) where
   ended : IsLastInside table bounds (steps_of new) → new ≡ old → IsOutcome table bounds outcome
       → EndsRun table bounds old new view first meter outcome
   ended last same is_outcome = record {
@@ -44,26 +42,27 @@ module _ {table : Table} {bounds : Bounds} {old new : Runner} {view_old view : T
     last = last;
     no_further = inl (ap steps_of same);
     is_outcome = is_outcome;
-    counts = taken_over stands takes_over;
+    counts = taken_over stands first takes_over;
   }
 
   -- it didn't step
-  pub ends_where_stopped : (moved : Moved) → (moved ≡ Stepped → ⊥) → Answers table bounds (steps_of old) moved
+  pub ends_where_stopped : (view_old : TapeView) (other_old other : Meter) (moved : Moved)
+      → (moved ≡ Stepped → ⊥) → Answers table bounds (steps_of old) moved
       → Reaches table bounds new view moved
       → Moves table old new view_old view other_old other moved
       → TellsEnd moved (steps_of new) (score view.content) outcome
       → EndsRun table bounds old new view first meter outcome
-  ends_where_stopped Halted apart answers last stays is = ended last stays.runner
+  ends_where_stopped _ _ _ Halted apart answers last stays is = ended last stays.runner
       (rw is (halted_end stands last.inside (rw (ap steps_of stays.runner) answers) _ _ refl refl))
-  ends_where_stopped NoSteps apart answers last stays is =
+  ends_where_stopped _ _ _ NoSteps apart answers last stays is =
       let here : Answers table bounds (steps_of new) NoSteps = rw (ap steps_of stays.runner) answers in
       ended last stays.runner
       (rw is (no_halt_inside _ _ _ last.inside last here.0, rw (← here.1) last.inside.within_cells))
-  ends_where_stopped NoCells apart answers last stays is =
+  ends_where_stopped _ _ _ NoCells apart answers last stays is =
       let here : Answers table bounds (steps_of new) NoCells = rw (ap steps_of stays.runner) answers in
       ended last stays.runner
       (rw is (no_halt_inside _ _ _ last.inside last here.0, wide_at_end _ _ _ last.inside here.2 here.1))
-  ends_where_stopped Stepped apart answers reaches moves is =
+  ends_where_stopped _ _ _ Stepped apart answers reaches moves is =
       let same : Stepped ≡ Stepped = refl in absurd (apart same)
 
   -- it stepped into Z
@@ -77,7 +76,7 @@ module _ {table : Table} {bounds : Bounds} {old new : Runner} {view_old view : T
         last = halts_last table bounds (steps_of new) inside stops;
         no_further = inr (halts, next);
         is_outcome = rw is (halted_end stands inside stops _ _ refl refl);
-        counts = taken_over stands takes_over;
+        counts = taken_over stands first takes_over;
       }
 
 -- what is promised of the step then
@@ -102,22 +101,23 @@ pub record IsFound (Finds : Option Verdict → Type 0) (table : Table) (bounds :
   pub claim : Claim table verdict
   pub numbers : HasNumbers verdict
 
+-- a run that has ended was counted whole
+ran : {table : Table} {bounds : Bounds} {before after : Runner} {run : TapeView} {first here meter : Meter}
+    {outcome : Outcome} → here ≡ first → EndsRun table bounds before after run here meter outcome
+    → CountsRun table bounds first meter × IsWithinRun bounds first meter
+ran {table} {bounds} {after = after} {first = first} {meter = meter} same ends =
+    let counts : CountsTo table (steps_of after) first meter = rw same at ends.counts in (
+      record { last = steps_of after; is_last = ends.last; counts = counts },
+      count_is_within table bounds (steps_of after) first meter ends.last.inside counts,
+    )
+
 module _ {T : Type 0} {view : T → TapeView} {grows : Bool} {table : Table} {bounds : Bounds}
     {old new : Bench T} {first here meter : Meter} (lent : IsAsLent view bounds.cells old new first here)
   where
-    ran : {before after : Runner} {run : TapeView} {outcome : Outcome}
-        → EndsRun table bounds before after run here meter outcome
-        → CountsRun table bounds first meter × IsWithinRun bounds first meter
-    ran {after = after} ends =
-        let counts : CountsTo table (steps_of after) first meter = rw lent.meter at ends.counts in (
-          record { last = steps_of after; is_last = ends.last; counts = counts },
-          count_is_within table bounds (steps_of after) first meter ends.last.inside counts,
-        )
-
     pub seeks_to_end : {Finds : Option Verdict → Type 0} {before after : Runner} {run : TapeView}
         {outcome : Outcome} → EndsRun table bounds before after run here meter outcome → Finds None
         → Seeks Finds grows view table bounds old new first meter (Ok (Ran outcome))
-    seeks_to_end ends none = let is = ran ends in record {
+    seeks_to_end ends none = let is = ran lent.meter ends in record {
       found = none;
       ran = ends.is_outcome;
       counted = is.0;
@@ -165,7 +165,7 @@ module _ {T : Type 0} {view : T → TapeView} {grows : Bool} {table : Table} {bo
           → EndsRun table bounds before after run here meter outcome → HasNoTranslation table bounds
           → HasNoCycle table bounds
           → WatchesRun grows view table bounds key old new first meter (Ok (Some (Ran outcome)))
-      watches_to_end ends no_record no_cycle = let is = ran ends in record {
+      watches_to_end ends no_record no_cycle = let is = ran lent.meter ends in record {
         watched = (no_record, is.0, ends.is_outcome, no_cycle, unstopped);
         cut = tt;
         within = is.1;

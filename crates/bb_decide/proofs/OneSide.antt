@@ -20,7 +20,6 @@ use Rattle.std.proofs.Common.{
 }
 use Rattle.std.proofs.Common.{subst, ◌∙◌, arith}
 use Rattle.std.specs.Prelude.{◌<ℤ◌}
-use Rattle.std.proofs.Math.Nat.{one-le-pow}
 use Rattle.std.proofs.lemmas.Int.{ints}
 use Rattle.bb_machine.specs.Machine.{Table}
 use Rattle.bb_tape.specs.TapeView.{TapeView, IsSound}
@@ -28,13 +27,10 @@ use Rattle.bb_sim.specs.declared.runner.Runner.{Runner}
 use Rattle.bb_sim.specs.Run.{Exists}
 use Rattle.bb_sim.specs.Runner.{Stands, position_of, steps_of}
 use Rattle.bb_cert.specs.declared.records.Records.{Records}
-use Rattle.bb_cert.specs.declared.verdict.Extent.{Extent}
 use Rattle.bb_cert.specs.declared.verdict.Side.{Side}
 use Rattle.bb_cert.specs.declared.verdict.Verdict.{Verdict}
-use Rattle.bb_cert.specs.declared.verdict.Verdict.TheVariants.{Translated}
 use Rattle.bb_cert.specs.records.Agree.{Agree}
-use Rattle.bb_cert.specs.verdict.Extent.{IsExtent}
-use Rattle.bb_cert.specs.records.Follow.{AgreesWithKept, IsFollowed, passed, top_of, with_kept}
+use Rattle.bb_cert.specs.records.Follow.{AgreesWithKept, IsFollowed, passed, top_of}
 use Rattle.bb_cert.specs.records.Record.{out, head_at, IsRecord}
 use Rattle.bb_cert.proofs.Facts.{
   agree_of_cells,

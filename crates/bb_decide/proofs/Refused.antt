@@ -8,7 +8,8 @@ use Rattle.bb_decide.specs.Cycle.{CountsSearch, FindsCycle}
 use Rattle.bb_decide.specs.OneRun.{BreaksOff, IsStoppedAt, RunsBefore}
 use Rattle.bb_decide.specs.declared.ending.Ending.{Ending}
 use Rattle.bb_decide.specs.inside.Ending.{RanAs, found_of, is_settled}
-use Rattle.bb_decide.proofs.RunsMade.{both_open, makes_cycles}
+use Rattle.bb_decide.proofs.Costs.{makes_cycles}
+use Rattle.bb_decide.proofs.RunsMade.{both_open}
 
 module _ {key : ℤ → ℕ} {table : Table} {bounds : Bounds} where
   -- after runs that made so many steps

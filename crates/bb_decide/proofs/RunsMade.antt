@@ -1,5 +1,5 @@
 -- What the runs count that one decision makes, and that no machine has two such counts.
-use Rattle.std.proofs.Common.{◌≡◌, ℕ, ◌+◌, max, Bool, true, false, inl, inr, Option, Some, None}
+use Rattle.std.proofs.Common.{◌≡◌, ℕ, ◌+◌, max, Bool, true, false, inl, inr, Option, Some}
 use Rattle.std.proofs.Common.{ℤ, refl, ap, sym, ◌∙◌, arith}
 use Rattle.std.proofs.lemmas.Bool.{cases_lt}
 use Rattle.bb_machine.specs.Limits.{Bounds}
@@ -14,7 +14,7 @@ use Rattle.bb_sim.proofs.Facts.{last_step_is_unique, span_grows}
 use Rattle.bb_cert.specs.declared.verdict.Verdict.{Verdict}
 use Rattle.bb_cert.specs.declared.verdict.Verdict.TheVariants.{Cycler, Translated}
 use Rattle.bb_decide.specs.Backward.{CountsTree}
-use Rattle.bb_decide.specs.Cost.{CycleSteps, TranslationSteps}
+use Rattle.bb_decide.specs.Cost.{TranslationSteps}
 use Rattle.bb_decide.specs.Cycle.{CountsSearch, FindsCycle, HasNoCycle}
 use Rattle.bb_decide.specs.Translation.{FindsTranslation}
 use Rattle.bb_decide.specs.OneRun.{CountsRefused, CountsRuns, IsStoppedAt, MakesRuns}

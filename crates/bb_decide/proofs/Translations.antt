@@ -19,6 +19,7 @@ use Rattle.bb_cert.specs.declared.verdict.Side.{Side}
 use Rattle.bb_cert.specs.declared.verdict.Side.TheVariants.{L, R}
 use Rattle.bb_cert.specs.declared.verdict.Verdict.{Verdict}
 use Rattle.bb_cert.specs.records.Agree.{AgreeingRecords}
+use Rattle.bb_cert.specs.verdict.Verdict.{HasNumbers}
 use Rattle.bb_cert.proofs.Facts.{MakesJust, agreeing_records_never_halt, makes_just, record_takes_steps}
 use Rattle.bb_cert.proofs.Facts.{records_in_order, starts}
 use Rattle.bb_decide.proofs.Halting.{no_pair_in_Z}
@@ -26,7 +27,7 @@ use Rattle.bb_decide.specs.Translation.{AgreesWithPartner, FindsTranslation, Has
 use Rattle.bb_decide.specs.inside.Follow.{AreSearched, IsReady, IsSearched, Looks, LooksAtStep}
 use Rattle.bb_decide.specs.inside.Follow.{TellsAgreement}
 use Rattle.bb_decide.specs.inside.Follow.{on_side}
-use Rattle.bb_decide.specs.inside.Step.{EndsRun, HasMoved}
+use Rattle.bb_decide.specs.inside.Step.{EndsRun, HasMoved, TakesOver}
 use Rattle.bb_decide.proofs.Counted.{taken_over}
 use Rattle.bb_decide.proofs.Endings.{IsFound}
 use Rattle.bb_decide.proofs.OneSide.{GoesOn, HasPassed, searched_at_first, side_ends, side_goes_on}
@@ -131,11 +132,11 @@ module _ {table : Table} {before after : Runner} {view saved_right saved_left : 
   }
 
 -- what is known of both sides then
-looked : {table : Table} {runner : Runner} {right left : Records} {saved_right saved_left : TapeView}
+looked : {table : Table} (runner : Runner) {right left : Records} {saved_right saved_left : TapeView}
     {meter : Meter} → GoesOn table (steps_of runner) R right saved_right
     → GoesOn table (steps_of runner) L left saved_left
     → LooksAtStep table runner right left saved_right saved_left meter meter None
-looked {table} {runner} on_right on_left = (
+looked {table} runner on_right on_left = (
   record {
     on_right = on_right.searched;
     on_left = on_left.searched;
@@ -150,14 +151,14 @@ looked {table} {runner} on_right on_left = (
   none_now L a pair = on_left.none a pair
 
 module _ {table : Table} {n : ℕ} {after : Runner} {view saved_right saved_left : TapeView}
-    {right left : Records} {widened : Option Side} {meter : Meter}
+    {right left : Records} {widened : Option Side}
     (taken : IsTakenIn table n after view right left saved_right saved_left widened) where
   -- a step that makes no record
-  pub looks_at_none : widened ≡ None
+  pub looks_at_none : {meter : Meter} → widened ≡ None
       → LooksAtStep table after right left saved_right saved_left meter meter None
   looks_at_none is =
       let makes = rw is at taken.makes in
-      looked (side_passes_by taken.on_right (makes R)) (side_passes_by taken.on_left (makes L))
+      looked after (side_passes_by taken.on_right (makes R)) (side_passes_by taken.on_left (makes L))
 
   -- one that makes a record of a side, which can be compared with the kept one
   pub is_ready : (side : Side) → widened ≡ Some side → IsSound view
@@ -177,28 +178,28 @@ module _ {table : Table} {n : ℕ} {after : Runner} {view saved_right saved_left
         side_ends taken.on_left (rw is at taken.makes).0 new_left new_saved_left verdict looks.0
 
     -- or not
-    pub looks_at_one : (side : Side) → widened ≡ Some side
+    pub looks_at_one : {meter : Meter} (side : Side) → widened ≡ Some side
         → Looks side after view right left saved_right saved_left new_right new_left new_saved_right
         new_saved_left None
         → LooksAtStep table after new_right new_left new_saved_right new_saved_left meter meter None
     looks_at_one R is looks =
         let makes = rw is at taken.makes in
-        looked (side_goes_on taken.on_right makes.0 new_right new_saved_right looks.0 looks.1)
+        looked after (side_goes_on taken.on_right makes.0 new_right new_saved_right looks.0 looks.1)
         (rw (looks.2, looks.3) (side_passes_by taken.on_left makes.1))
     looks_at_one L is looks =
         let makes = rw is at taken.makes in
-        looked (rw (looks.2, looks.3) (side_passes_by taken.on_right makes.1))
+        looked after (rw (looks.2, looks.3) (side_passes_by taken.on_right makes.1))
         (side_goes_on taken.on_left makes.0 new_left new_saved_left looks.0 looks.1)
 
 -- the search, after a step
 module _ {table : Table} {bounds : Bounds} {before after : Runner}
-    {view_before view saved_right saved_left : TapeView} {old_right old_left right left : Records}
-    {new_right new_left : TapeView} {first meter : Meter}
+    {view_before view saved_right saved_left : TapeView} {old_right old_left : Records}
     (here : IsSearching table bounds before view_before old_right old_left saved_right saved_left)
     (moved : HasMoved table before after view) (inside : Inside table bounds (steps_of after)) where
-  pub goes_on : LooksAtStep table after right left new_right new_left first meter None
+  pub goes_on : {right left : Records} {new_right new_left : TapeView} (first meter : Meter)
+      → LooksAtStep table after right left new_right new_left first meter None
       → IsSearching table bounds after view right left new_right new_left
-  goes_on looks = record {
+  goes_on first meter looks = record {
     stands = moved.stands;
     within = inside.within_steps;
     searched = looks.0;
@@ -207,13 +208,13 @@ module _ {table : Table} {bounds : Bounds} {before after : Runner}
   }
 
   -- the record that was made agrees with its partner, as the first that does
-  pub is_found : {verdict : Verdict}
-      → LooksAtStep table after right left new_right new_left first meter (Some verdict)
+  pub is_found : {verdict : Verdict} {first meter : Meter}
+      → TellsAgreement table (steps_of after) verdict × HasNumbers verdict × TakesOver after first meter
       → IsFound (FindsTranslation table bounds) table bounds first meter verdict
-  is_found looks =
+  is_found {first = first} {meter = meter} looks =
       let end = looks.0 in
       let agree = pair_agrees table end.side end.first (steps_of after) end.pair in
-      let counts = taken_over moved.stands looks.2 in
+      let counts = taken_over moved.stands first looks.2 in
       rw end.is (record {
         found = (
           record {

@@ -2,7 +2,7 @@
 use Rattle.std.proofs.Common.{◌≡◌, ◌≢◌, ℕ, suc, ◌+◌, ◌*◌, ◌≤◌, inl, inr, Some, ℤ, pos, ◌≤ℤ◌, neg_ℤ, refl, ap}
 use Rattle.std.proofs.Common.{sym}
 use Rattle.std.proofs.lemmas.Bool.{cases_lt}
-use Rattle.std.proofs.Common.{subst, ◌∙◌, Bool, false, FitsSigned, IsTrue, add-one, arith, of_z, to_z, w64}
+use Rattle.std.proofs.Common.{subst, ◌∙◌, FitsSigned, add-one, arith, of_z, to_z, w64}
 use Rattle.std.proofs.lemmas.Int.{ints, to_z-of_z}
 use Rattle.bb_machine.specs.declared.entry.Next.TheVariants.{Halt}
 use Rattle.bb_machine.specs.Limits.{Bounds}

@@ -140,7 +140,7 @@ pub fails_at_end : (line : List ℕ) (lines : List (List ℕ)) (bytes : List ℕ
 fails_at_end line lines bytes none reply rest form is = none_within reply rest bytes none is
 
 -- after a reply to a line there are those to the others
-others_are : (line : List ℕ) (lines : List (List ℕ)) (reply rest bytes : List ℕ) → HasNoNewline line
+pub others_are : (line : List ℕ) (lines : List (List ℕ)) (reply rest bytes : List ℕ) → HasNoNewline line
     → HasNoNewline reply → (reply ++ 10 ∷ []) ++ rest ≡ bytes → AreReplies HasForm (line ∷ lines) bytes
     → AreReplies HasForm lines rest
 others_are line lines reply rest bytes none none_too is are =
@@ -166,7 +166,7 @@ as_many (line ∷ lines) (k ∷ kinds) bytes are =
     let others = as_many lines kinds are.1 are.3 in omega arith
 
 -- one reply more
-one_more : (lines : List (List ℕ)) (kinds : List ReplyKind) (bytes line reply : List ℕ) (k : ReplyKind)
+pub one_more : (lines : List (List ℕ)) (kinds : List ReplyKind) (bytes line reply : List ℕ) (k : ReplyKind)
     → AreOfKinds lines kinds bytes → IsOfKind k line reply
     → AreOfKinds (lines ++ line ∷ []) (kinds ++ k ∷ []) (bytes ++ (reply ++ 10 ∷ []))
 one_more [] [] bytes line reply k are is =
@@ -268,7 +268,7 @@ pub record IsLooked (all left : List (List ℕ)) (bytes bytes_left : List ℕ) (
   pub is_count : count ≡ length first
   pub only : AreReplies HasForm all bytes → AreReplies HasForm left bytes_left
 
-pub looked_at_none : (all : List (List ℕ)) (bytes : List ℕ) → IsLooked all all bytes bytes 0
+abbrev pub looked_at_none : (all : List (List ℕ)) (bytes : List ℕ) → IsLooked all all bytes bytes 0
 looked_at_none all bytes = record {
   first = [];
   kinds = [];
@@ -283,7 +283,7 @@ looked_at_none all bytes = record {
 module _ {all left : List (List ℕ)} {bytes bytes_left : List ℕ} {count : ℕ}
     (here : IsLooked all left bytes bytes_left count) where
   -- one line more
-  pub looked_on : (line : List ℕ) (others : List (List ℕ)) (reply rest : List ℕ) (k : ReplyKind)
+  abbrev pub looked_on : (line : List ℕ) (others : List (List ℕ)) (reply rest : List ℕ) (k : ReplyKind)
       → left ≡ line ∷ others → HasNoNewline line → HasNoNewline reply
           → (reply ++ 10 ∷ []) ++ rest ≡ bytes_left
       → IsOfKind k line reply → IsLooked all others bytes rest (count + 1)

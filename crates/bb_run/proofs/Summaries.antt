@@ -1,6 +1,4 @@
 -- What a run over lines is summed up in, from what each line did to it.
-use Rattle.std.specs.List.{AllByRecursion}
-use Rattle.std.proofs.Common.{◌↔◌, IsTrue}
 use Rattle.std.proofs.Common.{◌≡◌, ℕ, ◌≤◌, max, List, [], ◌∷◌, ◌++◌, Option, Result, Ok, Err, refl, sym}
 use Rattle.std.proofs.Common.{subst, ap, ◌∙◌, inl, inr, arith}
 use Rattle.std.specs.List.{FoldsTo}
@@ -25,7 +23,7 @@ use Rattle.bb_lines.specs.Ends.{ListEnds}
 use Rattle.bb_run.specs.declared.summary.Summary.{Summary}
 use Rattle.bb_run.specs.Seen.{CountsExactly, CountsInOneRun, SawBy, SawLine, SawLines, SawMachine, SawRefusal}
 use Rattle.bb_run.specs.Seen.{none_seen}
-use Rattle.bb_run.specs.Summary.{AreRunStepsOf, AreStepsOf, AreTreesWithin, IsOneRunSummary, IsPeak}
+use Rattle.bb_run.specs.Summary.{AreRunStepsOf, AreStepsOf, IsOneRunSummary}
 use Rattle.bb_run.specs.Summary.{IsSummed}
 use Rattle.bb_run.specs.Summary.{IsRunSpanOf, IsSpanOf, IsSummary, IsTreeOf}
 use Rattle.bb_run.proofs.Peaks.{IsPeak-over, IsPeak-past, all_more, clean_more}

@@ -14,14 +14,14 @@ use Rattle.bb_sim.specs.Span.{span, IsLastInside}
 use Rattle.bb_cert.specs.verdict.Line.{refusal_text}
 use Rattle.bb_lines.specs.declared.fault.Fault.{Fault}
 use Rattle.bb_lines.specs.declared.fault.Fault.TheVariants.{Memory, Write}
-use Rattle.bb_lines.specs.Ends.{AppendsPrefix, MatchEnd}
+use Rattle.bb_lines.specs.Ends.{AppendsPrefix}
 use Rattle.bb_lines.specs.Output.{Sends}
 use Rattle.bb_run.specs.declared.summary.Summary.{Summary}
 use Rattle.bb_run.specs.Ends.{TraceEnds}
 use Rattle.bb_run.specs.Sample.{AppendsFirstLines, IsSampledRun, IsSampledTrace, IsSampleSize, SampledEnds}
 use Rattle.bb_run.specs.Sample.{sampled_lines}
 use Rattle.bb_run.specs.Trace.{step_lines, step_text, lines_text, AppendsSomeLines, IsRunTrace, IsTrace}
-use Rattle.bb_run.specs.Trace.{IsTraceSummary, IsUncut}
+use Rattle.bb_run.specs.Trace.{IsUncut}
 use Rattle.bb_run.specs.inside.RunningOn.{AddedEnds, EndsEarly, RunEnds, WaitsWith, WrittenEnds}
 use Rattle.bb_run.proofs.SampledRuns.{size_grows, size_is_unique}
 use Rattle.bb_lines.proofs.Facts.{AppendsPrefix-more}

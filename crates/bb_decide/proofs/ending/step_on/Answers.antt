@@ -16,7 +16,7 @@ pub returns-in_default-moved : goal.returns-in_default-moved
 returns-in_default-moved g c =
     let call = c.in-Ok.ensures in
     step_ends c.advance.ensures.limit
-    (ends_where_stopped call.stands c.count_run-in_default-moved.ensures _ c.in_default-moved.not-Stepped
+    (ends_where_stopped call.stands c.count_run-in_default-moved.ensures _ _ _ _ c.in_default-moved.not-Stepped
     call.answers call.reaches call.moves c.outcome_of.ensures)
 
 -- no memory for a step

@@ -1,4 +1,4 @@
-use Rattle.std.proofs.Common.{refl, rules}
+use Rattle.std.proofs.Common.{rules}
 use Rattle.bb_decide.proofs.Halting.{is_none}
 use Rattle.bb_decide.proofs.Translations.{IsTakenIn, is_ready, looks_at_none, looks_at_one, takes_in}
 use Rattle.bb_decide.proofs.Translations.{tells_pair}

@@ -1,4 +1,4 @@
-use Rattle.std.proofs.Common.{◌≡◌, ℕ, List, [], ◌∷◌, length, rules, refl, sym, ◌∙◌, ap, subst, arith}
+use Rattle.std.proofs.Common.{◌∷◌, length, rules, sym, ◌∙◌, ap, subst, arith}
 use Rattle.std.proofs.lemmas.Bool.{eq-eqb, eqb-true, false≢true}
 use Rattle.std.proofs.lemmas.List.{nil_from_length}
 use Rattle.bb_lines.specs.Lines.{lines}

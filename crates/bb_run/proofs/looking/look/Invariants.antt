@@ -1,4 +1,4 @@
-use Rattle.std.proofs.Common.{◌≡◌, ◌+◌, ◌≤◌, ℕ, length}
+use Rattle.std.proofs.Common.{◌≡◌, ◌+◌, ◌≤◌, length}
 use Rattle.bb_lines.specs.Lines.{lines}
 use Rattle.bb_run.specs.Look.{counts_of}
 use Rattle.bb_run.proofs.Looks.{IsLooked}
