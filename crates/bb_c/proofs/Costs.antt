@@ -1,12 +1,10 @@
 -- What two tries cost together.
-use Rattle.std.proofs.Common.{◌≡◌, ℕ, ◌+◌, ◌≤◌, max, inl, inr, ℤ, Bool, false, IsTrue, IfOk, Result, Ok, Err}
-use Rattle.std.proofs.Common.{◌<◌, OnOk, refl, rules, ap, subst, arith}
+use Rattle.std.proofs.Common.{◌≡◌, ℕ, ◌+◌, ◌≤◌, max, inl, inr, ℤ}
+use Rattle.std.proofs.Common.{◌<◌, refl, rules, ap, subst, arith}
 use Rattle.bb_machine.specs.Limits.{Bounds}
 use Rattle.bb_machine.specs.Machine.{Table}
 use Rattle.bb_machine.specs.declared.plan.Plan.{Plan}
 use Rattle.bb_sim.specs.declared.meter.Meter.{Meter}
-use Rattle.bb_sim.specs.Span.{Inside}
-use Rattle.bb_tape.specs.declared.tape.Memory.{Memory}
 use Rattle.bb_cert.specs.declared.verdict.Verdict.{Verdict}
 use Rattle.bb_cert.specs.declared.verdict.Verdict.TheVariants.{Backward, Undecided}
 use Rattle.bb_decide.specs.Fingerprint.{AgreesByChance, CostsWhatItNames, most_steps, named_step}

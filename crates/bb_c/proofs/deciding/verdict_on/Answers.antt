@@ -1,5 +1,5 @@
 use Rattle.std.proofs.lemmas.Bool.{both_ways}
-use Rattle.std.proofs.Common.{◌≡◌, ◌<◌, ◌≤◌, rules}
+use Rattle.std.proofs.Common.{◌<◌, ◌≤◌, rules}
 use Rattle.std.proofs.lemmas.Result.{IfOk-weaker, on_ok_weaker}
 use Rattle.bb_c.proofs.Costs.{costs_both_tries, costs_first_try, counts_both_tries, counts_first_try}
 use Rattle.bb_c.proofs.Costs.{counts_one_try, costs_one_try}
