@@ -6,7 +6,7 @@ use Rattle.bb_machine.specs.Machine.{Table}
 use Rattle.bb_tape.specs.TapeView.{TapeView}
 use Rattle.bb_sim.specs.declared.meter.Meter.{Meter}
 use Rattle.bb_sim.specs.declared.runner.Runner.{Runner}
-use Rattle.bb_sim.specs.declared.simulation.Outcome.{Outcome}
+use Rattle.bb_sim.specs.declared.runner.Moved.{Moved}
 use Rattle.bb_sim.specs.Runner.{Stands, steps_of}
 use Rattle.bb_sim.specs.Span.{Inside}
 use Rattle.bb_cert.specs.claims.Repeat.{Same}
@@ -98,9 +98,9 @@ module _ {table : Table} {bounds : Bounds} {before after kept : Runner}
     }
 
 pub no_cycle_at_end : {table : Table} {bounds : Bounds} {before after kept : Runner}
-    {view_before view view_kept : TapeView} {first meter : Meter} {outcome : Outcome}
+    {view_before view view_kept : TapeView} {first meter : Meter} {answer : Moved}
     → IsSearching table bounds before kept view_before view_kept
-    → EndsRun table bounds before after view first meter outcome → HasNoCycle table bounds
+    → EndsRun table bounds before after view first meter answer → HasNoCycle table bounds
 no_cycle_at_end {table} {bounds} {after = after} {view = view} here ended a t cycle =
     none_inside (IsCycle table bounds a) ended (here.none a) (λ halts now.
     no_pair_in_Z table after view ended.stands halts a now.same.here now.same.here now.partner.below

@@ -15,7 +15,7 @@ use Rattle.bb_sim.specs.declared.simulation.Outcome.{Outcome}
 use Rattle.bb_sim.specs.Meter.{CountsRun, CountsTo, IsWithinRun}
 use Rattle.bb_sim.specs.Outcome.{IsOutcome}
 use Rattle.bb_sim.specs.Run.{Never}
-use Rattle.bb_sim.specs.Runner.{Answers, Moves, Reaches, Stands, state_of, steps_of}
+use Rattle.bb_sim.specs.Runner.{Answers, Moves, Reaches, Stands, Stays, state_of, steps_of}
 use Rattle.bb_sim.specs.Span.{Inside, IsLastInside}
 use Rattle.bb_sim.proofs.Facts.{count_is_within, halted_end, halts_in_Z, halts_last, no_halt_inside}
 use Rattle.bb_sim.proofs.Facts.{wide_at_end}
@@ -27,69 +27,83 @@ use Rattle.bb_decide.specs.OneRun.{IsStoppedAt}
 use Rattle.bb_decide.specs.Translation.{FindsTranslation, HasNoTranslation}
 use Rattle.bb_decide.specs.declared.bench.Bench.{Bench}
 use Rattle.bb_decide.specs.declared.ending.Ending.TheVariants.{Found, Ran}
-use Rattle.bb_decide.specs.inside.Ending.{Seeks, TellsEnd, WatchesRun}
-use Rattle.bb_decide.specs.inside.Step.{EndsRun, StepsOn, TakesOver}
+use Rattle.bb_decide.specs.inside.Ending.{Seeks, WatchesRun}
+use Rattle.bb_decide.specs.inside.Step.{EndsRun, GoesOn, StepsOn, TakesOver, TellsEnd}
 use Rattle.bb_decide.proofs.Benches.{IsAsLent}
 use Rattle.bb_decide.proofs.Counted.{HasCut, taken_over}
 
 -- where a call of `advance` left a runner, whose run a meter took over
 module _ {table : Table} {bounds : Bounds} {old new : Runner} {view : TapeView} {first meter : Meter}
-    {outcome : Outcome} (stands : Stands table new view) (takes_over : TakesOver new first meter) where
-  ended : IsLastInside table bounds (steps_of new) → new ≡ old → IsOutcome table bounds outcome
-      → EndsRun table bounds old new view first meter outcome
-  ended last same is_outcome = record {
-    stands = stands;
-    last = last;
-    no_further = inl (ap steps_of same);
-    is_outcome = is_outcome;
-    counts = taken_over stands first takes_over;
-  }
-
+    (stands : Stands table new view) (takes_over : TakesOver new first meter) where
   -- it didn't step
-  pub ends_where_stopped : (view_old : TapeView) (other_old other : Meter) (moved : Moved)
-      → (moved ≡ Stepped → ⊥) → Answers table bounds (steps_of old) moved
-      → Reaches table bounds new view moved
-      → Moves table old new view_old view other_old other moved
-      → TellsEnd moved (steps_of new) (score view.content) outcome
-      → EndsRun table bounds old new view first meter outcome
-  ends_where_stopped _ _ _ Halted apart answers last stays is = ended last stays.runner
-      (rw is (halted_end stands last.inside (rw (ap steps_of stays.runner) answers) _ _ refl refl))
-  ends_where_stopped _ _ _ NoSteps apart answers last stays is =
-      let here : Answers table bounds (steps_of new) NoSteps = rw (ap steps_of stays.runner) answers in
-      ended last stays.runner
-      (rw is (no_halt_inside _ _ _ last.inside last here.0, rw (← here.1) last.inside.within_cells))
-  ends_where_stopped _ _ _ NoCells apart answers last stays is =
-      let here : Answers table bounds (steps_of new) NoCells = rw (ap steps_of stays.runner) answers in
-      ended last stays.runner
-      (rw is (no_halt_inside _ _ _ last.inside last here.0, wide_at_end _ _ _ last.inside here.2 here.1))
-  ends_where_stopped _ _ _ Stepped apart answers reaches moves is =
-      let same : Stepped ≡ Stepped = refl in absurd (apart same)
+  module _ (view_old : TapeView) (other_old other : Meter) where
+    ended : (moved : Moved) → IsLastInside table bounds (steps_of new)
+        → Stays old new view_old view other_old other → ((outcome : Outcome)
+        → TellsEnd moved (steps_of new) (score view.content) outcome → IsOutcome table bounds outcome)
+        → EndsRun table bounds old new view first meter moved
+    ended moved last stays is_outcome = record {
+      stands = stands;
+      last = last;
+      no_further = inl (ap steps_of stays.runner);
+      is_outcome = is_outcome;
+      counts = taken_over stands first takes_over;
+    }
+
+    pub ends_where_stopped : (moved : Moved) → (moved ≡ Stepped → ⊥)
+        → Answers table bounds (steps_of old) moved → Reaches table bounds new view moved
+        → Moves table old new view_old view other_old other moved
+        → EndsRun table bounds old new view first meter moved
+    ends_where_stopped Halted apart answers last stays = ended Halted last stays (λ outcome is.
+        rw is (halted_end stands last.inside (rw (ap steps_of stays.runner) answers) _ _ refl refl))
+    ends_where_stopped NoSteps apart answers last stays =
+        let here : Answers table bounds (steps_of new) NoSteps = rw (ap steps_of stays.runner) answers in
+        ended NoSteps last stays (λ outcome is.
+        rw is (no_halt_inside _ _ _ last.inside last here.0, rw (← here.1) last.inside.within_cells))
+    ends_where_stopped NoCells apart answers last stays =
+        let here : Answers table bounds (steps_of new) NoCells = rw (ap steps_of stays.runner) answers in
+        ended NoCells last stays (λ outcome is.
+        rw is (no_halt_inside _ _ _ last.inside last here.0, wide_at_end _ _ _ last.inside here.2 here.1))
+    ends_where_stopped Stepped apart answers reaches moves =
+        let same : Stepped ≡ Stepped = refl in absurd (apart same)
 
   -- it stepped into Z
   pub ends_into_Z : state_of new ≡ Halt → Inside table bounds (steps_of new) → steps_of new ≡ steps_of old + 1
-      → TellsEnd Halted (steps_of new) (score view.content) outcome
-      → EndsRun table bounds old new view first meter outcome
-  ends_into_Z halts inside next is =
+      → EndsRun table bounds old new view first meter Halted
+  ends_into_Z halts inside next =
       let stops = halts_in_Z table new view stands halts in
       record {
         stands = stands;
         last = halts_last table bounds (steps_of new) inside stops;
         no_further = inr (halts, next);
-        is_outcome = rw is (halted_end stands inside stops _ _ refl refl);
+        is_outcome = λ outcome is. rw is (halted_end stands inside stops _ _ refl refl);
         counts = taken_over stands first takes_over;
       }
 
 -- what is promised of the step then
 module _ {grows : Bool} {table : Table} {bounds : Bounds} {old new : Runner} {view_old view : TapeView}
     {first meter : Meter} (limit : view.limit ≡ view_old.limit) where
-  pub step_ends : {outcome : Outcome} → EndsRun table bounds old new view first meter outcome
-      → StepsOn grows table bounds old new view_old view first meter (Ok (Some outcome))
-  step_ends end = record { goes_on = end; cut = tt; within = tt; memory = tt; limit = limit }
+  pub step_goes_on : (moved : Moved) → GoesOn table bounds old new view first meter moved
+      → StepsOn grows table bounds old new view_old view first meter (Ok moved)
+  step_goes_on moved on = record { goes_on = on; cut = tt; within = tt; memory = tt; limit = limit }
 
   pub step_is_cut : {fault : Memory} → HasCut table bounds first meter → IsTrue grows
       → StepsOn grows table bounds old new view_old view first meter (Err fault)
   step_is_cut cut memory =
       record { goes_on = tt; cut = cut.part; within = cut.within; memory = memory; limit = limit }
+
+-- where it didn't step, or into Z, the run has ended
+pub stopped_on : {table : Table} {bounds : Bounds} {old new : Runner} {view : TapeView} {first meter : Meter}
+    {moved : Moved} → EndsRun table bounds old new view first meter moved → (moved ≡ Stepped → ⊥)
+    → GoesOn table bounds old new view first meter moved
+stopped_on {moved = Stepped} ends apart = let same : Stepped ≡ Stepped = refl in absurd (apart same)
+stopped_on {moved = moved} ends apart = ends
+
+pub has_ended : (table : Table) (bounds : Bounds) (old new : Runner) (view : TapeView) (first meter : Meter)
+    (moved : Moved) → (moved ≡ Stepped → ⊥) → GoesOn table bounds old new view first meter moved
+    → EndsRun table bounds old new view first meter moved
+has_ended table bounds old new view first meter Stepped apart on =
+    let same : Stepped ≡ Stepped = refl in absurd (apart same)
+has_ended table bounds old new view first meter moved apart on = on
 
 -- what a search finds
 pub record IsFound (Finds : Option Verdict → Type 0) (table : Table) (bounds : Bounds) (first meter : Meter)
@@ -103,7 +117,7 @@ pub record IsFound (Finds : Option Verdict → Type 0) (table : Table) (bounds :
 
 -- a run that has ended was counted whole
 ran : {table : Table} {bounds : Bounds} {before after : Runner} {run : TapeView} {first here meter : Meter}
-    {outcome : Outcome} → here ≡ first → EndsRun table bounds before after run here meter outcome
+    {moved : Moved} → here ≡ first → EndsRun table bounds before after run here meter moved
     → CountsRun table bounds first meter × IsWithinRun bounds first meter
 ran {table} {bounds} {after = after} {first = first} {meter = meter} same ends =
     let counts : CountsTo table (steps_of after) first meter = rw same at ends.counts in (
@@ -115,11 +129,12 @@ module _ {T : Type 0} {view : T → TapeView} {grows : Bool} {table : Table} {bo
     {old new : Bench T} {first here meter : Meter} (lent : IsAsLent view bounds.cells old new first here)
   where
     pub seeks_to_end : {Finds : Option Verdict → Type 0} {before after : Runner} {run : TapeView}
-        {outcome : Outcome} → EndsRun table bounds before after run here meter outcome → Finds None
+        {moved : Moved} {outcome : Outcome} → EndsRun table bounds before after run here meter moved
+        → TellsEnd moved (steps_of after) (score run.content) outcome → Finds None
         → Seeks Finds grows view table bounds old new first meter (Ok (Ran outcome))
-    seeks_to_end ends none = let is = ran lent.meter ends in record {
+    seeks_to_end ends tells none = let is = ran lent.meter ends in record {
       found = none;
-      ran = ends.is_outcome;
+      ran = ends.is_outcome _ tells;
       counted = is.0;
       cut = tt;
       within = is.1;
@@ -161,12 +176,13 @@ module _ {T : Type 0} {view : T → TapeView} {grows : Bool} {table : Table} {bo
 
     -- the watched run, where it wasn't stopped
     module _ {key : ℤ → ℕ} (unstopped : (n : ℕ) → IsStoppedAt key table bounds n → ⊥) where
-      pub watches_to_end : {before after : Runner} {run : TapeView} {outcome : Outcome}
-          → EndsRun table bounds before after run here meter outcome → HasNoTranslation table bounds
+      pub watches_to_end : {before after : Runner} {run : TapeView} {moved : Moved} {outcome : Outcome}
+          → EndsRun table bounds before after run here meter moved
+          → TellsEnd moved (steps_of after) (score run.content) outcome → HasNoTranslation table bounds
           → HasNoCycle table bounds
           → WatchesRun grows view table bounds key old new first meter (Ok (Some (Ran outcome)))
-      watches_to_end ends no_record no_cycle = let is = ran lent.meter ends in record {
-        watched = (no_record, is.0, ends.is_outcome, no_cycle, unstopped);
+      watches_to_end ends tells no_record no_cycle = let is = ran lent.meter ends in record {
+        watched = (no_record, is.0, ends.is_outcome _ tells, no_cycle, unstopped);
         cut = tt;
         within = is.1;
         promised = record { claim = tt; numbers = tt; memory = tt };

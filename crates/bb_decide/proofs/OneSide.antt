@@ -30,6 +30,9 @@ use Rattle.bb_cert.specs.declared.records.Records.{Records}
 use Rattle.bb_cert.specs.declared.verdict.Side.{Side}
 use Rattle.bb_cert.specs.declared.verdict.Verdict.{Verdict}
 use Rattle.bb_cert.specs.records.Agree.{Agree}
+use Rattle.bb_cert.specs.declared.verdict.Verdict.TheVariants.{Translated}
+use Rattle.bb_cert.specs.verdict.Extent.{IsExtent}
+use Rattle.bb_cert.specs.declared.verdict.Extent.{Extent}
 use Rattle.bb_cert.specs.records.Follow.{AgreesWithKept, IsFollowed, passed, top_of}
 use Rattle.bb_cert.specs.records.Record.{out, head_at, IsRecord}
 use Rattle.bb_cert.proofs.Facts.{
@@ -43,7 +46,7 @@ use Rattle.bb_cert.proofs.Facts.{
 use Rattle.bb_cert.proofs.Facts.{followed_at_first, followed_farther, followed_nearer, head_at-is, keeps}
 use Rattle.bb_cert.proofs.Facts.{made_next, nearer_on, number_narrow, numbered, record_has_one_step}
 use Rattle.bb_cert.proofs.Facts.{records_in_order, stands_on, stays}
-use Rattle.bb_decide.specs.inside.Follow.{Compares, IsReady, IsSearched, KeepsByTurn, TellsAgreement}
+use Rattle.bb_decide.specs.inside.Follow.{Compares, IsReady, IsSearched, KeepsByTurn}
 use Rattle.bb_decide.specs.Partner.{IsKept, IsPartner}
 use Rattle.bb_decide.specs.Translation.{AgreesWithPartner}
 use Rattle.bb_decide.proofs.Partners.{is_kept_one, kept_at_first, kept_below, keeps_next, keeps_on}
@@ -77,6 +80,15 @@ pub record GoesOn (table : Table) (n : ℕ) (side : Side) (new : Records) (saved
   pub searched : IsSearched table n new saved
   pub side_is : new.side ≡ side
   pub none : (a : ℕ) → AgreesWithPartner table side a n → ⊥
+
+-- a verdict tells a record that agrees with its partner, made at step n, and how the two lie
+pub record TellsAgreement (table : Table) (n : ℕ) (verdict : Verdict) : Type 0 where
+  pub side : Side
+  pub first : ℕ
+  pub extent : Extent
+  pub is : verdict ≡ Translated side first n (Some extent)
+  pub pair : AgreesWithPartner table side first n
+  pub lies : IsExtent table side first n extent
 
 module _ (table : Table) (n : ℕ) (runner : Runner) (run saved : TapeView) (old : Records)
     (stands : Stands table runner run) (next : steps_of runner ≡ n + 1)

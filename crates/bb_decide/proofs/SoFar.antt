@@ -7,7 +7,7 @@ use Rattle.bb_machine.specs.Machine.{Table}
 use Rattle.bb_tape.specs.TapeView.{TapeView}
 use Rattle.bb_sim.specs.declared.meter.Meter.{Meter}
 use Rattle.bb_sim.specs.declared.runner.Runner.{Runner}
-use Rattle.bb_sim.specs.declared.simulation.Outcome.{Outcome}
+use Rattle.bb_sim.specs.declared.runner.Moved.{Moved}
 use Rattle.bb_sim.specs.Runner.{state_of, steps_of}
 use Rattle.bb_sim.specs.Span.{Inside}
 use Rattle.bb_decide.specs.inside.Step.{EndsRun}
@@ -27,7 +27,7 @@ module _ (P : ℕ → Type 0) {n m : ℕ} (next : m ≡ n + 1) (before : (t : �
   ]
 
 pub none_inside : (P : ℕ → Type 0) {table : Table} {bounds : Bounds} {old new : Runner} {view : TapeView}
-    {first meter : Meter} {outcome : Outcome} → EndsRun table bounds old new view first meter outcome
+    {first meter : Meter} {answer : Moved} → EndsRun table bounds old new view first meter answer
     → ((t : ℕ) → t ≤ steps_of old → P t → ⊥) → (state_of new ≡ Halt → P (steps_of new) → ⊥)
     → (t : ℕ) → Inside table bounds t → P t → ⊥
 none_inside P ended before in_Z t inside holds =

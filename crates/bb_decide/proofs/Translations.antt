@@ -10,7 +10,7 @@ use Rattle.bb_sim.specs.declared.meter.Meter.{Meter}
 use Rattle.bb_sim.specs.declared.runner.Runner.{Runner}
 use Rattle.bb_sim.specs.CellsBetween.{cells_between}
 use Rattle.bb_sim.specs.Runner.{Stands, high_of, low_of, position_of, state_of, steps_of}
-use Rattle.bb_sim.specs.declared.simulation.Outcome.{Outcome}
+use Rattle.bb_sim.specs.declared.runner.Moved.{Moved}
 use Rattle.bb_sim.specs.Span.{Inside}
 use Rattle.bb_sim.proofs.Facts.{count_is_within}
 use Rattle.bb_cert.specs.declared.records.Records.{Records}
@@ -24,13 +24,12 @@ use Rattle.bb_cert.proofs.Facts.{MakesJust, agreeing_records_never_halt, makes_j
 use Rattle.bb_cert.proofs.Facts.{records_in_order, starts}
 use Rattle.bb_decide.proofs.Halting.{no_pair_in_Z}
 use Rattle.bb_decide.specs.Translation.{AgreesWithPartner, FindsTranslation, HasNoTranslation, IsTranslation}
-use Rattle.bb_decide.specs.inside.Follow.{AreSearched, IsReady, IsSearched, Looks, LooksAtStep}
-use Rattle.bb_decide.specs.inside.Follow.{TellsAgreement}
+use Rattle.bb_decide.specs.inside.Follow.{IsReady, IsSearched, Looks}
 use Rattle.bb_decide.specs.inside.Follow.{on_side}
 use Rattle.bb_decide.specs.inside.Step.{EndsRun, HasMoved, TakesOver}
 use Rattle.bb_decide.proofs.Counted.{taken_over}
 use Rattle.bb_decide.proofs.Endings.{IsFound}
-use Rattle.bb_decide.proofs.OneSide.{GoesOn, HasPassed, searched_at_first, side_ends, side_goes_on}
+use Rattle.bb_decide.proofs.OneSide.{GoesOn, HasPassed, TellsAgreement, searched_at_first, side_ends, side_goes_on}
 use Rattle.bb_decide.proofs.OneSide.{side_passes_by, side_ready}
 use Rattle.bb_decide.proofs.SoFar.{none_earlier, none_inside, none_so_far}
 
@@ -66,6 +65,19 @@ no_pair_at_end table runner run stands halts side a pair =
     let agree = agreeing.agree in
     no_pair_in_Z table runner run stands halts a agree.first agree.second agreeing.in_order agree.at_first
     agree.at_second agree.same_state
+
+-- the records of both sides up to step n are known, and the partner of the next one of each is kept
+pub record AreSearched (table : Table) (n : ℕ) (right left : Records) (saved_right saved_left : TapeView)
+    : Type 0 where
+  pub on_right : IsSearched table n right saved_right
+  pub on_left : IsSearched table n left saved_left
+  pub right_is : right.side ≡ R
+  pub left_is : left.side ≡ L
+
+-- and none that step n makes agrees with its partner
+abbrev pub HasPassedBoth : Table → ℕ → Records → Records → TapeView → TapeView → Type 0
+HasPassedBoth table n right left saved_right saved_left = AreSearched table n right left saved_right saved_left
+    × ((side : Side) (a : ℕ) → AgreesWithPartner table side a n → ⊥)
 
 -- the search has come to where a runner stands: the records of both sides are known up to there, and none of
 -- them agrees with its partner
@@ -133,9 +145,9 @@ module _ {table : Table} {before after : Runner} {view saved_right saved_left : 
 
 -- what is known of both sides then
 looked : {table : Table} (runner : Runner) {right left : Records} {saved_right saved_left : TapeView}
-    {meter : Meter} → GoesOn table (steps_of runner) R right saved_right
+    → GoesOn table (steps_of runner) R right saved_right
     → GoesOn table (steps_of runner) L left saved_left
-    → LooksAtStep table runner right left saved_right saved_left meter meter None
+    → HasPassedBoth table (steps_of runner) right left saved_right saved_left
 looked {table} runner on_right on_left = (
   record {
     on_right = on_right.searched;
@@ -144,7 +156,6 @@ looked {table} runner on_right on_left = (
     left_is = on_left.side_is;
   },
   none_now,
-  refl,
 ) where
   none_now : (side : Side) (a : ℕ) → AgreesWithPartner table side a (steps_of runner) → ⊥
   none_now R a pair = on_right.none a pair
@@ -154,8 +165,8 @@ module _ {table : Table} {n : ℕ} {after : Runner} {view saved_right saved_left
     {right left : Records} {widened : Option Side}
     (taken : IsTakenIn table n after view right left saved_right saved_left widened) where
   -- a step that makes no record
-  pub looks_at_none : {meter : Meter} → widened ≡ None
-      → LooksAtStep table after right left saved_right saved_left meter meter None
+  pub looks_at_none : widened ≡ None
+      → HasPassedBoth table (steps_of after) right left saved_right saved_left
   looks_at_none is =
       let makes = rw is at taken.makes in
       looked after (side_passes_by taken.on_right (makes R)) (side_passes_by taken.on_left (makes L))
@@ -178,10 +189,10 @@ module _ {table : Table} {n : ℕ} {after : Runner} {view saved_right saved_left
         side_ends taken.on_left (rw is at taken.makes).0 new_left new_saved_left verdict looks.0
 
     -- or not
-    pub looks_at_one : {meter : Meter} (side : Side) → widened ≡ Some side
+    pub looks_at_one : (side : Side) → widened ≡ Some side
         → Looks side after view right left saved_right saved_left new_right new_left new_saved_right
         new_saved_left None
-        → LooksAtStep table after new_right new_left new_saved_right new_saved_left meter meter None
+        → HasPassedBoth table (steps_of after) new_right new_left new_saved_right new_saved_left
     looks_at_one R is looks =
         let makes = rw is at taken.makes in
         looked after (side_goes_on taken.on_right makes.0 new_right new_saved_right looks.0 looks.1)
@@ -196,10 +207,10 @@ module _ {table : Table} {bounds : Bounds} {before after : Runner}
     {view_before view saved_right saved_left : TapeView} {old_right old_left : Records}
     (here : IsSearching table bounds before view_before old_right old_left saved_right saved_left)
     (moved : HasMoved table before after view) (inside : Inside table bounds (steps_of after)) where
-  pub goes_on : {right left : Records} {new_right new_left : TapeView} (first meter : Meter)
-      → LooksAtStep table after right left new_right new_left first meter None
+  pub goes_on : {right left : Records} {new_right new_left : TapeView}
+      → HasPassedBoth table (steps_of after) right left new_right new_left
       → IsSearching table bounds after view right left new_right new_left
-  goes_on first meter looks = record {
+  goes_on looks = record {
     stands = moved.stands;
     within = inside.within_steps;
     searched = looks.0;
@@ -233,9 +244,9 @@ module _ {table : Table} {bounds : Bounds} {before after : Runner}
 
 pub none_at_end : {table : Table} {bounds : Bounds} {before after : Runner}
     {view_before view saved_right saved_left : TapeView} {right left : Records} {first meter : Meter}
-    {outcome : Outcome}
+    {answer : Moved}
     → IsSearching table bounds before view_before right left saved_right saved_left
-    → EndsRun table bounds before after view first meter outcome → HasNoTranslation table bounds
+    → EndsRun table bounds before after view first meter answer → HasNoTranslation table bounds
 none_at_end {table} {bounds} {after = after} {view = view} here ended side a b found =
     none_inside (IsTranslation table bounds side a) ended (here.none side a) (λ halts now.
     no_pair_at_end table after view ended.stands halts side a now.pair) b found.inside found

@@ -16,7 +16,7 @@ use Rattle.bb_machine.specs.declared.entry.Dir.TheVariants.{L, R}
 use Rattle.bb_sim.specs.Configuration.{Configuration, beside, start}
 use Rattle.bb_sim.specs.declared.meter.Meter.{Meter}
 use Rattle.bb_sim.specs.declared.runner.Runner.{Runner}
-use Rattle.bb_sim.specs.declared.simulation.Outcome.{Outcome}
+use Rattle.bb_sim.specs.declared.runner.Moved.{Moved}
 use Rattle.bb_sim.specs.Run.{conf}
 use Rattle.bb_sim.specs.Runner.{Stands, position_of, state_of, steps_of}
 use Rattle.bb_sim.specs.Span.{Inside, counted_head}
@@ -29,7 +29,7 @@ use Rattle.bb_cert.proofs.Facts.{alike_of_same, led_by, moves}
 use Rattle.bb_decide.specs.Fingerprint.{LooksAsPartner, fingerprint}
 use Rattle.bb_decide.specs.OneRun.{IsStoppedAt}
 use Rattle.bb_decide.specs.Partner.{IsPartner}
-use Rattle.bb_decide.specs.inside.Follow.{TellsAgreement}
+use Rattle.bb_decide.proofs.OneSide.{TellsAgreement}
 use Rattle.bb_decide.specs.inside.Prints.{AreAsKept, KeepInTurn, prints_at_first}
 use Rattle.bb_decide.specs.inside.Step.{EndsRun, HasMoved}
 use Rattle.bb_decide.specs.declared.watching.Prints.{Prints}
@@ -288,9 +288,9 @@ module _ {table : Table} {bounds : Bounds} {key : ℤ → ℕ} {before after : R
 
 -- nor was it where the run ends
 pub not_stopped_at_end : {table : Table} {bounds : Bounds} {key : ℤ → ℕ} {before after : Runner}
-    {view_before view : TapeView} {old : Prints} {first meter : Meter} {outcome : Outcome}
+    {view_before view : TapeView} {old : Prints} {first meter : Meter} {answer : Moved}
     → IsWatched table bounds key before view_before old
-    → EndsRun table bounds before after view first meter outcome
+    → EndsRun table bounds before after view first meter answer
     → (n : ℕ) → IsStoppedAt key table bounds n → ⊥
 not_stopped_at_end {table} {key = key} {after = after} {view = view} here ended n at =
     none_inside (LooksAsPartner key table at.partner) ended (here.none_alike at.partner) (λ halts looks.

@@ -13,10 +13,10 @@ ghost use Rattle.bb_decide.specs.inside.Ending.{Seeks};
 ghost use Rattle.bb_decide.specs.Sure.{FindsRepeats};
 
 use crate::bench::Bench;
-use crate::ending::{Ending, count_run, step_on};
+use crate::ending::{Ending, count_run, outcome_of, step_on};
 use bb_cert::{Verdict, is_same};
 use bb_machine::{Limits, Machine};
-use bb_sim::{Meter, Runner};
+use bb_sim::{Meter, Moved, Runner};
 use bb_tape::{Memory, Tape, TapeFault};
 
 /// The pair of the first step, from step 2 on, whose configuration is that of its partner, the greatest power
@@ -87,9 +87,12 @@ fn run_to_cycle<T: Tape>(
     let mut kept = Runner::start(machine, &mut bench.right);
     let mut next_kept = 0;
     loop {
-        match step_on(machine, &mut runner, &mut bench.run, limits, meter)? {
-            Some(outcome) => return Ok(Ending::Ran(outcome)),
-            None => {}
+        let Ok(moved) = step_on(machine, &mut runner, &mut bench.run, limits, meter) else {
+            return Err(Memory);
+        };
+        match moved {
+            Moved::Stepped => {}
+            moved => return Ok(Ending::Ran(outcome_of(moved, runner, &bench.run))),
         }
         if is_same(&runner, &bench.run, &kept, &bench.right) {
             count_run(meter, runner);

@@ -2,8 +2,8 @@
 ghost use Rattle.std.specs.Prelude.{◌≡◌, ◌+◌, ◌*◌, ◌<◌, ◌≤◌, ◌^◌};
 ghost use Rattle.bb_sim.specs.Runner.{Stands, steps_of};
 ghost use Rattle.bb_tape.specs.Content.{score};
-ghost use Rattle.bb_decide.specs.inside.Ending.{TellsEnd, found_of, is_settled};
-ghost use Rattle.bb_decide.specs.inside.Step.{StepsOn, TakesOver};
+ghost use Rattle.bb_decide.specs.inside.Ending.{found_of, is_settled};
+ghost use Rattle.bb_decide.specs.inside.Step.{StepsOn, TakesOver, TellsEnd};
 
 use bb_cert::Verdict;
 use bb_machine::{Limits, Machine};
@@ -43,9 +43,9 @@ impl Ending {
     }
 }
 
-/// Makes the next step of a run, if there is one inside the limits; the runner counts its steps and cells.
-/// None where the step leads to a state. Else the run has ended, and the meter takes over what was run, as it
-/// does where there is no memory for the step. It is inlined into loops, in whose registers the runner stays.
+/// Makes the next step of a run, if there is one inside the limits; the runner counts its steps and cells. Where
+/// it didn't step, or into Z, the run has ended, and the meter takes over what was run, as it does where there is
+/// no memory for the step. It is inlined into loops, in whose registers the runner stays.
 #[inline(always)]
 pub fn step_on<T: Tape>(
     machine: &Machine,
@@ -53,7 +53,7 @@ pub fn step_on<T: Tape>(
     tape: &mut T,
     limits: &Limits,
     meter: &mut Meter,
-) -> Result<Option<Outcome>, Memory>
+) -> Result<Moved, Memory>
     requires stands { Stands machine.now runner.old (T.view tape.old) }
     requires limit { (T.view tape.old).limit ≡ limits.now.cells }
     requires steps { steps_of runner.old ≤ limits.now.steps }
@@ -71,16 +71,15 @@ pub fn step_on<T: Tape>(
         Moved::Stepped => {}
         moved => {
             count_run(meter, *runner);
-            return Ok(Some(outcome_of(moved, *runner, tape)));
+            return Ok(moved);
         }
     }
     // Z is never met twice, so this step can't be a repeat: the run ends.
     let Some(_) = runner.state() else {
         count_run(meter, *runner);
-        let outcome = outcome_of(Moved::Halted, *runner, tape);
-        return Ok(Some(outcome));
+        return Ok(Moved::Halted);
     };
-    Ok(None)
+    Ok(Moved::Stepped)
 }
 
 /// Counts what a runner has run: its steps, and the cells of its window. It is not inlined, so that the loop
@@ -98,7 +97,7 @@ pub fn count_run(meter: &mut Meter, runner: Runner)
 /// How the run of a search ended, where the runner steps no more, or has stepped into Z.
 #[cold]
 #[inline(never)]
-fn outcome_of<T: Tape>(moved: Moved, runner: Runner, tape: &T) -> Outcome
+pub fn outcome_of<T: Tape>(moved: Moved, runner: Runner, tape: &T) -> Outcome
     ensures { TellsEnd moved (steps_of runner) (score (T.view tape.now).content) result }
 {
     match moved {

@@ -1,74 +1,20 @@
-//! What a search does with a step: which records it makes, and which is kept to be compared with the next.
+//! Which record of a side is kept while a search goes on, to be compared with the next.
 ghost use Rattle.std.specs.Prelude.{◌≡◌, ◌+◌, ◌<◌, ◌^◌, IfOk, IfSome, IsTrue, OnErr};
 ghost use Rattle.bb_sim.specs.Runner.{steps_of};
 ghost use Rattle.bb_cert.specs.verdict.Verdict.{HasNumbers};
-ghost use Rattle.bb_decide.specs.inside.Follow.{AreSearched, IsReady, Looks, LooksAtRecord, LooksAtStep};
-ghost use Rattle.bb_decide.specs.inside.Follow.{on_side};
-ghost use Rattle.bb_decide.specs.inside.Step.{HasMoved, TakesOver};
+ghost use Rattle.bb_decide.specs.inside.Follow.{IsReady, Looks, LooksAtRecord, on_side};
+ghost use Rattle.bb_decide.specs.inside.Step.{TakesOver};
 
 use crate::ending::count_run;
-use bb_cert::records::{Records, widened_side};
+use bb_cert::records::Records;
 use bb_cert::{Side, Verdict};
-use bb_machine::Machine;
 use bb_sim::{Meter, Runner};
 use bb_tape::{Memory, Tape};
-
-/// Takes in, for both sides, the step that a runner has just made, and looks at the record that it makes of
-/// one, if it does. The verdict where that agrees with its partner: then the meter takes the run over, as it
-/// does where there is no memory to keep the record.
-#[inline(always)]
-pub fn take_in<T: Tape>(
-    machine: &Machine,
-    before: &Runner,
-    runner: &Runner,
-    right: &mut Records,
-    left: &mut Records,
-    run: &T,
-    saved_right: &mut T,
-    saved_left: &mut T,
-    meter: &mut Meter,
-) -> Result<Option<Verdict>, Memory>
-    requires right_limit { (T.view saved_right.old).limit ≡ (T.view run.now).limit }
-    requires left_limit { (T.view saved_left.old).limit ≡ (T.view run.now).limit }
-    requires moved { HasMoved machine.now before.now runner.now (T.view run.now) }
-    requires searched { AreSearched machine.now (steps_of before.now) right.old left.old
-        (T.view saved_right.old) (T.view saved_left.old) }
-    requires room { meter.old.steps + steps_of runner.now < 2 ^ 64 }
-    ensures looks { IfOk result (LooksAtStep machine.now runner.now right.new left.new
-        (T.view saved_right.new) (T.view saved_left.new) meter.old meter.new) }
-    ensures right_limit { (T.view saved_right.new).limit ≡ (T.view saved_right.old).limit }
-    ensures left_limit { (T.view saved_left.new).limit ≡ (T.view saved_left.old).limit }
-    ensures memory { OnErr result (IsTrue T.GROWS) }
-    ensures cut { OnErr result (TakesOver runner.now meter.old meter.new) }
-{
-    right.pass(runner.position());
-    left.pass(runner.position());
-    // A record is made exactly where the window becomes wider.
-    let Some(side) = widened_side(runner, before.cells()) else {
-        return Ok(None);
-    };
-    match look_on(
-        side,
-        right,
-        left,
-        runner,
-        run,
-        saved_right,
-        saved_left,
-        meter,
-    )? {
-        Some(verdict) => {
-            count_run(meter, *runner);
-            Ok(Some(verdict))
-        }
-        None => Ok(None),
-    }
-}
 
 /// Looks at the record that the runner has just made on a side. Where there is no memory to keep it, the
 /// meter takes the run over.
 #[inline(always)]
-fn look_on<T: Tape>(
+pub fn look_on<T: Tape>(
     side: Side,
     right: &mut Records,
     left: &mut Records,

@@ -11,12 +11,12 @@ ghost use Rattle.bb_decide.specs.Sure.{FindsAgreeingRecords};
 ghost use Rattle.bb_decide.specs.Translation.{FindsTranslation};
 
 use crate::bench::Bench;
-use crate::ending::{Ending, step_on};
-use crate::record_search::take_in;
-use bb_cert::records::Records;
+use crate::ending::{Ending, count_run, outcome_of, step_on};
+use crate::record_search::look_on;
+use bb_cert::records::{Records, widened_side};
 use bb_cert::{Side, Verdict};
 use bb_machine::{Limits, Machine};
-use bb_sim::{Meter, Runner};
+use bb_sim::{Meter, Moved, Runner};
 use bb_tape::{Memory, Tape};
 
 /// The first record of either side, from record 2 on, that agrees with its partner, the record of that side
@@ -85,23 +85,34 @@ fn run_to_records<T: Tape>(
     let mut right = Records::new(Side::R, runner);
     let mut left = Records::new(Side::L, runner);
     loop {
-        let before = runner;
-        match step_on(machine, &mut runner, &mut bench.run, limits, meter)? {
-            Some(outcome) => return Ok(Ending::Ran(outcome)),
-            None => {}
+        let cells = runner.cells();
+        let Ok(moved) = step_on(machine, &mut runner, &mut bench.run, limits, meter) else {
+            return Err(Memory);
+        };
+        match moved {
+            Moved::Stepped => {}
+            moved => return Ok(Ending::Ran(outcome_of(moved, runner, &bench.run))),
         }
-        match take_in(
-            machine,
-            &before,
-            &runner,
+        right.pass(runner.position());
+        left.pass(runner.position());
+        // A record is made exactly where the window becomes wider.
+        let Some(side) = widened_side(&runner, cells) else {
+            continue;
+        };
+        match look_on(
+            side,
             &mut right,
             &mut left,
+            &runner,
             &bench.run,
             &mut bench.right,
             &mut bench.left,
             meter,
         )? {
-            Some(verdict) => return Ok(Ending::Found(verdict)),
+            Some(verdict) => {
+                count_run(meter, runner);
+                return Ok(Ending::Found(verdict));
+            }
             None => {}
         }
     }

@@ -5,14 +5,14 @@ ghost use Rattle.bb_decide.specs.Bench.{BenchHasCells};
 ghost use Rattle.bb_decide.specs.inside.Ending.{WatchesRun};
 
 use crate::bench::Bench;
-use crate::ending::{Ending, count_run, step_on};
+use crate::ending::{Ending, count_run, outcome_of, step_on};
 use crate::fingerprint::rewritten;
 use crate::keys::Keys;
-use crate::record_search::take_in;
+use crate::record_search::look_on;
 use bb_cert::Side;
-use bb_cert::records::Records;
+use bb_cert::records::{Records, widened_side};
 use bb_machine::{Limits, Machine};
-use bb_sim::{Meter, Runner};
+use bb_sim::{Meter, Moved, Runner};
 use bb_tape::{Memory, Tape};
 
 /// The fingerprint of the run's tape, and that of the configuration that is kept: the partner of the next
@@ -112,12 +112,15 @@ fn run_watched<T: Tape, K: Keys>(
     let mut left = Records::new(Side::L, runner);
     let mut prints = Prints::new(runner);
     loop {
-        let before = runner;
-        let position = before.position();
+        let cells = runner.cells();
+        let position = runner.position();
         let old = bench.run.read_inside(position);
-        match step_on(machine, &mut runner, &mut bench.run, limits, meter)? {
-            Some(outcome) => return Ok(Some(Ending::Ran(outcome))),
-            None => {}
+        let Ok(moved) = step_on(machine, &mut runner, &mut bench.run, limits, meter) else {
+            return Err(Memory);
+        };
+        match moved {
+            Moved::Stepped => {}
+            moved => return Ok(Some(Ending::Ran(outcome_of(moved, runner, &bench.run)))),
         }
         let new = bench.run.read_inside(position);
         prints.print = rewritten(prints.print, keys, position, old, new);
@@ -126,18 +129,26 @@ fn run_watched<T: Tape, K: Keys>(
             return Ok(None);
         }
         prints.keep_in_turn(&runner);
-        match take_in(
-            machine,
-            &before,
-            &runner,
+        right.pass(runner.position());
+        left.pass(runner.position());
+        // A record is made exactly where the window becomes wider.
+        let Some(side) = widened_side(&runner, cells) else {
+            continue;
+        };
+        match look_on(
+            side,
             &mut right,
             &mut left,
+            &runner,
             &bench.run,
             &mut bench.right,
             &mut bench.left,
             meter,
         )? {
-            Some(verdict) => return Ok(Some(Ending::Found(verdict))),
+            Some(verdict) => {
+                count_run(meter, runner);
+                return Ok(Some(Ending::Found(verdict)));
+            }
             None => {}
         }
     }

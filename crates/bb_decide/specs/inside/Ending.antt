@@ -9,8 +9,6 @@ use Rattle.bb_machine.specs.Limits.{Bounds}
 use Rattle.bb_machine.specs.Machine.{Table}
 use Rattle.bb_machine.specs.declared.plan.Plan.{Plan}
 use Rattle.bb_sim.specs.declared.meter.Meter.{Meter}
-use Rattle.bb_sim.specs.declared.runner.Moved.{Moved}
-use Rattle.bb_sim.specs.declared.runner.Moved.TheVariants.{Halted, NoSteps, NoCells, Stepped}
 use Rattle.bb_sim.specs.declared.simulation.Outcome.{Outcome}
 use Rattle.bb_sim.specs.declared.simulation.Outcome.TheVariants as outcomes
 use Rattle.bb_sim.specs.Meter.{CountsPart, CountsRun, CountsTo, IsWithinRun}
@@ -45,13 +43,6 @@ abbrev pub is_settled : Ending → Bool
 is_settled (Found verdict) = true
 is_settled (Ran (outcomes.Halt steps score)) = true
 is_settled (Ran outcome) = false
-
--- the outcome that is answered where a call of `advance` did this, after so many steps with so many cells not 0
-abbrev pub TellsEnd : Moved → ℕ → ℕ → Outcome → Type 0
-TellsEnd NoSteps steps ones outcome = outcome ≡ outcomes.NoSteps
-TellsEnd NoCells steps ones outcome = outcome ≡ outcomes.NoCells
-TellsEnd Halted steps ones outcome = outcome ≡ outcomes.Halt steps ones
-TellsEnd Stepped steps ones outcome = outcome ≡ outcomes.Halt steps ones
 
 -- a search that found nothing has run as a simulation does
 abbrev pub RanAs : Table → Bounds → Ending → Type 0

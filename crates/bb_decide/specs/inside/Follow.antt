@@ -17,42 +17,13 @@ use Rattle.bb_cert.specs.declared.verdict.Verdict.TheVariants.{Translated}
 use Rattle.bb_cert.specs.verdict.Verdict.{HasNumbers}
 use Rattle.bb_cert.specs.records.Follow.{AgreesWithKept, IsComparable, IsFollowed, IsKeptInStateOf, IsNarrow}
 use Rattle.bb_cert.specs.records.Follow.{IsWidened, LiesAs, number_of, top_of, with_kept}
-use Rattle.bb_cert.specs.verdict.Extent.{IsExtent}
 use Rattle.bb_decide.specs.Partner.{IsKept}
-use Rattle.bb_decide.specs.Translation.{AgreesWithPartner}
 use Rattle.bb_decide.specs.inside.Step.{TakesOver}
 
 -- the records of a side up to step n are known, and the partner of the next one is kept
 pub record IsSearched (table : Table) (n : ℕ) (records : Records) (saved : TapeView) : Type 0 where
   pub followed : IsFollowed table n records saved
   pub partner : IsKept followed.number followed.count
-
--- the same of both sides
-pub record AreSearched (table : Table) (n : ℕ) (right left : Records) (saved_right saved_left : TapeView)
-    : Type 0 where
-  pub on_right : IsSearched table n right saved_right
-  pub on_left : IsSearched table n left saved_left
-  pub right_is : right.side ≡ R
-  pub left_is : left.side ≡ L
-
--- a verdict tells a record that agrees with its partner, made at step n, and how the two lie
-pub record TellsAgreement (table : Table) (n : ℕ) (verdict : Verdict) : Type 0 where
-  pub side : Side
-  pub first : ℕ
-  pub extent : Extent
-  pub is : verdict ≡ Translated side first n (Some extent)
-  pub pair : AgreesWithPartner table side first n
-  pub lies : IsExtent table side first n extent
-
--- both sides have taken in the step where a runner stands: a record that it makes agrees with its partner,
--- and the meter takes the run over; else none does, and the records are known up to there
-abbrev pub LooksAtStep : Table → Runner → Records → Records → TapeView → TapeView → Meter → Meter
-    → Option Verdict → Type 0
-LooksAtStep table runner right left saved_right saved_left old new (Some verdict) =
-    TellsAgreement table (steps_of runner) verdict × HasNumbers verdict × TakesOver runner old new
-LooksAtStep table runner right left saved_right saved_left old new None =
-    AreSearched table (steps_of runner) right left saved_right saved_left
-    × ((side : Side) (a : ℕ) → AgreesWithPartner table side a (steps_of runner) → ⊥) × (new ≡ old)
 
 -- the record that the runner has just made can be compared with the kept one
 pub record IsReady (records : Records) (runner : Runner) (saved run : TapeView) : Type 0 where

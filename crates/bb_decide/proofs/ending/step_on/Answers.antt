@@ -1,6 +1,7 @@
 use Rattle.std.proofs.Common.{arith, refl}
+use Rattle.bb_sim.specs.declared.runner.Moved.TheVariants.{Halted, Stepped}
 use Rattle.bb_decide.proofs.Counted.{cut_at_step, few_steps}
-use Rattle.bb_decide.proofs.Endings.{ends_into_Z, ends_where_stopped, step_ends, step_is_cut}
+use Rattle.bb_decide.proofs.Endings.{ends_into_Z, ends_where_stopped, step_goes_on, step_is_cut, stopped_on}
 use Rattle.bb_decide.proofs.Halting.{in_no_state, not_in_Z}
 use Rattle.bb_decide.proofs.ending.step_on.Goals as goal
 
@@ -15,9 +16,9 @@ count_run-requires-in_default-moved g c =
 pub returns-in_default-moved : goal.returns-in_default-moved
 returns-in_default-moved g c =
     let call = c.in-Ok.ensures in
-    step_ends c.advance.ensures.limit
-    (ends_where_stopped call.stands c.count_run-in_default-moved.ensures _ _ _ _ c.in_default-moved.not-Stepped
-    call.answers call.reaches call.moves c.outcome_of.ensures)
+    step_goes_on c.advance.ensures.limit _ (stopped_on (ends_where_stopped call.stands
+    c.count_run-in_default-moved.ensures _ _ _ _ c.in_default-moved.not-Stepped call.answers call.reaches
+    call.moves) c.in_default-moved.not-Stepped)
 
 -- no memory for a step
 pub returns-in_default : goal.returns-in_default
@@ -34,9 +35,8 @@ returns-in_default-state g c =
     let reaches = rw c.in-Stepped.is at call.reaches in
     let moves = rw c.in-Stepped.is at call.moves in
     let halts = in_no_state _ _ c.state.ensures c.in_default-state.not-Some in
-    step_ends c.advance.ensures.limit
-    (ends_into_Z call.stands c.count_run-in_default-state.ensures halts reaches.0 moves.0
-    c.outcome_of-outcome.ensures)
+    step_goes_on c.advance.ensures.limit Halted
+    (ends_into_Z call.stands c.count_run-in_default-state.ensures halts reaches.0 moves.0)
 
 pub returns : goal.returns
 returns g c =
@@ -46,21 +46,15 @@ returns g c =
     let few = reaches.0.within_steps in
     let most = c.show_accepted.ensures.accepted.steps in
     let room = c.requires.room in
-    record {
-      goes_on = (
-        record {
-          view_before = _;
-          stood = c.requires.stands;
-          stands = call.stands;
-          next = moves.0;
-          running = not_in_Z c.in-Some.ensures;
-        },
-        reaches.0,
-        refl,
-        omega (arith, few, most, room),
-      );
-      cut = tt;
-      within = tt;
-      memory = tt;
-      limit = c.advance.ensures.limit;
-    }
+    step_goes_on c.advance.ensures.limit Stepped (
+      record {
+        view_before = _;
+        stood = c.requires.stands;
+        stands = call.stands;
+        next = moves.0;
+        running = not_in_Z c.in-Some.ensures;
+      },
+      reaches.0,
+      refl,
+      omega (arith, few, most, room),
+    )

@@ -5,17 +5,20 @@ use Rattle.bb_decide.specs.Fingerprint.{fingerprint}
 use Rattle.bb_decide.proofs.Benches.{lent_at_first, lent_on, lent_uncounted}
 use Rattle.bb_decide.proofs.Counted.{cut_after_step, taken_over}
 use Rattle.bb_decide.proofs.Cycles.{no_cycle_at_end}
-use Rattle.bb_decide.proofs.Endings.{watches_and_finds, watches_to_end, watches_to_stop, watches_until_cut}
-use Rattle.bb_decide.proofs.Translations.{goes_on, is_found, none_at_end, searching_at_first}
+use Rattle.bb_decide.proofs.Endings.{has_ended, watches_and_finds, watches_to_end, watches_to_stop, watches_until_cut}
+use Rattle.bb_decide.proofs.Translations.{IsTakenIn, goes_on, is_found, is_ready, looks_at_none, looks_at_one}
+use Rattle.bb_decide.proofs.Translations.{none_at_end, searching_at_first, takes_in, tells_pair}
+use Rattle.bb_sim.specs.Runner.{steps_of}
+use Rattle.bb_decide.proofs.Halting.{is_none}
 use Rattle.bb_decide.proofs.Watched.{not_stopped_at_end, not_stopped_at_record}
 use Rattle.bb_decide.proofs.Watched.{print_known}
 use Rattle.bb_decide.proofs.Watched.{readable_here, still_inside, stopped, watched_at_first, watched_on}
 use Rattle.bb_decide.proofs.watching.run_watched.Given as given
 use Rattle.bb_decide.proofs.watching.run_watched.Goals as goal
-use Rattle.bb_decide.proofs.watching.run_watched.Goals.{After-position-position, After-rewritten}
+use Rattle.bb_decide.proofs.watching.run_watched.Goals.{After-rewritten, After-widened_side}
 
-pub loop-outcome-init : goal.loop-outcome-init
-loop-outcome-init g c = record {
+pub loop-moved-init : goal.loop-moved-init
+loop-moved-init g c = record {
   search = searching_at_first c.start-runner.ensures.stands c.start-runner.ensures.steps c.new-right.ensures
       c.new-left.ensures;
   watched = rw c.new-prints.ensures
@@ -24,116 +27,142 @@ loop-outcome-init g c = record {
 }
 
 pub step_on-requires-clause-room : goal.step_on-requires-clause-room
-step_on-requires-clause-room g c = rw c.loop-outcome.invariant.lent.meter c.requires.room
+step_on-requires-clause-room g c = rw c.loop-moved.invariant.lent.meter c.requires.room
 
 -- no memory for a step
-pub returns-in_err-outcome : goal.returns-in_err-outcome
-returns-in_err-outcome g c =
-    let call = c.in_err-outcome.ensures in
-    let fault = err_from_is_err_and c.from_residual.result c.from_residual.ensures.1 in
-    rw fault.1 (watches_until_cut (lent_on call.limit refl refl c.loop-outcome.invariant.lent)
-    (record { part = call.cut; within = call.within }) call.memory)
+pub returns-in_default : goal.returns-in_default
+returns-in_default g c =
+    let call = c.in_default.ensures in
+    watches_until_cut (lent_on c.step_on.ensures.limit refl refl c.loop-moved.invariant.lent)
+    (record { part = call.cut; within = call.within }) call.memory
 
-pub returns-in-Some : goal.returns-in-Some
-returns-in-Some g c =
-    let here = c.loop-outcome.invariant in
-    let ended = rw c.in-Some.is at c.in_ok-outcome.ensures.goes_on in
+pub returns-in_default-moved : goal.returns-in_default-moved
+returns-in_default-moved g c =
+    let here = c.loop-moved.invariant in
+    let ended = has_ended _ _ _ _ _ _ _ _ c.in_default-moved.not-Stepped c.in-Ok.ensures.goes_on in
     watches_to_end (lent_on c.step_on.ensures.limit refl refl here.lent)
-    (not_stopped_at_end here.watched ended) ended (none_at_end here.search ended)
+    (not_stopped_at_end here.watched ended) ended c.outcome_of.ensures (none_at_end here.search ended)
     (no_cycle_at_end here.watched.search ended)
 
 -- where the head stood
 pub read_inside-old-requires : goal.read_inside-old-requires
 read_inside-old-requires g c =
-    let here = c.loop-outcome.invariant in
-    (readable_here here.search.stands here.watched.running (g.met.T.Tape.sound c.loop-outcome.bench.run)
+    let here = c.loop-moved.invariant in
+    (readable_here here.search.stands here.watched.running (g.met.T.Tape.sound c.loop-moved.bench.run)
     (search rules) c.position-position.ensures).inside
 
 pub read_inside-new-requires : goal.read_inside-new-requires
 read_inside-new-requires g c =
-    let here = c.loop-outcome.invariant in
+    let here = c.loop-moved.invariant in
     still_inside here.search.stands here.watched.running
-        (rw c.in-None.is at c.in_ok-outcome.ensures.goes_on).0
+        (rw c.in-Stepped.is at c.in-Ok.ensures.goes_on).0
     (search rules) c.position-position.ensures
 
 pub rewritten-requires-clause-low : goal.rewritten-requires-clause-low
 rewritten-requires-clause-low g c =
-    let here = c.loop-outcome.invariant in
-    (readable_here here.search.stands here.watched.running (g.met.T.Tape.sound c.loop-outcome.bench.run)
+    let here = c.loop-moved.invariant in
+    (readable_here here.search.stands here.watched.running (g.met.T.Tape.sound c.loop-moved.bench.run)
     (search rules) c.position-position.ensures).low
 
 pub rewritten-requires-clause-high : goal.rewritten-requires-clause-high
 rewritten-requires-clause-high g c =
-    let here = c.loop-outcome.invariant in
-    (readable_here here.search.stands here.watched.running (g.met.T.Tape.sound c.loop-outcome.bench.run)
+    let here = c.loop-moved.invariant in
+    (readable_here here.search.stands here.watched.running (g.met.T.Tape.sound c.loop-moved.bench.run)
     (search rules) c.position-position.ensures).high
 
 pub rewritten-requires-clause-old : goal.rewritten-requires-clause-old
 rewritten-requires-clause-old g c =
-    rw c.read_inside-old.ensures ((g.met.T.Tape.sound c.loop-outcome.bench.run).symbols _)
+    rw c.read_inside-old.ensures ((g.met.T.Tape.sound c.loop-moved.bench.run).symbols _)
 
 -- the fingerprint is that of the tape after the step
 print : (g : given.Over) (c : After-rewritten g) → c.rewritten.result
     ≡ fingerprint (g.K.Keys.key_of c.args.keys.now) (g.T.Tape.view c.step_on.new.tape).content
-print g c = print_known c.loop-outcome.invariant.watched (rw c.in-None.is at c.in_ok-outcome.ensures.goes_on).0
+print g c = print_known c.loop-moved.invariant.watched (rw c.in-Stepped.is at c.in-Ok.ensures.goes_on).0
     (search rules) c.position-position.ensures c.read_inside-old.ensures c.read_inside-new.ensures
     c.rewritten.ensures
 
 pub count_run-requires : goal.count_run-requires
-count_run-requires g c = (rw c.in-None.is at c.in_ok-outcome.ensures.goes_on).3
+count_run-requires g c = (rw c.in-Stepped.is at c.in-Ok.ensures.goes_on).3
 
 pub returns-then-are_as_kept : goal.returns-then-are_as_kept
 returns-then-are_as_kept g c =
-    let here = c.loop-outcome.invariant in
-    let step = rw c.in-None.is at c.in_ok-outcome.ensures.goes_on in
+    let here = c.loop-moved.invariant in
+    let step = rw c.in-Stepped.is at c.in-Ok.ensures.goes_on in
     watches_to_stop (lent_on c.step_on.ensures.limit refl refl (lent_uncounted step.2 here.lent)) _
     (stopped here.watched step.0 step.1 refl (print g (goal.at.returns-then-are_as_kept g c).After-rewritten)
     here.search.none (c.are_as_kept.ensures.0 c.if-are_as_kept.true))
     (taken_over step.0.stands _ c.count_run.ensures)
 
-pub take_in-requires-clause-moved : goal.take_in-requires-clause-moved
-take_in-requires-clause-moved g c = (rw c.in-None.is at c.in_ok-outcome.ensures.goes_on).0
+-- the step that was made, as both sides have taken it in
+taken_in : (g : given.Over) (c : After-widened_side g)
+    → IsTakenIn c.args.machine.now (steps_of c.loop-moved.runner) c.step_on.new.runner
+    (g.T.Tape.view c.step_on.new.tape) c.pass.new.self c.pass-in-loop-moved.new.self
+    (g.T.Tape.view c.loop-moved.bench.right) (g.T.Tape.view c.loop-moved.bench.left) c.widened_side.result
+taken_in g c =
+    takes_in c.loop-moved.invariant.search.searched (rw c.in-Stepped.is at c.in-Ok.ensures.goes_on).0
+    c.cells-cells.ensures _ c.widened_side.ensures (search rules) c.position.ensures c.pass.ensures (search rules)
+    c.position-in-loop-moved.ensures c.pass-in-loop-moved.ensures
 
-pub take_in-requires-clause-searched : goal.take_in-requires-clause-searched
-take_in-requires-clause-searched g c = c.loop-outcome.invariant.search.searched
+-- a step that widens nothing makes no record
+pub loop-moved-preserved-in_default-widened_side : goal.loop-moved-preserved-in_default-widened_side
+loop-moved-preserved-in_default-widened_side g c =
+    let here = c.loop-moved.invariant in
+    let step = rw c.in-Stepped.is at c.in-Ok.ensures.goes_on in
+    let taken = taken_in g (goal.at.loop-moved-preserved-in_default-widened_side g c).After-widened_side in
+    record {
+      search = goes_on here.search step.0 step.1
+          (looks_at_none taken (is_none _ c.in_default-widened_side.not-Some));
+      watched = watched_on here.watched step.0 step.1 refl
+          (print g (goal.at.loop-moved-preserved-in_default-widened_side g c).After-rewritten)
+          (λ same. both_ways _ c.if-are_as_kept.false (c.are_as_kept.ensures.1 same)) c.keep_in_turn.ensures;
+      lent = lent_on c.step_on.ensures.limit refl refl (lent_uncounted step.2 here.lent);
+    }
 
-pub take_in-requires-clause-room : goal.take_in-requires-clause-room
-take_in-requires-clause-room g c = (rw c.in-None.is at c.in_ok-outcome.ensures.goes_on).3
+-- else the record that it makes is looked at
+pub look_on-requires-clause-ready : goal.look_on-requires-clause-ready
+look_on-requires-clause-ready g c =
+    is_ready (taken_in g (goal.at.look_on-requires-clause-ready g c).After-widened_side) _ c.in-Some.is
+    (g.met.T.Tape.sound c.step_on.new.tape)
 
--- no memory to keep a record
+pub look_on-requires-clause-room : goal.look_on-requires-clause-room
+look_on-requires-clause-room g c = (rw c.in-Stepped.is at c.in-Ok.ensures.goes_on).3
+
+-- no memory to keep it
 pub returns-in_err-verdict : goal.returns-in_err-verdict
 returns-in_err-verdict g c =
-    let step = rw c.in-None.is at c.in_ok-outcome.ensures.goes_on in
+    let step = rw c.in-Stepped.is at c.in-Ok.ensures.goes_on in
     let call = c.in_err-verdict.ensures in
-    let fault = err_from_is_err_and c.from_residual-in_err-verdict.result
-    c.from_residual-in_err-verdict.ensures.1 in
-    rw fault.1 (watches_until_cut (lent_on c.step_on.ensures.limit call.right_limit call.left_limit
-    (lent_uncounted step.2 c.loop-outcome.invariant.lent)) (cut_after_step step.0.stands step.1 call.cut) call.memory)
+    let fault = err_from_is_err_and c.from_residual.result c.from_residual.ensures.1 in
+    rw fault.1 (watches_until_cut (lent_on c.step_on.ensures.limit c.look_on.ensures.right_limit
+    c.look_on.ensures.left_limit (lent_uncounted step.2 c.loop-moved.invariant.lent))
+    (cut_after_step step.0.stands step.1 call.cut) call.memory)
 
 pub returns-in-Some-2 : goal.returns-in-Some-2
 returns-in-Some-2 g c =
-    let here = c.loop-outcome.invariant in
-    let step = rw c.in-None.is at c.in_ok-outcome.ensures.goes_on in
+    let here = c.loop-moved.invariant in
+    let step = rw c.in-Stepped.is at c.in-Ok.ensures.goes_on in
     let call = c.in_ok-verdict.ensures in
-    let looks = rw c.in-Some-2.is at call.looks in
+    let tells = tells_pair (taken_in g (goal.at.returns-in-Some-2 g c).After-widened_side) _ _ _ _ _ c.in-Some.is _
+    (rw c.in-Some-2.is at call.looks) in
     watches_and_finds (lent_on c.step_on.ensures.limit call.right_limit call.left_limit
-    (lent_uncounted step.2 here.lent))
+    (lent_uncounted call.uncounted (lent_uncounted step.2 here.lent)))
     (not_stopped_at_record here.watched step.0 step.1 refl
     (print g (goal.at.returns-in-Some-2 g c).After-rewritten)
-    (λ same. both_ways _ c.if-are_as_kept.false (c.are_as_kept.ensures.1 same)) looks.0)
-    (is_found here.search step.0 step.1 looks)
+    (λ same. both_ways _ c.if-are_as_kept.false (c.are_as_kept.ensures.1 same)) tells)
+    (is_found here.search step.0 step.1 (tells, rw c.in-Some-2.is at call.numbers, c.count_run-in-Some-2.ensures))
 
-pub loop-outcome-preserved : goal.loop-outcome-preserved
-loop-outcome-preserved g c =
-    let here = c.loop-outcome.invariant in
-    let step = rw c.in-None.is at c.in_ok-outcome.ensures.goes_on in
+pub loop-moved-preserved : goal.loop-moved-preserved
+loop-moved-preserved g c =
+    let here = c.loop-moved.invariant in
+    let step = rw c.in-Stepped.is at c.in-Ok.ensures.goes_on in
     let call = c.in_ok-verdict.ensures in
-    let looks = rw c.in-None-2.is at call.looks in
     record {
-      search = goes_on here.search step.0 step.1 _ _ looks;
+      search = goes_on here.search step.0 step.1
+          (looks_at_one (taken_in g (goal.at.loop-moved-preserved g c).After-widened_side) _ _ _ _ _ c.in-Some.is
+          (rw c.in-None.is at call.looks));
       watched = watched_on here.watched step.0 step.1 refl
-          (print g (goal.at.loop-outcome-preserved g c).After-rewritten)
+          (print g (goal.at.loop-moved-preserved g c).After-rewritten)
           (λ same. both_ways _ c.if-are_as_kept.false (c.are_as_kept.ensures.1 same)) c.keep_in_turn.ensures;
       lent = lent_on c.step_on.ensures.limit call.right_limit call.left_limit
-          (lent_uncounted looks.2 (lent_uncounted step.2 here.lent));
+          (lent_uncounted call.uncounted (lent_uncounted step.2 here.lent));
     }

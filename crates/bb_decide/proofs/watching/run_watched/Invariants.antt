@@ -6,8 +6,8 @@ use Rattle.bb_decide.proofs.Watched.{IsWatched}
 use Rattle.bb_decide.proofs.watching.run_watched.Given as goal
 
 -- no record up to where the runner stands agrees with its partner, and no step up to there is a cycle
-abbrev pub invariant-loop-outcome : goal.invariant-loop-outcome
-invariant-loop-outcome g l = record {
+abbrev pub invariant-loop-moved : goal.invariant-loop-moved
+invariant-loop-moved g l = record {
   search : IsSearching l.machine l.limits l.runner (g.T.Tape.view l.bench.run) l.right l.left
       (g.T.Tape.view l.bench.right) (g.T.Tape.view l.bench.left);
   watched : IsWatched l.machine l.limits (g.K.Keys.key_of l.keys) l.runner
@@ -15,5 +15,5 @@ invariant-loop-outcome g l = record {
   lent : IsAsLent g.T.Tape.view l.limits.cells l.fn.bench l.bench l.fn.meter l.meter;
 }
 
-abbrev pub decreases-loop-outcome : goal.decreases-loop-outcome
-decreases-loop-outcome g l = l.limits.steps - steps_of l.runner
+abbrev pub decreases-loop-moved : goal.decreases-loop-moved
+decreases-loop-moved g l = l.limits.steps - steps_of l.runner
