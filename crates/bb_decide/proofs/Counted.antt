@@ -1,5 +1,5 @@
 -- What a run has counted, where the runner counts and a meter takes it over at the end.
-use Rattle.std.proofs.Common.{◌≡◌, ◌+◌, ◌≤◌, max, ap, ◌∙◌, arith}
+use Rattle.std.proofs.Common.{◌≡◌, ◌≢◌, ◌+◌, ◌≤◌, max, ap, ◌∙◌, arith}
 use Rattle.bb_machine.specs.Limits.{Bounds}
 use Rattle.bb_machine.specs.Machine.{Table}
 use Rattle.bb_tape.specs.TapeView.{TapeView}
@@ -9,10 +9,11 @@ use Rattle.bb_sim.specs.declared.runner.Moved.TheVariants.{Stepped}
 use Rattle.bb_sim.specs.declared.runner.Runner.{Runner}
 use Rattle.bb_sim.specs.CellsBetween.{cells_between}
 use Rattle.bb_sim.specs.Meter.{CountsPart, CountsTo, IsWithinRun, counted}
-use Rattle.bb_sim.specs.Runner.{Answers, Reaches, Stands, high_of, low_of, steps_of}
+use Rattle.bb_sim.specs.Runner.{Answers, Moves, Reaches, Stands, high_of, low_of, state_of, steps_of}
 use Rattle.bb_sim.specs.Span.{counted_head, least, span, Inside}
 use Rattle.bb_sim.proofs.Facts.{count_is_within, span_grows}
-use Rattle.bb_decide.specs.inside.Step.{TakesOver}
+use Rattle.bb_machine.specs.declared.entry.Next.TheVariants.{Halt}
+use Rattle.bb_decide.specs.inside.Step.{HasMoved, TakesOver}
 
 -- the meter that takes the run over
 pub taken_over : {table : Table} {runner : Runner} {view : TapeView} → Stands table runner view
@@ -81,3 +82,16 @@ cut_after_step {table} {bounds} {runner} {first = first} {meter = meter} stands 
       };
       within = count_is_within table bounds (steps_of runner) first meter inside counts;
     }
+
+-- what a call of `advance` says of a step that didn't lead into Z
+pub has_moved : {table : Table} {bounds : Bounds} {old new : Runner} {view_old view : TapeView}
+    → Stands table old view_old → Stands table new view → (other_old other : Meter) (moved : Moved)
+    → moved ≡ Stepped → Reaches table bounds new view moved
+    → Moves table old new view_old view other_old other moved → state_of new ≢ Halt
+    → HasMoved table old new view × Inside table bounds (steps_of new)
+has_moved stood stands _ _ _ is reaches moves running =
+    let reaches_here = rw is at reaches in
+    let made = rw is at moves in (
+      record { view_before = _; stood = stood; stands = stands; next = made.0; running = running },
+      reaches_here.0,
+    )

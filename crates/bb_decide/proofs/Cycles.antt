@@ -15,7 +15,8 @@ use Rattle.bb_decide.specs.Partner.{IsKept, IsPartner}
 use Rattle.bb_decide.specs.Cycle.{HasNoCycle, IsCycle, IsFirstCycle}
 use Rattle.bb_decide.specs.inside.Step.{EndsRun, HasMoved}
 use Rattle.bb_decide.proofs.Halting.{no_pair_in_Z}
-use Rattle.bb_decide.proofs.Partners.{is_kept_one, is_partner, kept_at_first, kept_below, keeps_next, keeps_on}
+use Rattle.bb_decide.proofs.Partners.{is_kept_one, is_partner, kept_at_first, kept_below, keeps_next}
+use Rattle.bb_decide.proofs.Partners.{keeps_on}
 use Rattle.bb_decide.proofs.SoFar.{none_earlier, none_inside, none_so_far}
 
 -- the search has come to where a runner stands: the partner of the next step is kept, and no step up to here

@@ -29,7 +29,8 @@ use Rattle.bb_decide.specs.inside.Follow.{on_side}
 use Rattle.bb_decide.specs.inside.Step.{EndsRun, HasMoved, TakesOver}
 use Rattle.bb_decide.proofs.Counted.{taken_over}
 use Rattle.bb_decide.proofs.Endings.{IsFound}
-use Rattle.bb_decide.proofs.OneSide.{GoesOn, HasPassed, TellsAgreement, searched_at_first, side_ends, side_goes_on}
+use Rattle.bb_decide.proofs.OneSide.{GoesOn, HasPassed, TellsAgreement, searched_at_first, side_ends}
+use Rattle.bb_decide.proofs.OneSide.{side_goes_on}
 use Rattle.bb_decide.proofs.OneSide.{side_passes_by, side_ready}
 use Rattle.bb_decide.proofs.SoFar.{none_earlier, none_inside, none_so_far}
 
@@ -76,7 +77,8 @@ pub record AreSearched (table : Table) (n : ℕ) (right left : Records) (saved_r
 
 -- and none that step n makes agrees with its partner
 abbrev pub HasPassedBoth : Table → ℕ → Records → Records → TapeView → TapeView → Type 0
-HasPassedBoth table n right left saved_right saved_left = AreSearched table n right left saved_right saved_left
+HasPassedBoth table n right left saved_right saved_left =
+    AreSearched table n right left saved_right saved_left
     × ((side : Side) (a : ℕ) → AgreesWithPartner table side a n → ⊥)
 
 -- the search has come to where a runner stands: the records of both sides are known up to there, and none of

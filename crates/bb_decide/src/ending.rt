@@ -43,9 +43,9 @@ impl Ending {
     }
 }
 
-/// Makes the next step of a run, if there is one inside the limits; the runner counts its steps and cells. Where
-/// it didn't step, or into Z, the run has ended, and the meter takes over what was run, as it does where there is
-/// no memory for the step. It is inlined into loops, in whose registers the runner stays.
+/// Makes the next step of a run, if there is one inside the limits; the runner counts its steps and cells.
+/// Where it didn't step, or into Z, the run has ended, and the meter takes over what was run, as it does
+/// where there is no memory for the step. It is inlined into loops, in whose registers the runner stays.
 #[inline(always)]
 pub fn step_on<T: Tape>(
     machine: &Machine,

@@ -5,7 +5,7 @@ ghost use Rattle.bb_decide.specs.Bench.{BenchHasCells};
 ghost use Rattle.bb_decide.specs.inside.Ending.{WatchesRun};
 
 use crate::bench::Bench;
-use crate::ending::{Ending, count_run, outcome_of, step_on};
+use crate::ending::{Ending, count_run, outcome_of};
 use crate::fingerprint::rewritten;
 use crate::keys::Keys;
 use crate::record_search::look_on;
@@ -115,13 +115,25 @@ fn run_watched<T: Tape, K: Keys>(
         let cells = runner.cells();
         let position = runner.position();
         let old = bench.run.read_inside(position);
-        let Ok(moved) = step_on(machine, &mut runner, &mut bench.run, limits, meter) else {
+        // The step is made here, and not by `step_on`: beside the reading of the cell that costs less.
+        let mut uncounted = Meter::new();
+        let Ok(moved) = runner.advance(machine, &mut bench.run, limits, &mut uncounted) else {
+            count_run(meter, runner);
             return Err(Memory);
         };
         match moved {
             Moved::Stepped => {}
-            moved => return Ok(Some(Ending::Ran(outcome_of(moved, runner, &bench.run)))),
+            moved => {
+                count_run(meter, runner);
+                return Ok(Some(Ending::Ran(outcome_of(moved, runner, &bench.run))));
+            }
         }
+        // Z is never met twice, so this step can't be a repeat: the run ends.
+        let Some(_) = runner.state() else {
+            count_run(meter, runner);
+            let outcome = outcome_of(Moved::Halted, runner, &bench.run);
+            return Ok(Some(Ending::Ran(outcome)));
+        };
         let new = bench.run.read_inside(position);
         prints.print = rewritten(prints.print, keys, position, old, new);
         if prints.are_as_kept(&runner) {

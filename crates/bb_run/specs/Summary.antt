@@ -65,8 +65,8 @@ pub record IsPeak (Count : List ℕ → ℕ → Type 0) (lines : List (List ℕ)
   pub reached : (peak ≡ 0) ⊎ SomeHas Count lines peak
 
 -- `clean` says that each line is a machine's text; the peaks are those of the lines' steps and cells, however
--- they are counted; those of levels and nodes are no less than those of each tree that is a verdict; and none is
--- more than deciding a machine may cost
+-- they are counted; those of levels and nodes are no less than those of each tree that is a verdict; and none
+-- is more than deciding a machine may cost
 pub record IsSummed (bounds : Bounds) (plan : Plan) (Steps Cells : List ℕ → ℕ → Type 0)
     (lines : List (List ℕ)) (summary : Summary) : Type 0 where
   pub clean : IsTrue summary.clean ↔ AllByRecursion IsMachineLine lines

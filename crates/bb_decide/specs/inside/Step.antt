@@ -25,7 +25,8 @@ abbrev pub TakesOver : Runner → Meter → Meter → Type 0
 TakesOver runner old new = new ≡ counted old (steps_of runner) (cells_between (low_of runner)
     (high_of runner))
 
--- the outcome that is answered where a call of `advance` did this, after so many steps with so many cells not 0
+-- the outcome that is answered where a call of `advance` did this, after so many steps with so many cells not
+-- 0
 abbrev pub TellsEnd : Moved → ℕ → ℕ → Outcome → Type 0
 TellsEnd NoSteps steps ones outcome = outcome ≡ outcomes.NoSteps
 TellsEnd NoCells steps ones outcome = outcome ≡ outcomes.NoCells

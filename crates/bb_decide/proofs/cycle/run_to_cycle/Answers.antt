@@ -64,7 +64,8 @@ pub returns-in_default-save : goal.returns-in_default-save
 returns-in_default-save g c =
     let step = rw c.in-Stepped.is at c.in-Ok.ensures.goes_on in
     seeks_until_cut
-    (lent_on c.step_on.ensures.limit c.save.ensures.limit refl (lent_uncounted step.2 c.loop-moved.invariant.lent))
+    (lent_on c.step_on.ensures.limit c.save.ensures.limit refl
+        (lent_uncounted step.2 c.loop-moved.invariant.lent))
     (cut_after_step step.0.stands step.1 c.count_run-in_default-save.ensures)
     c.in_default-save.ensures.only_memory.1
 
@@ -78,7 +79,8 @@ loop-moved-preserved-then-steps-next_kept g c =
           (apart here.search step.0 step.1 c.is_same.ensures c.if-is_same.false)
           (omega (arith, at, c.if-steps-next_kept.true, c.steps-in-loop-moved.ensures))
           (rw c.in-Ok-save.ensures.ok step.0.stands);
-      lent = lent_on c.step_on.ensures.limit c.in-Ok-save.ensures.limit refl (lent_uncounted step.2 here.lent);
+      lent = lent_on c.step_on.ensures.limit c.in-Ok-save.ensures.limit refl
+          (lent_uncounted step.2 here.lent);
       next = ap (λ n. 2 * n) c.steps-next_kept.ensures;
     }
 

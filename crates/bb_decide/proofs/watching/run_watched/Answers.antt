@@ -1,15 +1,17 @@
 use Rattle.std.proofs.lemmas.Bool.{both_ways}
-use Rattle.std.proofs.Common.{refl, rules, ◌≡◌}
+use Rattle.std.proofs.Common.{refl, rules, ◌≡◌, ap, arith}
+use Rattle.bb_sim.specs.declared.meter.Meter.{Meter}
 use Rattle.std.proofs.lemmas.Result.{err_from_is_err_and}
 use Rattle.bb_decide.specs.Fingerprint.{fingerprint}
 use Rattle.bb_decide.proofs.Benches.{lent_at_first, lent_on, lent_uncounted}
-use Rattle.bb_decide.proofs.Counted.{cut_after_step, taken_over}
+use Rattle.bb_decide.proofs.Counted.{cut_after_step, cut_at_step, few_steps, has_moved, taken_over}
 use Rattle.bb_decide.proofs.Cycles.{no_cycle_at_end}
-use Rattle.bb_decide.proofs.Endings.{has_ended, watches_and_finds, watches_to_end, watches_to_stop, watches_until_cut}
+use Rattle.bb_decide.proofs.Endings.{ends_into_Z, ends_where_stopped, watches_and_finds, watches_to_end, watches_to_stop}
+use Rattle.bb_decide.proofs.Endings.{watches_until_cut}
 use Rattle.bb_decide.proofs.Translations.{IsTakenIn, goes_on, is_found, is_ready, looks_at_none, looks_at_one}
 use Rattle.bb_decide.proofs.Translations.{none_at_end, searching_at_first, takes_in, tells_pair}
 use Rattle.bb_sim.specs.Runner.{steps_of}
-use Rattle.bb_decide.proofs.Halting.{is_none}
+use Rattle.bb_decide.proofs.Halting.{in_no_state, is_none, not_in_Z}
 use Rattle.bb_decide.proofs.Watched.{not_stopped_at_end, not_stopped_at_record}
 use Rattle.bb_decide.proofs.Watched.{print_known}
 use Rattle.bb_decide.proofs.Watched.{readable_here, still_inside, stopped, watched_at_first, watched_on}
@@ -26,23 +28,44 @@ loop-moved-init g c = record {
   lent = lent_on c.start-runner.ensures.limit refl refl (lent_at_first c.requires.tapes);
 }
 
-pub step_on-requires-clause-room : goal.step_on-requires-clause-room
-step_on-requires-clause-room g c = rw c.loop-moved.invariant.lent.meter c.requires.room
+pub count_run-requires-in_default-moved : goal.count_run-requires-in_default-moved
+count_run-requires-in_default-moved g c =
+    let few = few_steps c.args.machine.now c.args.limits.now c.advance.new.self
+    (g.T.Tape.view c.advance.new.tape) _ c.in-Ok.ensures.reaches in
+    let same = ap (λ (m : Meter). m.steps) c.loop-moved.invariant.lent.meter in
+    let most = c.show_accepted.ensures.accepted.steps in
+    let room = c.requires.room in
+    omega (arith, few, same, most, room)
 
 -- no memory for a step
 pub returns-in_default : goal.returns-in_default
 returns-in_default g c =
     let call = c.in_default.ensures in
-    watches_until_cut (lent_on c.step_on.ensures.limit refl refl c.loop-moved.invariant.lent)
-    (record { part = call.cut; within = call.within }) call.memory
+    watches_until_cut (lent_on c.advance.ensures.limit refl refl c.loop-moved.invariant.lent)
+    (cut_at_step c.loop-moved.runner c.advance.new.self c.advance.ensures.before call.wanted call.unmade
+    call.window c.count_run.ensures) call.memory
 
 pub returns-in_default-moved : goal.returns-in_default-moved
 returns-in_default-moved g c =
     let here = c.loop-moved.invariant in
-    let ended = has_ended _ _ _ _ _ _ _ _ c.in_default-moved.not-Stepped c.in-Ok.ensures.goes_on in
-    watches_to_end (lent_on c.step_on.ensures.limit refl refl here.lent)
+    let call = c.in-Ok.ensures in
+    let ended = ends_where_stopped call.stands c.count_run-in_default-moved.ensures _ _ _ _
+    c.in_default-moved.not-Stepped call.answers call.reaches call.moves in
+    watches_to_end (lent_on c.advance.ensures.limit refl refl here.lent)
     (not_stopped_at_end here.watched ended) ended c.outcome_of.ensures (none_at_end here.search ended)
     (no_cycle_at_end here.watched.search ended)
+
+-- a step into Z ends the run
+pub returns-in_default-state : goal.returns-in_default-state
+returns-in_default-state g c =
+    let here = c.loop-moved.invariant in
+    let call = c.in-Ok.ensures in
+    let ended = ends_into_Z call.stands c.count_run-in_default-state.ensures
+    (in_no_state _ _ c.state.ensures c.in_default-state.not-Some) (rw c.in-Stepped.is at call.reaches).0
+    (rw c.in-Stepped.is at call.moves).0 in
+    watches_to_end (lent_on c.advance.ensures.limit refl refl here.lent)
+    (not_stopped_at_end here.watched ended) ended c.outcome_of-outcome.ensures
+    (none_at_end here.search ended) (no_cycle_at_end here.watched.search ended)
 
 -- where the head stood
 pub read_inside-old-requires : goal.read_inside-old-requires
@@ -54,9 +77,10 @@ read_inside-old-requires g c =
 pub read_inside-new-requires : goal.read_inside-new-requires
 read_inside-new-requires g c =
     let here = c.loop-moved.invariant in
-    still_inside here.search.stands here.watched.running
-        (rw c.in-Stepped.is at c.in-Ok.ensures.goes_on).0
-    (search rules) c.position-position.ensures
+    let call = c.in-Ok.ensures in
+    let step = has_moved here.search.stands call.stands _ _ _ c.in-Stepped.is call.reaches call.moves
+    (not_in_Z c.in-Some.ensures) in
+    still_inside here.search.stands here.watched.running step.0 (search rules) c.position-position.ensures
 
 pub rewritten-requires-clause-low : goal.rewritten-requires-clause-low
 rewritten-requires-clause-low g c =
@@ -76,38 +100,48 @@ rewritten-requires-clause-old g c =
 
 -- the fingerprint is that of the tape after the step
 print : (g : given.Over) (c : After-rewritten g) → c.rewritten.result
-    ≡ fingerprint (g.K.Keys.key_of c.args.keys.now) (g.T.Tape.view c.step_on.new.tape).content
-print g c = print_known c.loop-moved.invariant.watched (rw c.in-Stepped.is at c.in-Ok.ensures.goes_on).0
-    (search rules) c.position-position.ensures c.read_inside-old.ensures c.read_inside-new.ensures
-    c.rewritten.ensures
-
-pub count_run-requires : goal.count_run-requires
-count_run-requires g c = (rw c.in-Stepped.is at c.in-Ok.ensures.goes_on).3
+    ≡ fingerprint (g.K.Keys.key_of c.args.keys.now) (g.T.Tape.view c.advance.new.tape).content
+print g c =
+    let here = c.loop-moved.invariant in
+    let call = c.in-Ok.ensures in
+    let step = has_moved here.search.stands call.stands _ _ _ c.in-Stepped.is call.reaches call.moves
+    (not_in_Z c.in-Some.ensures) in
+    print_known here.watched step.0 (search rules) c.position-position.ensures c.read_inside-old.ensures
+    c.read_inside-new.ensures c.rewritten.ensures
 
 pub returns-then-are_as_kept : goal.returns-then-are_as_kept
 returns-then-are_as_kept g c =
     let here = c.loop-moved.invariant in
-    let step = rw c.in-Stepped.is at c.in-Ok.ensures.goes_on in
-    watches_to_stop (lent_on c.step_on.ensures.limit refl refl (lent_uncounted step.2 here.lent)) _
+    let made = c.in-Ok.ensures in
+    let step = has_moved here.search.stands made.stands _ _ _ c.in-Stepped.is made.reaches made.moves
+    (not_in_Z c.in-Some.ensures) in
+    watches_to_stop (lent_on c.advance.ensures.limit refl refl here.lent) _
     (stopped here.watched step.0 step.1 refl (print g (goal.at.returns-then-are_as_kept g c).After-rewritten)
     here.search.none (c.are_as_kept.ensures.0 c.if-are_as_kept.true))
-    (taken_over step.0.stands _ c.count_run.ensures)
+    (taken_over step.0.stands _ c.count_run-then-are_as_kept.ensures)
 
 -- the step that was made, as both sides have taken it in
 taken_in : (g : given.Over) (c : After-widened_side g)
-    → IsTakenIn c.args.machine.now (steps_of c.loop-moved.runner) c.step_on.new.runner
-    (g.T.Tape.view c.step_on.new.tape) c.pass.new.self c.pass-in-loop-moved.new.self
+    → IsTakenIn c.args.machine.now (steps_of c.loop-moved.runner) c.advance.new.self
+    (g.T.Tape.view c.advance.new.tape) c.pass.new.self c.pass-in-loop-moved.new.self
     (g.T.Tape.view c.loop-moved.bench.right) (g.T.Tape.view c.loop-moved.bench.left) c.widened_side.result
 taken_in g c =
-    takes_in c.loop-moved.invariant.search.searched (rw c.in-Stepped.is at c.in-Ok.ensures.goes_on).0
-    c.cells-cells.ensures _ c.widened_side.ensures (search rules) c.position.ensures c.pass.ensures (search rules)
+    let here = c.loop-moved.invariant in
+    let made = c.in-Ok.ensures in
+    let step = has_moved here.search.stands made.stands _ _ _ c.in-Stepped.is made.reaches made.moves
+    (not_in_Z c.in-Some.ensures) in
+    takes_in here.search.searched step.0
+    c.cells-cells.ensures _ c.widened_side.ensures (search rules) c.position.ensures c.pass.ensures
+        (search rules)
     c.position-in-loop-moved.ensures c.pass-in-loop-moved.ensures
 
 -- a step that widens nothing makes no record
 pub loop-moved-preserved-in_default-widened_side : goal.loop-moved-preserved-in_default-widened_side
 loop-moved-preserved-in_default-widened_side g c =
     let here = c.loop-moved.invariant in
-    let step = rw c.in-Stepped.is at c.in-Ok.ensures.goes_on in
+    let made = c.in-Ok.ensures in
+    let step = has_moved here.search.stands made.stands _ _ _ c.in-Stepped.is made.reaches made.moves
+    (not_in_Z c.in-Some.ensures) in
     let taken = taken_in g (goal.at.loop-moved-preserved-in_default-widened_side g c).After-widened_side in
     record {
       search = goes_on here.search step.0 step.1
@@ -115,54 +149,69 @@ loop-moved-preserved-in_default-widened_side g c =
       watched = watched_on here.watched step.0 step.1 refl
           (print g (goal.at.loop-moved-preserved-in_default-widened_side g c).After-rewritten)
           (λ same. both_ways _ c.if-are_as_kept.false (c.are_as_kept.ensures.1 same)) c.keep_in_turn.ensures;
-      lent = lent_on c.step_on.ensures.limit refl refl (lent_uncounted step.2 here.lent);
+      lent = lent_on c.advance.ensures.limit refl refl here.lent;
     }
 
 -- else the record that it makes is looked at
 pub look_on-requires-clause-ready : goal.look_on-requires-clause-ready
 look_on-requires-clause-ready g c =
-    is_ready (taken_in g (goal.at.look_on-requires-clause-ready g c).After-widened_side) _ c.in-Some.is
-    (g.met.T.Tape.sound c.step_on.new.tape)
+    is_ready (taken_in g (goal.at.look_on-requires-clause-ready g c).After-widened_side) _ c.in-Some-widened_side.is
+    (g.met.T.Tape.sound c.advance.new.tape)
 
 pub look_on-requires-clause-room : goal.look_on-requires-clause-room
-look_on-requires-clause-room g c = (rw c.in-Stepped.is at c.in-Ok.ensures.goes_on).3
+look_on-requires-clause-room g c =
+    let few = (rw c.in-Stepped.is at c.in-Ok.ensures.reaches).0.within_steps in
+    let same = ap (λ (m : Meter). m.steps) c.loop-moved.invariant.lent.meter in
+    let most = c.show_accepted.ensures.accepted.steps in
+    let room = c.requires.room in
+    omega (arith, few, same, most, room)
 
 -- no memory to keep it
 pub returns-in_err-verdict : goal.returns-in_err-verdict
 returns-in_err-verdict g c =
-    let step = rw c.in-Stepped.is at c.in-Ok.ensures.goes_on in
+    let here = c.loop-moved.invariant in
+    let made = c.in-Ok.ensures in
+    let step = has_moved here.search.stands made.stands _ _ _ c.in-Stepped.is made.reaches made.moves
+    (not_in_Z c.in-Some.ensures) in
     let call = c.in_err-verdict.ensures in
     let fault = err_from_is_err_and c.from_residual.result c.from_residual.ensures.1 in
-    rw fault.1 (watches_until_cut (lent_on c.step_on.ensures.limit c.look_on.ensures.right_limit
-    c.look_on.ensures.left_limit (lent_uncounted step.2 c.loop-moved.invariant.lent))
+    rw fault.1 (watches_until_cut (lent_on c.advance.ensures.limit c.look_on.ensures.right_limit
+    c.look_on.ensures.left_limit here.lent)
     (cut_after_step step.0.stands step.1 call.cut) call.memory)
 
 pub returns-in-Some-2 : goal.returns-in-Some-2
 returns-in-Some-2 g c =
     let here = c.loop-moved.invariant in
-    let step = rw c.in-Stepped.is at c.in-Ok.ensures.goes_on in
+    let made = c.in-Ok.ensures in
+    let step = has_moved here.search.stands made.stands _ _ _ c.in-Stepped.is made.reaches made.moves
+    (not_in_Z c.in-Some.ensures) in
     let call = c.in_ok-verdict.ensures in
-    let tells = tells_pair (taken_in g (goal.at.returns-in-Some-2 g c).After-widened_side) _ _ _ _ _ c.in-Some.is _
+    let tells = tells_pair (taken_in g (goal.at.returns-in-Some-2 g c).After-widened_side) _ _ _ _ _
+        c.in-Some-widened_side.is _
     (rw c.in-Some-2.is at call.looks) in
-    watches_and_finds (lent_on c.step_on.ensures.limit call.right_limit call.left_limit
-    (lent_uncounted call.uncounted (lent_uncounted step.2 here.lent)))
+    watches_and_finds (lent_on c.advance.ensures.limit call.right_limit call.left_limit
+    (lent_uncounted call.uncounted here.lent))
     (not_stopped_at_record here.watched step.0 step.1 refl
     (print g (goal.at.returns-in-Some-2 g c).After-rewritten)
     (λ same. both_ways _ c.if-are_as_kept.false (c.are_as_kept.ensures.1 same)) tells)
-    (is_found here.search step.0 step.1 (tells, rw c.in-Some-2.is at call.numbers, c.count_run-in-Some-2.ensures))
+    (is_found here.search step.0 step.1 (tells, rw c.in-Some-2.is at call.numbers,
+        c.count_run-in-Some-2.ensures))
 
 pub loop-moved-preserved : goal.loop-moved-preserved
 loop-moved-preserved g c =
     let here = c.loop-moved.invariant in
-    let step = rw c.in-Stepped.is at c.in-Ok.ensures.goes_on in
+    let made = c.in-Ok.ensures in
+    let step = has_moved here.search.stands made.stands _ _ _ c.in-Stepped.is made.reaches made.moves
+    (not_in_Z c.in-Some.ensures) in
     let call = c.in_ok-verdict.ensures in
     record {
       search = goes_on here.search step.0 step.1
-          (looks_at_one (taken_in g (goal.at.loop-moved-preserved g c).After-widened_side) _ _ _ _ _ c.in-Some.is
+          (looks_at_one (taken_in g (goal.at.loop-moved-preserved g c).After-widened_side) _ _ _ _ _
+              c.in-Some-widened_side.is
           (rw c.in-None.is at call.looks));
       watched = watched_on here.watched step.0 step.1 refl
           (print g (goal.at.loop-moved-preserved g c).After-rewritten)
           (λ same. both_ways _ c.if-are_as_kept.false (c.are_as_kept.ensures.1 same)) c.keep_in_turn.ensures;
-      lent = lent_on c.step_on.ensures.limit call.right_limit call.left_limit
-          (lent_uncounted call.uncounted (lent_uncounted step.2 here.lent));
+      lent = lent_on c.advance.ensures.limit call.right_limit call.left_limit
+          (lent_uncounted call.uncounted here.lent);
     }
