@@ -20,11 +20,10 @@ pub verdicts_hold : VerdictsHold
 verdicts_hold table bounds plan (Halt steps score) is = ((is_halt_within plan is).halts, has_score plan is)
 verdicts_hold table bounds plan (Cycler first second) is =
     let cycle = (is_first_cycle plan is).cycle in (cycle.partner.below, cycle.same)
-verdicts_hold table bounds plan (Translated side first second extent) is =
-    (
-      pair_agrees table side first second (is_first_agreement plan extent is).translation.pair,
-      told_is_said table side first second extent (extent_is_told plan extent is),
-    )
+verdicts_hold table bounds plan (Translated side first second extent) is = (
+  pair_agrees table side first second (is_first_agreement plan extent is).translation.pair,
+  told_is_said table side first second extent (extent_is_told plan extent is),
+)
 verdicts_hold table bounds plan (Backward levels nodes) is =
     let tree = is_tree plan is in (tree.ends, tree.clear)
 verdicts_hold table bounds plan (Undecided why) is = tt

@@ -242,7 +242,7 @@ module _ (table : Table) (bounds : Bounds) where
       → Searched Made (TranslationSteps table bounds) old new
   translations_searched found made counts finds =
       searched made (makes_translations table bounds found finds counts)
-          (translation_step_inside table bounds)
+      (translation_step_inside table bounds)
 
 -- no cycle was found, or none was searched for
 pub record PassedCycles (table : Table) (bounds : Bounds) (plan : Plan) (old new : Meter) : Type 0 where

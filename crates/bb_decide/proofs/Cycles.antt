@@ -93,7 +93,7 @@ module _ {table : Table} {bounds : Bounds} {before after kept : Runner}
       stands = moved.stands;
       within = inside.within_steps;
       kept_stands = stands;
-      partner = rw moved.next (keeps_next _ _ here.partner 
+      partner = rw moved.next (keeps_next _ _ here.partner
           (let next = moved.next in omega (arith, next, many)));
       none = none_next;
     }

@@ -94,7 +94,7 @@ print_written key tape p old new print low high few is here =
     sym (mul-add (key p) (new + (2 ^ 64 - old)) old) ∙ ap (λ n. key p * n) (omega (arith, few))
     ∙ mul-add (key p) new (2 ^ 64) in
     let same : total key tape + key p * (new + (2 ^ 64 - old))
-        ≡ total key (with_cell tape p new) + key p * 2 ^ 64 =
+    ≡ total key (with_cell tape p new) + key p * 2 ^ 64 =
     let old_is = ap (λ n. key p * n) here in omega (arith, written, whole, old_is) in
     ap (λ n. (n + key p * ((new + (2 ^ 64 - old)) % 2 ^ 64) % 2 ^ 64) % 2 ^ 64) is
     ∙ mod-add-mod (total key tape) (2 ^ 64) (key p * ((new + (2 ^ 64 - old)) % 2 ^ 64) % 2 ^ 64)

@@ -51,7 +51,7 @@ module _ (table : Table) (bounds : Bounds) where
   -- no step inside is later than the step that an outcome names
   named_by_outcome : (outcome : Outcome) → IsOutcome table bounds outcome → (n : ℕ) → Inside table bounds n
       → (n ≤ named_step bounds (verdict_of_outcome outcome))
-          × (n ≤ most_steps bounds (verdict_of_outcome outcome))
+      × (n ≤ most_steps bounds (verdict_of_outcome outcome))
   named_by_outcome (outcomes.Halt steps score) is n inside =
       let no_later = (halts_last table bounds steps is.0.inside is.0.halts).greatest n inside in
       (no_later, no_later)

@@ -57,7 +57,7 @@ adds_more : {table : Table} {count latest : ℕ} (n : ℕ) {old mid new : Meter}
 adds_more {table} {count} {latest} n {old} {mid} {new} before counts =
     let more : new.steps ≡ mid.steps + n = ap (λ (m : Meter). m.steps) counts in
     let wider : new.most_cells ≡ max mid.most_cells (span table n) =
-        ap (λ (m : Meter). m.most_cells) counts in
+    ap (λ (m : Meter). m.most_cells) counts in
     let steps = before.steps in
     let cells = before.most_cells in
     let both = widest table latest n in
@@ -175,30 +175,30 @@ module _ {key : ℤ → ℕ} {table : Table} {bounds : Bounds} {n : ℕ} (stoppe
 module _ {key : ℤ → ℕ} {table : Table} {bounds : Bounds} (plan : Plan) {begin mid : Meter}
     (zero : begin ≡ zero_meter) (adds : AddsRuns key table bounds plan.cyclers plan.translated begin mid)
   where
-  pub runs_counted : CountsRuns key table bounds plan mid
-  runs_counted =
-      let no_steps : begin.steps ≡ 0 = ap (λ (m : Meter). m.steps) zero in
-      let no_cells : begin.most_cells ≡ 0 = ap (λ (m : Meter). m.most_cells) zero in
-      let steps = adds.steps in
-      let cells = adds.most_cells in
-      let is : mid.steps ≡ adds.count = omega (arith, steps, no_steps) in
-      record {
-        latest = adds.latest;
-        runs = rw is adds.runs;
-        most_cells = omega (arith, cells, no_cells);
-      }
+    pub runs_counted : CountsRuns key table bounds plan mid
+    runs_counted =
+        let no_steps : begin.steps ≡ 0 = ap (λ (m : Meter). m.steps) zero in
+        let no_cells : begin.most_cells ≡ 0 = ap (λ (m : Meter). m.most_cells) zero in
+        let steps = adds.steps in
+        let cells = adds.most_cells in
+        let is : mid.steps ≡ adds.count = omega (arith, steps, no_steps) in
+        record {
+          latest = adds.latest;
+          runs = rw is adds.runs;
+          most_cells = omega (arith, cells, no_cells);
+        }
 
-  -- a walk adds neither steps nor cells
-  pub runs_counted_beside : (found : Option Verdict) (new : Meter) → CountsTree bounds mid new found
-      → CountsRuns key table bounds plan new
-  runs_counted_beside found new counts =
-      let kept = walk_keeps bounds found mid new counts in
-      let runs = runs_counted in
-      record {
-        latest = runs.latest;
-        runs = rw kept.0 runs.runs;
-        most_cells = kept.1 ∙ runs.most_cells;
-      }
+    -- a walk adds neither steps nor cells
+    pub runs_counted_beside : (found : Option Verdict) (new : Meter) → CountsTree bounds mid new found
+        → CountsRuns key table bounds plan new
+    runs_counted_beside found new counts =
+        let kept = walk_keeps bounds found mid new counts in
+        let runs = runs_counted in
+        record {
+          latest = runs.latest;
+          runs = rw kept.0 runs.runs;
+          most_cells = kept.1 ∙ runs.most_cells;
+        }
 
 -- ---- no machine has two counts
 

@@ -109,7 +109,7 @@ module _ (table : Table) (bounds : Bounds) (plan : Plan) where
       (cyclers_are_on plan one) first second (is_first_cycle plan one).cycle
   found_before (Translated side first second extent) b one other later =
       passes_translations table bounds plan b other later
-          (translated_are_on plan extent one) side first second
+      (translated_are_on plan extent one) side first second
       (is_first_agreement plan extent one).translation
   found_before (Backward levels nodes) b one other later =
       (passes_trees table bounds plan b other later (trees_are_on plan one)).nowhere levels nodes

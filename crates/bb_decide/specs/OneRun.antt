@@ -64,7 +64,7 @@ pub record CountsRuns (key : ℤ → ℕ) (table : Table) (bounds : Bounds) (pla
 abbrev pub StepsBefore : (ℤ → ℕ) → Table → Bounds → ℕ → Type 0
 StepsBefore key table bounds before = (before ≡ 0) ⊎ IsStoppedAt key table bounds before
     ⊎ ((stop cycles : ℕ) × IsStoppedAt key table bounds stop × HaltsNowhere table bounds
-        × HasNoCycle table bounds
+    × HasNoCycle table bounds
     × CycleSteps table bounds cycles × (before ≡ stop + cycles))
 
 -- the same with these searches on: a run of one search alone is the first

@@ -285,7 +285,7 @@ module _ {all left : List (List ℕ)} {bytes bytes_left : List ℕ} {count : ℕ
   -- one line more
   abbrev pub looked_on : (line : List ℕ) (others : List (List ℕ)) (reply rest : List ℕ) (k : ReplyKind)
       → left ≡ line ∷ others → HasNoNewline line → HasNoNewline reply
-          → (reply ++ 10 ∷ []) ++ rest ≡ bytes_left
+      → (reply ++ 10 ∷ []) ++ rest ≡ bytes_left
       → IsOfKind k line reply → IsLooked all others bytes rest (count + 1)
   looked_on line others reply rest k cut none none_too cut_too is = record {
     first = here.first ++ line ∷ [];

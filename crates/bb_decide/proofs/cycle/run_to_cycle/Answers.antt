@@ -65,7 +65,7 @@ returns-in_default-save g c =
     let step = rw c.in-Stepped.is at c.in-Ok.ensures.goes_on in
     seeks_until_cut
     (lent_on c.step_on.ensures.limit c.save.ensures.limit refl
-        (lent_uncounted step.2 c.loop-moved.invariant.lent))
+    (lent_uncounted step.2 c.loop-moved.invariant.lent))
     (cut_after_step step.0.stands step.1 c.count_run-in_default-save.ensures)
     c.in_default-save.ensures.only_memory.1
 

@@ -15,7 +15,7 @@ returns-in-Some-clause-ended g c =
 pub returns-in-Some-clause-costs : goal.returns-in-Some-clause-costs
 returns-in-Some-clause-costs g c =
     watched_costs _ _ _ _ _ c.requires.steps c.in-Some.ending
-        (rw c.in-Some.is at c.in_ok-ending.ensures.watched)
+    (rw c.in-Some.is at c.in_ok-ending.ensures.watched)
 
 pub returns-then-is_settled-clause-ended : goal.returns-then-is_settled-clause-ended
 returns-then-is_settled-clause-ended g c =
@@ -41,7 +41,7 @@ returns-clause-costs g c =
     let none = both_open c.in_ok-ending-2.ending (sym c.is_settled.ensures ∙ c.if-is_settled.false)
     c.in_ok-ending-2.ensures.found c.in_ok-ending-2.ensures.ran in
     if_ok_both c.seek_translation.result _ _ _
-        (chance_costs watched.1 none.1 c.seek_translation.new.meter.steps)
+    (chance_costs watched.1 none.1 c.seek_translation.new.meter.steps)
     c.seek_translation.ensures.found c.seek_translation.ensures.ran
 
 pub returns-in-Some-clause-adds : goal.returns-in-Some-clause-adds
@@ -58,7 +58,7 @@ pub returns-clause-adds : goal.returns-clause-adds
 returns-clause-adds g c =
     let watched = rw c.in-None.is at c.in_ok-ending.ensures.watched in
     if_ok_both c.seek_translation.result _ _ _
-    (open_adds watched.1 watched.2 _ c.in_ok-ending-2.ending 
+    (open_adds watched.1 watched.2 _ c.in_ok-ending-2.ending
     (sym c.is_settled.ensures ∙ c.if-is_settled.false)
     c.in_ok-ending-2.ensures.found c.in_ok-ending-2.ensures.ran c.in_ok-ending-2.ensures.counted)
     c.seek_translation.ensures.found c.seek_translation.ensures.counted

@@ -132,7 +132,7 @@ taken_in g c =
     (not_in_Z c.in-Some.ensures) in
     takes_in here.search.searched step.0
     c.cells-cells.ensures _ c.widened_side.ensures (search rules) c.position.ensures c.pass.ensures
-        (search rules)
+    (search rules)
     c.position-in-loop-moved.ensures c.pass-in-loop-moved.ensures
 
 -- a step that widens nothing makes no record
@@ -187,15 +187,18 @@ returns-in-Some-2 g c =
     (not_in_Z c.in-Some.ensures) in
     let call = c.in_ok-verdict.ensures in
     let tells = tells_pair (taken_in g (goal.at.returns-in-Some-2 g c).After-widened_side) _ _ _ _ _
-        c.in-Some-widened_side.is _
+    c.in-Some-widened_side.is _
     (rw c.in-Some-2.is at call.looks) in
     watches_and_finds (lent_on c.advance.ensures.limit call.right_limit call.left_limit
     (lent_uncounted call.uncounted here.lent))
     (not_stopped_at_record here.watched step.0 step.1 refl
     (print g (goal.at.returns-in-Some-2 g c).After-rewritten)
     (λ same. both_ways _ c.if-are_as_kept.false (c.are_as_kept.ensures.1 same)) tells)
-    (is_found here.search step.0 step.1 (tells, rw c.in-Some-2.is at call.numbers,
-        c.count_run-in-Some-2.ensures))
+    (is_found here.search step.0 step.1 (
+      tells,
+      rw c.in-Some-2.is at call.numbers,
+      c.count_run-in-Some-2.ensures,
+    ))
 
 pub loop-moved-preserved : goal.loop-moved-preserved
 loop-moved-preserved g c =
@@ -207,7 +210,7 @@ loop-moved-preserved g c =
     record {
       search = goes_on here.search step.0 step.1
           (looks_at_one (taken_in g (goal.at.loop-moved-preserved g c).After-widened_side) _ _ _ _ _
-              c.in-Some-widened_side.is
+          c.in-Some-widened_side.is
           (rw c.in-None.is at call.looks));
       watched = watched_on here.watched step.0 step.1 refl
           (print g (goal.at.loop-moved-preserved g c).After-rewritten)

@@ -74,5 +74,5 @@ loop-runner-preserved g c =
       unmarked = search rules;
       printed =
           printed_next _ _ _ here.printed ran.1 (omega (arith, further))
-              c.in_ok-add_step-in-Ok-Whole.ensures.sent;
+          c.in_ok-add_step-in-Ok-Whole.ensures.sent;
     }
