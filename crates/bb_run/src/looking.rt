@@ -136,7 +136,7 @@ fn kind_of_reply(line: &[u8], reply: &[u8], machine: &mut Machine) -> Option<Rep
     ensures { MatchOption result ((kind : ReplyKind) → IsOfKind kind line.now reply.now → ⊥)
         (λ kind. IsOfKind kind line.now reply.now) }
 {
-    if let Some(kind) = kind_by_words(line, reply, machine) {
+    if let Some(kind) = kind_by_words(line, reply) {
         return Some(kind);
     }
     match read_line_in_place(reply, machine)? {
@@ -156,14 +156,15 @@ fn kind_of_reply(line: &[u8], reply: &[u8], machine: &mut Machine) -> Option<Rep
 }
 
 /// The kind of a reply to a line that is a machine's text, where the numbers have few digits, as nearly all
-/// have: that takes half as long as to read the whole reply. The machine is read in place of another.
-fn kind_by_words(line: &[u8], reply: &[u8], machine: &mut Machine) -> Option<ReplyKind>
+/// have: that takes less than half as long as to read the whole reply.
+fn kind_by_words(line: &[u8], reply: &[u8]) -> Option<ReplyKind>
     ensures { IfSome result (λ kind. SaysVerdict kind line.now reply.now) }
 {
     let kind = kind_of_words(reply.strip_prefix(line)?)?;
-    match machine.read_in_place(line) {
-        Ok(()) => Some(kind),
-        Err(_) => None,
+    if Machine::can_read(line) {
+        Some(kind)
+    } else {
+        None
     }
 }
 

@@ -168,6 +168,7 @@ fn answer(line: &[u8]) -> usize {
 #[test]
 fn machines_are_read_and_written(rt: HostRuntime) -> Result<(), Fail> {
     for line in MACHINES {
+        assert!(rt; Machine::can_read(line));
         let machine = Machine::read(line)?;
         let mut text = ArrayVec::<u8, LINE>::new();
         machine.text_into(&mut text);
