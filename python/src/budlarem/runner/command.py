@@ -16,7 +16,7 @@ from types import FrameType
 from typing import List, Optional
 
 from ..limits import Limits
-from .cutting import MOST_LINES
+from .cutting import HERE, SENT
 from .errors import CheckError, FolderError, ListError, RunError, WordsError
 from .folder import VERDICTS, Folder, hold_apart, limits_of
 from .forms import hold_form
@@ -32,8 +32,8 @@ _HELP = """Decides a list of any length in pieces, on all cores of this computer
 gets verdicts.txt, with a line for each line of LIST in its order, and summary.json. Whatever ended it, the
 same command goes on after what stands. More passes may be added at the end of the command later: they decide
 what is left. Lines are read as they are, for speed: where more than half of the first thousand would be
-refused, nothing is decided, and the first of them is printed; `budlarem read` takes the machines out of a list
-in other forms."""
+refused, nothing is decided, and the first of them is printed; `budlarem read` takes the machines out of a
+list in other forms."""
 
 # dask's options of TLS, and what its client calls them.
 TLS = {
@@ -76,9 +76,8 @@ def add_command(commands: "argparse._SubParsersAction[argparse.ArgumentParser]")
     parser.add_argument(
         "--piece",
         type=int,
-        default=MOST_LINES,
         metavar="LINES",
-        help="lines of a piece at most (default: {:,})".format(MOST_LINES),
+        help="lines of a piece at most (default: {:,}, over dask {:,})".format(HERE.lines, SENT.lines),
     )
 
 
@@ -175,7 +174,7 @@ def do_run(asked: argparse.Namespace) -> int:
     fill_closed(asked.list == "-")
     progress = Progress()
     passes = passes_of(asked.passes)
-    if asked.piece < 1:
+    if asked.piece is not None and asked.piece < 1:
         raise WordsError("--piece is %d, but must be 1 or more" % asked.piece)
     end_at_interruption(progress, asked.out)
     try:
