@@ -27,7 +27,8 @@ WorkEnds Decides Check bounds left left_then held held_then end =
 WorkEnds Decides (Trace text) bounds left left_then held held_then end =
     (left_then ≡ left) × TraceEnds bounds (string_bytes text) held held_then end
 
--- how serving ends, with the summary of the definition of a verdict: as the work does, or without having begun
+-- how serving ends, with the summary of the definition of a verdict: as the work does, or without having
+-- begun
 abbrev pub ServeEnds : Work → Bounds → Option (List ℕ) → Option (List ℕ) → Option (List ℕ)
     → Option (List ℕ) → Result Summary Fault → Type 0
 ServeEnds work bounds left left_then held held_then end =

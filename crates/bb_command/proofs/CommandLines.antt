@@ -10,8 +10,8 @@ use Rattle.std.specs.Option.{option_map_or}
 use Rattle.clap.specs.Walk.{answers_to, stop_after}
 use Rattle.clap.specs.Simple.{argument_words, built, built_leaf, entered, inherited, marked_built}
 use Rattle.clap.specs.Simple.{with_leaf_noted, label_of, names_of, rows_at, subcommand_rows}
-use Rattle.clap.specs.Words.{App, HasMatchesOf, IsAmong, Row, Shape, Text, HasKind, fault_of, is_simple}
-use Rattle.clap.specs.Words.{is_simple_and_free, kind_of, subcommand_name_of, subcommand_of}
+use Rattle.clap.specs.Words.{App, HasMatchesOf, IsAmong, Kinds, Row, Shape, Text, HasKind, fault_of}
+use Rattle.clap.specs.Words.{is_simple, is_simple_and_free, kind_of, subcommand_name_of, subcommand_of}
 use Rattle.clap.specs.Words.{subcommand_rows_of}
 use Rattle.clap.specs.declared.error.Error.{Error}
 use Rattle.clap.specs.declared.error.kind.ErrorKind.{ErrorKind}
@@ -23,7 +23,7 @@ use Rattle.bb_machine.specs.Limits.{Bounds, IsFirstFault}
 use Rattle.bb_command.specs.declared.command.Stop.{Stop}
 use Rattle.bb_command.specs.declared.command.Stop.TheVariants.{Help, Words, Limits, Memory}
 use Rattle.bb_command.specs.Command.{Gives, IsKindStop, IsLimitsStop, IsNumbersStop, IsRefused, IsStopOf}
-use Rattle.bb_command.specs.Command.{words_meant}
+use Rattle.bb_command.specs.Command.{IsWordsStop, words_meant}
 use Rattle.bb_command.specs.CommandLine.{check_shape, command_line, decide_shape, trace_shape}
 
 simple_and_free : is_simple_and_free command_line ≡ true
@@ -126,36 +126,37 @@ stops_by_limits words bounds refused (Limits fault) (inr h) = refused fault h
 stops_by_limits words bounds refused Memory h = tt
 
 -- an error of a parse, as a stop
-pub stops_by_kind : (app : App) → app ≡ command_line → (words : List Text) (error : Error)
-    → (is_simple_and_free app ≡ true → HasKind (fault_of app words) error)
-    → (stop : Stop) → IsKindStop (kind_of error) stop → IsStopOf words stop
-stops_by_kind app is words error kinds stop kind =
-    by_kind stop kind (subst (λ (a : App). HasKind (fault_of a words) error) is
-    (kinds (ap is_simple_and_free is ∙ simple_and_free)))
-  where
-    by_kind : (stop : Stop) → IsKindStop (kind_of error) stop → HasKind (fault_of command_line words) error
-        → IsStopOf words stop
-    by_kind (Help text) (inl is_help) (inl memory) = cc
-    by_kind (Help text) (inr is_version) (inl memory) = cc
-    by_kind (Help text) (inl is_help) (inr among) =
-        inl (subst (λ (k : ErrorKind). IsAmong k (fault_of command_line words)) is_help among)
-    by_kind (Help text) (inr is_version) (inr among) =
-        inr (subst (λ (k : ErrorKind). IsAmong k (fault_of command_line words)) is_version among)
-    by_kind (Words text) is_other (inl memory) = absurd (is_other.2 memory)
-    by_kind (Words text) is_other (inr among) = (kind_of error, among, is_other.0, is_other.1)
-    by_kind (Limits fault) never h = absurd never
-    by_kind Memory is_memory h = tt
 
--- an error of a parse, as a stop by which no numbers are given
+pub stops_words : (kinds : Kinds) (error : Error) → HasKind kinds error → (stop : Stop)
+    → IsKindStop (kind_of error) stop → IsWordsStop kinds stop
+stops_words kinds error (inl memory) (Help text) (inl is_help) = cc
+stops_words kinds error (inl memory) (Help text) (inr is_version) = cc
+stops_words kinds error (inr among) (Help text) (inl is_help) =
+    inl (subst (λ (k : ErrorKind). IsAmong k kinds) is_help among)
+stops_words kinds error (inr among) (Help text) (inr is_version) =
+    inr (subst (λ (k : ErrorKind). IsAmong k kinds) is_version among)
+stops_words kinds error (inl memory) (Words text) is_other = absurd (is_other.2 memory)
+stops_words kinds error (inr among) (Words text) is_other = (kind_of error, among, is_other.0, is_other.1)
+stops_words kinds error h (Limits fault) never = absurd never
+stops_words kinds error h Memory is_memory = tt
+
 pub no_numbers_by_kind : (app : App) → app ≡ command_line → (words : List Text) (error : Error)
     → (is_simple_and_free app ≡ true → HasKind (fault_of app words) error)
     → (stop : Stop) → IsKindStop (kind_of error) stop → IsNumbersStop words stop
-no_numbers_by_kind app is words error kinds (Help text) kind =
-    stops_by_kind app is words error kinds (Help text) kind
-no_numbers_by_kind app is words error kinds (Words text) kind =
-    stops_by_kind app is words error kinds (Words text) kind
-no_numbers_by_kind app is words error kinds (Limits fault) kind = absurd kind
-no_numbers_by_kind app is words error kinds Memory kind = tt
+no_numbers_by_kind app is words error kinds stop kind =
+    stops_words (fault_of command_line words) error
+    (subst (λ (a : App). HasKind (fault_of a words) error) is
+    (kinds (ap is_simple_and_free is ∙ simple_and_free))) stop kind
+
+pub stops_by_kind : (app : App) → app ≡ command_line → (words : List Text) (error : Error)
+    → (is_simple_and_free app ≡ true → HasKind (fault_of app words) error)
+    → (stop : Stop) → IsKindStop (kind_of error) stop → IsStopOf words stop
+stops_by_kind app is words error kinds (Help text) kind =
+    no_numbers_by_kind app is words error kinds (Help text) kind
+stops_by_kind app is words error kinds (Words text) kind =
+    no_numbers_by_kind app is words error kinds (Words text) kind
+stops_by_kind app is words error kinds (Limits fault) kind = absurd kind
+stops_by_kind app is words error kinds Memory kind = tt
 
 -- ---- help that is asked for by a word
 

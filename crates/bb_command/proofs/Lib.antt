@@ -1,3 +1,4 @@
+pub mod Facts
 pub mod CommandValues
 pub mod CommandShapes
 pub mod CommandLines

@@ -6,7 +6,7 @@ use Rattle.std.specs.Option.{option_map_or}
 use Rattle.std.specs.Str.{bytes_eq}
 use Rattle.std.specs.Str.Parse.{digits_value, without_leading_plus}
 use Rattle.std.specs.String.{string_bytes}
-use Rattle.clap.specs.Words.{IsAmong, Row, Text, fault_of, first_of, one_of, subcommand_of}
+use Rattle.clap.specs.Words.{IsAmong, Kinds, Row, Text, fault_of, first_of, one_of, subcommand_of}
 use Rattle.clap.specs.ValueTests.{is_unsigned_in}
 use Rattle.clap.specs.declared.error.kind.ErrorKind.{ErrorKind}
 use Rattle.clap.specs.declared.error.kind.ErrorKind.TheVariants.{DisplayHelp, DisplayVersion, OutOfMemory}
@@ -146,24 +146,25 @@ pub record IsRefused (words : List Text) (stop : Stop) : Type 0 where
       ⊎ ((Gives words (codes "check") rows × IsLimitsStop (list_bounds rows) stop)
       ⊎ (Gives words (codes "trace") rows × IsLimitsStop (trace_bounds rows) stop))
 
--- why nothing is done: help or the version is asked for, or they are no command line, or what they
--- ask for is refused, or an allocation failed
+-- why words give nothing, by the kinds of error that they have: help or the version is asked for, or they are
+-- no command line, or an allocation failed
+abbrev pub IsWordsStop : Kinds → Stop → Type 0
+IsWordsStop kinds (Help text) = IsAmong DisplayHelp kinds ⊎ IsAmong DisplayVersion kinds
+IsWordsStop kinds (Words text) =
+    (kind : ErrorKind) × IsAmong kind kinds × (kind ≢ DisplayHelp) × (kind ≢ DisplayVersion)
+IsWordsStop kinds (Limits fault) = ⊥
+IsWordsStop kinds Memory = Unit {0}
+
+-- why the words give no numbers; limits that would be refused are no cause
+abbrev pub IsNumbersStop : List Text → Stop → Type 0
+IsNumbersStop words stop = IsWordsStop (fault_of command_line words) stop
+
+-- why nothing is done: the words give nothing, or what they ask for is refused
 abbrev pub IsStopOf : List Text → Stop → Type 0
-IsStopOf words (Help text) =
-    IsAmong DisplayHelp (fault_of command_line words) ⊎ IsAmong DisplayVersion (fault_of command_line words)
-IsStopOf words (Words text) =
-    (kind : ErrorKind) × IsAmong kind (fault_of command_line words) × (kind ≢ DisplayHelp)
-    × (kind ≢ DisplayVersion)
+IsStopOf words (Help text) = IsNumbersStop words (Help text)
+IsStopOf words (Words text) = IsNumbersStop words (Words text)
 IsStopOf words (Limits fault) = IsRefused words (Limits fault)
 IsStopOf words Memory = Unit {0}
-
--- why the words give no numbers: help or the version is asked for, or they are no command line, or an
--- allocation failed; limits that would be refused are no cause
-abbrev pub IsNumbersStop : List Text → Stop → Type 0
-IsNumbersStop words (Help text) = IsStopOf words (Help text)
-IsNumbersStop words (Words text) = IsStopOf words (Words text)
-IsNumbersStop words (Limits fault) = ⊥
-IsNumbersStop words Memory = Unit {0}
 
 -- the stop that an error of this kind is
 abbrev pub IsKindStop : ErrorKind → Stop → Type 0

@@ -363,6 +363,9 @@ fn command<'a>(alloc: Global, name: &'a str, about: &'a str, more: &'a str) -> C
     Command::new(alloc, name).about(about).after_help(more)
 }
 
+/// The cells of a tape unless others are asked for: 2^16.
+const DEFAULT_CELLS: &str = "65536";
+
 fn steps<'a>(alloc: Global) -> Arg<'a>
     ensures rule { rule_of result ≡ steps_rule }
     ensures local { result.global ≡ false }
@@ -382,7 +385,7 @@ fn cells<'a>(alloc: Global) -> Arg<'a>
     limit(
         alloc,
         "cells",
-        "65536",
+        DEFAULT_CELLS,
         "The most cells of one tape, 1 to 67108864",
     )
 }

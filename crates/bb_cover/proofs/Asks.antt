@@ -13,6 +13,13 @@ use Rattle.bb_machine.specs.declared.entry.Entry.TheVariants.{Undefined, Go}
 use Rattle.bb_machine.specs.declared.entry.Next.TheVariants.{State}
 use Rattle.laws_of_verdicts.specs.Walk.{entries_of, entries_to, entries_with}
 
+-- the entry leads to a state
+pub record LeadsOn (entry : Entry) : Type 0 where
+  pub write : ℕ
+  pub move : Dir
+  pub to : ℕ
+  pub is : entry ≡ Go write move (State to)
+
 length-entries_to : (write : ℕ) (move : Dir) (states : ℕ) → length (entries_to write move states) ≡ states
 length-entries_to write move zero = refl
 length-entries_to write move (suc n) =
@@ -37,6 +44,11 @@ entry_to write move (suc n) to less =
 
 abbrev pub width : Bool → ℕ → ℕ
 width is_root states = cond is_root states (states + states)
+
+width_between : (is_root : Bool) (states : ℕ)
+    → (states ≤ width is_root states) × (width is_root states ≤ states + states)
+width_between true states = (omega arith, omega arith)
+width_between false states = (omega arith, omega arith)
 
 length-entries_with : (is_root : Bool) (states write : ℕ)
     → length (entries_with is_root states write) ≡ width is_root states
@@ -100,117 +112,81 @@ entry_at is_root states (suc k) write place less low =
 
 -- by an index
 
-pub some_width : (is_root : Bool) (states symbols index : ℕ)
-    → index < length (entries_of is_root states symbols) → 0 < width is_root states
-some_width is_root states symbols index inside = elim (cases_eq (width is_root states) 0) [
-  | inl none ↦
-      let long = length-entries_of is_root states symbols in
-      let zero_long : symbols * width is_root states ≡ symbols * 0 = ap (λ n. symbols * n) none in
-      absurd (omega (arith, inside, long, zero_long))
-  | inr some ↦ omega (arith, some)
-]
+module _ (is_root : Bool) (states symbols index : ℕ)
+    (inside : index < length (entries_of is_root states symbols)) where
+  pub some_width : 0 < width is_root states
+  some_width = elim (cases_eq (width is_root states) 0) [
+    | inl none ↦
+        let long = length-entries_of is_root states symbols in
+        let zero_long : symbols * width is_root states ≡ symbols * 0 = ap (λ n. symbols * n) none in
+        absurd (omega (arith, inside, long, zero_long))
+    | inr some ↦ omega (arith, some)
+  ]
 
-pub few_writes : (is_root : Bool) (states symbols index : ℕ)
-    → index < length (entries_of is_root states symbols) → index / width is_root states < symbols
-few_writes is_root states symbols index inside = elim (cases_lt (index / width is_root states) symbols) [
-  | inl less ↦ less
-  | inr more ↦
-      let long = length-entries_of is_root states symbols in
+  pub few_writes : index / width is_root states < symbols
+  few_writes = elim (cases_lt (index / width is_root states) symbols) [
+    | inl less ↦ less
+    | inr more ↦
+        let long = length-entries_of is_root states symbols in
+        let w = width is_root states in
+        let some = some_width in
+        let fits : w * symbols ≤ w * (index / w) = mul-le-mul_left w more in
+        absurd (omega (arith, inside, long, fits, some))
+  ]
+
+  split : get_or (entries_of is_root states symbols) index Undefined
+      ≡ get_or (entries_with is_root states (index / width is_root states)) (index % width is_root states)
+      Undefined
+  split =
       let w = width is_root states in
-      let some = some_width is_root states symbols index inside in
-      let fits : w * symbols ≤ w * (index / w) = mul-le-mul_left w more in
-      absurd (omega (arith, inside, long, fits, some))
-]
+      let some = some_width in
+      let parts : index ≡ index / w * w + index % w = omega (arith, some) in
+      ap (λ n. get_or (entries_of is_root states symbols) n Undefined) parts
+      ∙ entry_at is_root states symbols (index / w) (index % w) few_writes (omega (arith, some))
 
-split : (is_root : Bool) (states symbols index : ℕ) → index < length (entries_of is_root states symbols)
-    → get_or (entries_of is_root states symbols) index Undefined
-    ≡ get_or (entries_with is_root states (index / width is_root states)) (index % width is_root states)
-    Undefined
-split is_root states symbols index inside =
-    let w = width is_root states in
-    let some = some_width is_root states symbols index inside in
-    let parts : index ≡ index / w * w + index % w = omega (arith, some) in
-    ap (λ n. get_or (entries_of is_root states symbols) n Undefined) parts
-    ∙ entry_at is_root states symbols (index / w) (index % w) (few_writes is_root states symbols index inside)
-    (omega (arith, some))
+  pub by_index_right : index % width is_root states < states
+      → Go (index / width is_root states) dir.R (State (index % width is_root states))
+      ≡ get_or (entries_of is_root states symbols) index Undefined
+  by_index_right low =
+      sym (split
+      ∙ entry_right is_root states (index / width is_root states) (index % width is_root states) low)
 
-pub by_index_right : (is_root : Bool) (states symbols index : ℕ)
-    → index < length (entries_of is_root states symbols) → index % width is_root states < states
-    → Go (index / width is_root states) dir.R (State (index % width is_root states))
-    ≡ get_or (entries_of is_root states symbols) index Undefined
-by_index_right is_root states symbols index inside low =
-    sym (split is_root states symbols index inside
-    ∙ entry_right is_root states (index / width is_root states) (index % width is_root states) low)
+  pub by_index_left : states ≤ index % width is_root states
+      → Go (index / width is_root states) dir.L (State (index % width is_root states - states))
+      ≡ get_or (entries_of is_root states symbols) index Undefined
+  by_index_left high =
+      let some = some_width in
+      sym (split
+      ∙ entry_left is_root states (index / width is_root states) (index % width is_root states) high
+      (omega (arith, some)))
 
-pub by_index_left : (is_root : Bool) (states symbols index : ℕ)
-    → index < length (entries_of is_root states symbols) → states ≤ index % width is_root states
-    → Go (index / width is_root states) dir.L (State (index % width is_root states - states))
-    ≡ get_or (entries_of is_root states symbols) index Undefined
-by_index_left is_root states symbols index inside high =
-    let some = some_width is_root states symbols index inside in
-    sym (split is_root states symbols index inside
-    ∙ entry_left is_root states (index / width is_root states) (index % width is_root states) high
-    (omega (arith, some)))
+  pub few_places : index % width is_root states < states + states
+  few_places =
+      let some = some_width in
+      let low : index % width is_root states < width is_root states = omega (arith, some) in
+      let wide = width_between is_root states in
+      omega (arith, low, wide.1)
 
-pub few_places : (is_root : Bool) (states symbols index : ℕ)
-    → index < length (entries_of is_root states symbols) → index % width is_root states < states + states
-few_places is_root states symbols index inside =
-    let some = some_width is_root states symbols index inside in
-    let low : index % width is_root states < width is_root states = omega (arith, some) in
-    let wide = few_width is_root states in
-    omega (arith, low, wide)
-  where
-    few_width : (is_root : Bool) (states : ℕ) → width is_root states ≤ states + states
-    few_width true states = omega arith
-    few_width false states = omega arith
-
--- each leads to a state
-pub record LeadsOn (entry : Entry) : Type 0 where
-  pub write : ℕ
-  pub move : Dir
-  pub to : ℕ
-  pub is : entry ≡ Go write move (State to)
-
-pub leads_on : (is_root : Bool) (states symbols index : ℕ)
-    → index < length (entries_of is_root states symbols)
-    → LeadsOn (get_or (entries_of is_root states symbols) index Undefined)
-leads_on is_root states symbols index inside =
-    elim (cases_lt (index % width is_root states) states) [
-      | inl low ↦ record {
-        write = _;
-        move = _;
-        to = _;
-        is = sym (by_index_right is_root states symbols index inside low);
-      }
-      | inr high ↦ record {
-        write = _;
-        move = _;
-        to = _;
-        is = sym (by_index_left is_root states symbols index inside high);
-      }
-    ]
+  pub leads_on : LeadsOn (get_or (entries_of is_root states symbols) index Undefined)
+  leads_on = elim (cases_lt (index % width is_root states) states) [
+    | inl low ↦ record { write = _; move = _; to = _; is = sym (by_index_right low) }
+    | inr high ↦ record { write = _; move = _; to = _; is = sym (by_index_left high) }
+  ]
 
 pub some_entries : (is_root : Bool) (states symbols : ℕ) → 0 < states → 0 < symbols
     → 0 < length (entries_of is_root states symbols)
 some_entries is_root states symbols some some_too =
     let long = length-entries_of is_root states symbols in
-    let wide = wide_enough is_root states in
+    let wide = width_between is_root states in
     let one : width is_root states * 1 ≤ width is_root states * symbols =
     mul-le-mul_left (width is_root states) (omega (arith, some_too)) in
-    omega (arith, long, wide, one, some)
-  where
-    wide_enough : (is_root : Bool) (states : ℕ) → states ≤ width is_root states
-    wide_enough true states = omega arith
-    wide_enough false states = omega arith
+    omega (arith, long, wide.0, one, some)
 
 pub few_entries : (is_root : Bool) (states symbols : ℕ) → states ≤ 25 → symbols ≤ 10
     → length (entries_of is_root states symbols) ≤ 500
 few_entries is_root states symbols few few_too =
     let long = length-entries_of is_root states symbols in
-    let wide : width is_root states ≤ 50 = narrow is_root states few in
-    let fits : symbols * width is_root states ≤ symbols * 50 = mul-le-mul_left symbols wide in
+    let wide = width_between is_root states in
+    let fits : symbols * width is_root states ≤ symbols * 50 =
+    mul-le-mul_left symbols (omega (arith, wide.1, few)) in
     omega (arith, long, fits, few_too)
-  where
-    narrow : (is_root : Bool) (states : ℕ) → states ≤ 25 → width is_root states ≤ 50
-    narrow true states few = omega (arith, few)
-    narrow false states few = omega (arith, few)

@@ -59,20 +59,6 @@ gap_of_halt table runner view stands halts gap in_state at_symbol =
       },
     )
 
--- in Z it halts on none
-pub no_gap_in_Z : (table : Table) (runner : Runner) (view : TapeView) → Stands table runner view
-    → state_of runner ≡ next.Halt → (state symbol : ℕ) → HaltsOnGap table (steps_of runner) state symbol → ⊥
-no_gap_in_Z table runner view stands in_Z state symbol gap =
-    let here : Configuration =
-    record { state = state_of runner; head = position_of runner; tape = view.content } in
-    let one = stands.at in
-    let two = gap.exists in
-    let same : gap.last ≡ here = cc in
-    let three = ap (λ (x : Configuration). x.state) same in
-    let four = gap.in_state in
-    let both : next.State state ≡ next.Halt = sym four ∙ three ∙ in_Z in
-    cc
-
 -- it halts after another number of steps
 pub halts_elsewhere : (table : Table) (n steps : ℕ) → HaltsAt table n → n ≢ steps → HaltsAt table steps → ⊥
 halts_elsewhere table n steps here apart there = apart (halt_is_unique table n steps here there)

@@ -7,7 +7,6 @@ use Rattle.bb_machine.specs.Machine.{Table}
 use Rattle.bb_sim.specs.Configuration.{Configuration}
 use Rattle.bb_sim.specs.Run.{HaltsAt}
 use Rattle.bb_sim.specs.Span.{Inside, span}
-use Rattle.bb_sim.proofs.Facts.{score_is_unique}
 use Rattle.bb_cert.proofs.Facts.{answer_is_unique}
 use Rattle.bb_machine.specs.declared.entry.Next.TheVariants.{State}
 use Rattle.bb_tape.specs.Content.{cell}
@@ -22,7 +21,7 @@ use Rattle.bb_cert.specs.checker.Answer.{claim_holds, all_else}
 use Rattle.laws_of_verdicts.specs.Gap.{HaltsOnGap, HasOtherGap}
 use Rattle.bb_cover.specs.declared.gap.Gap.{Gap}
 use Rattle.bb_cover.specs.declared.halt.Halted.{Halted}
-use Rattle.bb_cover.specs.Claims.{IsFineClaim, IsHalt, IsOneOf}
+use Rattle.bb_cover.specs.Claims.{IsFineClaim, IsOneOf}
 use Rattle.bb_cover.specs.Gaps.{HaltsOn, IsToFill}
 use Rattle.bb_cover.specs.Halts.{EndsSo}
 
@@ -87,49 +86,6 @@ not_there table bounds steps score none is =
       within_cells = ok.few_cells;
     })
 
--- so does another score
-pub other_score : (table : Table) (bounds : Bounds) (steps score : ℕ) (halted : Halted)
-    → EndsSo table bounds steps halted → (halted.score ≡ score → ⊥)
-    → IsAnswer table bounds (Halt steps score) answer.Ok → ⊥
-other_score table bounds steps score halted ends apart is =
-    let ok = ok_halt table bounds steps score is in
-    apart (score_is_unique table steps halted.score score ends.scores ok.claim.1)
-
--- too many steps are named
-pub over_halt : (table : Table) (bounds : Bounds) (steps score : ℕ) → bounds.steps < steps
-    → IsAnswer table bounds (Halt steps score) answer.Over
-over_halt table bounds steps score many = record {
-  rule = too_much_named;
-  is = refl;
-  applies = many;
-  first = first;
-} where
-  first : (other : Rule) → Applies table bounds (Halt steps score) other → rank too_much_named ≤ rank other
-  first undecided applies = absurd applies
-  first too_much_named applies = omega arith
-  first out_of_order applies = omega arith
-  first too_much_needed applies = omega arith
-  first claim_holds applies = omega arith
-  first all_else applies = omega arith
-
--- no other answer to a halt than `ok` is fine
-pub not_fine : (table : Table) (bounds : Bounds) (steps score : ℕ) (given : Answer)
-    → IsAnswer table bounds (Halt steps score) given
-    → (IsAnswer table bounds (Halt steps score) answer.Ok → ⊥) → is_fine given ≡ false
-not_fine table bounds steps score answer.Ok is not = absurd (not is)
-not_fine table bounds steps score answer.Bad is not = refl
-not_fine table bounds steps score answer.Over is not = refl
-not_fine table bounds steps score answer.Open is not = absurd (never_open is.rule is.is is.applies)
-  where
-    never_open : (rule : Rule) → answer.Open ≡ answer_by rule
-        → Applies table bounds (Halt steps score) rule → ⊥
-    never_open undecided e applies = applies
-    never_open too_much_named e applies = cc
-    never_open out_of_order e applies = cc
-    never_open too_much_needed e applies = cc
-    never_open claim_holds e applies = cc
-    never_open all_else e applies = cc
-
 -- a fine verdict claims what holds
 pub fine_claim : (bounds : Bounds) (table : Table) (verdict : Verdict) → IsFineClaim bounds table verdict
     → Claim table verdict
@@ -192,8 +148,3 @@ to_fill table steps score (Some gap) (Some found) on one =
       record { steps = steps; score = score; says = refl; gap = on.0; other = one.1 },
       on.1,
     )
-
--- any other verdict fills none
-pub no_halt_fills : (table : Table) (verdict : Verdict) → (IsHalt verdict → ⊥)
-    → IsToFill (record { table = table; verdict = verdict }) None
-no_halt_fills table verdict none = λ state symbol halts. none (subst IsHalt (sym halts.says) tt)

@@ -83,9 +83,20 @@ left_nothing n (f ∷ frames) are none =
     let more = ap length (left_of-next f n are.0) in
     absurd (omega (arith, zero_long, more))
 
+-- the next machine has one `---` less than the frame's
+next_gaps : (frame : Frame) (n : ℕ) → IsFrame n frame → gaps_of (next_of frame) + 1 ≡ gaps_of frame.machine
+next_gaps frame n is =
+    let leads = leads_on frame.asked.is_root frame.asked.states frame.asked.symbols frame.next is.some in
+    let less = filled_gaps frame.machine is.machine frame.gap.state frame.gap.symbol leads.write leads.move
+    (State leads.to) is.gap.below is.gap.inside is.gap.is_gap in
+    ap (λ e. gaps_of (with_entry frame.machine frame.gap.state frame.gap.symbol e) + 1) leads.is ∙ less
+
 -- the first that is left, and what is left behind it
 pub record FirstLeft (frames : List Frame) (frame : Frame) : Type 0 where
   pub frame_is : IsFrame (length frames - 1) frame
+  pub front : IsStack (take (length frames - 1) frames)
+  pub long : length (take (length frames - 1) frames) ≡ length frames - 1
+  pub room : gaps_of (next_of frame) + length frames ≤ MAX_FRAMES
   pub is : left frames ≡ next_of frame ∷ (map (with_entry frame.machine frame.gap.state frame.gap.symbol)
       (drop (frame.next + 1) (entries frame.asked)) ++ left (take (length frames - 1) frames))
 
@@ -93,22 +104,20 @@ pub first_left : (frames : List Frame) (d : Frame) → IsStack frames → 0 < le
     → FirstLeft frames (get_or frames (length frames - 1) d)
 first_left frames d stack some =
     let last = get_or frames (length frames - 1) d in
+    let front = take (length frames - 1) frames in
+    let parts = split_last frames d some in
     let is = frame_at zero frames (length frames - 1) d stack (omega (arith, some)) in
     let is_too : IsFrame (length frames - 1) last = subst (λ k. IsFrame k last) (omega arith) is in
+    let gaps = next_gaps last (length frames - 1) is_too in
+    let room = is_too.room in
     record {
       frame_is = is_too;
-      is = ap left (split_last frames d some) ∙ left-push (take (length frames - 1) frames) last
-          ∙ ap (λ l. l ++ left (take (length frames - 1) frames))
-          (left_of-next last (length frames - 1) is_too);
+      front = frames-front zero front last (subst (AreFrames zero) parts stack);
+      long = length-take-le (length frames - 1) frames (omega arith);
+      room = omega (arith, gaps, room, some);
+      is = ap left parts ∙ left-push front last
+          ∙ ap (λ l. l ++ left front) (left_of-next last (length frames - 1) is_too);
     }
-
--- that one has one `---` less than the frame's
-next_gaps : (frame : Frame) (n : ℕ) → IsFrame n frame → gaps_of (next_of frame) + 1 ≡ gaps_of frame.machine
-next_gaps frame n is =
-    let leads = leads_on frame.asked.is_root frame.asked.states frame.asked.symbols frame.next is.some in
-    let less = filled_gaps frame.machine is.machine frame.gap.state frame.gap.symbol leads.write leads.move
-    (State leads.to) is.gap.below is.gap.inside is.gap.is_gap in
-    ap (λ e. gaps_of (with_entry frame.machine frame.gap.state frame.gap.symbol e) + 1) leads.is ∙ less
 
 -- passing it
 pub record Passes (old new : List Frame) : Type 0 where
@@ -128,36 +137,28 @@ pub passes_within : (frames : List Frame) (d : Frame) → IsStack frames → 0 <
 passes_within frames d stack some fits new is = by (get_or frames (length frames - 1) d) refl where
   by : (last : Frame) → get_or frames (length frames - 1) d ≡ last → Passes frames new
   by last same =
-      let first = first_left frames d stack some in
+      let first : FirstLeft frames last = subst (FirstLeft frames) same (first_left frames d stack some) in
       let front = take (length frames - 1) frames in
       let turned : Frame = record last { next = last.next + 1 } in
-      let long : length front ≡ length frames - 1 = length-take-le (length frames - 1) frames (omega arith) in
+      let long = first.long in
       let now : new ≡ front ++ turned ∷ [] =
       is ∙ ap (λ (f : Frame). set frames (length frames - 1) (record f { next = f.next + 1 })) same
       ∙ ap (λ l. set l (length frames - 1) turned) (split_last frames d some)
       ∙ set_at front (get_or frames (length frames - 1) d) [] turned (length frames - 1) long in
-      let frame_is : IsFrame (length frames - 1) last =
-      subst (IsFrame (length frames - 1)) same first.frame_is in
-      let front_are : AreFrames zero front =
-      frames-front zero front (get_or frames (length frames - 1) d)
-      (subst (AreFrames zero) (split_last frames d some) stack) in
-      let gaps = next_gaps last (length frames - 1) frame_is in
-      let room = frame_is.room in
+      let frame_is = first.frame_is in
+      let room = first.room in
       let many = ap length now ∙ length-append front (turned ∷ []) in
       record {
         first = next_of last;
-        left_was = first.is
-            ∙ ap (λ (f : Frame). next_of f ∷ (map (with_entry f.machine f.gap.state f.gap.symbol)
-            (drop (f.next + 1) (entries f.asked)) ++ left front)) same
-            ∙ sym (ap (λ l. next_of last ∷ l) (ap left now ∙ left-push front turned));
-        room = omega (arith, gaps, room, many, long, some);
-        stack = subst IsStack (sym now) (frames-push zero front turned front_are (record {
+        left_was = first.is ∙ sym (ap (λ l. next_of last ∷ l) (ap left now ∙ left-push front turned));
+        room = omega (arith, room, many, long, some);
+        stack = subst IsStack (sym now) (frames-push zero front turned first.front (record {
           machine = frame_is.machine;
           gap = frame_is.gap;
           few = frame_is.few;
           few_symbols = frame_is.few_symbols;
           some = subst (λ (f : Frame). f.next + 1 < length (entries f.asked)) same fits;
-          room = omega (arith, room, long);
+          room = let below = frame_is.room in omega (arith, below, long);
         }));
       }
 
@@ -168,22 +169,18 @@ pub passes_last : (frames : List Frame) (d : Frame) → IsStack frames → 0 < l
 passes_last frames d stack some ends new is =
     let last = get_or frames (length frames - 1) d in
     let first = first_left frames d stack some in
-    let front = take (length frames - 1) frames in
-    let long : length front ≡ length frames - 1 = length-take-le (length frames - 1) frames (omega arith) in
-    let front_are : AreFrames zero front =
-    frames-front zero front last (subst (AreFrames zero) (split_last frames d some) stack) in
-    let gaps = next_gaps last (length frames - 1) first.frame_is in
-    let room = first.frame_is.room in
+    let long = first.long in
+    let room = first.room in
     let many = ap length is in
     record {
       first = next_of last;
       left_was = first.is
           ∙ ap (λ l. next_of last ∷ (map (with_entry last.machine last.gap.state last.gap.symbol) l
-          ++ left front))
+          ++ left (take (length frames - 1) frames)))
           (drop_all (last.next + 1) (entries last.asked) ends)
           ∙ sym (ap (λ l. next_of last ∷ left l) is);
-      room = omega (arith, gaps, room, many, long, some);
-      stack = subst IsStack (sym is) front_are;
+      room = omega (arith, room, many, long, some);
+      stack = subst IsStack (sym is) first.front;
     }
 
 -- going on from a machine

@@ -1,6 +1,6 @@
 -- What one line does to a walk.
 use Rattle.std.proofs.Common.{◌≡◌, ◌↔◌, ℕ, ◌+◌, ◌⊎◌, Bool, true, false, List, ◌∷◌, ◌++◌}
-use Rattle.std.proofs.Common.{Option, Some, None, length, map, min, refl, ap, sym, subst, ◌∙◌, arith}
+use Rattle.std.proofs.Common.{Option, Some, None, length, map, min, inr, refl, ap, sym, subst, ◌∙◌, arith}
 use Rattle.std.specs.Prelude.{IsTrue, is_some}
 use Rattle.bb_machine.specs.Limits.{Bounds}
 use Rattle.bb_machine.specs.Machine.{Table, symbols_of}
@@ -14,9 +14,11 @@ use Rattle.laws_of_verdicts.specs.Gap.{HaltsOnGap}
 use Rattle.laws_of_verdicts.specs.NormalForm.{IsEmpty}
 use Rattle.laws_of_verdicts.specs.Walk.{FillsGapBy, HaltsOnOneOf, IsWalk, LeadsTo, entries_of}
 use Rattle.bb_cover.specs.declared.found.Stop.{Stop}
+use Rattle.bb_cover.specs.declared.found.Why.{Why}
 use Rattle.bb_cover.specs.declared.gap.Gap.{Gap}
 use Rattle.bb_cover.specs.declared.list.Course.{Course}
-use Rattle.bb_cover.specs.Course.{Stopped, Took, TookBy, Visited}
+use Rattle.bb_cover.specs.Counts.{saturated}
+use Rattle.bb_cover.specs.Course.{IsWrong, Stopped, Took, TookBy, Visited}
 use Rattle.bb_cover.specs.Gaps.{IsToFill}
 use Rattle.bb_cover.specs.Left.{FillsAt}
 use Rattle.bb_cover.proofs.Judging.{one_gap}
@@ -119,3 +121,14 @@ pub took : (bounds : Bounds) (old : Course) (bytes : List ℕ) (new : Course) �
 took bounds old bytes new going did =
     let none = none_of old.stop going in
     subst (λ s. TookBy s bounds old bytes new) (sym none) (did none)
+
+pub stops : (bounds : Bounds) (old : Course) (bytes : List ℕ) (new : Course) (why : Why)
+    → is_some old.stop ≡ false → IsWrong bounds old.size old.walk bytes why
+    → new ≡ record old { stop = Some (record { line = saturated (old.counts.lines + 1); why = why }) }
+    → Took bounds old bytes new
+stops bounds old bytes new why going wrong is = took bounds old bytes new going (λ _. inr (record {
+  why = why;
+  wrong = wrong;
+  stop = ap (λ (x : Course). x.stop) is;
+  counts = ap (λ (x : Course). x.counts) is;
+}))

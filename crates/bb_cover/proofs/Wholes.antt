@@ -31,7 +31,8 @@ use Rattle.bb_cover.specs.Claims.{AreTrueLines, IsTrueLine}
 use Rattle.bb_cover.specs.Counts.{AreCounts, no_counts, saturated}
 use Rattle.bb_cover.specs.Course.{EndsTooSoon, IsAsked, IsFoundBy, IsWrong, Stopped, TookBy, Visited}
 use Rattle.bb_cover.specs.Course.{size_after}
-use Rattle.bb_cover.specs.Covering.{CoversSize, DecidesSize, HasLeft, IsCover, IsFound, IsWholeWalk, StopsAt}
+use Rattle.bb_cover.specs.Covering.{CoversSize, DecidesSize, HasLeft, IsCover, IsFound, IsWholeWalk}
+use Rattle.bb_cover.specs.Covering.{IsWrongAt, StopsAt}
 use Rattle.bb_cover.proofs.Judging.{fine_claim, fine_or_not}
 use Rattle.bb_cover.proofs.Steps.{goes_on, one_line}
 use Rattle.bb_cover.proofs.Tables.{empty_is}
@@ -288,14 +289,18 @@ one_more bounds past bytes old new (Some stop) is come took =
     subst (λ (c : Course). HasCome c.stop bounds (past ++ bytes ∷ []) c) (sym took)
     (subst (λ s. HasCome s bounds (past ++ bytes ∷ []) old) (sym is) ended)
 
+-- what is left, by the size
+left_of_size : {bounds : Bounds} {past : List (List ℕ)} {course : Course} (going : Going bounds past course)
+    {size : Option Size} → course.size ≡ size → HasLeft size course.walk going.lines
+left_of_size {course} going is = subst (λ s. HasLeft s course.walk going.lines) is going.has_left
+
 -- a whole walk along a beginning
 walked_left : (bounds : Bounds) (past : List (List ℕ)) (course : Course) (going : Going bounds past course)
     (more : List VerdictLine) (n k : ℕ) → IsWalk (all_gaps n k ∷ []) (going.lines ++ more)
     → (size : Size) → course.size ≡ Some size → IsWalk course.walk more
 walked_left bounds past course going more n k walk size is =
     let same = begun_size going.lines more size n k (going.begun size is) walk in
-    let left : HasLeft (Some size) course.walk going.lines =
-    subst (λ s. HasLeft s course.walk going.lines) is going.has_left in
+    let left : HasLeft (Some size) course.walk going.lines = left_of_size going is in
     (left more).1 (subst (λ j. IsWalk (all_gaps size.states j ∷ []) (going.lines ++ more)) (sym same.1)
     (subst (λ i. IsWalk (all_gaps i k ∷ []) (going.lines ++ more)) (sym same.0) walk))
 
@@ -314,8 +319,7 @@ next_asked : (bounds : Bounds) (past : List (List ℕ)) (course : Course) (going
     → IsWalk (all_gaps n k ∷ []) (going.lines ++ line ∷ more) → (size : Option Size) → course.size ≡ size
     → IsNextLine size course.walk line.table
 next_asked bounds past course going line more n k walk None is =
-    let left : HasLeft None course.walk going.lines =
-    subst (λ s. HasLeft s course.walk going.lines) is going.has_left in
+    let left : HasLeft None course.walk going.lines = left_of_size going is in
     let first : IsWalk (all_gaps n k ∷ []) (line ∷ more) =
     subst (λ l. IsWalk (all_gaps n k ∷ []) (l ++ line ∷ more)) left.0 walk in
     record {
@@ -350,21 +354,29 @@ not_wrong bounds (Some size) left bytes line Beyond is next wrong =
 -- at the end
 
 module _ (bounds : Bounds) (all : List (List ℕ)) (course : Course) where
-  stops_at : (stop : Stop) → Ended bounds all course.counts stop → StopsAt bounds all course.counts stop
-  stops_at stop ended = record {
-    before = ended.before;
-    after = ended.bytes ∷ ended.after;
-    all = ended.whole;
-    verdicts = ended.going.lines;
-    are_true = ended.going.are_true;
-    size = ended.course.size;
-    left = ended.course.walk;
-    has_left = ended.going.has_left;
-    wrong = ended.wrong;
-    line = ended.line ∙ next_line ended.going.lines ended.before ended.course.counts ended.going.counted
-        (true_length bounds ended.before ended.going.lines ended.going.are_true);
-    counted = rw ended.counts_are ended.going.counted;
+  -- where a list stops, by the walk up to there
+  stops_after : (stop : Stop) (before after : List (List ℕ)) → all ≡ before ++ after → (here : Course)
+      (going : Going bounds before here) → IsWrongAt bounds here.size here.walk after stop.why
+      → stop.line ≡ saturated (here.counts.lines + 1) → StopsAt bounds all here.counts stop
+  stops_after stop before after whole here going wrong line = record {
+    before = before;
+    after = after;
+    all = whole;
+    verdicts = going.lines;
+    are_true = going.are_true;
+    size = here.size;
+    left = here.walk;
+    has_left = going.has_left;
+    wrong = wrong;
+    line = line ∙ next_line going.lines before here.counts going.counted
+        (true_length bounds before going.lines going.are_true);
+    counted = going.counted;
   }
+
+  stops_at : (stop : Stop) → Ended bounds all course.counts stop → StopsAt bounds all course.counts stop
+  stops_at stop ended =
+      rw ended.counts_are (stops_after stop ended.before (ended.bytes ∷ ended.after) ended.whole ended.course
+      ended.going ended.wrong ended.line)
 
   no_whole : (stop : Stop) → Ended bounds all course.counts stop → (n k : ℕ) → IsWholeWalk bounds all n k → ⊥
   no_whole stop ended n k whole =
@@ -378,37 +390,29 @@ module _ (bounds : Bounds) (all : List (List ℕ)) (course : Course) where
   -- the list ended too soon
   ends_at : (stop : Stop) → EndsTooSoon course stop → Going bounds all course
       → StopsAt bounds all course.counts stop
-  ends_at stop ends going = record {
-    before = all;
-    after = [];
-    all = sym (append-nil all);
-    verdicts = going.lines;
-    are_true = going.are_true;
-    size = course.size;
-    left = course.walk;
-    has_left = going.has_left;
-    wrong = (ends.why, ends.something);
-    line = ends.line ∙ next_line going.lines all course.counts going.counted
-        (true_length bounds all going.lines going.are_true);
-    counted = going.counted;
-  }
+  ends_at stop ends going =
+      stops_after stop all [] (sym (append-nil all)) course going (ends.why, ends.something) ends.line
 
   nothing_left : (left : List Table) → IsWalk left [] → left ≡ []
   nothing_left [] walk = refl
   nothing_left (t ∷ ts) walk = absurd walk
 
+  -- a whole walk goes along the lines so far
+  walk_going : (n k : ℕ) (going : Going bounds all course) → IsWholeWalk bounds all n k
+      → IsWalk (all_gaps n k ∷ []) (going.lines ++ [])
+  walk_going n k going whole =
+      subst (IsWalk (all_gaps n k ∷ []))
+      (same_true bounds all whole.lines going.lines whole.are_true going.are_true
+      ∙ sym (append-nil going.lines)) whole.walk
+
   no_whole_yet : (stop : Stop) → EndsTooSoon course stop → (going : Going bounds all course) → (n k : ℕ)
       → IsWholeWalk bounds all n k → (size : Option Size) → course.size ≡ size → ⊥
   no_whole_yet stop ends going n k whole None is =
-      let left : HasLeft None course.walk going.lines =
-      subst (λ s. HasLeft s course.walk going.lines) is going.has_left in
+      let left : HasLeft None course.walk going.lines = left_of_size going is in
       subst (IsWalk (all_gaps n k ∷ []))
       (same_true bounds all whole.lines going.lines whole.are_true going.are_true ∙ left.0) whole.walk
   no_whole_yet stop ends going n k whole (Some size) is =
-      let walk : IsWalk (all_gaps n k ∷ []) (going.lines ++ []) =
-      subst (IsWalk (all_gaps n k ∷ []))
-      (same_true bounds all whole.lines going.lines whole.are_true going.are_true
-      ∙ sym (append-nil going.lines)) whole.walk in
+      let walk = walk_going n k going whole in
       ends.something (λ none. let both : Some size ≡ None = sym is ∙ none in cc)
       (nothing_left course.walk (walked_left bounds all course going [] n k walk size is))
 
@@ -420,7 +424,7 @@ module _ (bounds : Bounds) (all : List (List ℕ)) (course : Course) where
       let here : Size = record { states = n; symbols = k } in
       let left : HasLeft (Some here) [] going.lines =
       subst (λ t. HasLeft (Some here) t going.lines) done
-      (subst (λ s. HasLeft s course.walk going.lines) size going.has_left) in
+      (left_of_size going size) in
       subst (IsWalk (all_gaps n k ∷ [])) (append-nil going.lines) ((left []).0 tt)
 
   covers_of : (n k : ℕ) (whole : IsWholeWalk bounds all n k) → closed.Covers whole.lines n k
@@ -443,10 +447,7 @@ module _ (bounds : Bounds) (all : List (List ℕ)) (course : Course) where
       → Covers n k ≡ Covers n' k'
   size_of n k n' k' going size whole =
       let here : Size = record { states = n; symbols = k } in
-      let walk : IsWalk (all_gaps n' k' ∷ []) (going.lines ++ []) =
-      subst (IsWalk (all_gaps n' k' ∷ []))
-      (same_true bounds all whole.lines going.lines whole.are_true going.are_true
-      ∙ sym (append-nil going.lines)) whole.walk in
+      let walk = walk_going n' k' going whole in
       let same = begun_size going.lines [] here n' k' (going.begun here size) walk in
       ap (λ i. Covers i k) same.0 ∙ ap (Covers n') same.1
 

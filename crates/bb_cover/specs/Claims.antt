@@ -1,10 +1,9 @@
 -- Which verdicts may stand in a list, within bounds.
-use Rattle.std.specs.Prelude.{◌≡◌, ℕ, true, false, List, [], ◌∷◌, Option, Some, None}
+use Rattle.std.specs.Prelude.{◌≡◌, ℕ, true, false, IsTrue, List, [], ◌∷◌, Option, Some, None}
 use Rattle.bb_machine.specs.Limits.{Bounds}
 use Rattle.bb_machine.specs.Machine.{Table}
 use Rattle.bb_cert.specs.declared.checker.answer.Answer.{Answer}
 use Rattle.bb_cert.specs.declared.verdict.Verdict.{Verdict}
-use Rattle.bb_cert.specs.declared.verdict.Verdict.TheVariants.{Halt, Cycler, Translated, Backward, Undecided}
 use Rattle.bb_cert.specs.declared.verdict.reader.Line.TheVariants as said
 use Rattle.bb_cert.specs.checker.Answer.{IsAnswer, is_fine}
 use Rattle.bb_cert.specs.verdict.Line.{IsLineOf}
@@ -13,15 +12,12 @@ use Rattle.laws_of_verdicts.specs.Gap.{HasOtherGap}
 use Rattle.bb_cover.specs.declared.claim.Judged.{Judged}
 use Rattle.bb_cover.specs.declared.claim.Judged.TheVariants.{Fine, Refused}
 use Rattle.bb_cover.specs.declared.gap.Gap.{Gap}
+use Rattle.bb_cover.specs.Counts.{is_halt}
 use Rattle.bb_cover.specs.Gaps.{IsToFill}
 
 -- the verdict is a halt
 abbrev pub IsHalt : Verdict → Type 0
-IsHalt (Halt steps score) = Unit {0}
-IsHalt (Cycler first second) = ⊥
-IsHalt (Translated side first second extent) = ⊥
-IsHalt (Backward levels nodes) = ⊥
-IsHalt (Undecided why) = ⊥
+IsHalt verdict = IsTrue (is_halt verdict)
 
 -- of a `---`, if there is one, the same, where it is one of several
 abbrev pub IsOneOf : Table → Option Gap → Option Gap → Type 0

@@ -7,42 +7,30 @@ use Rattle.laws_of_verdicts.specs.Closed.{VerdictLine}
 use Rattle.bb_cover.specs.declared.counts.Counts.{Counts}
 use Rattle.bb_cover.specs.Gaps.{gaps_of}
 
--- the kinds of verdicts
+-- of five, the one for the verdict's kind
+abbrev pub by_kind : {X : Type 0} → X → X → X → X → X → Verdict → X
+by_kind halt cycler translated backward undecided (Halt steps score) = halt
+by_kind halt cycler translated backward undecided (Cycler first second) = cycler
+by_kind halt cycler translated backward undecided (Translated side first second extent) = translated
+by_kind halt cycler translated backward undecided (Backward levels nodes) = backward
+by_kind halt cycler translated backward undecided (Undecided why) = undecided
+
+-- whether a verdict is of a kind
 
 abbrev pub is_halt : Verdict → Bool
-is_halt (Halt steps score) = true
-is_halt (Cycler first second) = false
-is_halt (Translated side first second extent) = false
-is_halt (Backward levels nodes) = false
-is_halt (Undecided why) = false
+is_halt = by_kind true false false false false
 
 abbrev pub is_cycler : Verdict → Bool
-is_cycler (Halt steps score) = false
-is_cycler (Cycler first second) = true
-is_cycler (Translated side first second extent) = false
-is_cycler (Backward levels nodes) = false
-is_cycler (Undecided why) = false
+is_cycler = by_kind false true false false false
 
 abbrev pub is_translated : Verdict → Bool
-is_translated (Halt steps score) = false
-is_translated (Cycler first second) = false
-is_translated (Translated side first second extent) = true
-is_translated (Backward levels nodes) = false
-is_translated (Undecided why) = false
+is_translated = by_kind false false true false false
 
 abbrev pub is_backward : Verdict → Bool
-is_backward (Halt steps score) = false
-is_backward (Cycler first second) = false
-is_backward (Translated side first second extent) = false
-is_backward (Backward levels nodes) = true
-is_backward (Undecided why) = false
+is_backward = by_kind false false false true false
 
 abbrev pub is_undecided : Verdict → Bool
-is_undecided (Halt steps score) = false
-is_undecided (Cycler first second) = false
-is_undecided (Translated side first second extent) = false
-is_undecided (Backward levels nodes) = false
-is_undecided (Undecided why) = true
+is_undecided = by_kind false false false false true
 
 -- an undecided line whose machine has more than one `---`
 abbrev pub is_wide : VerdictLine → Bool

@@ -1,11 +1,16 @@
 -- What more bytes do to the lines of an input.
-use Rattle.std.proofs.Common.{◌≡◌, ℕ, ◌-◌, Bool, true, false, cond, List, [], ◌∷◌, ◌++◌, length, append_assoc}
-use Rattle.std.proofs.Common.{sym, ◌∙◌, ap, refl, arith, length-append}
+use Rattle.std.proofs.Common.{◌≡◌, ◌≢◌, ℕ, ◌-◌, Bool, true, false, cond, List, [], ◌∷◌, ◌++◌, length}
+use Rattle.std.proofs.Common.{append_assoc, sym, ◌∙◌, ap, refl, arith, length-append}
 use Rattle.std.specs.Prelude.{◌==◌}
 use Rattle.std.specs.List.{slice_split, onto_first}
 use Rattle.std.proofs.Math.Seq.{take-append_seam, get_or-append_seam}
-use Rattle.bb_lines.specs.Lines.{pieces, complete, unfinished, lines, unless_empty}
-use Rattle.bb_lines.specs.inside.Progress.{HasNoNewline, none, other}
+use Rattle.std.proofs.lemmas.Bool.{ne_eqb}
+use Rattle.std.proofs.lemmas.List.Elements.{All-head, All-tail}
+use Rattle.bb_lines.specs.Lines.{HasNoNewline, pieces, complete, unfinished, lines, unless_empty}
+
+-- a byte that is no newline
+abbrev pub IsOther : ℕ → Type 0
+IsOther byte = byte ≢ 10
 
 -- a list's parts, and those of it and more: the first part of what is more goes to its last one
 abbrev GoesOn : List ℕ → List (List ℕ) → List (List ℕ) → List (List ℕ) → Type 0
@@ -63,28 +68,32 @@ pieces-append bytes more first later is =
     rw (are.is_complete, are.is_unfinished) h.3
 
 -- bytes without a newline are one piece, and with a newline behind them two
-pieces-none : {more : List ℕ} → HasNoNewline more → pieces more ≡ more ∷ []
+pieces-none : (more : List ℕ) → HasNoNewline more → pieces more ≡ more ∷ []
 unfolding pieces
-pieces-none none = refl
-pieces-none (other {byte} is others) = rw is (ap (onto_first byte) (pieces-none others))
+pieces-none [] none = refl
+pieces-none (byte ∷ more) none =
+    let other : (byte == 10) ≡ false = ne_eqb byte 10 (All-head IsOther byte more none) in
+    rw other (ap (onto_first byte) (pieces-none more (All-tail IsOther byte more none)))
 
-pieces-line : {more : List ℕ} → HasNoNewline more → pieces (more ++ 10 ∷ []) ≡ more ∷ [] ∷ []
+pieces-line : (more : List ℕ) → HasNoNewline more → pieces (more ++ 10 ∷ []) ≡ more ∷ [] ∷ []
 unfolding pieces
-pieces-line none = refl
-pieces-line (other {byte} is others) = rw is (ap (onto_first byte) (pieces-line others))
+pieces-line [] none = refl
+pieces-line (byte ∷ more) none =
+    let other : (byte == 10) ≡ false = ne_eqb byte 10 (All-head IsOther byte more none) in
+    rw other (ap (onto_first byte) (pieces-line more (All-tail IsOther byte more none)))
 
 -- more bytes, none of them a newline
-pub LinesAre-more : (bytes : List ℕ) {more : List ℕ} → HasNoNewline more
+pub LinesAre-more : (bytes more : List ℕ) → HasNoNewline more
     → LinesAre (bytes ++ more) (complete bytes) (unfinished bytes ++ more)
-LinesAre-more bytes {more} others = LinesAre-from_pieces (bytes ++ more) (complete bytes)
-    (unfinished bytes ++ more) (pieces-append bytes more more [] (pieces-none others))
+LinesAre-more bytes more others = LinesAre-from_pieces (bytes ++ more) (complete bytes)
+    (unfinished bytes ++ more) (pieces-append bytes more more [] (pieces-none more others))
 
 -- a line comes to its end
-pub LinesAre-line : (bytes : List ℕ) (more : List ℕ) → HasNoNewline more
+pub LinesAre-line : (bytes more : List ℕ) → HasNoNewline more
     → LinesAre (bytes ++ (more ++ 10 ∷ [])) (complete bytes ++ (unfinished bytes ++ more) ∷ []) []
 LinesAre-line bytes more others = LinesAre-from_pieces (bytes ++ (more ++ 10 ∷ []))
     (complete bytes ++ (unfinished bytes ++ more) ∷ []) []
-    (pieces-append bytes (more ++ 10 ∷ []) more ([] ∷ []) (pieces-line others)
+    (pieces-append bytes (more ++ 10 ∷ []) more ([] ∷ []) (pieces-line more others)
     ∙ sym (append_assoc (complete bytes) ((unfinished bytes ++ more) ∷ []) ([] ∷ [])))
 
 -- the lines are the complete ones and what stands after the last newline, unless that is empty
@@ -99,4 +108,4 @@ LinesAre-none = LinesAre-from_pieces [] [] [] refl
 
 -- bytes without a newline are one unfinished line
 pub LinesAre-one : (bytes : List ℕ) → HasNoNewline bytes → LinesAre bytes [] bytes
-LinesAre-one bytes others = LinesAre-from_pieces bytes [] bytes (pieces-none others)
+LinesAre-one bytes others = LinesAre-from_pieces bytes [] bytes (pieces-none bytes others)

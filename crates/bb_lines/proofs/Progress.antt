@@ -1,7 +1,8 @@
 -- What the engine's calls come to, one after another.
-use Rattle.std.proofs.Common.{◌≡◌, ℕ, ◌+◌, ◌≤◌, List, [], ◌∷◌, ◌++◌, length, take, append_assoc, sym, ◌∙◌}
-use Rattle.std.proofs.Common.{subst, refl, arith, length-append, Option, Result, Ok, Err}
-use Rattle.std.specs.Prelude.{OnOk, OnErr, IsOkUnless}
+use Rattle.std.proofs.Common.{◌≡◌, ℕ, ◌+◌, ◌<◌, ◌≤◌, Bool, true, false, List, [], ◌∷◌, ◌++◌, length, take}
+use Rattle.std.proofs.Common.{append_assoc, sym, ◌∙◌, subst, refl, arith, length-append, Option}
+use Rattle.std.proofs.Common.{Result, Ok, Err}
+use Rattle.std.specs.Prelude.{OnOk, OnErr, IsOkUnless, is_err}
 use Rattle.std.specs.List.{FoldsTo}
 use Rattle.std.proofs.lemmas.List.{append-nil, take-append-le}
 use Rattle.std.proofs.Math.Seq.{take-append-add, take-length}
@@ -11,7 +12,8 @@ use Rattle.bb_lines.specs.declared.fault.Fault.TheVariants.{Memory, Read, Write}
 use Rattle.bb_lines.specs.Lines.{AreReplies}
 use Rattle.bb_lines.specs.Ends.{MatchEnd, AppendsPrefix, AppendsReplies, AppendsSome, AppendsPrefixOfReplies}
 use Rattle.bb_lines.specs.Output.{Sends}
-use Rattle.bb_lines.specs.inside.Progress.{AreAnswered, WritesSome, WritesPrefix}
+use Rattle.bb_lines.specs.Cost.{high_cost}
+use Rattle.bb_lines.specs.inside.Progress.{Answers, AreAnswered, WritesSome, WritesPrefix}
 use Rattle.bb_lines.proofs.Replies.{AreReplies-append, AreReplies-weaker, FoldsTo-append}
 use Rattle.bb_lines.proofs.Sends.{Sends-none, Sends-trans, Sends-written, AppendsPrefix-after}
 use Rattle.bb_lines.proofs.Sends.{AppendsPrefix-further, Appends-further, Appends-sent}
@@ -65,19 +67,6 @@ module _ {A : Type 0} {Reply : List ℕ → List ℕ → Type 0} {saw : A → Li
     are_replies = rw take-length before.are_replies;
     prefix = AppendsPrefix-after before.sends some;
   }
-
-  -- the same by how writing all that waits ends
-  pub ends_written : (held'' : Option (List ℕ)) (r : Result (Unit {0}) Fault) (waiting'' : List ℕ)
-      → OnOk r (Appends held' held'' waiting') → OnOk r (waiting'' ≡ []) → IsOkUnless r Write
-      → OnErr r (AppendsPrefix held' held'' waiting')
-      → CallEnds r (λ _. AreAnswered Reply saw held held'' waiting waiting'' first now lines) Reply held
-      held'' waiting lines
-  ends_written held'' (Ok u) waiting'' ok empty only err =
-      subst (λ w. AreAnswered Reply saw held held'' waiting w first now lines) (sym empty)
-      (answered_written ok)
-  ends_written held'' (Err Write) waiting'' ok empty only err = prefix_written err
-  ends_written held'' (Err Memory) waiting'' ok empty only err = cc
-  ends_written held'' (Err Read) waiting'' ok empty only err = cc
 
   module _ {Reply' : List ℕ → List ℕ → Type 0} (law : (line text : List ℕ) → Reply' line text
       → Reply line text) where
@@ -175,6 +164,51 @@ module _ {Reply : List ℕ → List ℕ → Type 0} {held held' : Option (List �
     are_replies = some.are_replies;
     prefix = some.prefix;
   }
+
+-- how a call ends that answers lines, by what its responder stays
+module _ {A : Type 0} {Reply : A → List ℕ → List ℕ → Type 0} {saw : A → List ℕ → A → Type 0} {cost : A → ℕ}
+    {Keeps : A → A → Type 0} {IsReady : A → Type 0} {grows : Bool} {held held' : Option (List ℕ)}
+    {failed : Bool} {waiting waiting' : List ℕ} {first now : A} {lines : List (List ℕ)}
+    (keeps : Keeps first now) (ready : IsReady now) where
+  pub answers_fine : AreAnswered (Reply first) saw held held' waiting waiting' first now lines
+      → (high_cost < cost now → waiting' ≡ []) → failed ≡ false → {u : Unit {0}}
+      → Answers Reply saw cost Keeps IsReady grows held held' failed waiting waiting' first now lines (Ok u)
+  answers_fine all prompt unmarked = record {
+    ends = all;
+    prompt = prompt;
+    memory = λ e. cc;
+    write = (λ e. cc, λ marked. let both : true ≡ false = sym marked ∙ unmarked in cc);
+    no_read = λ e. cc;
+    keeps = keeps;
+    ready = ready;
+  }
+
+  pub answers_until_write : failed ≡ true → WritesPrefix (Reply first) held held' waiting lines
+      → Answers Reply saw cost Keeps IsReady grows held held' failed waiting waiting' first now lines
+      (Err Write)
+  answers_until_write marked some = record {
+    ends = some;
+    prompt = λ _. tt;
+    memory = λ e. cc;
+    write = (λ _. marked, λ _. refl);
+    no_read = λ e. cc;
+    keeps = keeps;
+    ready = ready;
+  }
+
+  -- the lines are answered, and then all that waits was to be written
+  pub answers_by_write : {between : Option (List ℕ)} {waited : List ℕ}
+      → AreAnswered (Reply first) saw held between waiting waited first now lines
+      → (r : Result (Unit {0}) Fault) → OnOk r (Appends between held' waited) → OnOk r (waiting' ≡ [])
+      → IsOkUnless r Write → OnErr r (AppendsPrefix between held' waited) → failed ≡ is_err r
+      → Answers Reply saw cost Keeps IsReady grows held held' failed waiting waiting' first now lines r
+  answers_by_write before (Ok u) ok empty only err mark =
+      answers_fine (subst (λ w. AreAnswered (Reply first) saw held held' waiting w first now lines)
+      (sym empty) (answered_written before ok)) (λ _. empty) mark
+  answers_by_write before (Err Write) ok empty only err mark =
+      answers_until_write mark (prefix_written before err)
+  answers_by_write before (Err Memory) ok empty only err mark = cc
+  answers_by_write before (Err Read) ok empty only err mark = cc
 
 -- where nothing waited at first
 module _ {A : Type 0} {Reply : List ℕ → List ℕ → Type 0} {saw : A → List ℕ → A → Type 0}

@@ -76,24 +76,6 @@ module _ {held held' : Option (List ℕ)} {waiting waiting' bytes : List ℕ}
     appends = Appends-kept held held' held'' before.written before.appends same;
   }
 
-  -- then a beginning of what waits is written
-  pub AppendsPrefix-after : {held'' : Option (List ℕ)} → AppendsPrefix held' held'' waiting'
-      → AppendsPrefix held held'' (waiting ++ bytes)
-  AppendsPrefix-after {held''} after = record {
-    prefix = before.written ++ after.prefix;
-    rest = after.rest;
-    whole = append_assoc before.written after.prefix after.rest ∙ ap (λ b. before.written ++ b) after.whole
-        ∙ before.whole;
-    appends = Appends-trans held held' held'' before.written after.prefix before.appends after.appends;
-  }
-
-  -- then all that waits is written
-  pub Appends-after : (held'' : Option (List ℕ)) → Appends held' held'' waiting'
-      → Appends held held'' (waiting ++ bytes)
-  Appends-after held'' after =
-      subst (λ b. Appends held held'' b) before.whole
-      (Appends-trans held held' held'' before.written waiting' before.appends after)
-
   -- what was sent, and then what still waits and more bytes
   further : (more : List ℕ) → before.written ++ (waiting' ++ more) ≡ waiting ++ (bytes ++ more)
   further more = sym (append_assoc before.written waiting' more) ∙ ap (λ b. b ++ more) before.whole
@@ -116,3 +98,14 @@ module _ {held held' : Option (List ℕ)} {waiting waiting' bytes : List ℕ}
         ∙ further more;
     appends = Appends-trans held held' held'' before.written after.prefix before.appends after.appends;
   }
+
+  -- then a beginning of what waits is written
+  pub AppendsPrefix-after : {held'' : Option (List ℕ)} → AppendsPrefix held' held'' waiting'
+      → AppendsPrefix held held'' (waiting ++ bytes)
+  AppendsPrefix-after {held''} after =
+      rw append-nil at (AppendsPrefix-further {held'' = held''} [] (rw append-nil after))
+
+  -- then all that waits is written
+  pub Appends-after : (held'' : Option (List ℕ)) → Appends held' held'' waiting'
+      → Appends held held'' (waiting ++ bytes)
+  Appends-after held'' after = rw append-nil at (Appends-further held'' [] (rw append-nil after))

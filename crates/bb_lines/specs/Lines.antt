@@ -1,7 +1,11 @@
 -- The lines of an input, and what is written for them. A line ends at a newline, the byte 10, and a last line
 -- without one counts if it isn't empty. This project's own.
-use Rattle.std.specs.Prelude.{◌≡◌, ℕ, ◌-◌, ◌==◌, List, [], ◌∷◌, ◌++◌, length, take, slice_index_or}
-use Rattle.std.specs.List.{slice_split}
+use Rattle.std.specs.Prelude.{◌≡◌, ◌≢◌, ℕ, ◌-◌, ◌==◌, List, [], ◌∷◌, ◌++◌, length, take, slice_index_or}
+use Rattle.std.specs.List.{All, slice_split}
+
+-- none of the bytes is a newline
+abbrev pub HasNoNewline : List ℕ → Type 0
+HasNoNewline bytes = All (λ byte. byte ≢ 10) bytes
 
 -- the pieces between newlines: one more than there are newlines
 unfoldable pub pieces : List ℕ → List (List ℕ)

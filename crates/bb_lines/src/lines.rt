@@ -5,12 +5,11 @@ ghost use Rattle.std.specs.List.{FoldsTo};
 ghost use Rattle.std.specs.Io.{ReadsAtMost};
 ghost use Rattle.std.specs.Io.KnownBytes.{Consumes, IsAtEnd, ReadConsumes};
 ghost use Rattle.bb_lines.specs.Watched.{watched_inner, is_marked, reads_of};
-ghost use Rattle.bb_lines.specs.Lines.{complete, lines, unfinished};
+ghost use Rattle.bb_lines.specs.Lines.{HasNoNewline, complete, lines, unfinished};
 ghost use Rattle.bb_lines.specs.Cost.{high_cost};
 ghost use Rattle.bb_lines.specs.Ends.{MatchEnd, AppendsPrefixOfReplies};
 ghost use Rattle.bb_lines.specs.Ends.{AppendsReplies, AppendsSome, ListEnds};
-ghost use Rattle.bb_lines.specs.inside.Progress.{prefixes, HasNoNewline, AreAnswered};
-ghost use Rattle.bb_lines.specs.inside.Progress.{WritesSome, WritesPrefix, KeepsReferences};
+ghost use Rattle.bb_lines.specs.inside.Progress.{Answers, EngineAnswers, KeepsReferences, prefixes};
 ghost use Rattle.arrayvec.specs.ArrayVec.{array_vec_len};
 
 use crate::fault::Fault;
@@ -191,26 +190,12 @@ impl<'a, R: Read, W: Write, A: Responder> Engine<'a, R, W, A> {
         requires kept { length self.old.kept.items ≤ A.KEEP }
         requires one_line { HasNoNewline self.old.kept.items }
         requires prompt { high_cost < A.cost self.old.responder.now → self.old.waiting.items ≡ [] }
-        ensures ends { let held = W.contents (watched_inner self.old.writer.now) in
-            let held_then = W.contents (watched_inner self.new.writer.now) in
-            let Reply = A.replies_with self.old.responder.now in
-            let ended = prefixes A.KEEP (complete (self.old.kept.items ++ piece.now)) in
-            MatchEnd result
-            (λ _. AreAnswered Reply A.saw held held_then self.old.waiting.items self.new.waiting.items
-            self.old.responder.now self.new.responder.now ended)
-            (WritesSome Reply held held_then self.old.waiting.items ended)
-            ⊥
-            (WritesPrefix Reply held held_then self.old.waiting.items ended) }
+        ensures answers { let ended = prefixes A.KEEP (complete (self.old.kept.items ++ piece.now)) in
+            EngineAnswers A.replies_with A.saw A.cost A.keeps A.is_ready A.GROWS W.contents
+            self.old self.new ended result }
         ensures kept { let left = unfinished (self.old.kept.items ++ piece.now) in
             OnOk result (self.new.kept.items ≡ take A.KEEP left) }
         ensures one_line { OnOk result (HasNoNewline self.new.kept.items) }
-        ensures prompt { high_cost < A.cost self.new.responder.now
-            → OnOk result (self.new.waiting.items ≡ []) }
-        ensures memory { result ≡ Err Fault.Memory → IsTrue A.GROWS }
-        ensures write { (result ≡ Err Fault.Write) ↔ (is_marked self.new.writer.now ≡ true) }
-        ensures no_read { result ≢ Err Fault.Read }
-        ensures keeps { A.keeps self.old.responder.now self.new.responder.now }
-        ensures ready { A.is_ready self.new.responder.now }
         ensures reader { self.new.reader.now ≡ self.old.reader.now }
         ensures references { KeepsReferences self.old self.new }
     {
@@ -233,24 +218,10 @@ impl<'a, R: Read, W: Write, A: Responder> Engine<'a, R, W, A> {
         requires ready { A.is_ready self.old.responder.now }
         requires kept { length self.old.kept.items ≤ A.KEEP }
         requires prompt { high_cost < A.cost self.old.responder.now → self.old.waiting.items ≡ [] }
-        ensures ends { let held = W.contents (watched_inner self.old.writer.now) in
-            let held_then = W.contents (watched_inner self.new.writer.now) in
-            let Reply = A.replies_with self.old.responder.now in
-            let line = take A.KEEP (self.old.kept.items ++ piece.now) in
-            MatchEnd result
-            (λ _. AreAnswered Reply A.saw held held_then self.old.waiting.items self.new.waiting.items
-            self.old.responder.now self.new.responder.now (line ∷ []))
-            (WritesSome Reply held held_then self.old.waiting.items (line ∷ []))
-            ⊥
-            (WritesPrefix Reply held held_then self.old.waiting.items (line ∷ [])) }
+        ensures answers { let line = take A.KEEP (self.old.kept.items ++ piece.now) in
+            EngineAnswers A.replies_with A.saw A.cost A.keeps A.is_ready A.GROWS W.contents
+            self.old self.new (line ∷ []) result }
         ensures kept { OnOk result (self.new.kept.items ≡ []) }
-        ensures prompt { high_cost < A.cost self.new.responder.now
-            → OnOk result (self.new.waiting.items ≡ []) }
-        ensures memory { result ≡ Err Fault.Memory → IsTrue A.GROWS }
-        ensures write { (result ≡ Err Fault.Write) ↔ (is_marked self.new.writer.now ≡ true) }
-        ensures no_read { result ≢ Err Fault.Read }
-        ensures keeps { A.keeps self.old.responder.now self.new.responder.now }
-        ensures ready { A.is_ready self.new.responder.now }
         ensures reader { self.new.reader.now ≡ self.old.reader.now }
         ensures references { KeepsReferences self.old self.new }
     {
@@ -274,24 +245,9 @@ impl<'a, R: Read, W: Write, A: Responder> Engine<'a, R, W, A> {
         requires ready { A.is_ready self.old.responder.now }
         requires kept { length self.old.kept.items ≤ A.KEEP }
         requires prompt { high_cost < A.cost self.old.responder.now → self.old.waiting.items ≡ [] }
-        ensures ends { let held = W.contents (watched_inner self.old.writer.now) in
-            let held_then = W.contents (watched_inner self.new.writer.now) in
-            let Reply = A.replies_with self.old.responder.now in
-            let line = self.old.kept.items in
-            MatchEnd result
-            (λ _. AreAnswered Reply A.saw held held_then self.old.waiting.items self.new.waiting.items
-            self.old.responder.now self.new.responder.now (line ∷ []))
-            (WritesSome Reply held held_then self.old.waiting.items (line ∷ []))
-            ⊥
-            (WritesPrefix Reply held held_then self.old.waiting.items (line ∷ [])) }
+        ensures answers { EngineAnswers A.replies_with A.saw A.cost A.keeps A.is_ready A.GROWS W.contents
+            self.old self.new (self.old.kept.items ∷ []) result }
         ensures kept { OnOk result (self.new.kept.items ≡ []) }
-        ensures prompt { high_cost < A.cost self.new.responder.now
-            → OnOk result (self.new.waiting.items ≡ []) }
-        ensures memory { result ≡ Err Fault.Memory → IsTrue A.GROWS }
-        ensures write { (result ≡ Err Fault.Write) ↔ (is_marked self.new.writer.now ≡ true) }
-        ensures no_read { result ≢ Err Fault.Read }
-        ensures keeps { A.keeps self.old.responder.now self.new.responder.now }
-        ensures ready { A.is_ready self.new.responder.now }
         ensures reader { self.new.reader.now ≡ self.old.reader.now }
         ensures references { KeepsReferences self.old self.new }
     {
@@ -319,21 +275,9 @@ fn answer<W: Write, A: Responder>(
     requires ready { A.is_ready responder.old }
     requires few { length line.now ≤ A.KEEP }
     requires prompt { high_cost < A.cost responder.old → waiting.old.items ≡ [] }
-    ensures ends { let held = W.contents (watched_inner writer.old) in
-        let held_then = W.contents (watched_inner writer.new) in
-        let Reply = A.replies_with responder.old in
-        MatchEnd result
-        (λ _. AreAnswered Reply A.saw held held_then waiting.old.items waiting.new.items
-        responder.old responder.new (line.now ∷ []))
-        (WritesSome Reply held held_then waiting.old.items (line.now ∷ []))
-        ⊥
-        (WritesPrefix Reply held held_then waiting.old.items (line.now ∷ [])) }
-    ensures prompt { high_cost < A.cost responder.new → OnOk result (waiting.new.items ≡ []) }
-    ensures memory { result ≡ Err Fault.Memory → IsTrue A.GROWS }
-    ensures write { (result ≡ Err Fault.Write) ↔ (is_marked writer.new ≡ true) }
-    ensures no_read { result ≢ Err Fault.Read }
-    ensures keeps { A.keeps responder.old responder.new }
-    ensures ready { A.is_ready responder.new }
+    ensures { Answers A.replies_with A.saw A.cost A.keeps A.is_ready A.GROWS
+        (W.contents (watched_inner writer.old)) (W.contents (watched_inner writer.new)) (is_marked writer.new)
+        waiting.old.items waiting.new.items responder.old responder.new (line.now ∷ []) result }
 {
     text.clear();
     let cost = match responder.respond(line, text) {

@@ -4,9 +4,9 @@ ghost use Rattle.std.specs.Prelude.{false, length, take, true, IsTrue, OnErr, On
 ghost use Rattle.std.specs.List.{FoldsTo};
 ghost use Rattle.std.specs.Io.KnownBytes.{Consumes, IsAtEnd};
 ghost use Rattle.bb_lines.specs.Watched.{is_marked, watched_inner};
-ghost use Rattle.bb_lines.specs.Lines.{complete, unfinished};
+ghost use Rattle.bb_lines.specs.Lines.{HasNoNewline, complete, unfinished};
 ghost use Rattle.bb_lines.specs.Taking.{TakesLines};
-ghost use Rattle.bb_lines.specs.inside.Progress.{HasNoNewline, prefixes};
+ghost use Rattle.bb_lines.specs.inside.Progress.{prefixes};
 ghost use Rattle.bb_lines.specs.declared.responder.TheConstants.{MAX_KEPT};
 
 use crate::fault::Fault;

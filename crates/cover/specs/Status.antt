@@ -4,15 +4,6 @@ use Rattle.bb_lines.specs.declared.fault.Fault.{Fault}
 use Rattle.bb_cover.specs.declared.found.Found.{Found}
 use Rattle.bb_cover.specs.declared.found.Found.TheVariants.{Covers, Stops}
 use Rattle.bb_cover.specs.declared.list.Cover.{Cover}
-use Rattle.cover.specs.declared.command.Stop.{Stop}
-use Rattle.cover.specs.declared.command.Stop.TheVariants.{Help, Words, Limits, Memory}
-
--- where nothing is done
-abbrev pub stop_status : Stop → ℕ
-stop_status (Help text) = 0
-stop_status (Words text) = 2
-stop_status (Limits fault) = 2
-stop_status Memory = 3
 
 abbrev pub found_status : Found → ℕ
 found_status (Covers states symbols) = 0

@@ -1,8 +1,14 @@
 //! The command line: which list, under which limits.
-ghost use Rattle.std.specs.Prelude.{◌≡◌};
-ghost use Rattle.cover.specs.Status.{stop_status};
+ghost use Rattle.std.specs.Prelude.{◌≡◌, [], false, true, IfErr, IfOk, codes, map, option_map};
+ghost use Rattle.std.specs.String.{string_bytes};
+ghost use Rattle.clap.specs.Simple.{new_shape};
+ghost use Rattle.clap.specs.Words.{app_of, first_of, found_of, kind_of, rows_of, rule_of};
+ghost use Rattle.bb_command.specs.Command.{IsKindStop, IsLimitsStop, list_bounds, number_of};
+ghost use Rattle.bb_command.specs.CommandLine.{by_default, number_rule, positional_rule};
+ghost use Rattle.cover.specs.CommandLine.{IsAskedBy, IsStopOf, command_line};
 
-use bb_machine::{LimitFault, Limits};
+use bb_command::Stop;
+use bb_machine::Limits;
 use clap::error::ErrorKind;
 use clap::{Arg, ArgMatches, Command, Error, value_parser};
 use std::alloc::{AllocError, Global};
@@ -15,56 +21,28 @@ pub struct Asked {
     pub file: Option<String>,
 }
 
-/// Why a command line asks for nothing that can be done.
-#[derive(Debug, Drop)]
-pub enum Stop {
-    /// Help or the version was asked for; this is its text.
-    Help(String),
-    /// The words are no command line; this says why.
-    Words(String),
-    /// The limits are refused.
-    Limits(LimitFault),
-    /// An allocation failed.
-    Memory,
-}
-
-impl Stop {
-    /// The program's exit status: 0 after help or the version, 3 where memory ran out, 2 for a refusal.
-    pub fn status(&self) -> u8
-        ensures { result ≡ stop_status self.now }
-    {
-        match self {
-            Stop::Help(_) => 0,
-            Stop::Words(_) | Stop::Limits(_) => 2,
-            Stop::Memory => 3,
-        }
-    }
-}
-
-impl From<AllocError> for Stop {
-    ghost use Rattle.std.specs.Prelude.{◌≡◌};
-    ghost use Rattle.cover.specs.declared.command.Stop.TheVariants.{Memory};
-
-    ghost from_gives = { λ _ stop. stop ≡ Memory };
-
-    fn from(_error: AllocError) -> Stop {
-        Stop::Memory
-    }
-}
-
 /// Reads a command line. The first word is the program's name.
-pub fn ask(alloc: Global, words: &[&str]) -> Result<Asked, Stop> {
+pub fn ask(alloc: Global, words: &[&str]) -> Result<Asked, Stop>
+    ensures asked { IfOk result (IsAskedBy (map (λ word. word.now) words.now)) }
+    ensures stop { IfErr result (IsStopOf (map (λ word. word.now) words.now)) }
+{
     let matches = match program(alloc)?.try_get_matches_from(words) {
         Ok(matches) => matches,
         Err(error) => return Err(stop_of(alloc, &error)?),
     };
     let limits = limits_of(&matches)?;
-    let file = match matches.get_str("file") {
-        Some(file) => Some(String::from_str(alloc, file)?),
-        None => None,
-    };
+    let file = file_of(alloc, &matches)?;
     Ok(Asked { limits, file })
 }
+
+/// The most cells that any limit allows: a claim may need as many unless less is asked for.
+const MOST_CELLS: &str = "67108864";
+
+/// The most steps, and the most nodes, that any limit allows, likewise.
+const MOST_STEPS: &str = "1000000000000";
+
+/// The most levels that any limit allows, likewise.
+const MOST_LEVELS: &str = "10000";
 
 /// What the help says after the options.
 const ABOUT: &str = "\
@@ -81,43 +59,63 @@ isn't as the walk asks, and why.
 Status: 0 the list covers its size, 1 it doesn't, 2 the command line was refused, 3 memory,
 reading or writing failed.";
 
-fn program<'a>(alloc: Global) -> Result<Command<'a>, AllocError> {
-    let file = Arg::new(alloc, "file")
-        .value_name("FILE")
-        .help("The list of verdict lines [default: standard input]");
-    Command::new(alloc, "cover")
-        .about("Whether a list of verdicts settles every machine of a size")
-        .after_help(ABOUT)
-        .version("0.2.0")
+fn program<'a>(alloc: Global) -> Result<Command<'a>, AllocError>
+    ensures { IfOk result (λ command. app_of command ≡ command_line) }
+{
+    bare(alloc)
         .arg(limit(
             alloc,
             "steps",
-            "1000000000000",
+            MOST_STEPS,
             "The most steps that a claim may name, 0 to 1000000000000",
         ))?
         .arg(limit(
             alloc,
             "cells",
-            "67108864",
+            MOST_CELLS,
             "The most cells that a claim may need, 1 to 67108864",
         ))?
         .arg(limit(
             alloc,
             "depth",
-            "10000",
+            MOST_LEVELS,
             "The most levels that a claim may name, 0 to 10000",
         ))?
         .arg(limit(
             alloc,
             "nodes",
-            "1000000000000",
+            MOST_STEPS,
             "The most nodes that a claim may name, 0 to 1000000000000",
         ))?
-        .arg(file)
+        .arg(file(alloc))
+}
+
+/// The command without its arguments.
+fn bare<'a>(alloc: Global) -> Command<'a>
+    ensures { app_of result
+        ≡ record { top = record (new_shape (codes "cover")) { has_version = true }; subs = [] } }
+{
+    Command::new(alloc, "cover")
+        .about("Whether a list of verdicts settles every machine of a size")
+        .after_help(ABOUT)
+        .version("0.2.0")
+}
+
+/// The argument with the list's file.
+fn file<'a>(alloc: Global) -> Arg<'a>
+    ensures rule { rule_of result ≡ positional_rule (codes "file") }
+    ensures local { result.global ≡ false }
+{
+    Arg::new(alloc, "file")
+        .value_name("FILE")
+        .help("The list of verdict lines [default: standard input]")
 }
 
 /// An option with a number. Help is one literal, so the ranges of `bb_machine::limits` are written out in it.
-fn limit<'a>(alloc: Global, name: &'a str, default: &'a str, help: &'a str) -> Arg<'a> {
+fn limit<'a>(alloc: Global, name: &'a str, default: &'a str, help: &'a str) -> Arg<'a>
+    ensures rule { rule_of result ≡ by_default default.now (number_rule name.now) }
+    ensures local { result.global ≡ false }
+{
     Arg::new(alloc, name)
         .long(name)
         .value_name("N")
@@ -127,7 +125,9 @@ fn limit<'a>(alloc: Global, name: &'a str, default: &'a str, help: &'a str) -> A
 }
 
 /// What an error of reading the words stops.
-fn stop_of(alloc: Global, error: &Error) -> Result<Stop, AllocError> {
+fn stop_of(alloc: Global, error: &Error) -> Result<Stop, AllocError>
+    ensures { IfOk result (IsKindStop (kind_of error.now)) }
+{
     match error.kind() {
         ErrorKind::OutOfMemory => Ok(Stop::Memory),
         ErrorKind::DisplayHelp | ErrorKind::DisplayVersion => Ok(Stop::Help(error.to_string(
@@ -138,7 +138,10 @@ fn stop_of(alloc: Global, error: &Error) -> Result<Stop, AllocError> {
 }
 
 /// The limits that are given, if they are accepted.
-fn limits_of(matches: &ArgMatches<'_>) -> Result<Limits, Stop> {
+fn limits_of(matches: &ArgMatches<'_>) -> Result<Limits, Stop>
+    ensures ok { IfOk result (λ limits. limits ≡ list_bounds (rows_of (found_of matches.now))) }
+    ensures stop { IfErr result (IsLimitsStop (list_bounds (rows_of (found_of matches.now)))) }
+{
     Limits::new(
         value(matches, "steps"),
         value(matches, "cells"),
@@ -148,7 +151,20 @@ fn limits_of(matches: &ArgMatches<'_>) -> Result<Limits, Stop> {
     .map_err(Stop::Limits)
 }
 
+/// The file that the list is read from.
+fn file_of(alloc: Global, matches: &ArgMatches<'_>) -> Result<Option<String>, AllocError>
+    ensures { IfOk result (λ file.
+        option_map string_bytes file ≡ first_of (codes "file") (rows_of (found_of matches.now))) }
+{
+    match matches.get_str("file") {
+        Some(file) => Ok(Some(String::from_str(alloc, file)?)),
+        None => Ok(None),
+    }
+}
+
 /// The number that an option gives. Each option has a default, and is read as a number, so none is missing.
-fn value(matches: &ArgMatches<'_>, name: &str) -> u64 {
+fn value(matches: &ArgMatches<'_>, name: &str) -> u64
+    ensures { result ≡ number_of name.now (rows_of (found_of matches.now)) }
+{
     matches.get_one::<u64>(name).unwrap_or(0)
 }

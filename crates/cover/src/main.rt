@@ -7,10 +7,11 @@ mod report;
 mod serve;
 mod streams;
 
+use bb_command::Stop;
 use bb_cover::Cover;
 use bb_lines::fault::Fault;
 use bb_lines::watched::Watched;
-use command::{Asked, Stop, ask};
+use command::{Asked, ask};
 use progress::Progress;
 use report::{FaultText, Report, StopText};
 use serve::{cover_list, status};

@@ -2,23 +2,26 @@ use Rattle.bb_lines.specs.Watched.{watched_inner}
 use Rattle.std.proofs.Common.{[], ◌∷◌, arith}
 use Rattle.std.proofs.lemmas.Result.{err_from_is_err_and}
 use Rattle.bb_lines.specs.inside.Progress.{AreAnswered}
-use Rattle.bb_lines.proofs.Progress.{answered_one, ends_written, prefix_before}
+use Rattle.bb_lines.proofs.Progress.{answered_one, answers_by_write, answers_fine, answers_until_write}
+use Rattle.bb_lines.proofs.Progress.{prefix_before}
 use Rattle.bb_lines.proofs.lines.answer.Given.{Over}
 use Rattle.bb_lines.proofs.lines.answer.Goals as goal
 use Rattle.bb_lines.proofs.lines.answer.Goals.{In_ok-add_line}
 
-pub returns-in_err-write_waiting-in-Err-clause-ends : goal.returns-in_err-write_waiting-in-Err-clause-ends
-returns-in_err-write_waiting-in-Err-clause-ends g c =
+pub returns-in_err-write_waiting-in-Err : goal.returns-in_err-write_waiting-in-Err
+returns-in_err-write_waiting-in-Err g c =
     let p = err_from_is_err_and c.from_residual.result c.from_residual.ensures.1 in
-    rw (p.1, p.2, c.in_err-write_waiting-in-Err.ensures.only_write)
-    (prefix_before c.in_err-write_waiting-in-Err.ensures.err)
+    let after = c.in_err-write_waiting-in-Err.ensures in
+    rw (p.1, p.2, after.only_write)
+    (answers_until_write c.in-Err.ensures.keeps c.in-Err.ensures.ready after.mark (prefix_before after.err))
 
-pub returns-in_err-add_line-clause-ends : goal.returns-in_err-add_line-clause-ends
-returns-in_err-add_line-clause-ends g c =
+pub returns-in_err-add_line : goal.returns-in_err-add_line
+returns-in_err-add_line g c =
     let p = err_from_is_err_and c.from_residual-in_err-add_line.result
     c.from_residual-in_err-add_line.ensures.1 in
-    rw (p.1, p.2, c.in_err-add_line.ensures.only_write)
-    (prefix_before c.in_err-add_line.ensures.err)
+    let after = c.in_err-add_line.ensures in
+    rw (p.1, p.2, after.only_write)
+    (answers_until_write c.in-Ok.ensures.keeps c.in-Ok.ensures.ready after.mark (prefix_before after.err))
 
 -- the line is answered, and its reply waits
 line_answered : (g : Over) (c : In_ok-add_line g)
@@ -30,12 +33,16 @@ line_answered g c =
     answered_one _ c.in-Ok.ensures.reply c.in-Ok.ensures.saw
     (rw c.as_slice.ensures.value at c.in_ok-add_line.ensures.sent)
 
-pub returns-then-cost-gt-HIGH_COST-clause-ends : goal.returns-then-cost-gt-HIGH_COST-clause-ends
-returns-then-cost-gt-HIGH_COST-clause-ends g c =
+pub returns-then-cost-gt-HIGH_COST : goal.returns-then-cost-gt-HIGH_COST
+returns-then-cost-gt-HIGH_COST g c =
     let after = c.write_waiting-then-cost-gt-HIGH_COST.ensures in
-    ends_written (line_answered g (goal.at.returns-then-cost-gt-HIGH_COST-clause-ends g c).In_ok-add_line)
-    _ _ _ after.ok after.empty after.only_write after.err
+    answers_by_write c.in-Ok.ensures.keeps c.in-Ok.ensures.ready
+    (line_answered g (goal.at.returns-then-cost-gt-HIGH_COST g c).In_ok-add_line) _ after.ok after.empty
+    after.only_write after.err after.mark
 
-pub returns-clause-prompt : goal.returns-clause-prompt
-returns-clause-prompt g c = λ long.
-    absurd (omega (arith, long, c.in-Ok.ensures.cost, c.if-cost-gt-HIGH_COST.false))
+pub returns : goal.returns
+returns g c =
+    answers_fine c.in-Ok.ensures.keeps c.in-Ok.ensures.ready
+    (line_answered g (goal.at.returns g c).In_ok-add_line)
+    (λ long. absurd (omega (arith, long, c.in-Ok.ensures.cost, c.if-cost-gt-HIGH_COST.false)))
+    c.in_ok-add_line.ensures.mark

@@ -1,8 +1,8 @@
-use Rattle.std.proofs.Common.{rules, [], ◌++◌, take, ◌∙◌, refl}
+use Rattle.std.proofs.Common.{rules, [], ◌++◌, take, refl}
 use Rattle.std.proofs.KnownBytes.{Consumes-nil, Consumes-trans}
-use Rattle.bb_lines.specs.inside.Progress.{none}
-use Rattle.bb_lines.proofs.Pieces.{LinesAre-none}
-use Rattle.bb_lines.proofs.Prefixes.{take_none, after_piece}
+use Rattle.bb_lines.specs.Lines.{complete}
+use Rattle.bb_lines.specs.inside.Progress.{prefixes}
+use Rattle.bb_lines.proofs.Prefixes.{few_kept, taken_more, taken_none}
 use Rattle.bb_lines.proofs.Replies.{FoldsTo-append}
 use Rattle.bb_lines.proofs.taking.take_reads.Goals as goal
 
@@ -11,11 +11,11 @@ loop-n-init g c = record {
   unmarked = c.requires.reader;
   ready = c.requires.ready;
   keeps = g.met.A.Taker.keeps_at_first c.args.taker.now;
-  one_line = rw c.requires.kept none;
   past = [];
   consumed = Consumes-nil _;
-  kept = rw (c.requires.kept, LinesAre-none.is_unfinished) (take_none _);
-  took = rw LinesAre-none.is_complete refl;
+  ended = [];
+  taken = taken_none _ c.requires.kept;
+  took = refl;
 }
 
 pub loop-n-preserved : goal.loop-n-preserved
@@ -23,17 +23,30 @@ loop-n-preserved g c =
     let here = c.loop-n.invariant in
     let done = c.in-Ok-take_piece.ensures in
     let piece = take c.in-Ok.n c.read.new.buf in
-    let after = after_piece g.A.Taker.KEEP piece here.past here.kept here.one_line in
     record {
       unmarked = search rules;
       ready = done.ready;
       keeps = g.met.A.Taker.keeps_on _ _ _ here.keeps done.keeps;
-      one_line = done.one_line;
       past = here.past ++ piece;
       consumed = Consumes-trans _ _ _ here.past _ here.consumed c.in-Ok.ensures.bytes.0;
-      kept = done.kept ∙ after.is_kept;
-      took = rw after.is_complete (FoldsTo-append g.A.Taker.took _ _ _ _ _ here.took done.took);
+      ended = here.ended ++ prefixes g.A.Taker.KEEP (complete (c.loop-n.kept.items ++ piece));
+      taken = taken_more here.taken piece done.one_line done.kept;
+      took = FoldsTo-append g.A.Taker.took _ _ _ _ _ here.took done.took;
     }
+
+pub take_piece-requires-clause-kept : goal.take_piece-requires-clause-kept
+take_piece-requires-clause-kept g c = few_kept c.loop-n.invariant.taken
+
+pub returns-then-n-eq0-clause-ends : goal.returns-then-n-eq0-clause-ends
+returns-then-n-eq0-clause-ends g c =
+    let here = c.loop-n.invariant in (
+      here.past,
+      search rules,
+      (search rules, rw here.taken.is_ended here.took, here.taken.is_kept),
+    )
+
+pub returns-then-n-eq0-clause-kept : goal.returns-then-n-eq0-clause-kept
+returns-then-n-eq0-clause-kept g c = few_kept c.loop-n.invariant.taken
 
 pub returns-in_default-clause-ends : goal.returns-in_default-clause-ends
 returns-in_default-clause-ends g c =

@@ -1,37 +1,26 @@
-use Rattle.std.proofs.Common.{inl, inr, refl, ap, sym, ◌∙◌}
-use Rattle.bb_cover.specs.declared.list.Course.{Course}
+use Rattle.std.proofs.Common.{inl, refl, sym, ◌∙◌}
 use Rattle.bb_cover.specs.declared.found.Why.TheVariants.{Unread, NotNext, Refused}
-use Rattle.bb_cover.proofs.Steps.{took}
+use Rattle.bb_cover.proofs.Steps.{stops, took}
 use Rattle.bb_cover.proofs.list.CheckerTaker.take_line.Goals as goal
 
 pub returns-in_default-clause-took : goal.returns-in_default-clause-took
 returns-in_default-clause-took g c = (
   refl,
-  took c.args.self.now.limits c.args.self.now.course c.args.line.now c.stop_for-in_default.new.self
-      (sym c.is_some.ensures ∙ c.if-is_some.false)
-      (λ _. inr (record {
-        why = Unread;
-        wrong = rw c.in_default.is at c.read_verdict.ensures.none;
-        stop = ap (λ (x : Course). x.stop) c.stop_for-in_default.ensures;
-        counts = ap (λ (x : Course). x.counts) c.stop_for-in_default.ensures;
-      })),
+  stops c.args.self.now.limits c.args.self.now.course c.args.line.now c.stop_for-in_default.new.self Unread
+      (sym c.is_some.ensures ∙ c.if-is_some.false) (rw c.in_default.is at c.read_verdict.ensures.none)
+      c.stop_for-in_default.ensures,
 )
 
 pub returns-then-not-asks-clause-took : goal.returns-then-not-asks-clause-took
 returns-then-not-asks-clause-took g c = (
   refl,
-  took c.args.self.now.limits c.args.self.now.course c.args.line.now c.stop_for-then-not-asks.new.self
-      (sym c.is_some.ensures ∙ c.if-is_some.false)
-      (λ _. inr (record {
-        why = NotNext;
-        wrong = (
-          record { table = c.read_verdict.new.machine; verdict = c.in-Some.verdict },
-          c.in-Some.ensures.found,
-          c.if-not-asks.ensures.only refl,
-        );
-        stop = ap (λ (x : Course). x.stop) c.stop_for-then-not-asks.ensures;
-        counts = ap (λ (x : Course). x.counts) c.stop_for-then-not-asks.ensures;
-      })),
+  stops c.args.self.now.limits c.args.self.now.course c.args.line.now c.stop_for-then-not-asks.new.self
+      NotNext (sym c.is_some.ensures ∙ c.if-is_some.false) (
+        record { table = c.read_verdict.new.machine; verdict = c.in-Some.verdict },
+        c.in-Some.ensures.found,
+        c.if-not-asks.ensures.only refl,
+      )
+      c.stop_for-then-not-asks.ensures,
 )
 
 pub returns-in-Ok-Fine-clause-took : goal.returns-in-Ok-Fine-clause-took
@@ -54,16 +43,11 @@ pub returns-in-Ok-Refused-clause-took : goal.returns-in-Ok-Refused-clause-took
 returns-in-Ok-Refused-clause-took g c =
     let judged = rw c.in-Ok-Refused.field-0-is at c.in-Ok-Refused.ensures.judged in (
       refl,
-      took c.args.self.now.limits c.args.self.now.course c.args.line.now c.stop_for-in-Ok-Refused.new.self
-          (sym c.is_some.ensures ∙ c.if-is_some.false)
-          (λ _. inr (record {
-            why = Refused c.in-Ok-Refused.answer;
-            wrong = (
-              record { table = c.read_verdict.new.machine; verdict = c.in-Some.verdict },
-              c.in-Some.ensures.found,
-              judged,
-            );
-            stop = ap (λ (x : Course). x.stop) c.stop_for-in-Ok-Refused.ensures;
-            counts = ap (λ (x : Course). x.counts) c.stop_for-in-Ok-Refused.ensures;
-          })),
+      stops c.args.self.now.limits c.args.self.now.course c.args.line.now c.stop_for-in-Ok-Refused.new.self
+          (Refused c.in-Ok-Refused.answer) (sym c.is_some.ensures ∙ c.if-is_some.false) (
+            record { table = c.read_verdict.new.machine; verdict = c.in-Some.verdict },
+            c.in-Some.ensures.found,
+            judged,
+          )
+          c.stop_for-in-Ok-Refused.ensures,
     )

@@ -36,24 +36,23 @@ pub is_with_entry-requires-clause-symbol : goal.is_with_entry-requires-clause-sy
 is_with_entry-requires-clause-symbol c =
     (top_frame (goal.at.is_with_entry-requires-clause-symbol c).After-index-top).gap.inside
 
+head : (c : After-index-top) → IsFirst (next_of c.index-top.result.now) (left c.self.inside.frames.items)
+head c = head_of c.self.inside.frames.items (c.len.result - 1) (last c) c.self.invariant.0 (some c)
+    c.index-top.result.now c.index-top.ensures
+
 pub returns-clause-next : goal.returns-clause-next
 returns-clause-next c is =
-    let at = (goal.at.returns-clause-next c).After-index-top in
     let top = c.index-top.result.now in
-    let head = head_of c.self.inside.frames.items (c.len.result - 1) (last at) c.self.invariant.0 (some at)
-    top c.index-top.ensures in
     let entry = ap (with_entry top.machine top.gap.state top.gap.symbol) c.entry.ensures in
     subst (IsFirst c.args.machine.now) c.self.view_is
     (subst (λ t. IsFirst t (left c.self.inside.frames.items))
-    (sym (c.is_with_entry.ensures.same is ∙ entry)) head)
+    (sym (c.is_with_entry.ensures.same is ∙ entry)) (head (goal.at.returns-clause-next c).After-index-top))
 
 pub returns-clause-only : goal.returns-clause-only
 returns-clause-only c next =
-    let at = (goal.at.returns-clause-only c).After-index-top in
     let top = c.index-top.result.now in
-    let head = head_of c.self.inside.frames.items (c.len.result - 1) (last at) c.self.invariant.0 (some at)
-    top c.index-top.ensures in
     let entry = ap (with_entry top.machine top.gap.state top.gap.symbol) c.entry.ensures in
     let next_too = subst (IsFirst c.args.machine.now) (sym c.self.view_is) next in
     c.is_with_entry.ensures.only
-    (first_is_one c.args.machine.now (next_of top) (left c.self.inside.frames.items) next_too head ∙ sym entry)
+    (first_is_one c.args.machine.now (next_of top) (left c.self.inside.frames.items) next_too
+    (head (goal.at.returns-clause-only c).After-index-top) ∙ sym entry)

@@ -33,7 +33,7 @@ returns-in_err-answer_kept-clause-ends g c =
     rw (p.1, p.2)
     (fault_of_prefixes g.A.Responder.KEEP reply_law _ _ _ _ ends.0 (rw done.reader ends.1)
     g.A.Responder.saw _ _ ⊥ c.in_err-answer_kept.field-0.0
-    (fault_after_none before law _ _ _ all _ ⊥ _ c.in_err-answer_kept.field-0.0 done.ends))
+    (fault_after_none before law _ _ _ all _ ⊥ _ c.in_err-answer_kept.field-0.0 done.answers.ends))
 
 pub returns-clause-ends : goal.returns-clause-ends
 returns-clause-ends g c =
@@ -51,7 +51,7 @@ returns-clause-ends g c =
           let all = prefixes-some g.A.Responder.KEEP ends.0 g.met.A.Responder.keeps_some ends.2.3 some in
           end_of_prefixes g.A.Responder.KEEP reply_law _ _ _ _ ends.0 (rw (w.self-is, done.reader) ends.1)
           g.met.A.Responder.saw_by_kept _ _ _ (rw (w.self-is, done.reader) ends.2.0)
-          (rw all (ends_at_last (rw w.self-is (answered_more before law done.ends)) _ _ after.ok
+          (rw all (ends_at_last (rw w.self-is (answered_more before law done.answers.ends)) _ _ after.ok
           after.only_write after.err)))
       | else-not-is_empty w ↦ (
           let empty : length c.answer_reads.new.self.kept.items ≡ 0 = let is = w.if-not-is_empty.false in

@@ -1,11 +1,10 @@
-use Rattle.std.proofs.Common.{rules, [], ◌++◌, take, ◌∙◌, ap, refl}
+use Rattle.std.proofs.Common.{rules, [], ◌++◌, take, ◌∙◌, refl}
 use Rattle.std.proofs.lemmas.Result.{err_from_is_err_and}
 use Rattle.std.proofs.KnownBytes.{Consumes-nil, Consumes-trans}
-use Rattle.bb_lines.specs.Lines.{complete, unfinished, unless_empty}
-use Rattle.bb_lines.specs.inside.Progress.{none, prefixes, AreAnswered}
+use Rattle.bb_lines.specs.Lines.{complete}
 use Rattle.bb_lines.specs.Watched.{watched_inner}
-use Rattle.bb_lines.proofs.Pieces.{LinesAre-none}
-use Rattle.bb_lines.proofs.Prefixes.{take_none, AfterPiece, after_piece, prefixes-lines}
+use Rattle.bb_lines.specs.inside.Progress.{prefixes, AreAnswered}
+use Rattle.bb_lines.proofs.Prefixes.{IsTaken, few_kept, lines_more, taken_lines, taken_more, taken_none}
 use Rattle.bb_lines.proofs.Progress.{answered_none, answered_written, answered_more, prefix_written}
 use Rattle.bb_lines.proofs.Progress.{replies_written}
 use Rattle.bb_lines.proofs.Progress.{prefix_more, fault_after_none, AppendsPrefixOfReplies-writes}
@@ -19,12 +18,12 @@ loop-self-init g c = record {
   writer_unmarked = c.requires.writer;
   ready = c.requires.ready;
   keeps = g.met.A.Responder.keeps_at_first c.args.self.now.responder.now;
-  one_line = rw c.requires.kept none;
   references = (refl, refl, refl);
   past = [];
   consumed = Consumes-nil _;
-  kept = rw (c.requires.kept, LinesAre-none.is_unfinished) (take_none _);
-  answered = rw (c.requires.waiting, LinesAre-none.is_complete) answered_none;
+  ended = [];
+  taken = taken_none _ c.requires.kept;
+  answered = rw c.requires.waiting answered_none;
 }
 
 pub returns-in_err-write_waiting-clause-ends : goal.returns-in_err-write_waiting-clause-ends
@@ -35,12 +34,8 @@ returns-in_err-write_waiting-clause-ends g c =
     let some = prefix_written here.answered after.err in (
       here.past,
       here.consumed,
-      rw (
-        p.1,
-        p.2,
-        after.only_write,
-        prefixes-lines g.A.Responder.KEEP here.past g.met.A.Responder.keeps_some here.kept,
-      ) (AppendsPrefixOfReplies-writes (prefix_more _ some)),
+      rw (p.1, p.2, after.only_write, taken_lines here.taken g.met.A.Responder.keeps_some)
+          (AppendsPrefixOfReplies-writes (prefix_more _ some)),
     )
 
 -- what waited was written before the read
@@ -49,8 +44,7 @@ answered_now : (g : Over) (c : After-answer_lines g)
     (g.W.Write.contents (watched_inner c.args.self.now.writer.now))
     (g.W.Write.contents (watched_inner c.read_chunk.new.self.writer.now))
     [] c.read_chunk.new.self.waiting.items
-    c.args.self.now.responder.now c.read_chunk.new.self.responder.now
-    (prefixes g.A.Responder.KEEP (complete c.loop-self.invariant.past))
+    c.args.self.now.responder.now c.read_chunk.new.self.responder.now c.loop-self.invariant.ended
 answered_now g c =
     let read = c.in-Ok.ensures in
     rw (read.writer, read.waiting, read.responder, c.in_ok-write_waiting.ensures.empty)
@@ -60,14 +54,16 @@ keeps_now : (g : Over) (c : After-answer_lines g)
     → g.A.Responder.keeps c.args.self.now.responder.now c.read_chunk.new.self.responder.now
 keeps_now g c = rw c.in-Ok.ensures.responder c.loop-self.invariant.keeps
 
--- the piece, after what was kept
-after : (g : Over) (c : After-answer_lines g)
-    → AfterPiece g.A.Responder.KEEP c.loop-self.invariant.past (take c.in-Ok.n c.read_chunk.new.chunk)
+taken_now : (g : Over) (c : After-answer_lines g)
+    → IsTaken g.A.Responder.KEEP c.loop-self.invariant.past c.loop-self.invariant.ended
     c.read_chunk.new.self.kept.items
-after g c =
-    let read = c.in-Ok.ensures in
-    after_piece g.A.Responder.KEEP (take c.in-Ok.n c.read_chunk.new.chunk) c.loop-self.invariant.past
-    (rw read.kept c.loop-self.invariant.kept) (rw read.kept c.loop-self.invariant.one_line)
+taken_now g c = rw c.in-Ok.ensures.kept c.loop-self.invariant.taken
+
+pub answer_lines-requires-clause-kept : goal.answer_lines-requires-clause-kept
+answer_lines-requires-clause-kept g c = rw c.in-Ok.ensures.kept (few_kept c.loop-self.invariant.taken)
+
+pub answer_lines-requires-clause-one_line : goal.answer_lines-requires-clause-one_line
+answer_lines-requires-clause-one_line g c = rw c.in-Ok.ensures.kept c.loop-self.invariant.taken.one_line
 
 pub loop-self-preserved : goal.loop-self-preserved
 loop-self-preserved g c =
@@ -80,9 +76,8 @@ loop-self-preserved g c =
     record {
       reader_unmarked = search rules;
       writer_unmarked = search rules;
-      ready = done.ready;
-      keeps = g.met.A.Responder.keeps_on _ _ _ (keeps_now g at) done.keeps;
-      one_line = done.one_line;
+      ready = done.answers.ready;
+      keeps = g.met.A.Responder.keeps_on _ _ _ (keeps_now g at) done.answers.keeps;
       references = (
         done.references.0 ∙ read.references.0 ∙ here.references.0,
         done.references.1 ∙ read.references.1
@@ -91,8 +86,10 @@ loop-self-preserved g c =
       );
       past = here.past ++ piece;
       consumed = rw done.reader (Consumes-trans _ _ _ here.past _ here.consumed read.bytes.0);
-      kept = done.kept ∙ (after g at).is_kept;
-      answered = rw (after g at).is_complete (answered_more (answered_now g at) law done.ends);
+      ended = here.ended
+          ++ prefixes g.A.Responder.KEEP (complete (c.read_chunk.new.self.kept.items ++ piece));
+      taken = taken_more (taken_now g at) piece done.one_line done.kept;
+      answered = answered_more (answered_now g at) law done.answers.ends;
     }
 
 pub returns-in_err-answer_lines-clause-ends : goal.returns-in_err-answer_lines-clause-ends
@@ -104,12 +101,10 @@ returns-in_err-answer_lines-clause-ends g c =
     let done = c.in_err-answer_lines.ensures in
     let piece = take c.in-Ok.n c.read_chunk.new.chunk in
     let law = g.met.A.Responder.keeps_reply _ _ (keeps_now g at) in
-    let last = take g.A.Responder.KEEP (unfinished (here.past ++ piece)) in
-    let all = prefixes-lines g.A.Responder.KEEP (here.past ++ piece) {kept = last}
-    g.met.A.Responder.keeps_some refl ∙ ap (λ l. l ++ unless_empty last) (after g at).is_complete in (
+    let all = lines_more (taken_now g at) g.met.A.Responder.keeps_some piece in (
       here.past ++ piece,
       rw done.reader (Consumes-trans _ _ _ here.past _ here.consumed c.in-Ok.ensures.bytes.0),
-      rw (p.1, p.2) (fault_after_none (answered_now g at) law _ _ _ all _ _ _ _ done.ends),
+      rw (p.1, p.2) (fault_after_none (answered_now g at) law _ _ _ all _ _ _ _ done.answers.ends),
     )
 
 pub returns-in-Err-clause-ends : goal.returns-in-Err-clause-ends
@@ -117,7 +112,8 @@ returns-in-Err-clause-ends g c =
     let here = c.loop-self.invariant in (
       here.past,
       search rules,
-      rw c.in-Err.ensures.writer (replies_written here.answered c.in_ok-write_waiting.ensures.ok),
+      rw (here.taken.is_ended, c.in-Err.ensures.writer)
+          (replies_written here.answered c.in_ok-write_waiting.ensures.ok),
     )
 
 pub returns-then-n-eq0-clause-ends : goal.returns-then-n-eq0-clause-ends
@@ -128,8 +124,12 @@ returns-then-n-eq0-clause-ends g c =
       search rules,
       (
         search rules,
-        rw read.writer (replies_written here.answered c.in_ok-write_waiting.ensures.ok),
-        rw read.responder here.answered.seen,
-        rw read.kept here.kept,
+        rw (here.taken.is_ended, read.writer)
+            (replies_written here.answered c.in_ok-write_waiting.ensures.ok),
+        rw (here.taken.is_ended, read.responder) here.answered.seen,
+        rw read.kept here.taken.is_kept,
       ),
     )
+
+pub returns-then-n-eq0-clause-kept : goal.returns-then-n-eq0-clause-kept
+returns-then-n-eq0-clause-kept g c = rw c.in-Ok.ensures.kept (few_kept c.loop-self.invariant.taken)
