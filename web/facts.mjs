@@ -8,7 +8,7 @@
  */
 import { counted, machineOf, shown, stateLetter } from "./machine.mjs";
 import { made, part, signed } from "./parts.mjs";
-import { Asker } from "./pool.mjs";
+import { Asker } from "./asker.mjs";
 
 const NORMAL_STEPS = 10_000;
 const MOST_GROWTH_STEPS = 1_000_000;

@@ -1,4 +1,5 @@
 /** The fields of limits and switches, and the link that has them. */
+import { LONGEST_SHOWN } from "./lengths.mjs";
 import { LimitsError, RANGES } from "./limits.mjs";
 import { shown } from "./machine.mjs";
 import { made, part } from "./parts.mjs";
@@ -155,5 +156,5 @@ export function readLink(/** @type {string} */ hash) {
   SWITCHES.filter((name) => words.get(name) === "off").forEach((name) => {
     plan[name] = false;
   });
-  return { machine: machine.slice(0, 1_023), plan };
+  return { machine: machine.slice(0, LONGEST_SHOWN), plan };
 }

@@ -3,15 +3,18 @@
  *
  * @typedef {import("./sample.mjs").Sample} Sample
  * @typedef {import("./scale.mjs").View} View
- * @typedef {(from: number, to: number) => number} Mean the colour of the cells between two places of the
- *   bytes
+ * @typedef {(k: number, from: number, to: number) => number} Mean the colour of a row's cells from one to
+ *   another, counted from the lowest one
  */
-import { FRAMED } from "./sample.mjs";
+import { FRAMED, symbolOf } from "./sample.mjs";
 
-const ZERO = 48;
-const SYMBOLS = 10;
 const UNVISITED = 10;
 const HEAD = 11;
+// How many bits of a byte are 1.
+const ONES = new Uint8Array(256);
+for (let byte = 1; byte < ONES.length; byte += 1) {
+  ONES[byte] = ONES[byte >> 1] + (byte & 1);
+}
 
 /** A colour as the four bytes of a pixel. */
 function pixelOf(/** @type {number[]} */ [red, green, blue]) {
@@ -21,13 +24,12 @@ function pixelOf(/** @type {number[]} */ [red, green, blue]) {
 /**
  * The pixels of all rows; what isn't visited yet stays clear.
  * @param {Sample} sample @param {View} view @param {number} columns @param {number[][]} palette
- * @param {number} symbols of the machine
  */
-export function painted(sample, view, columns, palette, symbols) {
+export function painted(sample, view, columns, palette) {
   const rows = sample.steps.length;
   const image = new Uint32Array(columns * rows);
-  const mean = (symbols === 2 ? meanOfTwo : meanOf)(sample, view, palette);
-  const pixels = palette.map(pixelOf);
+  const mean = (sample.bits === 1 ? meanOfTwo : meanOf)(sample, view, palette);
+  const pixels = Uint32Array.from(palette, pixelOf);
   for (let k = 0; k < rows; k += 1) {
     const row = image.subarray(columns * k, columns * (k + 1));
     if (view.across > 1) {
@@ -42,16 +44,16 @@ export function painted(sample, view, columns, palette, symbols) {
 /**
  * A row with a pixel for each cell.
  * @param {Uint32Array} row @param {Sample} sample @param {number} k @param {View} view
- * @param {number[]} pixels of the palette
+ * @param {Uint32Array} pixels of the palette
  */
-function paintCells(row, { bytes, places, lows, heads, wide }, k, view, pixels) {
-  const begin = Math.max(0, lows[k] - view.left);
-  const end = Math.min(row.length, lows[k] + wide[k] - view.left);
-  const place = places[k] - lows[k] + view.left;
+function paintCells(row, sample, k, view, pixels) {
+  const low = sample.lows[k] - view.left;
+  const begin = Math.max(0, low);
+  const end = Math.min(row.length, low + sample.wide[k]);
   for (let x = begin; x < end; x += 1) {
-    row[x] = pixels[bytes[place + x] - ZERO];
+    row[x] = pixels[symbolOf(sample, k, x - low)];
   }
-  const head = heads[k] - view.left;
+  const head = sample.heads[k] - view.left;
   if ((view.wide < FRAMED || view.high < FRAMED) && head >= 0 && head < row.length) {
     row[head] = pixels[HEAD];
   }
@@ -64,12 +66,11 @@ function paintCells(row, { bytes, places, lows, heads, wide }, k, view, pixels) 
 function paintMeans(row, sample, k, { left, across }, mean) {
   const low = sample.lows[k];
   const high = low + sample.wide[k] - 1;
-  const place = sample.places[k] - low;
   const first = Math.max(0, Math.floor((low - left) / across));
   const last = Math.min(row.length - 1, Math.floor((high - left) / across));
   for (let x = first; x <= last; x += 1) {
     const begin = left + x * across;
-    row[x] = mean(place + Math.max(begin, low), place + Math.min(begin + across - 1, high));
+    row[x] = mean(k, Math.max(begin, low) - low, Math.min(begin + across - 1, high) - low);
   }
 }
 
@@ -78,23 +79,39 @@ function paintMeans(row, sample, k, { left, across }, mean) {
  * @param {Sample} sample @param {View} view @param {number[][]} palette
  * @returns {Mean}
  */
-function meanOfTwo({ bytes }, { across }, palette) {
-  const mixed = (/** @type {number} */ ones, /** @type {number} */ cells) =>
+function meanOfTwo({ cells, places }, { across }, palette) {
+  const mixed = (/** @type {number} */ ones, /** @type {number} */ seen) =>
     pixelOf(
       palette[UNVISITED].map((unvisited, part) => {
-        const seen = (cells - ones) * palette[0][part] + ones * palette[1][part];
-        return Math.round((seen + (across - cells) * unvisited) / across);
+        const known = (seen - ones) * palette[0][part] + ones * palette[1][part];
+        return Math.round((known + (across - seen) * unvisited) / across);
       }),
     );
   const whole = Uint32Array.from({ length: across + 1 }, (_, ones) => mixed(ones, across));
-  return (from, to) => {
-    const cells = to - from + 1;
-    let ones = -ZERO * cells;
-    for (let place = from; place <= to; place += 1) {
-      ones += bytes[place];
-    }
-    return cells === across ? whole[ones] : mixed(ones, cells);
+  return (k, from, to) => {
+    const ones = onesBetween(cells, places[k], from, to);
+    const seen = to - from + 1;
+    return seen === across ? whole[ones] : mixed(ones, seen);
   };
+}
+
+/**
+ * How many of a row's cells from one to another are 1, where a cell has a bit.
+ * @param {Uint8Array} cells @param {number} begin of the row @param {number} from @param {number} to
+ */
+function onesBetween(cells, begin, from, to) {
+  const first = begin + (from >> 3);
+  const last = begin + (to >> 3);
+  const upper = cells[first] >> (from & 7);
+  const lower = (2 << (to & 7)) - 1;
+  if (first === last) {
+    return ONES[upper & (lower >> (from & 7))];
+  }
+  let ones = ONES[upper] + ONES[cells[last] & lower];
+  for (let at = first + 1; at < last; at += 1) {
+    ones += ONES[cells[at]];
+  }
+  return ones;
 }
 
 /**
@@ -102,17 +119,13 @@ function meanOfTwo({ bytes }, { across }, palette) {
  * @param {Sample} sample @param {View} view @param {number[][]} palette
  * @returns {Mean}
  */
-function meanOf({ bytes }, { across }, palette) {
-  const unvisited = palette[UNVISITED];
-  // By the byte of a symbol.
-  const [reds, greens, blues] = [0, 1, 2].map((part) =>
-    Int32Array.from({ length: ZERO + SYMBOLS }, (_, byte) => palette[Math.max(0, byte - ZERO)][part]),
-  );
-  return (from, to) => {
+function meanOf(sample, { across }, palette) {
+  const [reds, greens, blues] = [0, 1, 2].map((part) => Int32Array.from(palette, (colour) => colour[part]));
+  return (k, from, to) => {
     const outside = across - (to - from + 1);
-    let [red, green, blue] = unvisited.map((one) => one * outside);
-    for (let place = from; place <= to; place += 1) {
-      const symbol = bytes[place];
+    let [red, green, blue] = palette[UNVISITED].map((one) => one * outside);
+    for (let cell = from; cell <= to; cell += 1) {
+      const symbol = symbolOf(sample, k, cell);
       red += reds[symbol];
       green += greens[symbol];
       blue += blues[symbol];

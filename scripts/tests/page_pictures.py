@@ -14,7 +14,7 @@ from selenium.webdriver.common.keys import Keys
 
 from machines import mixed, seldom_halting
 from node import Engine
-from page_held import HEAD, UNVISITED, Held, Row, colour, palette, pixels, traced
+from page_held import HEAD, Held, Row, colour, palette, pixels, symbol_of, traced
 from page_times import CHAMPION as CHAMPION_5
 from page_times import PAUSE, end, steps_seen, views
 from tally import TOP
@@ -69,8 +69,7 @@ def hold_windows(held: Held, count: int, seed: int) -> None:
 
 def mean(row: Row, first: int, across: int, colours: List[List[int]]) -> List[float]:
     """The mean colour of so many cells of a row."""
-    cells = [at - row.low for at in range(first, first + across)]
-    kinds = [int(row.cells[at]) if 0 <= at < len(row.cells) else UNVISITED for at in cells]
+    kinds = [symbol_of(row, at) for at in range(first, first + across)]
     return [sum(colours[kind][part] for kind in kinds) / across for part in range(3)]
 
 
@@ -334,49 +333,6 @@ def hold_marks_in_view(held: Held) -> None:
     page.click("marked")
     page.until(lambda: page.drawn() == view)
     held.hold("and again", True)
-
-
-def hold_fingers(page: Any, held: Held) -> None:
-    """On a phone one finger scrolls the page; the picture is moved only after a tap into it."""
-    page.open("#machine=%s&steps=100000" % CHAMPION_5)
-    before = page.drawn()
-    page.js("document.getElementById('diagram').scrollIntoView({ block: 'center' })")
-    hint = page.js("return document.getElementById('diagram-keys').innerText")
-    held.hold("the hint says so: " + hint, "Tap into the picture first" in hint)
-    box = page.js(
-        "const { x, y, width, height } = document.getElementById('diagram').getBoundingClientRect();"
-        "return [x + width / 2, y + height / 2]"
-    )
-    place = page.js("return scrollY")
-    swipe(page, box)
-    page.until(lambda: page.js("return scrollY") != place)
-    held.hold("one finger scrolls the page", page.drawn() == before)
-    page.js("document.getElementById('diagram').scrollIntoView({ block: 'center' })")
-    box = page.js(
-        "const { x, y, width, height } = document.getElementById('diagram').getBoundingClientRect();"
-        "return [x + width / 2, y + height / 2]"
-    )
-    touch(page, "touchStart", [box])
-    touch(page, "touchEnd", [])
-    page.until(lambda: page.js("return document.activeElement.id") == "diagram")
-    place = page.js("return scrollY")
-    swipe(page, box)
-    page.until(lambda: page.drawn()["top"] > before["top"])
-    held.hold("after a tap it moves the picture", page.js("return scrollY") == place)
-
-
-def touch(page: Any, kind: str, places: List[List[float]]) -> None:
-    points = [{"x": x, "y": y} for x, y in places]
-    page.driver.execute_cdp_cmd("Input.dispatchTouchEvent", {"type": kind, "touchPoints": points})
-
-
-def swipe(page: Any, place: List[float]) -> None:
-    """Moves one finger up."""
-    x, y = place
-    touch(page, "touchStart", [[x, y]])
-    for far in range(10, 130, 10):
-        touch(page, "touchMove", [[x, y - far]])
-    touch(page, "touchEnd", [])
 
 
 def hold_tree(held: Held) -> None:
