@@ -86,8 +86,10 @@ class Fingers {
   /** The middle between the fingers, and how far they are apart. */
   span() {
     const [one, two = one] = [...this.fingers.values()];
-    const box = this.diagram.canvas.getBoundingClientRect();
-    const middle = { x: (one.x + two.x) / 2 - box.left, y: (one.y + two.y) / 2 - box.top };
+    const { canvas } = this.diagram;
+    const box = canvas.getBoundingClientRect();
+    const [left, top] = [box.left + canvas.clientLeft, box.top + canvas.clientTop];
+    const middle = { x: (one.x + two.x) / 2 - left, y: (one.y + two.y) / 2 - top };
     return { middle, apart: Math.hypot(one.x - two.x, one.y - two.y) };
   }
 

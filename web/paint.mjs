@@ -22,6 +22,8 @@ const LEAST_HALO = 3;
 const STEPS_APART = 44;
 const POSITIONS_APART = 84;
 const LETTERED = 16;
+// A number on an axis has a mark as long, in the pixel where its row or column has its middle.
+const MARK_PIXELS = 4;
 
 /**
  * The colours that were asked for; the browser works out its style anew each time that it is asked.
@@ -167,7 +169,7 @@ function paintAxes(pen, area, view, chosen) {
     const y = rowAt(area, view, step) + view.high / 2;
     if (y >= area.y && y < area.y + area.height - 4) {
       pen.fillText(shown(step), area.x - 8, y);
-      pen.fillRect(area.x - 4, y, 4, 1);
+      pen.fillRect(area.x - MARK_PIXELS, Math.floor(y), MARK_PIXELS, 1);
     }
   }
   pen.textAlign = "center";
@@ -175,7 +177,7 @@ function paintAxes(pen, area, view, chosen) {
     const x = columnAt(area, view, position) + view.wide / 2;
     if (x > area.x + 8 && x < area.x + area.width - 14) {
       pen.fillText(signed(position), x, area.y - 11);
-      pen.fillRect(x, area.y - 4, 1, 4);
+      pen.fillRect(Math.floor(x), area.y - MARK_PIXELS, 1, MARK_PIXELS);
     }
   }
   paintChosen(pen, area, view, chosen);

@@ -4,7 +4,7 @@ import re
 from typing import Any, Dict, List, NamedTuple, Tuple
 
 from page_held import HEAD, Held, Row, colour, palette, pixels, symbol_of, traced
-from page_input import in_window, mouse
+from page_input import in_window, mouse, soon
 from page_times import CHAMPION
 
 STEPS = 10_000
@@ -70,10 +70,8 @@ def hold_ticks(held: Held, what: str) -> None:
         ("positions", positions, view["left"], right, view["x"], view["wide"], POSITIONS_APART),
     ):
         wanted = [begin + (tick.number - first) * scale + size / 2 for tick in found]
-        held.hold("%s: numbers of %s: %s" % (what, name, found), len(found) >= 3)
-        near = [
-            abs(tick.text - at) < 0.5 and abs(tick.mark - at) < 0.5 for tick, at in zip(found, wanted)
-        ]
+        held.hold("%s: numbers of %s: %s" % (what, name, found), len(found) >= 2)
+        near = [abs(tick.text - at) < 0.01 and tick.mark == int(at) for tick, at in zip(found, wanted)]
         held.hold("%s: %s stand at their places: %s, %s" % (what, name, found, wanted), all(near))
         between = {b.number - a.number for a, b in zip(found, found[1:])}
         held.hold("%s: %s are evenly apart: %s" % (what, name, between), len(between) == 1)
@@ -87,17 +85,18 @@ def hold_marks(
 ) -> None:
     """The marks are seen on the canvas, beside ground of the panel."""
     page = held.page
-    soft, panel = colour(page, "--soft"), colour(page, "--panel")
+    soft, panel, accent = (colour(page, name) for name in ("--soft", "--panel", "--accent"))
     for name, places, beside in (
         ("steps", [[-2.0, one.mark - view["y"]] for one in steps], (0, 6)),
         ("positions", [[one.mark - view["x"], -2.0] for one in positions], (6, 0)),
     ):
         found = pixels(page, places)
-        # A mark between two pixels is on both, so it is nearer to the ground's colour.
-        is_dark = [abs(one[0] - panel[0]) >= 0.4 * abs(soft[0] - panel[0]) for one in found]
-        held.hold("%s: marks of %s: %s" % (what, name, found), found and all(is_dark))
+        # The arrow at the chosen step may stand before a mark.
+        is_mark = [one in (soft, accent) for one in found]
+        held.hold("%s: marks of %s: %s" % (what, name, found), found and all(is_mark))
         others = pixels(page, [[x + beside[0], y + beside[1]] for x, y in places])
-        held.hold("%s: no mark beside those of %s" % (what, name), all(one == panel for one in others))
+        is_free = [one in (panel, accent) for one in others]
+        held.hold("%s: no mark beside those of %s: %s" % (what, name, others), all(is_free))
 
 
 def hold_rows(held: Held, what: str, rows: Dict[int, Row]) -> None:
@@ -131,7 +130,7 @@ def hold_told(held: Held, what: str, rows: Dict[int, Row]) -> None:
         step = view["top"] + (y - view["y"]) // view["high"] * view["every"]
         position = view["left"] + (x - view["x"]) // view["wide"] * view["across"]
         begin = "Step {:,}, ".format(int(step))
-        page.until(lambda: page.text("place-told").startswith(begin) or step not in rows)
+        soon(lambda: page.text("place-told").startswith(begin) or step not in rows)
         told = page.text("place-told")
         found = TOLD.fullmatch(told)
         held.hold("%s: at the pointer: %s" % (what, told), found is not None or step not in rows)
@@ -170,7 +169,7 @@ def hold_axes(held: Held) -> None:
         "document.getElementById('tape-step').value = '6001';"
         "document.getElementById('tape-form').requestSubmit()"
     )
-    page.until(lambda: page.drawn()["every"] == 1 and page.drawn()["top"] > 5_000)
+    soon(lambda: page.drawn()["every"] == 1 and page.drawn()["top"] > 5_000)
     hold_ticks(held, "single cells")
     hold_rows(held, "single cells", rows)
     hold_told(held, "single cells", rows)

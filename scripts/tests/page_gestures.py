@@ -3,7 +3,7 @@
 from typing import Any, Dict, Tuple
 
 from page_held import Held, palette, pixels, symbol_of, traced
-from page_input import Point, drag, in_window, pinch, swipe, tap
+from page_input import Point, drag, in_window, pinch, soon, swipe, tap
 from page_times import CHAMPION
 
 View = Dict[str, float]
@@ -53,7 +53,7 @@ def open_near(page: Any) -> View:
     page.open("#machine=%s&steps=%d" % (CHAMPION, STEPS))
     page.drawn()
     page.js(GO, str(NEAR))
-    page.until(lambda: page.drawn()["top"] > 0)
+    soon(lambda: page.drawn()["top"] > 0)
     page.js(INTO_VIEW)
     view: View = page.drawn()
     return view
@@ -88,7 +88,7 @@ def hold_drag(held: Held) -> None:
     # Neither is a multiple of a cell's size, and each move of the mouse is shorter than a cell.
     end = (begin[0] - 7.25 * wide, begin[1] - 9.25 * high)
     drag(page, in_window(page, *begin), in_window(page, *end))
-    page.until(lambda: page.drawn()["top"] == before["top"] + 9)
+    soon(lambda: page.drawn()["top"] == before["top"] + 9)
     after, then = page.drawn(), seen(page)
     moved = [b - a for a, b in zip(first, then)]
     held.hold("steps and positions move: %s" % moved, moved == [9, 9, 7, 7])
@@ -98,11 +98,11 @@ def hold_drag(held: Held) -> None:
     hold_cells_shown(held, "after a drag")
     held.hold("a drag is no click", page.text("tape-told").startswith("Step {:,}".format(NEAR)))
     drag(page, in_window(page, *end), in_window(page, *begin))
-    page.until(lambda: page.drawn()["top"] == before["top"])
+    soon(lambda: page.drawn()["top"] == before["top"])
     held.hold("and back", page.drawn() == before)
     drag(page, in_window(page, *begin), in_window(page, begin[0] + 1, begin[1] + 1))
     step = cell_at(before, begin)[0]
-    page.until(lambda: page.text("tape-told").startswith("Step {:,}".format(step)))
+    soon(lambda: page.text("tape-told").startswith("Step {:,}".format(step)))
     held.hold("what moves little is a click", page.drawn() == before)
 
 
@@ -115,7 +115,7 @@ def hold_edges(held: Held) -> None:
     begin, end = in_window(page, 150, 100), in_window(page, 350, 300)
     for _ in range(4):
         drag(page, begin, end)
-    page.until(lambda: page.drawn()["left"] < before["left"])
+    soon(lambda: page.drawn()["left"] < before["left"])
     view, (_, _, left, right) = page.drawn(), seen(page)
     held.hold("the first step is on top: %s" % view, view["top"] == 0)
     held.hold("some cell is in view: %s" % [left, right], left <= 0 <= right)
@@ -126,13 +126,13 @@ def hold_pinch(held: Held) -> None:
     page = held.page
     before = open_near(page)
     tap(page, in_window(page, before["x"] + 100, before["y"] + 100))
-    page.until(lambda: page.js("return document.activeElement.id") == "diagram")
+    soon(lambda: page.js("return document.activeElement.id") == "diagram")
     before = page.drawn()
     begun = seen(page)
     middle = (before["x"] + 120.5, before["y"] + 150.5)
     cell = cell_at(before, middle)
     pinch(page, in_window(page, *middle), 60, 90)
-    page.until(lambda: page.drawn()["high"] > before["high"])
+    soon(lambda: page.drawn()["high"] > before["high"])
     near, nearer = page.drawn(), seen(page)
     held.hold(
         "apart: fewer steps, fewer positions: %s, %s" % (begun, nearer),
@@ -143,7 +143,7 @@ def hold_pinch(held: Held) -> None:
     hold_cells_shown(held, "after a pinch")
     # In steps of which each zooms less than to the next size of a cell.
     pinch(page, in_window(page, *middle), 160, 60)
-    page.until(lambda: page.drawn()["high"] < before["high"])
+    soon(lambda: page.drawn()["high"] < before["high"])
     far, farther = page.drawn(), seen(page)
     held.hold(
         "together: more steps, more positions: %s, %s" % (nearer, farther),
@@ -173,15 +173,15 @@ def hold_fingers(held: Held) -> None:
     box = in_window(page, width / 2, height / 2)
     place = page.js("return scrollY")
     swipe(page, box, (box[0], box[1] - 120))
-    page.until(lambda: page.js("return scrollY") != place)
+    soon(lambda: page.js("return scrollY") != place)
     held.hold("one finger scrolls the page", page.drawn() == before)
     page.js(INTO_VIEW)
     box = in_window(page, width / 2, height / 2)
     tap(page, box)
-    page.until(lambda: page.js("return document.activeElement.id") == "diagram")
+    soon(lambda: page.js("return document.activeElement.id") == "diagram")
     place = page.js("return scrollY")
     swipe(page, box, (box[0], box[1] - 120))
-    page.until(lambda: page.drawn()["top"] > before["top"])
+    soon(lambda: page.drawn()["top"] > before["top"])
     moved = (page.drawn()["top"] - before["top"]) / before["every"] * before["high"]
     held.hold("after a tap it moves the picture: %.1f" % moved, page.js("return scrollY") == place)
     held.hold("as far as the finger: %.1f" % moved, abs(moved - 120) <= before["high"])

@@ -1,14 +1,32 @@
 """What a person does in the page, as the browser hears it of mouse, fingers and keys."""
 
-from typing import Any, Dict, List, Sequence, Tuple
+import time
+from typing import Any, Callable, Dict, List, Sequence, Tuple
 
 Point = Tuple[float, float]
+# What a gesture does is seen within so many seconds, or it did nothing.
+PATIENCE = 10.0
 # A key as the browser hears it: its name and number.
 KEY_NUMBERS = {"Tab": 9, "Enter": 13}
 SHIFT = 8
 # A gesture is made in so many moves.
 MOVES = 12
-BOX = "const { x, y } = document.getElementById('diagram').getBoundingClientRect(); return [x, y]"
+# Where the canvas begins in the window, inside its border.
+BOX = """
+const canvas = document.getElementById("diagram");
+const { x, y } = canvas.getBoundingClientRect();
+return [x + canvas.clientLeft, y + canvas.clientTop];
+"""
+
+
+def soon(what: Callable[[], object]) -> bool:
+    """Whether something becomes so before long."""
+    end = time.monotonic() + PATIENCE
+    while not what():
+        if time.monotonic() > end:
+            return False
+        time.sleep(0.01)
+    return True
 
 
 def mouse(page: Any, kind: str, place: Point, **words: Any) -> None:

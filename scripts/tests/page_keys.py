@@ -3,7 +3,7 @@
 from typing import Any, List
 
 from page_held import Held
-from page_input import key, write
+from page_input import key, soon, write
 
 MACHINE = "1LB0LA_1RA---"
 SENTENCE = "It never halts: at steps 1 and 3"
@@ -107,10 +107,10 @@ def hold_keys(held: Held) -> None:
     page.js("document.getElementById('results').dataset.state = 'asked'")
     key(page, "Enter")
     page.ended()
-    page.until(lambda: page.text("machine-says").startswith(SENTENCE))
+    soon(lambda: page.text("machine-says").startswith(SENTENCE))
     held.hold("the verdict: " + page.text("machine-says"), page.text("machine-text") == MACHINE)
     page.drawn()
-    page.until(lambda: page.text("tape-told").startswith("Step 1:"))
+    soon(lambda: page.text("tape-told").startswith("Step 1:"))
     held.hold("the focus stays at the button: " + name_of(page), name_of(page) == "Decide")
     walk(held, BEFORE[3:] + BEHIND)
     hold_rest(held)

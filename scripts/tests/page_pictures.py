@@ -16,7 +16,7 @@ from machines import mixed, seldom_halting
 from node import Engine
 from page_held import HEAD, Held, Row, colour, palette, pixels, symbol_of, traced
 from page_times import CHAMPION as CHAMPION_5
-from page_times import PAUSE, end, steps_seen, views
+from page_times import PAUSE, end, steps_seen, traced_views, views
 from tally import TOP
 
 WINDOWS = os.path.join(TOP, "scripts", "tests", "windows.mjs")
@@ -152,6 +152,7 @@ def hold_times(held: Held) -> None:
     held.tally.within("a view up to step 10^7", max(taken), VIEW)
     held.tally.within("it stood still meanwhile for", held.page.js("return window.longest") / 1000, STILL)
     held.hold("it went near and back", len(taken) > 6 and steps_seen(held.page) >= 0.9 * 10**7)
+    held.tally.within("a view that is traced anew", max(traced_views(held.page, PAUSE)), VIEW)
     held.tally.within("the champion's last steps", end(held.page), LAST_VIEW)
     held.hold("they are shown", "Step 47,176,860:" in held.page.text("tape-told"))
     held.tally.within("it stood still meanwhile for", held.page.js("return window.longest") / 1000, STILL)
