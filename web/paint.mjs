@@ -22,6 +22,9 @@ const LEAST_HALO = 3;
 const STEPS_APART = 44;
 const POSITIONS_APART = 84;
 const LETTERED = 16;
+// A step's number ends so far from the picture, beside the arrow at the chosen step.
+const NUMBER_PIXELS = 9;
+const ARROW_PIXELS = 6;
 // A number on an axis has a mark as long, in the pixel where its row or column has its middle.
 const MARK_PIXELS = 4;
 
@@ -168,7 +171,7 @@ function paintAxes(pen, area, view, chosen) {
   for (const step of ticks(view.top, stepsOf(view), area.height, STEPS_APART)) {
     const y = rowAt(area, view, step) + view.high / 2;
     if (y >= area.y && y < area.y + area.height - 4) {
-      pen.fillText(shown(step), area.x - 8, y);
+      pen.fillText(shown(step), area.x - NUMBER_PIXELS, y);
       pen.fillRect(area.x - MARK_PIXELS, Math.floor(y), MARK_PIXELS, 1);
     }
   }
@@ -192,8 +195,8 @@ function paintChosen(pen, area, view, chosen) {
   pen.fillStyle = ink("--accent");
   pen.beginPath();
   pen.moveTo(area.x, y);
-  pen.lineTo(area.x - 8, y - 5);
-  pen.lineTo(area.x - 8, y + 5);
+  pen.lineTo(area.x - ARROW_PIXELS, y - ARROW_PIXELS);
+  pen.lineTo(area.x - ARROW_PIXELS, y + ARROW_PIXELS);
   pen.fill();
 }
 

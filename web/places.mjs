@@ -16,7 +16,7 @@ const TOP = 22;
 const LEFT = 78;
 const LEFT_NARROW = 58;
 const NARROW = 500;
-const MANY_STEPS = 10_000_000;
+const MANY_STEPS = 1_000_000;
 // A view is moved so far beyond what was visited.
 const BEYOND = 4;
 

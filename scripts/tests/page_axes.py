@@ -49,7 +49,7 @@ def ticks(page: Any, view: Dict[str, float]) -> Tuple[List[Tick], List[Tick]]:
     texts, marks = painted["texts"], painted["marks"]
     downs = [y for x, y, wide, high in marks if (x, wide, high) == (view["x"] - 4, 4, 1)]
     rights = [x for x, y, wide, high in marks if (y, wide, high) == (view["y"] - 4, 1, 4)]
-    steps = [(number_of(text), y) for text, x, y, align in texts if align == "right" and x == view["x"] - 8]
+    steps = [(number_of(text), y) for text, x, y, align in texts if align == "right" and x == view["x"] - 9]
     positions = [
         (number_of(text), x) for text, x, y, align in texts if align == "center" and y == view["y"] - 11
     ]

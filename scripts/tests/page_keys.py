@@ -6,7 +6,7 @@ from page_held import Held
 from page_input import key, soon, write
 
 MACHINE = "1LB0LA_1RA---"
-SENTENCE = "It never halts: at steps 1 and 3"
+SENTENCE = "It never halts: at steps 4 and 8"
 # What the focus comes to, in order, by its name; before the verdict and behind it.
 BEFORE = [
     "Example",
@@ -65,8 +65,7 @@ const y = (Math.max(top, 0) + Math.min(bottom, innerHeight)) / 2;
 const upper = document.elementFromPoint(x, y);
 return {
   is_body: one === document.body,
-  is_seen: one.checkVisibility() && width > 0 && height > 0 && isIn && (one.contains(upper)
-    || upper?.contains(one)),
+  is_seen: one.checkVisibility() && width > 0 && height > 0 && isIn && one.contains(upper),
   is_outlined: one.matches(":focus-visible") && style.outlineStyle === "solid"
     && parseFloat(style.outlineWidth) >= 2,
   contrast: contrast(light(parse(style.outlineColor)), light(parse(getComputedStyle(ground).backgroundColor))),
@@ -110,7 +109,7 @@ def hold_keys(held: Held) -> None:
     soon(lambda: page.text("machine-says").startswith(SENTENCE))
     held.hold("the verdict: " + page.text("machine-says"), page.text("machine-text") == MACHINE)
     page.drawn()
-    soon(lambda: page.text("tape-told").startswith("Step 1:"))
+    soon(lambda: page.text("tape-told").startswith("Step 4:"))
     held.hold("the focus stays at the button: " + name_of(page), name_of(page) == "Decide")
     walk(held, BEFORE[3:] + BEHIND)
     hold_rest(held)
