@@ -81,7 +81,7 @@ class Late(Executor):
         return future
 
 
-class Told(progress.Progress):
+class KeptProgress(progress.Progress):
     """Progress that is kept."""
 
     def __init__(self) -> None:
@@ -98,7 +98,7 @@ class RunnerTest(unittest.TestCase):
         self.top = pathlib.Path(kept.name)
         self.list, self.out = self.top / "list.txt", self.top / "out"
         self.list.write_bytes(LIST)
-        self.told = Told()
+        self.progress = KeptProgress()
         self.seen: List[bytes] = []
 
     def run_over(
@@ -122,7 +122,7 @@ class RunnerTest(unittest.TestCase):
                 manner = passes.Manner(
                     place,
                     tasks.identity(),
-                    self.told,
+                    self.progress,
                     listed.name,
                     most,
                     check,

@@ -23,8 +23,8 @@ LINES = b"1RZ---\n1RA1RA\n0RZ---\n1LA1LA\n1LZ---\n"
 def reply_to(lines: bytes, limits: tasks.Numbers) -> tasks.PieceReply:
     """A reply that tells which lines it belongs to."""
     written, seconds = lines.upper(), float(lines.count(b"\n"))
-    told = (tasks.hash_of(lines), "asked", tasks.hash_of(written))
-    return (written, seconds, "version", "commit", "library", *told)
+    digests = (tasks.hash_of(lines), "asked", tasks.hash_of(written))
+    return (written, seconds, "version", "commit", "library", *digests)
 
 
 class KilledWorker(Exception):
@@ -118,9 +118,9 @@ class Dask:
 
 class ClusterTest(unittest.TestCase):
     def setUp(self) -> None:
-        self.dask, self.told = Dask(), [""]
+        self.dask, self.sentences = Dask(), [""]
         self.enter(unittest.mock.patch.object(cluster, "distributed", lambda: self.dask))
-        self.place = cluster.ClusterPlace("tcp://there:8786", {}, self.told.append)
+        self.place = cluster.ClusterPlace("tcp://there:8786", {}, self.sentences.append)
 
     def enter(self, context: Any) -> None:
         context.__enter__()
@@ -145,7 +145,7 @@ class ClusterTest(unittest.TestCase):
         future = self.submit()
         self.client.answer()
         self.is_right(future)
-        self.assertEqual(self.told[1:], ["dask's page is at http://page"])
+        self.assertEqual(self.sentences[1:], ["dask's page is at http://page"])
         self.assertEqual(self.place._handed, {})
 
     def test_what_was_cancelled_is_handed_over_again(self) -> None:
@@ -166,7 +166,7 @@ class ClusterTest(unittest.TestCase):
         self.assertEqual(self.client.given, [])
         self.client.status, self.client.scheduler_comm = "connecting", None
         self.tend()
-        self.assertIn("doesn't answer", self.told[-1])
+        self.assertIn("doesn't answer", self.sentences[-1])
         waiting = self.submit()
         self.assertEqual(self.client.given, [])
         self.client.status, self.client.scheduler_comm = "running", object()
@@ -187,7 +187,7 @@ class ClusterTest(unittest.TestCase):
         for _ in range(3):
             self.tend()
         waiting = self.submit()
-        self.assertEqual([text for text in self.told if "no scheduler" in text], self.told[-1:])
+        self.assertEqual([text for text in self.sentences if "no scheduler" in text], self.sentences[-1:])
         self.dask.refuses = None
         self.tend()
         self.assertIsNot(self.client, first)
@@ -197,22 +197,22 @@ class ClusterTest(unittest.TestCase):
             self.client.answer()
         self.is_right(future)
         self.is_right(waiting)
-        self.assertIn("has 1 workers", self.told[-1])
+        self.assertIn("has 1 workers", self.sentences[-1])
 
     def test_no_scheduler_at_all(self) -> None:
         self.dask.refuses = OSError("nobody there")
         with self.assertRaisesRegex(RunError, "no scheduler answers at tcp://there:1: nobody there"):
-            cluster.ClusterPlace("tcp://there:1", {}, self.told.append)
+            cluster.ClusterPlace("tcp://there:1", {}, self.sentences.append)
 
     def test_workers_that_go_and_come(self) -> None:
         self.client.workers = {}
         for _ in range(3):
             self.tend()
-        self.assertEqual((self.told[2:], self.place.width()), ([self.told[-1]], 4))
-        self.assertIn("no workers", self.told[-1])
+        self.assertEqual((self.sentences[2:], self.place.width()), ([self.sentences[-1]], 4))
+        self.assertIn("no workers", self.sentences[-1])
         self.client.workers = {"one": 4, "two": 3}
         self.tend()
-        self.assertIn("has 2 workers", self.told[-1])
+        self.assertIn("has 2 workers", self.sentences[-1])
         self.assertEqual((self.place.width(), self.place.status()), (14, "2 workers"))
 
     def killed_at(self, line: bytes, future: Future[Any]) -> int:
@@ -264,7 +264,7 @@ class ClusterTest(unittest.TestCase):
             self.client.answer()
             self.tend()
         self.is_right(future)
-        self.assertIn("5 lines ended their workers", self.told[-1])
+        self.assertIn("5 lines ended their workers", self.sentences[-1])
 
     def test_a_reply_that_cannot_be_read(self) -> None:
         """dask's executor never ends such a future, nor those whose replies came with it."""

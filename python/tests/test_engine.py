@@ -142,8 +142,8 @@ class CheckTest(unittest.TestCase):
             (budlarem.Undecided(CHAMPION, nothing), "reason is None"),
             (budlarem.Refused(text), "column is '6'"),
         ]
-        for wrong, told in cases:
-            with self.subTest(told), self.assertRaisesRegex(TypeError, r"^lines\[1\]\." + re.escape(told)):
+        for wrong, place in cases:
+            with self.subTest(place), self.assertRaisesRegex(TypeError, r"^lines\[1\]\." + re.escape(place)):
                 list(budlarem.check([LINES[0], wrong]))
 
 
@@ -213,9 +213,9 @@ class TraceTest(unittest.TestCase):
             self.assertRaises(StopIteration, next, trace)
 
     def test_no_machine(self) -> None:
-        with self.assertRaises(budlarem.MachineError) as told:
+        with self.assertRaises(budlarem.MachineError) as raised:
             next(budlarem.trace("1RB1LC_1LA1RZ", 3))
-        self.assertEqual(told.exception.column, 14)
+        self.assertEqual(raised.exception.column, 14)
 
     def test_wrong_numbers(self) -> None:
         for upto, cells, start, every in ((-1, 1, 0, 1), (1, 0, 0, 1), (1, 1, -1, 1), (1, 1, 0, 0)):

@@ -140,7 +140,7 @@ class JudgingTest(unittest.TestCase):
             for verdict in verdicts
             if verdict.machine is not None
         ]
-        theirs = ["%s %s" % (verdict.machine, told) for verdict, told in zip(verdicts, stepped)]
+        theirs = ["%s %s" % (verdict.machine, words) for verdict, words in zip(verdicts, stepped)]
         judging = budlarem.judge(theirs)
         self.assertTrue(judging.undefined_steps)
         self.assertEqual({one.judgement for one in judging}, {Judgement.CONFIRMED})

@@ -147,14 +147,14 @@ class TriageTest(unittest.TestCase):
         self.assertEqual(lists.last_step("1RA1RA", 100_000, 778), 777)
         self.assertEqual(lists.last_step(CHAMPION, 100_000), 6)
 
-    def test_a_halt_is_told_with_its_steps_and_cells(self) -> None:
+    def test_a_halt_comes_with_its_steps_and_cells(self) -> None:
         for machine, steps in (("------", 0), ("1RZ---", 1), (CHAMPION, 6), (FOUR_STATES, 107)):
             rows = list(budlarem.trace(machine, steps))
-            told = tuple(len(rows[step].cells) for step in (steps // 100, steps // 10, steps))
+            counts = tuple(len(rows[step].cells) for step in (steps // 100, steps // 10, steps))
             for limit in (107, 108, 199, 250, 1_000_000):
                 found = budlarem.triage(machine, steps=limit)
                 self.assertEqual(
-                    (found.steps, found.visited, found.growth), (steps, told, Growth.HALTS), limit
+                    (found.steps, found.visited, found.growth), (steps, counts, Growth.HALTS), limit
                 )
         self.assertIs(budlarem.triage(FOUR_STATES, steps=106).growth, Growth.ROOT)
 

@@ -26,7 +26,7 @@ def one(line: str) -> Reading:
     return reading
 
 
-def told(form: Dict[str, Any]) -> List[Any]:
+def expected(form: Dict[str, Any]) -> List[Any]:
     """What a form says that has to be read."""
     if "nothing" in form:
         return []
@@ -56,7 +56,7 @@ class FormsTest(unittest.TestCase):
         self.assertGreaterEqual(len(self.forms["forms"]), 80)
         for form in self.forms["forms"]:
             with self.subTest(line=form["line"]):
-                self.assertEqual(found(form["line"]), told(form))
+                self.assertEqual(found(form["line"]), expected(form))
 
     def test_sentences(self) -> None:
         self.assertEqual(self.forms["advice"], ADVICE)

@@ -22,7 +22,19 @@ from budlarem.runner import folder as folders
 from budlarem.runner import joining, journal, keeping, reply_checks, source, tasks, writing
 from budlarem.runner.errors import CheckError, FolderError, RunError, WordsError
 
-from .running import KINDS, LIST, MIDDLE, PASSES, SMALL, Answering, Late, RunnerTest, Told, expected, resealed
+from .running import (
+    KINDS,
+    LIST,
+    MIDDLE,
+    PASSES,
+    SMALL,
+    Answering,
+    Late,
+    RunnerTest,
+    KeptProgress,
+    expected,
+    resealed,
+)
 
 
 class WholeTest(RunnerTest):
@@ -38,16 +50,16 @@ class WholeTest(RunnerTest):
 
     def test_the_summary(self) -> None:
         self.run_over(check=True)
-        told = json.loads((self.out / "summary.json").read_text())
-        self.assertEqual(told["lines"], 370)
-        first, second = told["passes"]
+        summary = json.loads((self.out / "summary.json").read_text())
+        self.assertEqual(summary["lines"], 370)
+        first, second = summary["passes"]
         self.assertEqual(first["limits"], {"steps": 30, "cells": 16, "depth": 3, "nodes": 5})
         left = first["counts"]["undecided steps"] + first["counts"]["undecided cells"]
         self.assertEqual((first["lines"], second["lines"]), (370, left))
         self.assertEqual((sum(first["counts"].values()), sum(second["counts"].values())), (370, left))
-        self.assertEqual(told["counts"], reply_checks.counts_of(self.verdicts(), 370))
-        self.assertEqual((first["checked"], told["version"]), (True, budlarem.__version__))
-        self.assertEqual((told["commit"], len(told["library"])), (budlarem.COMMIT, 64))
+        self.assertEqual(summary["counts"], reply_checks.counts_of(self.verdicts(), 370))
+        self.assertEqual((first["checked"], summary["version"]), (True, budlarem.__version__))
+        self.assertEqual((summary["commit"], len(summary["library"])), (budlarem.COMMIT, 64))
 
     def test_lines_keep_their_numbers(self) -> None:
         self.run_over()
@@ -235,7 +247,7 @@ class WholeTest(RunnerTest):
         with open(self.out / "verdicts.txt", "r+b") as file:
             file.write(b"x" * 100)
         self.run_over(limits=[SMALL])
-        self.assertIn("is decided again: it was cut or changed", self.told.kept.getvalue())
+        self.assertIn("is decided again: it was cut or changed", self.progress.kept.getvalue())
         self.assertEqual(self.verdicts(), expected(LIST, [SMALL]))
         self.assertFalse((self.out / "verdicts.txt").samefile(self.out / "pass-1" / "pieces"))
 
@@ -318,8 +330,8 @@ class KeepTest(RunnerTest):
                 outcome = self.run_over(limits=limits, keep=keep)
                 self.assertEqual(self.verdicts(), self.kept(limits, 10**12 if halts is None else halts))
                 self.assertEqual(outcome.counts, reply_checks.counts_of(expected(LIST, limits), 370))
-            told = json.loads((self.out / "summary.json").read_text())
-            self.assertEqual((told["lines"], told["kept"]), (370, str(keep)))
+            summary = json.loads((self.out / "summary.json").read_text())
+            self.assertEqual((summary["lines"], summary["kept"]), (370, str(keep)))
             with self.assertRaisesRegex(FolderError, "dropped before they were checked"):
                 self.run_over(limits=limits, keep=keep, check=True)
             with self.assertRaisesRegex(FolderError, "begun with --keep left"):
@@ -389,7 +401,7 @@ class ExecutorTest(RunnerTest):
             executor = Answering(lambda reply, before: answer(reply) if before in (1, 30) else reply)
             self.run_over(executor)
             self.assertEqual(self.verdicts(), expected(LIST))
-            self.assertIn("it is tried again", self.told.kept.getvalue())
+            self.assertIn("it is tried again", self.progress.kept.getvalue())
 
     def test_wrong_answers_each_time(self) -> None:
         for begin in (0, 5, 60):
@@ -498,8 +510,8 @@ class ExecutorTest(RunnerTest):
             self.run_over(Answering(lambda reply, before: (reply[0], seconds, *reply[2:])), most=1_000)
             self.assertEqual(self.verdicts(), expected(LIST))
             self.assertLess(len(self.records([SMALL])), 20)
-            told = json.loads((self.out / "summary.json").read_text())
-            self.assertLess(told["passes"][0]["work_seconds"], 600)
+            summary = json.loads((self.out / "summary.json").read_text())
+            self.assertLess(summary["passes"][0]["work_seconds"], 600)
 
 
 class CommandTest(RunnerTest):
@@ -546,30 +558,30 @@ class CommandTest(RunnerTest):
 
 class ProgressTest(unittest.TestCase):
     def test_a_terminal(self) -> None:
-        told = Told()
-        told._is_terminal = True
-        told.begin(1, 2, lambda lines: 88_664_064)
-        told.decided(20_000)
-        told._next = 0.0
-        told.tick("3 workers")
-        text = told.kept.getvalue()
+        shown = KeptProgress()
+        shown._is_terminal = True
+        shown.begin(1, 2, lambda lines: 88_664_064)
+        shown.decided(20_000)
+        shown._next = 0.0
+        shown.tick("3 workers")
+        text = shown.kept.getvalue()
         self.assertRegex(
             text, r"^\rpass 1 of 2, 1 pieces, 20k lines, 0%, \d+[kM]? lines/s, [0-9.]+ \w+ left, 3 work"
         )
         self.assertLess(len(text), 81)
-        told.print_line("a sentence")
-        self.assertTrue(told.kept.getvalue().endswith("\rbudlarem: a sentence\n"))
+        shown.print_line("a sentence")
+        self.assertTrue(shown.kept.getvalue().endswith("\rbudlarem: a sentence\n"))
 
-    def test_a_long_pass_is_told_once(self) -> None:
-        told = Told()
-        told.begin(2, 2, lambda lines: 10**9)
-        told._began -= 10
-        told.decided(5)
+    def test_a_long_pass_is_announced_once(self) -> None:
+        shown = KeptProgress()
+        shown.begin(2, 2, lambda lines: 10**9)
+        shown._began -= 10
+        shown.decided(5)
         for _ in range(2):
-            told._next = 0.0
-            told.tick()
-        self.assertEqual(told.kept.getvalue().count("budlarem: pass 2 takes about "), 1)
-        self.assertEqual(told.kept.getvalue().count("\n"), 3)
+            shown._next = 0.0
+            shown.tick()
+        self.assertEqual(shown.kept.getvalue().count("budlarem: pass 2 takes about "), 1)
+        self.assertEqual(shown.kept.getvalue().count("\n"), 3)
 
 
 if __name__ == "__main__":

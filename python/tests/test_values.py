@@ -67,10 +67,10 @@ class LimitsTest(unittest.TestCase):
             ("depth", 10_001),
             ("nodes", 2**64),
         ):
-            with self.subTest(name, given=given), self.assertRaises(LimitsError) as told:
+            with self.subTest(name, given=given), self.assertRaises(LimitsError) as raised:
                 Limits(**{name: given})
             lowest, highest = Limits.RANGES[name]
-            error = told.exception
+            error = raised.exception
             found = (error.limit, error.lowest, error.highest, error.given)
             self.assertEqual(found, (name, lowest, highest, given))
             self.assertIn("{:,}".format(highest), str(error))

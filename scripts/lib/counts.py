@@ -27,7 +27,7 @@ class Counts:
     def __str__(self) -> str:
         return "%d passed, %d failed, %d skipped" % (self.passed, self.failed, self.skipped)
 
-    def told(self) -> str:
+    def closing_line(self) -> str:
         """The line of one script, which tells of what was skipped only where something was."""
         return str(self) if self.skipped else "%d passed, %d failed" % (self.passed, self.failed)
 
@@ -44,7 +44,7 @@ def read(line: str) -> Optional[Counts]:
 
 def judged(name: str, last: str, status: int) -> Counts:
     """What a command's last line counts; one more failed where line and status aren't as they must be, which
-    is told by this name."""
+    is printed under this name."""
     counts = read(last) or Counts()
     if read(last) is None:
         wrong = "it ended without its line, with status %d" % status

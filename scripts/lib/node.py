@@ -25,7 +25,7 @@ class CallEnd(NamedTuple):
 
     status: int
     reply: bytes
-    told: Dict[str, Any]
+    answer: Dict[str, Any]
 
 
 class Engine:
@@ -43,8 +43,8 @@ class Engine:
     def line(self) -> Dict[str, Any]:
         """The next line of the process; empty where it ended."""
         assert self.process.stdout
-        told: Dict[str, Any] = json.loads(self.process.stdout.readline() or "{}")
-        return told
+        answer: Dict[str, Any] = json.loads(self.process.stdout.readline() or "{}")
+        return answer
 
     def call(self, name: str, plan: Dict[str, Any], given: bytes, **more: int) -> CallEnd:
         """One call, with limits and switches by name."""
@@ -54,11 +54,11 @@ class Engine:
         assert self.process.stdin
         self.process.stdin.write(json.dumps(job) + "\n")
         self.process.stdin.flush()
-        told = self.line()
-        if "clean" not in told:
-            return CallEnd(2, b"", told)
+        answer = self.line()
+        if "clean" not in answer:
+            return CallEnd(2, b"", answer)
         with open(self.out, "rb") as file:
-            return CallEnd(0 if told["clean"] else 1, file.read(), told)
+            return CallEnd(0 if answer["clean"] else 1, file.read(), answer)
 
     def end(self) -> None:
         """Ends the process."""

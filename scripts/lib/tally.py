@@ -30,8 +30,8 @@ def source_of(program: str) -> str:
 class Tally:
     """How many of the things that must hold did, how many didn't, and how many were skipped."""
 
-    def __init__(self, most_told: int = 10) -> None:
-        self.passed, self.failed, self.skipped, self.most_told = 0, 0, 0, most_told
+    def __init__(self, most_printed: int = 10) -> None:
+        self.passed, self.failed, self.skipped, self.most_printed = 0, 0, 0, most_printed
 
     def hold(self, what: str, holds: object) -> None:
         """Counts one thing; tells it where it doesn't hold."""
@@ -39,15 +39,15 @@ class Tally:
             self.passed += 1
         else:
             self.failed += 1
-            if self.failed <= self.most_told:
+            if self.failed <= self.most_printed:
                 print("failed:", what, flush=True)
 
     def within(self, what: str, seconds: float, bar: float) -> None:
         """Tells a time beside its bar, both in seconds. It fails only where it is far above the bar;
         `scripts/speed/outside.py` holds the bars themselves, on a quiet machine."""
-        told = "%s: %.3f s (bar: %.3f s)" % (what, seconds, bar)
-        print(told, flush=True)
-        self.hold(told, seconds <= FAR * bar)
+        sentence = "%s: %.3f s (bar: %.3f s)" % (what, seconds, bar)
+        print(sentence, flush=True)
+        self.hold(sentence, seconds <= FAR * bar)
 
     def skip(self, what: str, count: int = 1) -> None:
         """Counts what can't be tried here, one thing or more, and tells why."""
@@ -65,7 +65,7 @@ class Tally:
     def end(self) -> int:
         """Prints the counts, and gives the status: 1 where something failed, or nothing was tried at all."""
         counts = Counts(self.passed, self.failed, self.skipped)
-        print(counts.told())
+        print(counts.closing_line())
         return counts.status()
 
 
@@ -108,14 +108,14 @@ def words(
     if quick:
         parser.add_argument("--quick", action="store_true", help=quick)
     if machines:
-        told = "how many random machines (default: {:,})".format(machines)
-        parser.add_argument("--machines", type=from_one, default=machines, metavar="N", help=told)
+        what = "how many random machines (default: {:,})".format(machines)
+        parser.add_argument("--machines", type=from_one, default=machines, metavar="N", help=what)
     if seed:
-        told = "of what is random (default: %d)" % seed
-        parser.add_argument("--seed", type=int, default=seed, metavar="S", help=told)
+        what = "of what is random (default: %d)" % seed
+        parser.add_argument("--seed", type=int, default=seed, metavar="S", help=what)
     if runs:
-        told = "runs of each, of which the least time counts (default: %d)" % runs
-        parser.add_argument("--runs", type=from_one, default=runs, metavar="N", help=told)
+        what = "runs of each, of which the least time counts (default: %d)" % runs
+        parser.add_argument("--runs", type=from_one, default=runs, metavar="N", help=what)
     if parts:
         parser.add_argument("--part", action="append", choices=parts, help="this part; may be repeated")
     return parser

@@ -45,10 +45,10 @@ class Figures:
     longest: List[Tuple[int, str]] = dataclasses.field(default_factory=list)
 
     @classmethod
-    def read(cls, told: Dict[str, Any]) -> Figures:
+    def read(cls, figures: Dict[str, Any]) -> Figures:
         """Those that `dataclasses.asdict` gave, also by way of JSON."""
-        greatest = {name: (int(number), str(line)) for name, (number, line) in told["greatest"].items()}
-        return cls(greatest, [(int(steps), str(line)) for steps, line in told["longest"]])
+        greatest = {name: (int(number), str(line)) for name, (number, line) in figures["greatest"].items()}
+        return cls(greatest, [(int(steps), str(line)) for steps, line in figures["longest"]])
 
     def add(self, other: Figures) -> None:
         """Takes in the figures of the lines that come behind."""

@@ -134,10 +134,10 @@ def count(program: str, options: Sequence[str], steps: int) -> Optional[int]:
     counting = ["valgrind", "--tool=callgrind", "--callgrind-out-file=/dev/null"]
     command = [*counting, program, "decide", "--steps", str(steps), *options]
     try:
-        told = re.search(rb"Collected : (\d+)", ended(command, CHAMPION.encode()).error)
+        collected = re.search(rb"Collected : (\d+)", ended(command, CHAMPION.encode()).error)
     except FileNotFoundError:
         return None
-    return int(told.group(1)) if told else None
+    return int(collected.group(1)) if collected else None
 
 
 def count_instructions(name: str, program: str, form: Sequence[str]) -> None:
@@ -149,14 +149,14 @@ def count_instructions(name: str, program: str, form: Sequence[str]) -> None:
         "translated alone": ["--no-cyclers", "--no-backward"],
         "both in one run": ["--no-backward"],
     }
-    told = []
+    figures = []
     for what, options in plans.items():
         first, second = [count(program, [*options, *form], steps) for steps in COUNTED]
         if first is None or second is None:
             print(f"instructions a step of {name}: not counted, since there is no valgrind")
             return
-        told.append(f"{what} {(second - first) / (COUNTED[1] - COUNTED[0]):.1f}")
-    print(f"instructions a step of {name}: {', '.join(told)}", flush=True)
+        figures.append(f"{what} {(second - first) / (COUNTED[1] - COUNTED[0]):.1f}")
+    print(f"instructions a step of {name}: {', '.join(figures)}", flush=True)
 
 
 def tell_where_it_begins(program: str) -> None:
@@ -164,7 +164,7 @@ def tell_where_it_begins(program: str) -> None:
     try:
         begins = ", ".join(map(str, begins_modulo_64(program)))
     except FileNotFoundError:
-        print("where the watched run begins: not told, since there is no nm")
+        print("where the watched run begins: not found, since there is no nm")
         return
     print(f"the watched run begins at {begins} modulo 64", flush=True)
 
@@ -219,8 +219,8 @@ def measure(name: str, commands: Sequence[Sequence[str]], file: str, runs: int) 
 def measure_forms(name: str, commands: Sequence[Sequence[str]], file: str, runs: int) -> None:
     """Prints the least times of the program and of both forms of the peer."""
     program, one, turn = best_times(commands, file, runs)
-    told = f"{program:.3f} s, the peer in one run {one:.3f} s, ratio {program / one:.2f}"
-    print(f"{name}: {told}, in turn {turn:.3f} s, ratio {program / turn:.2f}", flush=True)
+    what = f"{program:.3f} s, the peer in one run {one:.3f} s, ratio {program / one:.2f}"
+    print(f"{name}: {what}, in turn {turn:.3f} s, ratio {program / turn:.2f}", flush=True)
 
 
 def three_kinds(draw: random.Random) -> List[Tuple[str, str]]:
@@ -241,13 +241,13 @@ def in_one_run(program: str, draw: random.Random) -> List[Case]:
         Case(f"{KINDS} machines of five states, {name}, default limits", [], text)
         for name, text in three_kinds(draw)
     ]
-    few_told = f"{few.count(chr(10))} undecided machines of four states, default limits"
+    few_name = f"{few.count(chr(10))} undecided machines of four states, default limits"
     return [
         Case(f"all {four.count(chr(10))} machines of four states", limits, four),
         *kinds,
         Case("the champion, all deciders", ["--steps", "50000000"], CHAMPION),
-        Case(few_told + ", without the tree", ["--no-backward"], few),
-        Case(few_told, [], few),
+        Case(few_name + ", without the tree", ["--no-backward"], few),
+        Case(few_name, [], few),
     ]
 
 
@@ -292,8 +292,8 @@ def measure_search(program: str, search: Search, file: str, runs: int) -> None:
     times = [[spent(command, file, wanted) for command, wanted in pairs] for _ in range(runs)]
     simulated, searched = min(run for run, _ in times), min(run for _, run in times)
     ratios = [with_search / without for without, with_search in times]
-    told = f"simulation {simulated:.3f} s, the search {searched:.3f} s, ratio {searched / simulated:.2f}"
-    print(f"{name}: {told}, {min(ratios):.2f} to {max(ratios):.2f} in single runs", flush=True)
+    what = f"simulation {simulated:.3f} s, the search {searched:.3f} s, ratio {searched / simulated:.2f}"
+    print(f"{name}: {what}, {min(ratios):.2f} to {max(ratios):.2f} in single runs", flush=True)
 
 
 def measure_checking(program: str, draw: random.Random, file: str, runs: int) -> None:

@@ -22,6 +22,7 @@ from typing import Any, Callable, Iterator, List, Optional
 
 TOP = os.path.dirname(os.path.dirname(os.path.dirname(os.path.abspath(__file__))))
 sys.path.insert(0, os.path.join(TOP, "scripts", "tests"))
+sys.path.insert(0, os.path.join(TOP, "scripts", "tests", "package"))
 sys.path.insert(0, os.path.join(TOP, "scripts", "lib"))
 sys.path.insert(0, os.path.join(TOP, "python", "src"))
 
@@ -66,16 +67,16 @@ class Figures:
 
     def row(self, what: str, figure: str, value: float = 0, bar: Optional[float] = None) -> None:
         """A figure in words; with a bar, its value must be at most that."""
-        told = "" if bar is None else "{:,g}".format(bar) + ("" if value <= bar else ", **not held**")
-        print("| %s | %s | %s |" % (what, figure, told), flush=True)
+        sentence = "" if bar is None else "{:,g}".format(bar) + ("" if value <= bar else ", **not held**")
+        print("| %s | %s | %s |" % (what, figure, sentence), flush=True)
         if bar is not None:
             self.tally.passed += value <= bar
             self.tally.failed += value > bar
 
     def ratio(self, what: str, seconds: float, beside: float, bar: Optional[float] = None) -> None:
         """A time and how many times another it is."""
-        told = "%.2f s, beside %.2f s: %.2f" % (seconds, beside, seconds / beside)
-        self.row(what, told, seconds / beside, bar)
+        sentence = "%.2f s, beside %.2f s: %.2f" % (seconds, beside, seconds / beside)
+        self.row(what, sentence, seconds / beside, bar)
 
     def least(self, *measured: Callable[[], float]) -> List[float]:
         """The least of what each gives, in turn."""
@@ -142,13 +143,13 @@ def measure_node(figures: Figures, program: str, folder: str) -> None:
     command = [program, "decide", *options(FOUR)]
 
     def in_node() -> float:
-        return float(engine.call("decide", FOUR, given).told["seconds"])
+        return float(engine.call("decide", FOUR, given).answer["seconds"])
 
     node, alone = figures.least(in_node, lambda: spent(command, path))
     figures.ratio("858,909 machines of four states, beside the program; processor", node, alone, 2.5)
     for name in ("decide", "check"):
         fresh = Engine(folder)
-        held = fresh.call(name, MOST, b"1RB1LB_1LA1RZ\n1RB1LB_1LA1RZ halt 6 4\n").told["held"]
+        held = fresh.call(name, MOST, b"1RB1LB_1LA1RZ\n1RB1LB_1LA1RZ halt 6 4\n").answer["held"]
         figures.row("memory of `%s` at the greatest limits" % name, "%d MB" % (held / MEGABYTE))
         fresh.end()
     held = [fresh_after(folder, times) for times in (1, LISTS)]
@@ -164,7 +165,7 @@ def fresh_after(folder: str, times: int) -> int:
 
     engine = Engine(folder)
     small = {"steps": 100, "cells": 64, "depth": 20, "nodes": 100}
-    held = int(engine.call("decide", small, README * 1000, times=times).told["held"])
+    held = int(engine.call("decide", small, README * 1000, times=times).answer["held"])
     engine.end()
     return held
 
@@ -350,7 +351,7 @@ def traced_in_node(folder: str) -> float:
 
     engine = Engine(folder)
     sample = {"steps": 10_000_000, "cells": 65_536, "from": 0, "every": 18_432}
-    taken = [engine.call("trace", sample, CHAMPION.encode()).told["seconds"] for _ in range(4)]
+    taken = [engine.call("trace", sample, CHAMPION.encode()).answer["seconds"] for _ in range(4)]
     engine.end()
     return float(min(taken))
 
@@ -405,8 +406,8 @@ def measure_page_memory(figures: Figures, folder: str) -> None:
                 page.run()
                 page.ended()
             held.append(heap(page) / MEGABYTE)
-        told = "%.1f and %.1f MB" % (held[0], held[1])
-        figures.row("the page's heap after one list, and after 1,000", told, held[1], held[0] + 1)
+        sentence = "%.1f and %.1f MB" % (held[0], held[1])
+        figures.row("the page's heap after one list, and after 1,000", sentence, held[1], held[0] + 1)
 
 
 def measure_python(figures: Figures, program: str, folder: str) -> None:
@@ -474,15 +475,15 @@ def measure_report(figures: Figures, program: str, folder: str) -> None:
         figures.tally.skip("the report: %s" % error)
         return
     size = os.path.getsize(out) / MEGABYTE
-    told = "%.1f s, %.1f MB" % (taken, size)
+    what = "%.1f s, %.1f MB" % (taken, size)
     figures.row(
-        "a report with %d diagrams of 1,000,000 steps, four threads, in s" % len(left), told, taken, 60
+        "a report with %d diagrams of 1,000,000 steps, four threads, in s" % len(left), what, taken, 60
     )
 
 
 def measure_interruption(figures: Figures) -> None:
     """After how long SIGINT is heard, and the process has ended by it."""
-    from package_beside import WHERE, interrupted
+    from beside import WHERE, interrupted
 
     for where in WHERE:
         seconds = figures.least(lambda: interrupted(where)[2])[0]

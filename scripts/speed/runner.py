@@ -32,7 +32,7 @@ import time
 from typing import Callable, Dict, List, Sequence, Tuple
 
 HERE = os.path.dirname(os.path.abspath(__file__))
-sys.path[:0] = [os.path.join(HERE, "..", "lib"), os.path.join(HERE, "..", "tests")]
+sys.path[:0] = [os.path.join(HERE, "..", "lib"), os.path.join(HERE, "..", "tests", "package")]
 
 from built import has_library, has_lister, listed  # noqa: E402
 from cluster import Cluster, changed_package, cluster  # noqa: E402
@@ -217,7 +217,7 @@ def ways_of_bars(tally: Tally, program: str, case: Case, threads: int) -> Dict[s
     return ways
 
 
-def told_bar(what: str, figure: float, bar: str) -> None:
+def print_bar(what: str, figure: float, bar: str) -> None:
     print("%s | %.2f | %s" % (what, figure, bar), flush=True)
 
 
@@ -238,11 +238,11 @@ def measure_bars(tally: Tally, program: str, case: Case, threads: int, runs: int
     program_work = costs["program decides"].processor + costs["program checks"].processor
     parallel = min(cost.clock for name, cost in costs.items() if name.startswith("GNU"))
     one, several, alone = (costs[name] for name in ("one, checked", "several, checked", "several"))
-    told_bar("one worker's processor time / the program's", one.processor / program_work, "at most 1.3")
-    told_bar("one / %d workers by the clock" % threads, one.clock / several.clock, "at least 3.0")
-    told_bar("%d workers / the program" % threads, several.clock / program_clock, "at most 0.40")
-    told_bar("deciding / %d processes" % threads, alone.clock / costs["processes"].clock, "at most 1.7")
-    told_bar("deciding / GNU parallel", alone.clock / parallel, "less than 1")
+    print_bar("one worker's processor time / the program's", one.processor / program_work, "at most 1.3")
+    print_bar("one / %d workers by the clock" % threads, one.clock / several.clock, "at least 3.0")
+    print_bar("%d workers / the program" % threads, several.clock / program_clock, "at most 0.40")
+    print_bar("deciding / %d processes" % threads, alone.clock / costs["processes"].clock, "at most 1.7")
+    print_bar("deciding / GNU parallel", alone.clock / parallel, "less than 1")
 
 
 def wait_for_workers(found: Cluster, count: int) -> None:
@@ -270,7 +270,7 @@ def measure_dask(tally: Tally, program: str, case: Case, limits: Sequence[int], 
         )
     single = times["dask, one worker"]
     bar = "at most %s" % ("1.2" if limits == ROWS[0] else "1.1")
-    told_bar("%s | dask, one worker / one process" % words_of(limits), single / times["one process"], bar)
+    print_bar("%s | dask, one worker / one process" % words_of(limits), single / times["one process"], bar)
     print("%s | dask, one / three workers | %.2f" % (words_of(limits), single / times["dask, three workers"]))
 
 
@@ -285,7 +285,7 @@ def measure_waiting(tally: Tally, top: pathlib.Path, part: float) -> None:
             wait_for_workers(found, WAITING_PROCESSES)
             case = Case(top / ("waiting-%d" % lines), CHAMPION * int(lines * pieces * part))
             by_dask(case, QUICK_PASS, found, ["--piece", str(lines)])
-            told = summary_of(case)
+            summary = summary_of(case)
             tally.hold("a line for each: %s" % case.said(), case.verdicts().count(b"\n") > 0)
             print(
                 "%d workers that wait %.1f s, pieces of %d lines | %d pieces | %.0f pieces/s"
@@ -293,8 +293,8 @@ def measure_waiting(tally: Tally, top: pathlib.Path, part: float) -> None:
                     WAITING_PROCESSES * WAITING_THREADS,
                     seconds,
                     lines,
-                    told["pieces"],
-                    told["pieces"] / told["seconds"],
+                    summary["pieces"],
+                    summary["pieces"] / summary["seconds"],
                 ),
                 flush=True,
             )
@@ -316,8 +316,8 @@ def main() -> int:
     parser = words(__doc__, runs=5, parts=PARTS)
     cores = len(os.sched_getaffinity(0))
     parser.add_argument("--threads", type=from_one, default=cores, metavar="N", help="default: all cores")
-    told = "of each half of the list at most"
-    parser.add_argument("--lines", type=from_one, default=10**6, metavar="N", help=told)
+    sentence = "of each half of the list at most"
+    parser.add_argument("--lines", type=from_one, default=10**6, metavar="N", help=sentence)
     asked = parser.parse_args()
     parts = asked.part or PARTS
     tally = Tally()

@@ -141,8 +141,8 @@ class Page:
 
     def media(self, **features: str) -> None:
         """Has the browser prefer something, such as `prefers_color_scheme="dark"`."""
-        told = [{"name": name.replace("_", "-"), "value": value} for name, value in features.items()]
-        self.driver.execute_cdp_cmd("Emulation.setEmulatedMedia", {"features": told})
+        wanted = [{"name": name.replace("_", "-"), "value": value} for name, value in features.items()]
+        self.driver.execute_cdp_cmd("Emulation.setEmulatedMedia", {"features": wanted})
 
     def text(self, name: str) -> str:
         """The text of an element."""

@@ -97,13 +97,13 @@ def helps(program: str) -> Iterator[Tuple[str, bool]]:
     """Help goes to standard output, with status 0."""
     commands: List[List[str]] = [[], ["decide"], ["check"], ["trace"]]
     for command in commands:
-        status, told, error = ended([program, *command, "--help"])
-        yield " ".join([*command, "--help"]), status == 0 and b"Usage" in told and not error
-        yield " ".join(["help", *command]), ended([program, "help", *command]) == (0, told, b"")
+        status, output, error = ended([program, *command, "--help"])
+        yield " ".join([*command, "--help"]), status == 0 and b"Usage" in output and not error
+        yield " ".join(["help", *command]), ended([program, "help", *command]) == (0, output, b"")
 
 
 def full_output(program: str) -> bool:
-    """A write that fails is told on standard error."""
+    """A write that fails is named on standard error."""
     with open("/dev/full", "wb") as full:
         done = subprocess.run([program, "decide"], input=MACHINES, stdout=full, stderr=subprocess.PIPE)
     return done.returncode == 3 and done.stderr == b"bb: write failed\n"

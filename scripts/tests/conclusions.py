@@ -256,9 +256,9 @@ def hold_completions(tally: Tally, program: str, machines: Sequence[str], verdic
     for name, cases, stays, answer in (("kept", kept, True, "ok"), ("lost", lost, False, "bad")):
         others = [case.other for case in cases]
         after = decided(program, others)
-        told = answers(program, others, [case.verdict for case in cases])
-        tally.hold("completions, %s: a line for each" % name, len(cases) == len(after) == len(told) > 0)
-        for case, now, given in zip(cases, after, told):
+        printed = answers(program, others, [case.verdict for case in cases])
+        tally.hold("completions, %s: a line for each" % name, len(cases) == len(after) == len(printed) > 0)
+        for case, now, given in zip(cases, after, printed):
             what = "%s %s, but %s %s, answered %s" % (case.text, case.verdict, case.other, now, given)
             tally.hold(what, (now == case.verdict) is stays and given == answer)
         print("completions, verdict %s: %d" % (name, len(cases)))
@@ -301,7 +301,9 @@ def going_of(verdict: str) -> Optional[Going]:
     return None
 
 
-def told_of(going: Going, step: int, known: Sequence[Tuple[Optional[int], int]]) -> Tuple[Optional[int], int]:
+def place_of(
+    going: Going, step: int, known: Sequence[Tuple[Optional[int], int]]
+) -> Tuple[Optional[int], int]:
     """The state and the head's position at a step, by those at the steps up to the pair's second."""
     times, rest = divmod(max(step - going.first, 0), going.second - going.first)
     state, head = known[min(step, going.first) + rest]
@@ -316,8 +318,8 @@ def hold_later(tally: Tally, machines: Sequence[str], verdicts: Sequence[str]) -
         if going is not None:
             course = configurations(table_of(text), Now(0, 0, {}), FOLLOWED)
             known = [(now.state, now.head) for now in course]
-            told = [told_of(going, step, known[: going.second]) for step in range(FOLLOWED + 1)]
-            tally.hold("%s %s: later steps" % (text, verdict), told == known)
+            places = [place_of(going, step, known[: going.second]) for step in range(FOLLOWED + 1)]
+            tally.hold("%s %s: later steps" % (text, verdict), places == known)
             count += 1
     tally.hold("later steps of some machine", count)
     print("later steps: %d machines, %d steps each" % (count, FOLLOWED))

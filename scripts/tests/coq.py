@@ -176,8 +176,8 @@ class Both:
         counts = "%s: %d lines, %d answers and %d" % (what, len(claims[1]), len(mine), len(other))
         self.tally.hold(counts, len(mine) == len(other))
         for line, answer, another in zip(claims[1], mine, other):
-            told = "%r under %s: %s, and %s by coq/out/checker"
-            self.tally.hold(told % (line, claims[0], answer, another), answer == another)
+            sentence = "%r under %s: %s, and %s by coq/out/checker"
+            self.tally.hold(sentence % (line, claims[0], answer, another), answer == another)
 
 
 def statements() -> List[str]:
@@ -223,8 +223,8 @@ def hold_words(tally: Tally, program: str) -> None:
         with open("/dev/full", "wb") as full:
             done = subprocess.run(command, input=given, stdout=full, stderr=subprocess.PIPE)
         tally.hold("%s, a full disk: status %d" % (command, done.returncode), done.returncode == 3)
-        told = done.stderr.decode()
-        tally.hold("%s, a full disk: %r" % (command, told), "write failed" in told)
+        printed = done.stderr.decode()
+        tally.hold("%s, a full disk: %r" % (command, printed), "write failed" in printed)
 
 
 def rows() -> List[str]:
@@ -371,9 +371,9 @@ def hold_theorem(tally: Tally, words_given: Sequence[str], status: int, what: st
     """How `coq/theorem` ends, and what it tells."""
     with tempfile.TemporaryDirectory() as folder:
         done = ended([os.path.join(FOLDER, "theorem"), *words_given, os.path.join(folder, "Made.v")])
-        told = (done.output + done.error).decode()
-        tally.hold("%s: status %d: %s" % (words_given, done.status, told), done.status == status)
-        tally.hold("%s: %s" % (words_given, told), what in told)
+        printed = (done.output + done.error).decode()
+        tally.hold("%s: status %d: %s" % (words_given, done.status, printed), done.status == status)
+        tally.hold("%s: %s" % (words_given, printed), what in printed)
         kept = os.path.exists(os.path.join(folder, "Made.v"))
         tally.hold("%s: a file is kept: %s" % (words_given, kept), kept == (status == 0))
 
@@ -402,14 +402,14 @@ def hold_theorems(tally: Tally, both: Both, seed: int) -> None:
 def hold_quick(tally: Tally, both: Both, seed: int) -> None:
     """All that takes less than a minute."""
     hold_words(tally, both.program)
-    for told, claims in quick_claims(both, seed):
-        both.hold(told, claims)
+    for what, claims in quick_claims(both, seed):
+        both.hold(what, claims)
 
 
 def hold_lines(_: Tally, both: Both, seed: int) -> None:
     """Lines of whole lists and samples, and a million made ones."""
-    for told, claims in long_claims(both, seed + 1):
-        both.hold(told, claims)
+    for what, claims in long_claims(both, seed + 1):
+        both.hold(what, claims)
 
 
 def hold_all_wrong(tally: Tally, both: Both, seed: int) -> None:

@@ -29,7 +29,7 @@ sys.path.insert(0, os.path.join(os.path.dirname(os.path.dirname(os.path.abspath(
 from built import has_lister, listed  # noqa: E402
 from program import ended, joined, options, processor_time  # noqa: E402
 from tally import TOP, Tally, end_with, words  # noqa: E402
-from terminal import on_terminal  # noqa: E402
+from terminals import on_terminal  # noqa: E402
 
 COVER = os.path.join(TOP, "crates", "cover", "out", "cover")
 # States and symbols of the lists that are small.
@@ -103,8 +103,8 @@ def hold_output(
 ) -> None:
     """Holds that `cover` ends with this status and prints this line alone."""
     done = ended(command, given)
-    told = "%s: status %d, %r, %r" % (what, done.status, done.output, done.error)
-    tally.hold(told, (done.status, done.output, done.error) == (status, (line + "\n").encode(), b""))
+    sentence = "%s: status %d, %r, %r" % (what, done.status, done.output, done.error)
+    tally.hold(sentence, (done.status, done.output, done.error) == (status, (line + "\n").encode(), b""))
 
 
 def hold_whole(tally: Tally, program: str, states: int, symbols: int) -> List[str]:
@@ -123,8 +123,8 @@ def hold_changes(tally: Tally, lines: List[str], count: int, chance: random.Rand
         change = CHANGES[k % len(CHANGES)]
         made, line = change.make(lines, chance.randrange(len(lines)), chance)
         done = ended(command, joined(made))
-        is_told = done.status == 1 and done.output.startswith(b"line %d: " % line) and not done.error
-        tally.hold("%s: not refused at line %d: %r" % (change.name, line, done.output), is_told)
+        is_refused = done.status == 1 and done.output.startswith(b"line %d: " % line) and not done.error
+        tally.hold("%s: not refused at line %d: %r" % (change.name, line, done.output), is_refused)
 
 
 def hold_time(tally: Tally, program: str, lines: Sequence[str]) -> None:
@@ -151,8 +151,8 @@ def hold_sentences(tally: Tally, lines: List[str]) -> None:
         ([root + " halt 0 1"], "line 1: the claim on %s doesn't hold" % root),
         ([root + " halt 201 1"], "line 1: the claim on %s needs more than the limits" % root),
     ]
-    for made, told in rows:
-        hold_output(tally, told, [COVER, *LIMITS], joined(made), 1, told)
+    for made, sentence in rows:
+        hold_output(tally, sentence, [COVER, *LIMITS], joined(made), 1, sentence)
     for given, status, error in (
         (["--steps", "1000000000001"], 2, b"cover: steps out of range\n"),
         (["--cells", "0"], 2, b"cover: cells out of range\n"),
@@ -164,15 +164,15 @@ def hold_sentences(tally: Tally, lines: List[str]) -> None:
         (["a", "b"], 2, None),
     ):
         done = ended([COVER, *given])
-        as_told = (done.status, done.output) == (status, b"") and (error is None or done.error == error)
-        tally.hold("cover %s: %r" % (" ".join(given), done), as_told and done.error)
+        is_as_said = (done.status, done.output) == (status, b"") and (error is None or done.error == error)
+        tally.hold("cover %s: %r" % (" ".join(given), done), is_as_said and done.error)
     for word in ("--help", "--version"):
         done = ended([COVER, word])
         tally.hold("cover %s: %r" % (word, done), done.status == 0 and done.output and not done.error)
     with open("/dev/full", "wb") as full:
         done_full = subprocess.run([COVER], input=joined(lines), stdout=full, stderr=subprocess.PIPE)
-    full_told = (done_full.returncode, done_full.stderr) == (3, b"cover: write failed\n")
-    tally.hold("a full disk: %r" % done_full, full_told)
+    full_fails = (done_full.returncode, done_full.stderr) == (3, b"cover: write failed\n")
+    tally.hold("a full disk: %r" % done_full, full_fails)
 
 
 def hold_terminal(tally: Tally, lines: Sequence[str]) -> None:
@@ -185,16 +185,16 @@ def hold_terminal(tally: Tally, lines: Sequence[str]) -> None:
         tally.hold("progress: status %d, %r" % (status, shown), status == 0 and is_shown)
         with open("/dev/full", "wb") as full:
             status, shown = on_terminal([COVER, *LIMITS, file.name], b"", full)
-        told = "cover: write failed\nstandard output: No space left on device (os error 28)\n"
-        tally.hold("a full disk: status %d, %r" % (status, shown), status == 3 and shown.endswith(told))
+        what = "cover: write failed\nstandard output: No space left on device (os error 28)\n"
+        tally.hold("a full disk: status %d, %r" % (status, shown), status == 3 and shown.endswith(what))
     rows = {
         "/no/such/file": "/no/such/file: No such file or directory (os error 2)\n",
         TOP: "%s: Is a directory",
     }
     for path, cause in rows.items():
         status, shown = on_terminal([COVER, *LIMITS, path], b"", subprocess.DEVNULL)
-        told = "cover: read failed\n" + (cause % path if "%s" in cause else cause)
-        tally.hold("%s: status %d, %r" % (path, status, shown), status == 3 and told in shown)
+        what = "cover: read failed\n" + (cause % path if "%s" in cause else cause)
+        tally.hold("%s: status %d, %r" % (path, status, shown), status == 3 and what in shown)
 
 
 def main() -> int:

@@ -55,11 +55,13 @@ def hold_contents(tally: Tally, folder: pathlib.Path) -> None:
     """Each file is there, with the sha256 that CONTENTS says."""
     text = (folder / "CONTENTS").read_text(encoding="utf-8")
     rows = [line.split("  ") for line in text.splitlines() if line.count("  ") == 1]
-    told = {name: digest for digest, name in rows}
+    digests = {name: digest for digest, name in rows}
     files = {path.name: path for path in folder.iterdir() if path.name != "CONTENTS"}
-    tally.hold("CONTENTS names %s of %s" % (sorted(told), sorted(files)), sorted(told) == sorted(files))
+    tally.hold("CONTENTS names %s of %s" % (sorted(digests), sorted(files)), sorted(digests) == sorted(files))
     for name, path in files.items():
-        tally.hold("the sha256 of %s" % name, told.get(name) == hashlib.sha256(path.read_bytes()).hexdigest())
+        tally.hold(
+            "the sha256 of %s" % name, digests.get(name) == hashlib.sha256(path.read_bytes()).hexdigest()
+        )
     tally.hold("CONTENTS names the kit and the commit", "\nkit " in text and text.startswith("commit "))
     tally.hold("a wheel", len(list(folder.glob("budlarem-*.whl"))) == 1)
     tally.hold("an npm package", len(list(folder.glob("budlarem-*.tgz"))) == 1)

@@ -5,7 +5,7 @@
 
 It looks at README.md, CHANGELOG.md, `docs/`, the manual page and the examples' README. Of each it takes the
 links and the words in backquotes, and tells by their form what they are: files, names of the crates, lemmas,
-clauses of contracts, edits, options, lines of the program. What isn't there is told with document and line.
+clauses of contracts, edits, options, lines of the program. What isn't there is printed with document and line.
 It is also tried on a document in which one of each is broken. The README has at most so many words beside
 tables and code, each item of the decisions is short, and the version is one wherever it stands. It takes a
 second. The last line is `N passed, M failed`; the status is 1 where any failed.
@@ -85,7 +85,7 @@ LANGUAGES = {
     "docs/clusters.md": ["python"],
     "docs/coq.md": ["coq"],
 }
-# Lines of a document, and what is told of each: '' where nothing is wrong.
+# Lines of a document, and what is said of each: '' where nothing is wrong.
 BROKEN = [
     ("", ""),
     (
@@ -375,8 +375,8 @@ def long_items(path: str, text: str) -> Iterator[Finding]:
     """Items of a list that are too long to be read at a glance."""
     for number, line in enumerate(text.split("\n"), 1):
         if line.startswith("- ") and len(line) > ITEM_CHARACTERS:
-            told = "too long: an item of %d characters (%d at most)" % (len(line), ITEM_CHARACTERS)
-            yield Finding(path, number, told)
+            what = "too long: an item of %d characters (%d at most)" % (len(line), ITEM_CHARACTERS)
+            yield Finding(path, number, what)
 
 
 def documents() -> List[str]:
@@ -430,7 +430,7 @@ def versions() -> Dict[str, List[str]]:
 def main() -> int:
     words(__doc__, needs_program=False).parse_args()
     sources = sources_of(TOP)
-    tally = Tally(most_told=1000)
+    tally = Tally(most_printed=1000)
     for what, holds in tried(sources):
         tally.hold(what, holds)
     found = versions()

@@ -150,7 +150,7 @@ def hold_four_states(held: Held) -> None:
     taken = processor_time() - before
     reply = held.engine.call("decide", FOUR, given)
     held.tally.hold("machines of four states", (reply.status, reply.reply) == wanted)
-    seconds = reply.told.get("seconds", 0)
+    seconds = reply.answer.get("seconds", 0)
     print("four states: %.2f s, the program %.2f s, %.2f times" % (seconds, taken, seconds / taken))
     held.same("verdicts of four states", "check", FOUR, reply.reply)
 
@@ -172,9 +172,11 @@ def hold_limits(held: Held) -> None:
     for plan in REFUSED:
         reply = held.engine.call("decide", plan, b"1RA1RA\n")
         said = ended([held.program, "decide", *words_of_plan(plan)]).error.decode()
-        named = reply.told.get("error") == "LimitsError" and reply.told.get("limit") == said[4:].split(" ")[0]
+        named = (
+            reply.answer.get("error") == "LimitsError" and reply.answer.get("limit") == said[4:].split(" ")[0]
+        )
         held.tally.hold(
-            "%s: %s" % (plan, reply.told), named and said == "bb: %s\n" % reply.told.get("message")
+            "%s: %s" % (plan, reply.answer), named and said == "bb: %s\n" % reply.answer.get("message")
         )
     wrong: List[Tuple[Dict[str, Any], str]] = [
         ({"cells": 2.5}, "LimitsError"),
@@ -182,11 +184,11 @@ def hold_limits(held: Held) -> None:
         ({"backward": 1}, "TypeError"),
     ]
     for plan, error in wrong:
-        told = held.engine.call("decide", plan, b"1RA1RA\n").told
+        told = held.engine.call("decide", plan, b"1RA1RA\n").answer
         held.tally.hold("%s: %s" % (plan, told), told.get("error") == error)
     for name in ("decide", "check"):
         reply = held.same("the greatest limits", name, MOST, b"1RB1LB_1LA1RZ\n1RB1LB_1LA1RZ halt 6 4\n")
-        print("memory of %s at the greatest limits: %d MB" % (name, reply.told.get("held", 0) // 10**6))
+        print("memory of %s at the greatest limits: %d MB" % (name, reply.answer.get("held", 0) // 10**6))
 
 
 def hold_document(held: Held, folder: str) -> None:
@@ -206,9 +208,9 @@ def hold_memory(held: Held) -> None:
     """Memory that can't be had is told; it doesn't grow from call to call."""
     some = 64 * TOTAL_BYTES
     for name, plan in (("decide", {"cells": 10**7}), ("check", {"cells": 10**7})):
-        told = held.engine.call(name, plan, b"1RA1RA translated R 1 2\n", memory=some).told
+        told = held.engine.call(name, plan, b"1RA1RA translated R 1 2\n", memory=some).answer
         held.tally.hold("%s without memory: %s" % (name, told), told.get("error") == "MemoryError")
-    told = held.engine.call("decide", {}, b"1RA1RA\n" * 10**6, memory=some).told
+    told = held.engine.call("decide", {}, b"1RA1RA\n" * 10**6, memory=some).answer
     held.tally.hold("a list without memory: %s" % told, told.get("error") == "MemoryError")
     reply = held.engine.call("decide", {"cells": 64, "depth": 9}, b"1RZ---\n", memory=some)
     held.tally.hold("enough memory", reply.reply == b"1RZ--- halt 1 1\n")
@@ -217,8 +219,8 @@ def hold_memory(held: Held) -> None:
 def hold_calls(folder: str, tally: Tally) -> None:
     """An engine of its own holds after a thousand lists what it holds after one."""
     engine = Engine(folder)
-    once = engine.call("decide", SMALL, README * 1000).told.get("held")
-    often = engine.call("decide", SMALL, README * 1000, times=1000).told.get("held")
+    once = engine.call("decide", SMALL, README * 1000).answer.get("held")
+    often = engine.call("decide", SMALL, README * 1000, times=1000).answer.get("held")
     tally.hold("memory after 1 list %s, after 1000 %s" % (once, often), once and once == often)
     engine.end()
 
@@ -243,7 +245,7 @@ def hold_traces(held: Held, count: int, source: random.Random) -> None:
     wanted = ended(command).output
     held.tally.hold("a trace at the greatest limits", (reply.status, reply.reply) == (0, wanted))
     for plan in ({"every": 0}, {"cells": 0}, {"steps": 10**12 + 1}):
-        told = held.engine.call("trace", {**most, **plan}, b"1RB1LB_1LA1RZ").told
+        told = held.engine.call("trace", {**most, **plan}, b"1RB1LB_1LA1RZ").answer
         held.tally.hold("%s: %s" % (plan, told), told.get("limit") == next(iter(plan)))
     reply = held.engine.call("trace", {"steps": 5}, b"1rB")
     held.tally.hold("a trace of no machine", (reply.status, reply.reply) == (1, b"refused 2\n"))

@@ -62,9 +62,9 @@ def start(out: pathlib.Path, *asked: str) -> Process:
 
 
 def ending(process: Process) -> Tuple[int, str]:
-    """The status of a process, and what it told."""
-    told = process.communicate()[1].decode()
-    return process.returncode, told
+    """The status of a process, and what it printed."""
+    output = process.communicate()[1].decode()
+    return process.returncode, output
 
 
 def summary(out: pathlib.Path) -> Dict[str, Any]:
@@ -74,17 +74,17 @@ def summary(out: pathlib.Path) -> Dict[str, Any]:
     return found
 
 
-def passes(told: Dict[str, Any]) -> List[Tuple[int, Tuple[int, ...]]]:
+def passes(summary: Dict[str, Any]) -> List[Tuple[int, Tuple[int, ...]]]:
     """The lines of each pass, and the counts by kind."""
-    return [(one["lines"], tuple(one["counts"][kind] for kind in KINDS)) for one in told.get("passes", [])]
+    return [(one["lines"], tuple(one["counts"][kind] for kind in KINDS)) for one in summary.get("passes", [])]
 
 
 def hold_sample(tally: Tally, program: str, top: pathlib.Path) -> None:
     """The sample, and what is left of it."""
     out, began = top / "sample", time.monotonic()
-    status, told = ending(start(out, *SAMPLE))
+    status, printed = ending(start(out, *SAMPLE))
     print("the sample took %.0f s" % (time.monotonic() - began), flush=True)
-    tally.hold("the sample: status %d: %s" % (status, told), status == 0)
+    tally.hold("the sample: status %d: %s" % (status, printed), status == 0)
     found = summary(out)
     tally.hold("passes: %s" % passes(found), passes(found) == PASSES)
     hold_shares(tally, found.get("counts", {}))
@@ -153,26 +153,26 @@ def hold_shares(tally: Tally, counts: Dict[str, int]) -> None:
     for kind in KINDS:
         share, found = whole[kind] / MACHINES, counts.get(kind, 0) / PASSES[0][0]
         allowed = 4 * math.sqrt(share * (1 - share) / PASSES[0][0])
-        told = "%s: %.4f of the sample, %.4f of the list, %.4f allowed" % (kind, found, share, allowed)
-        tally.hold(told, abs(found - share) <= allowed)
+        what = "%s: %.4f of the sample, %.4f of the list, %.4f allowed" % (kind, found, share, allowed)
+        tally.hold(what, abs(found - share) <= allowed)
 
 
 def written() -> Dict[str, Any]:
     """What the run over the whole list wrote."""
-    told: Dict[str, Any] = json.loads((DOCUMENTS / "five-states.json").read_text())
-    return told
+    summary: Dict[str, Any] = json.loads((DOCUMENTS / "five-states.json").read_text())
+    return summary
 
 
-def figures_of(told: Dict[str, Any]) -> Iterator[str]:
+def figures_of(summary: Dict[str, Any]) -> Iterator[str]:
     """What the document must state of a run, in its own words."""
-    first, second = told["passes"]
+    first, second = summary["passes"]
     for kind in KINDS:
-        counts = first["counts"][kind], second["counts"][kind], told["counts"][kind]
+        counts = first["counts"][kind], second["counts"][kind], summary["counts"][kind]
         if any(counts):
             yield "| `%s` | %s | %.4f |" % (
                 kind,
                 " | ".join("{:,}".format(count) for count in counts),
-                counts[2] / told["machines"],
+                counts[2] / summary["machines"],
             )
     lines = [one["lines"] for one in (first, second, first)]
     yield "| all | %s | |" % " | ".join("{:,}".format(count) for count in lines)
@@ -180,26 +180,26 @@ def figures_of(told: Dict[str, Any]) -> Iterator[str]:
     yield "| By the clock | %.0f s | %.0f s |" % (first["seconds"], second["seconds"])
     work = first["work_seconds"], second["work_seconds"]
     yield "together | {:,.0f} s | {:,.0f} s |".format(*work)
-    for number, line in told["greatest"].values():
+    for number, line in summary["greatest"].values():
         yield "| {:,} | `{}` |".format(number, line)
-    for _, line in told["longest"]:
+    for _, line in summary["longest"]:
         yield "\n| `%s` |" % line
-    for steps, cells in told["left"]["visited"].items():
+    for steps, cells in summary["left"]["visited"].items():
         row = ["{:,}".format(count) for most, count in cells.items() if int(most) <= 1_024]
         yield "| {:,} | {} |".format(int(steps), " | ".join(row))
-    left = told["counts"]["undecided steps"] + told["counts"]["undecided cells"]
-    decided, share = told["machines"] - left, 100 * left / told["machines"]
+    left = summary["counts"]["undecided steps"] + summary["counts"]["undecided cells"]
+    decided, share = summary["machines"] - left, 100 * left / summary["machines"]
     yield "So {:,} machines are decided and {:,} are left, {:.2f} %".format(decided, left, share)
     yield "each {}rd of the machines that are left, {:,} in all".format(
-        told["left"]["every"], told["left"]["machines"]
+        summary["left"]["every"], summary["left"]["machines"]
     )
 
 
 def hold_document(tally: Tally) -> None:
     """The document states each figure of the whole run."""
-    told, document = written(), (DOCUMENTS / "five-states.md").read_text()
-    tally.hold("the whole list has %d machines" % told["machines"], told["machines"] == MACHINES)
-    for figure in figures_of(told):
+    summary, document = written(), (DOCUMENTS / "five-states.md").read_text()
+    tally.hold("the whole list has %d machines" % summary["machines"], summary["machines"] == MACHINES)
+    for figure in figures_of(summary):
         tally.hold("docs/five-states.md says otherwise: %s" % figure, figure in document)
 
 
@@ -228,18 +228,18 @@ def hold_interruptions(tally: Tally, out: pathlib.Path) -> None:
         process = start(out, *asked)
         while parts_of(out) == seen and time.monotonic() < began + PATIENCE:
             time.sleep(0.02)
-        second, told = ending(start(out, *asked))
-        is_refused = second == 2 and "other work goes on" in told
-        tally.hold("a second one: status %d: %s" % (second, told), is_refused)
+        second, output = ending(start(out, *asked))
+        is_refused = second == 2 and "other work goes on" in output
+        tally.hold("a second one: status %d: %s" % (second, output), is_refused)
         (os.killpg if number == signal.SIGKILL else os.kill)(process.pid, number)
-        found, told = ending(process)
-        tally.hold("signal %d: status %d: %s" % (number, found, told), found == status)
-        is_told = "interrupted; the same command goes on" in told
-        tally.hold("signal %d: %s" % (number, told), is_told == (number == signal.SIGINT))
+        found, output = ending(process)
+        tally.hold("signal %d: status %d: %s" % (number, found, output), found == status)
+        is_announced = "interrupted; the same command goes on" in output
+        tally.hold("signal %d: %s" % (number, output), is_announced == (number == signal.SIGINT))
         if number != signal.SIGKILL:
             tally.hold("signal %d: nothing that it ran is left" % number, not is_left(process.pid))
-    found, told = ending(start(out, *asked))
-    tally.hold("gone on with: status %d: %s" % (found, told), found == 0 and " parts stand" in told)
+    found, output = ending(start(out, *asked))
+    tally.hold("gone on with: status %d: %s" % (found, output), found == 0 and " parts stand" in output)
     hold_four_states(tally, out)
 
 
@@ -255,8 +255,8 @@ def is_left(group: int) -> bool:
 def hold_refusals(tally: Tally, top: pathlib.Path) -> None:
     """Commands and folders that are refused, by a sentence; nothing is changed."""
     small = ["--states", "2", "--parts", "2"]
-    status, told = ending(start(top / "small", *small))
-    tally.hold("two states: status %d: %s" % (status, told), status == 0)
+    status, output = ending(start(top / "small", *small))
+    tally.hold("two states: status %d: %s" % (status, output), status == 0)
     (top / "foreign").mkdir()
     (top / "foreign" / "letter.txt").write_text("Dear reader\n")
     rows = (
@@ -267,16 +267,16 @@ def hold_refusals(tally: Tally, top: pathlib.Path) -> None:
     )
     for name, asked, sentence in rows:
         before = sorted(top.rglob("*"))
-        status, told = ending(start(top / name, *asked))
-        is_right = status == 2 and sentence in told and sorted(top.rglob("*")) == before
-        tally.hold("%s %s: status %d: %s" % (name, asked, status, told), is_right)
+        status, output = ending(start(top / name, *asked))
+        is_right = status == 2 and sentence in output and sorted(top.rglob("*")) == before
+        tally.hold("%s %s: status %d: %s" % (name, asked, status, output), is_right)
 
 
 def hold_stream(tally: Tally, out: pathlib.Path) -> None:
     """The verdicts that are kept come as one list, in order: `cover` finds that it covers its size."""
     small = ["--states", "3", "--parts", "5"]
-    status, told = ending(start(out, *small))
-    tally.hold("three states: status %d: %s" % (status, told), status == 0)
+    status, printed = ending(start(out, *small))
+    tally.hold("three states: status %d: %s" % (status, printed), status == 0)
     command = [SCRIPT, "--library", LIBRARY, "--out", str(out), *small]
     none = ended([*command, "--stream"])
     tally.hold("nothing is kept: %r" % none.error, none.status == 2 and b"aren't kept" in none.error)

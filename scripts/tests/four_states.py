@@ -30,7 +30,7 @@ with open(os.path.join(TOP, "docs", "four-states.md"), encoding="utf-8") as read
     DOCUMENT = read.read()
 
 
-def told(figure: str) -> None:
+def print_figure(figure: str) -> None:
     """Holds that the document has a figure in these words."""
     print("  ", figure)
     tally.hold("docs/four-states.md says otherwise: %s" % figure, figure in DOCUMENT)
@@ -73,8 +73,8 @@ def decided(program: str, limits: Mapping[str, int], machines: Sequence[str]) ->
 def tell_kinds(lines: Sequence[str]) -> None:
     """How many verdicts there are of each kind."""
     for name, count in sorted(collections.Counter(map(kind, lines)).items()):
-        told(row("`%s`" % name, count))
-    told(row("all", len(lines)))
+        print_figure(row("`%s`" % name, count))
+    print_figure(row("all", len(lines)))
 
 
 def tell_greatest(lines: Sequence[str]) -> None:
@@ -82,20 +82,20 @@ def tell_greatest(lines: Sequence[str]) -> None:
     fields = [line.split(" ") for line in lines]
     halts = [verdict for verdict in fields if verdict[1] == "halt"]
     longest = max(halts, key=lambda verdict: int(verdict[2]))
-    told("The longest run to a halt is that of `%s`: `%s`" % (longest[0], " ".join(longest[1:])))
+    print_figure("The longest run to a halt is that of `%s`: `%s`" % (longest[0], " ".join(longest[1:])))
     cyclers = [verdict for verdict in fields if verdict[1] == "cycler"]
     lengths = {int(verdict[3]) - int(verdict[2]) for verdict in cyclers}
     even = all(apart % 2 == 0 for apart in lengths)
     tally.hold("the two steps of a cycler are an even number apart", even)
     latest = max(int(verdict[3]) for verdict in cyclers)
     apart = (latest, min(lengths), max(lengths))
-    told("the latest second step of a pair is %d, and the two are %d to %d steps apart" % apart)
+    print_figure("the latest second step of a pair is %d, and the two are %d to %d steps apart" % apart)
     moved = [verdict for verdict in fields if verdict[1] == "translated"]
     greatest = tuple(max(int(verdict[k]) for verdict in moved) for k in (4, 5, 6))
-    told("the latest second step is %d, the greatest shift %d, the greatest length %d" % greatest)
+    print_figure("the latest second step is %d, the greatest shift %d, the greatest length %d" % greatest)
     trees = [verdict for verdict in fields if verdict[1] == "backward"]
     levels, nodes = (max(int(verdict[k]) for verdict in trees) for k in (2, 3))
-    told("at most %d levels and %d nodes" % (levels, nodes))
+    print_figure("at most %d levels and %d nodes" % (levels, nodes))
 
 
 def tell_later(limits: Mapping[str, int], before: int, lines: Sequence[str]) -> None:
@@ -105,7 +105,7 @@ def tell_later(limits: Mapping[str, int], before: int, lines: Sequence[str]) -> 
     found = str(len(new))
     if new and len(steps) == len(new):
         found = "%d, all `translated`, at steps %d to %d" % (len(new), min(steps), max(steps))
-    told(row(*limits.values(), before, found, len(lines) - len(new)))
+    print_figure(row(*limits.values(), before, found, len(lines) - len(new)))
 
 
 def tell_widths(program: str, machines: Sequence[str]) -> None:
@@ -116,7 +116,7 @@ def tell_widths(program: str, machines: Sequence[str]) -> None:
             limits = {"steps": steps, "cells": cells, "depth": 0, "nodes": 0}
             lines, _ = run([program, "decide", *words_of_plan(limits), *SIMULATION], machines)
             counts.append(sum(kind(line) == "undecided steps" for line in lines))
-        told(row(steps, *counts))
+        print_figure(row(steps, *counts))
 
 
 def main() -> int:
@@ -125,7 +125,7 @@ def main() -> int:
         return tally.end()
     machines, taken = run([LISTER, "--states", "4"], [])
     print("%d machines, listed in %.2f s" % (len(machines), taken))
-    told("lists {:,} machines".format(len(machines)))
+    print_figure("lists {:,} machines".format(len(machines)))
     lines = decided(program, FIRST, machines)
     tell_kinds(lines)
     tell_greatest(lines)

@@ -116,14 +116,14 @@ static void hold_traces(void) {
     memset(out, 0xAA, sizeof out);
     hold("a byte short", trace(MACHINE, 0, 3, out, whole - 1, &count) == BB_SHORT && count == whole);
     hold("no room", trace(MACHINE, 0, 3, out, 0, &count) == BB_SHORT && count == whole && has(out, ""));
-    hold("no step told", trace(MACHINE, 7, 1, out, 256, &count) == BB_CLEAN && count == 0 && has(out, ""));
+    hold("no step printed", trace(MACHINE, 7, 1, out, 256, &count) == BB_CLEAN && count == 0 && has(out, ""));
     hold("no step, no room", trace(MACHINE, UINT64_MAX, 9, out, 0, &count) == BB_CLEAN && count == 0);
     hold("one step", trace(MACHINE, 2, UINT64_MAX, out, 256, &count) == BB_CLEAN && has(out, "2 A 0 11\n"));
     memset(out, 0xAA, sizeof out);
     hold("no machine", trace("1RZ---\n", 9, 9, out, 256, &count) == BB_NOT_CLEAN && has(out, "refused 7\n"));
     memset(out, 0xAA, sizeof out);
-    uint32_t told = bb_trace(9, 2, 1, 1, bytes("1RA1RA"), 6, out, 256, &count);
-    hold("cut by the cells", told == BB_NOT_CLEAN && has(out, "1 A 1 10\n"));
+    uint32_t status = bb_trace(9, 2, 1, 1, bytes("1RA1RA"), 6, out, 256, &count);
+    hold("cut by the cells", status == BB_NOT_CLEAN && has(out, "1 A 1 10\n"));
     memset(out, 0xAA, sizeof out);
     hold("of no step", trace(MACHINE, 0, 0, out, 256, &count) == BB_LIMITS && count == 0 && has(out, ""));
     hold("of no machine", trace("", 0, 0, out, 256, &count) == BB_LIMITS && count == 0 && has(out, ""));
@@ -151,20 +151,20 @@ static void hold_limits(void) {
     }
     for (int at = 0; at < 3; at++) {
         size_t count = 9;
-        uint32_t told = bb_trace(WRONG[at][0], WRONG[at][1], 0, 1, bytes(LIST), 6, out, 256, &count);
-        hold("limits of a trace", told == BB_LIMITS && count == 0 && has(out, ""));
+        uint32_t status = bb_trace(WRONG[at][0], WRONG[at][1], 0, 1, bytes(LIST), 6, out, 256, &count);
+        hold("limits of a trace", status == BB_LIMITS && count == 0 && has(out, ""));
     }
     size_t count;
-    uint32_t told =
+    uint32_t status =
         bb_decide_line(3, 64, 30, 1000, true, true, false, bytes("0RB---_0LA---"), 13, out, 256, &count);
-    hold("a decider off", told == BB_CLEAN && has(out, "0RB---_0LA--- undecided steps"));
+    hold("a decider off", status == BB_CLEAN && has(out, "0RB---_0LA--- undecided steps"));
 }
 
 /* Whether a look at replies gives this status and these numbers; where nothing is counted, counts stay 9. */
 static bool looks(const char *list, const char *replies, uint32_t status, const uint64_t wanted[7],
                   uint64_t wanted_lines) {
     uint64_t counts[7] = {9, 9, 9, 9, 9, 9, 9}, lines = 99;
-    uint32_t told =
+    uint32_t status =
         bb_look(bytes(list), strlen(list), bytes(replies), strlen(replies), counts, &lines);
     return told == status && lines == wanted_lines && memcmp(counts, wanted, sizeof counts) == 0;
 }

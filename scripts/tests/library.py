@@ -70,11 +70,11 @@ def hold_c(tally: Tally, program: str, archive: str, folder: str) -> None:
     for name, out in zip(("decide.c", "two_states.c", "trace.c"), made[2:]):
         compiled(tally, ["gcc", "-std=c99", *C_WORDS, os.path.join(examples, name), archive, "-o", out])
     for command in ([made[0]], [made[1]], [*VALGRIND, made[0]], [*VALGRIND, made[2], *MACHINES]):
-        status, told = output(command)
-        counts = re.search(rb"(\d+) passed, 0 failed\n$", told)
+        status, printed = output(command)
+        counts = re.search(rb"(\d+) passed, 0 failed\n$", printed)
         is_unclean = command[-1] == MACHINES[-1]
         tally.hold("%s: status %d" % (" ".join(command), status), status == int(is_unclean))
-        tally.hold("all of its tests: %s" % told.decode(), counts or is_unclean)
+        tally.hold("all of its tests: %s" % printed.decode(), counts or is_unclean)
     lines = output([made[3], "lines"])[1].splitlines()[:-5]
     given = b"".join(line.split()[0] + b"\n" for line in lines)
     wanted = output([program, "decide", *SMALL], given)[1].splitlines()
@@ -122,8 +122,8 @@ def hold_many_cores(tally: Tally, program: str, made: str) -> None:
     for given in lists:
         wanted = output([program, "decide", *LIMITS], given)
         for threads in ("1", "4", "9"):
-            told = "%d bytes on %s cores" % (len(given), threads)
-            tally.hold(told, output([made, *LIMITS, "--threads", threads], given) == wanted)
+            what = "%d bytes on %s cores" % (len(given), threads)
+            tally.hold(what, output([made, *LIMITS, "--threads", threads], given) == wanted)
     for words_given in (["--steps"], ["--cells", "0"], ["--levels", "3"], ["--steps", "many"]):
         tally.hold("%s is refused" % words_given, output([made, *words_given]) == (2, b""))
 
@@ -145,8 +145,8 @@ def hold_list(tally: Tally, program: str, limits: budlarem.Limits) -> None:
     machines = listed(4).decode().splitlines()[:100_000]
     verdicts = replies([program, "decide", *LIMITS], machines)
     tally.hold("100000 machines of four states", len(verdicts) == 100_000)
-    told = [str(verdict) for verdict in budlarem.decide(machines, limits)]
-    tally.hold("their verdicts", told == verdicts)
+    found = [str(verdict) for verdict in budlarem.decide(machines, limits)]
+    tally.hold("their verdicts", found == verdicts)
     hold_answers(tally, program, verdicts, limits)
     hold_traces(tally, program, machines[::1000])
 
@@ -188,11 +188,11 @@ def hold_calls(tally: Tally, program: str) -> None:
     """The library, and what calls it in each language."""
     if not tally.has("the library", "rt", "cc", "ar", "ld", "objcopy", "nm"):
         return
-    status, told = output([os.path.join(TOP, "scripts", "library")])
+    status, printed = output([os.path.join(TOP, "scripts", "library")])
     tally.hold("scripts/library: status %d" % status, status == 0)
     if status != 0:
         return
-    archive, shared, _ = told.decode().splitlines()
+    archive, shared, _ = printed.decode().splitlines()
     symbols = output(["nm", "-D", "--defined-only", shared])[1].decode().split()[2::3]
     tally.hold("libbb.so has %s" % symbols, sorted(symbols) == CALLS)
     begins = begins_modulo_64(shared)

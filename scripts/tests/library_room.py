@@ -24,9 +24,9 @@ def held(compiler: Sequence[str], made: str) -> Iterator[Tuple[str, object]]:
     yield "%s compiles it" % compiler[0], compiled.returncode == 0
     if compiled.returncode == 0:
         ended = subprocess.run([made], capture_output=True, text=True)
-        told = ended.stdout + ended.stderr
-        fine = re.fullmatch(r"[1-9]\d* passed, 0 failed\n", told) and ended.returncode == 0
-        yield "compiled by %s, it ends with status %d and %r" % (compiler[0], ended.returncode, told), fine
+        output = ended.stdout + ended.stderr
+        fine = re.fullmatch(r"[1-9]\d* passed, 0 failed\n", output) and ended.returncode == 0
+        yield "compiled by %s, it ends with status %d and %r" % (compiler[0], ended.returncode, output), fine
 
 
 def hold(tally: Tally) -> None:

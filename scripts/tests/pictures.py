@@ -49,8 +49,8 @@ def pixels(data: bytes) -> Rows:
 def asked_for(program: str, machine: str, upto: int, *options: str) -> Tuple[Optional[Rows], str]:
     """The pixels of a trace's picture, none where it is refused, and what standard error says."""
     trace = ended([program, "trace", "--upto", str(upto), machine]).output
-    status, made, told = ended([sys.executable, PICTURE, *options], trace)
-    return pixels(made) if status == 0 else None, told.decode()
+    status, made, error = ended([sys.executable, PICTURE, *options], trace)
+    return pixels(made) if status == 0 else None, error.decode()
 
 
 def picture(program: str, machine: str, upto: int, *options: str) -> Tuple[Rows, str]:
@@ -92,10 +92,10 @@ def sampling(program: str) -> Held:
 def scaling(program: str) -> Held:
     """A picture of more than 2,000 positions is scaled down: a pixel has the mean colour of its cells."""
     trace = ended([program, "trace", "--upto", "4000", GOES_RIGHT]).output
-    status, made, told = ended([sys.executable, PICTURE, "--rows", "10"], trace)
+    status, made, error = ended([sys.executable, PICTURE, "--rows", "10"], trace)
     wide, high = struct.unpack(">II", made[16:24])
-    yield "%d by %d: %r" % (wide, high, told), (status, wide, high) == (0, 1_793, 8)
-    yield "that is said", b"a pixel has the mean colour of 2 cells" in told and b"positions" not in told
+    yield "%d by %d: %r" % (wide, high, error), (status, wide, high) == (0, 1_793, 8)
+    yield "that is said", b"a pixel has the mean colour of 2 cells" in error and b"positions" not in error
     data = zlib.decompress(made[made.index(b"IDAT") + 4 : -16])
     row = data[2 * (1 + 3 * wide) + 1 :][: 3 * wide]
     found = [tuple(row[k : k + 3]) for k in range(0, len(row), 3)]
@@ -124,10 +124,10 @@ def first_of_readme(program: str) -> Held:
     with open(os.path.join(TOP, "README.md"), encoding="utf-8") as file:
         shown = re.findall(r"!\[.*\n\n    \$ echo (\S+) \| bb decide --steps (\d+)\n    (.*)\n", file.read())
     yield "README shows a command: %s" % shown, len(shown) == 1
-    machine, limit, told = shown[0]
+    machine, limit, verdict = shown[0]
     (line,) = replies([program, "decide", "--steps", limit], [machine])
-    yield "%s steps: %s" % (limit, line), line == told and machine == FIVE_STATES
-    steps = int(told.split()[2])
+    yield "%s steps: %s" % (limit, line), line == verdict and machine == FIVE_STATES
+    steps = int(verdict.split()[2])
     (line,) = replies([program, "decide", "--steps", str(steps - 1)], [machine])
     yield "a step less: %s" % line, kind_of(line) == "undecided"
 

@@ -29,7 +29,7 @@ from program import GREATEST, ended, options, options_of_pass  # noqa: E402
 from tally import TOP, Tally, end_with, heed_interruption, words  # noqa: E402
 
 DOCUMENT = os.path.join(TOP, "docs", "recipes.md")
-# A line of a list, and the machine that is taken out of it, or why there is none; None where it isn't told
+# A line of a list, and the machine that is taken out of it, or why there is none; None where it isn't said
 # of.
 TAKEN: List[Tuple[bytes, Union[bytes, None, str]]] = [
     (b"1RB1LB_1LA1RZ", b"1RB1LB_1LA1RZ"),
@@ -171,7 +171,7 @@ def preparing(folder: Folder, blocks: List[str], tally: Tally) -> Held:
             status, output, error = folder.run(take)
             taken = folder.read("machines.txt")
             yield "machines are taken: %r" % taken, (status, output, taken) == (0, b"", wanted)
-            yield from _told(error.decode().splitlines())
+            yield from hold_sentences(error.decode().splitlines())
     folder.write("list.txt", b"")
     yield "no list, no machines", folder.run(take)[:2] == (0, b"") and folder.read("machines.txt") == b""
     folder.write("list.txt", b"1RB1LB_1LA1RX\n")
@@ -179,16 +179,16 @@ def preparing(folder: Folder, blocks: List[str], tally: Tally) -> Held:
     yield "another halting letter", held
 
 
-def _told(error: List[str]) -> Held:
+def hold_sentences(error: List[str]) -> Held:
     """Each line that isn't taken is shown with the reason, and each rewriting."""
     for number, (line, found) in enumerate(TAKEN, 1):
         begin = "list.txt:%d: " % number
-        told = [row for row in error if row.startswith(begin)]
+        output = [row for row in error if row.startswith(begin)]
         if isinstance(found, str):
-            yield "%r is refused: %s" % (line, told), told[0].startswith(begin + "refused: " + found)
+            yield "%r is refused: %s" % (line, output), output[0].startswith(begin + "refused: " + found)
         else:
             is_rewritten = found is not None and found not in line
-            yield "what is told of %r: %s" % (line, told), len(told) == is_rewritten
+            yield "what is said of %r: %s" % (line, output), len(output) == is_rewritten
 
 
 def counting_more(folder: Folder, blocks: List[str]) -> Held:
@@ -338,7 +338,7 @@ def killed(folder: Folder) -> str:
 
 
 def whole(folder: Folder, blocks: List[str]) -> Held:
-    """A list with a gap, a cut line or lines in another order is told from a whole one."""
+    """A list with a gap, a cut line or lines in another order is seen not to be whole."""
     look = blocks[0]
     for name, content in LISTS.items():
         folder.write("machines.txt", content)

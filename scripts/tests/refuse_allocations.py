@@ -33,8 +33,8 @@ static long calls;
 static int refused(void) {
     const char *at = getenv("REFUSE_AT");
     if (at && ++calls == atol(at)) {
-        const char *told = getenv("REFUSE_TOLD");
-        if (told) { int ignored = symlink("refused", told); (void)ignored; }
+        const char *trace = getenv("REFUSE_TRACE");
+        if (trace) { int ignored = symlink("refused", trace); (void)ignored; }
         return 1;
     }
     return 0;
@@ -121,13 +121,13 @@ def name_of(program: str) -> str:
 def ends_of(program: str, asked: Sequence[str], library: str, folder: str) -> List[Ended]:
     """How it ends with each allocation refused in turn."""
     ends: List[Ended] = []
-    told = os.path.join(folder, "told")
+    trace = os.path.join(folder, "trace")
     while True:
-        refusal = {"LD_PRELOAD": library, "REFUSE_AT": str(len(ends) + 1), "REFUSE_TOLD": told}
+        refusal = {"LD_PRELOAD": library, "REFUSE_AT": str(len(ends) + 1), "REFUSE_TRACE": trace}
         end = run(program, asked, {**os.environ, **refusal})
-        if not os.path.lexists(told):
+        if not os.path.lexists(trace):
             return ends
-        os.unlink(told)
+        os.unlink(trace)
         ends.append(end)
 
 
@@ -165,10 +165,10 @@ def main() -> int:
         for built, asked, made in runs:
             named = [files.get(word, word) for word in asked]
             ends = ends_of(built, named, library, folder)
-            told = "%s %s" % (name_of(built), " ".join(asked))
-            print("%s: %d allocations refused in turn" % (told, len(ends)))
+            sentence = "%s %s" % (name_of(built), " ".join(asked))
+            print("%s: %d allocations refused in turn" % (sentence, len(ends)))
             for what, holds in judged(name_of(built), ends, run(built, named, dict(os.environ)), made):
-                tally.hold("%s: %s" % (told, what), holds)
+                tally.hold("%s: %s" % (sentence, what), holds)
     return tally.end()
 
 

@@ -77,9 +77,9 @@ def hold_words(tally: Tally, path: str) -> None:
         except subprocess.TimeoutExpired:
             tally.hold("%s %s: it goes on for %d s" % (path, option, PATIENCE), False)
             continue
-        told = done.stdout if status == 0 else done.stderr
+        output = done.stdout if status == 0 else done.stderr
         what = "%s %s: status %d: %s%s" % (path, option, done.returncode, done.stdout, done.stderr)
-        tally.hold(what, done.returncode == status and told.strip())
+        tally.hold(what, done.returncode == status and output.strip())
 
 
 def main() -> int:

@@ -17,12 +17,13 @@ import sys
 import tempfile
 import threading
 import time
-from typing import IO, Callable, Iterator, List, Optional, Sequence, Tuple, Union
+from typing import Callable, Iterator, List, Optional, Sequence, Tuple
 
 sys.path.insert(0, os.path.join(os.path.dirname(os.path.dirname(os.path.abspath(__file__))), "lib"))
 
 from program import kind_of  # noqa: E402
 from tally import Tally, end_with, words  # noqa: E402
+from terminals import on_terminal  # noqa: E402
 
 LIST = b"1RB1LB_1LA1RZ\n0RB---_0LA---\n1RA1RA\n1rB1LB\n1RB---_1LA---\n"
 SLOW = ["--steps", "300000", "--cells", "4096"]
@@ -36,30 +37,6 @@ LONGER, LONGEST = 4, 4**6
 ANSWERS = ["ok", "bad", "over", "open", "unread"]
 # What must hold, and whether it does.
 Held = Iterator[Tuple[str, object]]
-
-
-def on_terminal(command: Sequence[str], given: bytes, output: Union[int, IO[bytes]]) -> Tuple[int, str]:
-    """The status and what the terminal shows, with standard output in this file."""
-    reader, terminal = pty.openpty()
-    shown: List[bytes] = []
-
-    def collect() -> None:
-        while True:
-            try:
-                piece = os.read(reader, 4096)
-            except OSError:
-                return
-            if not piece:
-                return
-            shown.append(piece)
-
-    listening = threading.Thread(target=collect)
-    listening.start()
-    ended = subprocess.run(command, input=given, stdout=output, stderr=terminal)
-    os.close(terminal)
-    listening.join()
-    os.close(reader)
-    return ended.returncode, b"".join(shown).decode().replace("\r\n", "\n")
 
 
 def causes(folder: str) -> Iterator[Tuple[str, List[str], Optional[str], int, str]]:
@@ -112,9 +89,9 @@ def long_list(times: int = 1) -> bytes:
 def shown_lines(shown: str, names: Sequence[str]) -> Iterator[Tuple[Optional[int], List[int]]]:
     """The lines of progress that a terminal showed: the percent, none where it has none, and each count."""
     for line in re.findall(r"\r([^\r\x1b]+)\x1b\[K", shown):
-        percent, told = parts_of(r"(?:(\d+)% ?)?(.*)", line)
+        percent, what = parts_of(r"(?:(\d+)% ?)?(.*)", line)
         counts = dict.fromkeys(names, 0)
-        for part in told.split(", ") if told else []:
+        for part in what.split(", ") if what else []:
             count, name = parts_of(r"([1-9]\d*) (\w+)", part)
             counts[name] += int(count)
         yield (int(percent) if percent else None), list(counts.values())
@@ -152,7 +129,7 @@ def progress(program: str, folder: str) -> Held:
     sizes = [len(line) + 1 for line in given.split(b"\n")[:-1]]
     answered = [100 * sum(sizes[: sum(counts)]) // sum(sizes) for _, counts in lines]
     holds = all(percent is not None and percent <= most for (percent, _), most in zip(lines, answered))
-    yield "no more is told than was answered: %s of %s" % ([line[0] for line in lines], answered), holds
+    yield "no more is counted than was answered: %s of %s" % ([line[0] for line in lines], answered), holds
     yield "it goes at the end", shown.endswith("\r\x1b[K") and shown.count("\n") == 0
     yield "within 79 columns", max(len(line) for line in re.split(r"[\r\x1b]", shown)) <= 79
 
@@ -183,7 +160,7 @@ def fed(
     return shown, batches
 
 
-def told_twice(shown: bytes) -> bool:
+def shown_twice(shown: bytes) -> bool:
     """Whether two lines with a count of some kind stand there."""
     return len(re.findall(rb"\r\d[^\r\x1b]*\x1b", shown)) >= 2
 
@@ -191,11 +168,11 @@ def told_twice(shown: bytes) -> bool:
 def piped(program: str) -> Held:
     """The progress of a list that comes by a pipe: its size isn't known."""
     batch = long_list()
-    shown, batches = fed(program, ["decide", *SLOW], batch, told_twice)
+    shown, batches = fed(program, ["decide", *SLOW], batch, shown_twice)
     lines = list(shown_lines(shown.decode(), SHORT))
     most = batches * batch.count(b"\n")
-    told = len(lines) >= 2 and 0 < sum(lines[-1][1]) <= most
-    yield "progress into the null device, of %d lines: %s" % (most, lines), told
+    printed = len(lines) >= 2 and 0 < sum(lines[-1][1]) <= most
+    yield "progress into the null device, of %d lines: %s" % (most, lines), printed
     yield "no percent of a pipe", all(percent is None for percent, _ in lines)
     hard = b"1RB1LC_1RC1RB_1RD0LE_1LA1LD_1RZ0LA "
     claims = [
@@ -207,7 +184,9 @@ def piped(program: str) -> Held:
     ]
     # The fourth takes 100,000 steps, so that fewer than 100,000 of a kind are answered between two lines.
     answers = ["over", "ok", "open", "bad", "unread"]
-    shown, batches = fed(program, ["check", "--steps", "100000"], b"\n".join(claims * 40) + b"\n", told_twice)
+    shown, batches = fed(
+        program, ["check", "--steps", "100000"], b"\n".join(claims * 40) + b"\n", shown_twice
+    )
     lines = list(shown_lines(shown.decode(), ANSWERS))
     first = answers * (batches * 40)
     right = [[first[: sum(counts)].count(answer) for answer in ANSWERS] for _, counts in lines]
@@ -223,7 +202,7 @@ def large_counts(program: str) -> Held:
     yield "thousands: %s" % units, units[b"k"] and 100 <= min(units[b"k"]) and max(units[b"k"]) < 10_000
     most = batches // 10
     yield "millions, of at most %d" % most, units[b"M"] and 10 <= min(units[b"M"]) <= most
-    yield "no more than 99,999 is told to the digit", max(units[b""], default=0) < 100_000
+    yield "no more than 99,999 is printed to the digit", max(units[b""], default=0) < 100_000
 
 
 def elsewhere(program: str) -> Held:
@@ -252,8 +231,8 @@ def main() -> int:
         for name, asked, output, status, error in causes(folder):
             with open(output or os.devnull, "wb") as file:
                 ended = on_terminal([program, *asked], b"1RA1RA halt 1 1\n", file)
-            told = ended[1].split("\x1b[K")[-1]
-            tally.hold("%s: %r" % (name, ended), (ended[0], told) == (status, error))
+            printed = ended[1].split("\x1b[K")[-1]
+            tally.hold("%s: %r" % (name, ended), (ended[0], printed) == (status, error))
         for name, holds in progress(program, folder):
             tally.hold(name, holds)
     for part in (piped, large_counts, elsewhere):

@@ -162,21 +162,23 @@ def ended(command: List[str], out: str = os.devnull, path: str = os.environ["PAT
 def hold_refusals(tally: Tally) -> None:
     """Words that are refused, each by its sentence; the help; nobody who reads; a full disk."""
     for asked, sentence in REFUSED.items():
-        status, told = ended([LISTER, *asked.split()])
-        is_right = status == 2 and told.startswith("tree_normal_form: " + sentence) and told.count("\n") == 1
-        tally.hold("%r: status %d: %s" % (asked, status, told), is_right)
+        status, output = ended([LISTER, *asked.split()])
+        is_right = (
+            status == 2 and output.startswith("tree_normal_form: " + sentence) and output.count("\n") == 1
+        )
+        tally.hold("%r: status %d: %s" % (asked, status, output), is_right)
     tally.hold("--help", ended([LISTER, "--states", "4", "--help"]) == (0, ""))
     with subprocess.Popen(
         [LISTER, "--states", "4"], stdout=subprocess.PIPE, stderr=subprocess.PIPE
     ) as lister:
         assert lister.stdout is not None and lister.stderr is not None
         lister.stdout.close()
-        told = lister.stderr.read().decode()
+        output = lister.stderr.read().decode()
         status = lister.wait()
-    tally.hold("a closed pipe: status %d: %s" % (status, told), (status, told) == (1, ""))
-    status, told = ended([LISTER, "--states", "4"], out="/dev/full")
+    tally.hold("a closed pipe: status %d: %s" % (status, output), (status, output) == (1, ""))
+    status, output = ended([LISTER, "--states", "4"], out="/dev/full")
     tally.hold(
-        "a full disk: status %d: %s" % (status, told), status == 3 and "write failed: No space" in told
+        "a full disk: status %d: %s" % (status, output), status == 3 and "write failed: No space" in output
     )
 
 
@@ -192,9 +194,9 @@ def hold_compiling(tally: Tally) -> None:
         os.mkdir(found)
         for name in ("sh", "dirname", "find"):
             os.symlink(shutil.which(name) or "", os.path.join(found, name))
-        status, told = ended([script, "--states", "1"], path=found)
-        is_told = status == 3 and "rustc isn't installed; Debian's package rustc-web has it" in told
-        tally.hold("no compiler: status %d: %s" % (status, told), is_told)
+        status, output = ended([script, "--states", "1"], path=found)
+        is_explained = status == 3 and "rustc isn't installed; Debian's package rustc-web has it" in output
+        tally.hold("no compiler: status %d: %s" % (status, output), is_explained)
         at_once = [subprocess.Popen([script, "--help"], stdout=subprocess.DEVNULL) for _ in range(3)]
         statuses = [process.wait() for process in at_once]
         tally.hold("compiled, at once by three: %s" % statuses, statuses == [0, 0, 0])

@@ -63,12 +63,12 @@ def main() -> int:
     try:
         picture = made(words().parse_args())
     except PictureError as error:
-        told = (
+        sentence = (
             str(error)
             .replace("lower scale", "lower --scale")
             .replace("rows or columns", "--rows or --columns")
         )
-        sys.exit("picture: %s" % told)
+        sys.exit("picture: %s" % sentence)
     if picture.every > 1:
         print("picture: every %d steps" % picture.every, file=sys.stderr)
     if picture.is_cut:

@@ -183,7 +183,7 @@ class Contents:
         if self.decided.passes:
             sentences.append("What is undecided was tried with these limits, one pass after another:")
         elif self.seen.kinds["undecided"]:
-            sentences.append("With which limits what is undecided was tried isn't told.")
+            sentences.append("With which limits what is undecided was tried isn't known.")
         lines = [line for text in sentences for line in textwrap.wrap(text, _WIDE - 2)]
         lines += ["    " + words_of(limits) for limits in self.decided.passes]
         return "\n".join("  " + line for line in lines)

@@ -30,7 +30,7 @@ class Checked:
 def answers_to(
     file: BinaryReader, limits: Limits, threads: int, found: Checked, tell: Callable[[Checked], None]
 ) -> Iterator[bytes]:
-    """The bytes that `bb check` writes for a file, block by block; `found` counts them, and `tell` is told of
+    """The bytes that `bb check` writes for a file, block by block; `found` counts them, and `tell` is called with
     it after each."""
     for lines, answers in checked(file, limits, threads=threads):
         if found.first is None:

@@ -3,10 +3,10 @@
 from __future__ import annotations
 
 import dataclasses
-import enum
 import re
 from typing import Dict, Iterator, List, Optional, Set, Tuple
 
+from ._words import Words
 from .reading import Reading
 from .reading.files import Source, lines_of
 from .reading.lines import read_line
@@ -15,16 +15,13 @@ from .verdicts import Halt, Refused, Undecided, Verdict, parse, verdict_of, whol
 __all__ = ["Said", "WORDS", "Word", "sayings"]
 
 
-class Word(enum.Enum):
+class Word(Words):
     """What a word says of a machine."""
 
     HALTS = "halts"
     NEVER_HALTS = "never halts"
     DECIDED = "decided"
     UNDECIDED = "undecided"
-
-    def __str__(self) -> str:
-        return self.value
 
 
 _HALTS = "halt halts halted halting"

@@ -4,10 +4,10 @@ from __future__ import annotations
 
 import collections
 import dataclasses
-import enum
 import math
 from typing import Deque, Dict, Iterable, Iterator, List, Optional, Tuple, Union
 
+from ._words import Words
 from .engine import MachineError, decide, trace
 from .limits import Limits, Plan, in_range
 from .reading import Reading, read
@@ -89,7 +89,7 @@ def carried(
     return (Carried(verdict, waiting.popleft()) for verdict in verdicts)
 
 
-class Agreement(enum.Enum):
+class Agreement(Words):
     """How what two lists say of a machine goes together."""
 
     AGREE = "agree"
@@ -98,9 +98,6 @@ class Agreement(enum.Enum):
     CONTRADICT = "contradict"
     ONLY_FIRST = "only-first"
     ONLY_SECOND = "only-second"
-
-    def __str__(self) -> str:
-        return self.value
 
 
 @dataclasses.dataclass(frozen=True)
@@ -321,7 +318,7 @@ def distinct(
         yield form, before
 
 
-class Growth(enum.Enum):
+class Growth(Words):
     """How the cells that a run visits grow with its steps; `HALTS` where it ended before."""
 
     STAYS = "stays"
@@ -329,9 +326,6 @@ class Growth(enum.Enum):
     ROOT = "root"
     LINE = "line"
     HALTS = "halts"
-
-    def __str__(self) -> str:
-        return self.value
 
 
 @dataclasses.dataclass(frozen=True)

@@ -326,7 +326,7 @@ def _page(found: Gathered, machines: Sequence[Shown], title: str) -> str:
         "title": html.escape(title),
         "counts": "".join(_counts(found)),
         "plots": "".join(_plots(found)) or "<p>No verdict has numbers.</p>",
-        "longest": "".join(_longest(found)) or "<p>No run is told.</p>",
+        "longest": "".join(_longest(found)) or "<p>No run is known.</p>",
         "left": _left(len(machines), left),
         "diagrams": "".join(_groups(machines)),
     }

@@ -3,11 +3,11 @@
 from __future__ import annotations
 
 import dataclasses
-import enum
 import functools
 import re
 from typing import Callable, ClassVar, Dict, List, Optional, Pattern, Tuple, Union
 
+from ._words import Words
 from .limits import whole
 
 __all__ = [
@@ -32,7 +32,7 @@ _NUMBER = re.compile("0|[1-9][0-9]*")
 _TOO_GREAT = 2**64
 
 
-class Answer(enum.Enum):
+class Answer(Words):
     """What the checker answers to a verdict line: the first of these that applies.
 
     `UNREAD`: it is no verdict line. `OPEN`: it claims nothing. `OVER`: it names more than the limits have, or
@@ -44,9 +44,6 @@ class Answer(enum.Enum):
     OVER = "over"
     OPEN = "open"
     UNREAD = "unread"
-
-    def __str__(self) -> str:
-        return self.value
 
 
 @dataclasses.dataclass(frozen=True)

@@ -24,8 +24,8 @@ of each thread then take 134 MB. Whoever fears a claim of 10^12 steps, which tak
 
 def counts_text(found: Checked) -> str:
     """How often each answer was given so far."""
-    told = ((count_of(found.counts[answer]), answer) for answer in Answer if found.counts[answer])
-    return ", ".join("%s %s" % pair for pair in told)
+    counted = ((count_of(found.counts[answer]), answer) for answer in Answer if found.counts[answer])
+    return ", ".join("%s %s" % pair for pair in counted)
 
 
 def do_check(asked: argparse.Namespace) -> int:

@@ -91,7 +91,7 @@ def add_publish(commands: "argparse._SubParsersAction[argparse.ArgumentParser]")
         action="append",
         dest="passes",
         metavar="steps=N,cells=N,depth=N,nodes=N",
-        help="limits that the verdicts were decided with, to be told; a run's folder tells them itself",
+        help="limits that the verdicts were decided with, for the readers; a run's folder has them itself",
     )
     highest = Limits.RANGES["steps"][1]
     parser.add_argument(

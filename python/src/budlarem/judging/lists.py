@@ -9,14 +9,14 @@ from ..same import form_of
 
 # The number of a line, and its machine.
 Placed = Tuple[int, str]
-# Is told what is being done beside judging, and with how many lines it was done.
+# Is called with what is being done beside judging, and with how many lines it was done.
 Tell = Callable[[str, int], None]
 _Item = TypeVar("_Item")
 _COMPARED = "compared by form"
 
 
 def counted(items: Iterable[_Item], what: str, tell: Tell) -> Iterator[_Item]:
-    """The items; of each is told how many it makes."""
+    """The items; `tell` is called with each one's count."""
     for count, item in enumerate(items, 1):
         tell(what, count)
         yield item
@@ -24,7 +24,7 @@ def counted(items: Iterable[_Item], what: str, tell: Tell) -> Iterator[_Item]:
 
 class Lists:
     """The machines of two lists, and the numbers of their lines. Machines that the laws of verdicts make the
-    same are one. `tell` is told of the list's lines, and of the forms that are compared."""
+    same are one. `tell` is called with the list's lines, and with the forms that are compared."""
 
     def __init__(self, listed: Iterable[Reading], tell: Tell) -> None:
         self._listed: Dict[str, int] = {}

@@ -3,14 +3,14 @@
 from __future__ import annotations
 
 import dataclasses
-import enum
 from typing import Optional
 
+from .._words import Words
 from ..claims import Said
 from ..verdicts import Verdict
 
 
-class Judgement(enum.Enum):
+class Judgement(Words):
     """What is said of a line that claims something of a machine.
 
     `CONFIRMED`: the checker confirms the claim, or our verdict says what the word does. `CONTRADICTED`: the
@@ -22,9 +22,6 @@ class Judgement(enum.Enum):
     CONTRADICTED = "contradicted"
     NOT_JUDGED = "not-judged"
     UNREADABLE = "unreadable"
-
-    def __str__(self) -> str:
-        return self.value
 
 
 @dataclasses.dataclass(frozen=True)

@@ -1,6 +1,6 @@
 """Reading lists as people have them: of each line the one machine, in the form that `bb` reads.
 
-A machine is taken only where one reading of the line is possible, every rewriting is told, and nothing is
+A machine is taken only where one reading of the line is possible, every rewriting is named, and nothing is
 guessed. `scripts/tests/forms.json` of the repository has lines with what must become of them.
 """
 

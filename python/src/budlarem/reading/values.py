@@ -3,23 +3,20 @@
 from __future__ import annotations
 
 import dataclasses
-import enum
 from typing import Optional, Tuple
 
+from .._words import Words
 from ..engine import column_of
 
 
-class Rewriting(enum.Enum):
-    """What of a text was written otherwise than `bb` reads it, in the order in which it is told."""
+class Rewriting(Words):
+    """What of a text was written otherwise than `bb` reads it, in the order in which it is named."""
 
     SMALL_LETTERS = "small-letters"
     HALTING_STATE = "halting-state"
     UNDEFINED_ENTRIES = "undefined-entries"
     SPACES = "spaces"
     UNDERSCORES = "underscores"
-
-    def __str__(self) -> str:
-        return self.value
 
     @property
     def sentence(self) -> str:

@@ -5,13 +5,11 @@ from __future__ import annotations
 import queue
 import time
 from concurrent.futures import CancelledError, Future, ThreadPoolExecutor
-from typing import Any, Dict, Iterator, List, Optional, Sequence
+from typing import Any, Dict, Iterator, List, Optional
 
-from ..limits import Limits
 from .cutting import Piece
 from .errors import DeadlyError, ReplyError, RunError
-from .passes import Manner, PassRun, sentence_of
-from .pieces import PassFolder
+from .passes import Pass, PassRun, sentence_of
 from .reply_checks import look_at_verdicts, opened, shown
 from .source import Cuttable
 from .tasks import CHECK, DECIDE, check_piece, decide_piece, question
@@ -25,16 +23,8 @@ _LOOKERS, _MOST_LOOKED_AT = 4, 8
 class HandingRun(PassRun):
     """Decides a pass by an executor."""
 
-    def __init__(
-        self,
-        folder: PassFolder,
-        limits: Limits,
-        manner: Manner,
-        before: Sequence[PassFolder],
-        known: Optional[int],
-        place: Executing,
-    ) -> None:
-        super().__init__(folder, limits, manner, before, known)
+    def __init__(self, asked: Pass, place: Executing) -> None:
+        super().__init__(asked)
         self._place = place
         self._under_way: Dict[Future[Any], Piece] = {}
         self._looked_at: Dict[Future[Any], Piece] = {}

@@ -15,7 +15,7 @@ from .folder import SUMMARY, VERDICTS, Begun, Folder, put_whole, words_of, write
 from .handing import HandingRun
 from .joining import joined, left_by
 from .keeping import Keep
-from .passes import Manner, PassResult, PassRun
+from .passes import Manner, Pass, PassResult, PassRun
 from .pieces import PassFolder
 from .reply_checks import KINDS
 from .source import Cuttable, Lines, ListFile
@@ -55,7 +55,7 @@ def run(folder: Folder, source: ListFile, passes: Sequence[Limits], manner: Mann
         opened = folder.open_pass(passes[:number], manner.keep, manner.identity)
         lines, known = _lines_for(source, folders, results, begun)
         manner.progress.begin(number, len(passes), _total_of(source, lines, known))
-        results.append(_pass_run(opened, limits, manner, tuple(folders), known).run(lines))
+        results.append(_pass_run(Pass(opened, limits, manner, tuple(folders), known)).run(lines))
         folders.append(opened)
         if begun.list_lines is None:
             begun.list_lines = results[0].lines
@@ -73,13 +73,10 @@ def run(folder: Folder, source: ListFile, passes: Sequence[Limits], manner: Mann
     return outcome
 
 
-def _pass_run(
-    opened: PassFolder, limits: Limits, manner: Manner, before: Sequence[PassFolder], known: Optional[int]
-) -> PassRun:
+def _pass_run(asked: Pass) -> PassRun:
     """What decides a pass, by whom the manner says."""
-    if isinstance(manner.place, Threads):
-        return ThreadsRun(opened, limits, manner, before, known, manner.place)
-    return HandingRun(opened, limits, manner, before, known, manner.place)
+    place = asked.manner.place
+    return ThreadsRun(asked, place) if isinstance(place, Threads) else HandingRun(asked, place)
 
 
 def _lines_for(

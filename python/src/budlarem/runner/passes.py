@@ -64,23 +64,27 @@ class Manner:
     seen: Callable[[bytes], None] = lambda verdicts: None
 
 
-class PassRun:
-    """Decides a pass. `before` are the passes before it; `known` is how many lines there are, where that is
-    known."""
+@dataclasses.dataclass(frozen=True)
+class Pass:
+    """A pass that is to be run: where, with which limits and how. `before` are the passes before it; `known` is
+    how many lines there are, where that is known."""
 
-    def __init__(
-        self,
-        folder: PassFolder,
-        limits: Limits,
-        manner: Manner,
-        before: Sequence[PassFolder],
-        known: Optional[int],
-    ) -> None:
-        self._folder, self._limits, self._manner = folder, limits, manner
-        self._before = before
-        self._cutter = Cutter(folder, manner.list_name, manner.most_lines, known)
-        self._writer = Writer(folder)
-        self._result = PassResult(limits)
+    folder: PassFolder
+    limits: Limits
+    manner: Manner
+    before: Sequence[PassFolder]
+    known: Optional[int]
+
+
+class PassRun:
+    """Decides a pass."""
+
+    def __init__(self, asked: Pass) -> None:
+        self._folder, self._limits, self._manner = asked.folder, asked.limits, asked.manner
+        self._before = asked.before
+        self._cutter = Cutter(asked.folder, asked.manner.list_name, asked.manner.most_lines, asked.known)
+        self._writer = Writer(asked.folder)
+        self._result = PassResult(asked.limits)
         self._next, self._took = 0.0, 0.0
 
     def run(self, lines: Cuttable) -> PassResult:

@@ -10,7 +10,7 @@ from typing import Callable, Optional, TextIO
 
 # Seconds between two lines, on a terminal and elsewhere.
 _OFTEN, _SELDOM = 0.5, 60.0
-# A pass of more seconds than this is told of, once so many pieces or seconds are there to tell it from.
+# A pass of more seconds than this is announced, once so many pieces or seconds are there to reckon it from.
 _LONG, _PIECES, _ENOUGH = 3_600.0, 16, 5.0
 
 
@@ -55,7 +55,7 @@ class Progress:
     def _clear(self) -> None:
         self._began = time.monotonic()
         self._standing, self._decided, self._pieces = 0, 0, 0
-        self._is_long_told = False
+        self._is_announced = False
 
     def begin(self, number: int, passes: int, total: Callable[[int], Optional[float]]) -> None:
         """Begins a pass. `total` gives of how many lines a number of lines is a part, where that is known."""
@@ -113,10 +113,10 @@ class Progress:
 
     def _tell_long(self, now: float) -> None:
         left = self.left()
-        is_told_from = self._pieces >= _PIECES or (self._pieces and now - self._began > _ENOUGH)
-        if left is None or left < _LONG or self._is_long_told or not is_told_from:
+        is_known_enough = self._pieces >= _PIECES or (self._pieces and now - self._began > _ENOUGH)
+        if left is None or left < _LONG or self._is_announced or not is_known_enough:
             return
-        self._is_long_told = True
+        self._is_announced = True
         self.print_line(
             "pass %d takes about %s, by the pace of its first %s lines"
             % (self._pass, duration(left), count_of(self._decided))

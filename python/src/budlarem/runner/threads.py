@@ -6,15 +6,14 @@ from __future__ import annotations
 import queue
 import threading
 import time
-from typing import Iterator, List, Optional, Sequence
+from typing import Iterator, List, Optional
 
 from .._library import CLEAN, Room
 from ..engine import checking, deciding
-from ..limits import Limits, Plan
+from ..limits import Plan
 from .cutting import Piece
 from .errors import RunError
-from .passes import Manner, PassRun
-from .pieces import PassFolder
+from .passes import Pass, PassRun
 from .reply_checks import counts_by_library
 from .source import Cuttable
 from .workplace import Threads
@@ -24,18 +23,10 @@ class ThreadsRun(PassRun):
     """Decides a pass by threads. What they come to needs no look: the library of this process is what would
     look."""
 
-    def __init__(
-        self,
-        folder: PassFolder,
-        limits: Limits,
-        manner: Manner,
-        before: Sequence[PassFolder],
-        known: Optional[int],
-        threads: Threads,
-    ) -> None:
-        super().__init__(folder, limits, manner, before, known)
+    def __init__(self, asked: Pass, threads: Threads) -> None:
+        super().__init__(asked)
         self._threads = threads
-        self._decide_lines, self._check_lines = deciding(limits, Plan()), checking(limits)
+        self._decide_lines, self._check_lines = deciding(asked.limits, Plan()), checking(asked.limits)
         # They guard the list and its cutting, and the pace: the list may be slow.
         self._feed, self._pace = threading.Lock(), threading.Lock()
         self._is_stopped = False

@@ -1,7 +1,7 @@
 #!/usr/bin/python3
 """Holds the Python package, by itself and beside the built program.
 
-    scripts/tests/package.py crates/bb/out/bb [--quick] [--part PART]... [--seed S]
+    scripts/tests/package/package.py crates/bb/out/bb [--quick] [--part PART]... [--seed S]
 
 It runs `scripts/library`, which proves and builds the library first; that takes a minute or two where it
 wasn't done before, and some seconds where it was. The parts, both of which are run where none is named:
@@ -22,10 +22,10 @@ where any failed.
 import os
 import sys
 
-sys.path.insert(0, os.path.join(os.path.dirname(os.path.dirname(os.path.abspath(__file__))), "lib"))
+sys.path.insert(0, os.path.join(os.path.dirname(os.path.abspath(__file__)), "..", "..", "lib"))
 
-import package_alone  # noqa: E402
-import package_beside  # noqa: E402
+import alone  # noqa: E402
+import beside  # noqa: E402
 from built import has_library  # noqa: E402
 from tally import Tally, end_with, words  # noqa: E402
 
@@ -40,9 +40,9 @@ def main() -> int:
         return tally.end()
     parts = asked.part or PARTS
     if "alone" in parts:
-        package_alone.hold(tally, asked.program, asked.quick)
+        alone.hold(tally, asked.program, asked.quick)
     if "beside" in parts:
-        package_beside.hold(tally, asked.program, asked.quick, asked.seed)
+        beside.hold(tally, asked.program, asked.quick, asked.seed)
     return tally.end()
 
 

@@ -1,7 +1,7 @@
 #!/usr/bin/python3
 """Holds reading, checking and judging of the Python package against the built program.
 
-    scripts/tests/reading.py crates/bb/out/bb [--quick] [--seed S]
+    scripts/tests/package/reading.py crates/bb/out/bb [--quick] [--seed S]
 
 The lines of `forms.json`; random machines in random forms, which come back as they were or are refused; what
 `budlarem read` writes, out of files and gzip; the bytes of `budlarem check` and `budlarem trace` beside those
@@ -21,14 +21,14 @@ import sys
 import time
 from typing import Dict, Iterator, List, Sequence, Tuple
 
-sys.path.insert(0, os.path.join(os.path.dirname(os.path.dirname(os.path.abspath(__file__))), "lib"))
+sys.path.insert(0, os.path.join(os.path.dirname(os.path.abspath(__file__)), "..", "..", "lib"))
 
 from built import LIBRARY, has_library, has_lister, listed  # noqa: E402
 from machines import mixed, uniform  # noqa: E402
 from program import Ended, ended, joined, options  # noqa: E402
 from runs import SOURCE, environment, folder  # noqa: E402
 from tally import TOP, Tally, end_with, words  # noqa: E402
-from terminal import on_terminal  # noqa: E402
+from terminals import on_terminal  # noqa: E402
 
 sys.path.insert(0, SOURCE)
 
@@ -71,18 +71,20 @@ def hold_forms(tally: Tally, program: str) -> None:
         tally.hold("%r is nothing" % line, (not found) == ("nothing" in form))
         for reading in found:
             reason = reading.reason
-            told = (reason.kind, reason.text, reason.place) if reason is not None else None
+            answer = (reason.kind, reason.text, reason.place) if reason is not None else None
             right = (form["refusal"], form["reason"], form["place"]) if "refusal" in form else None
-            tally.hold("%r is %s" % (line, reading), told == right and reading.machine == form.get("machine"))
+            tally.hold(
+                "%r is %s" % (line, reading), answer == right and reading.machine == form.get("machine")
+            )
             hold_column(tally, program, reading)
 
 
 def hold_column(tally: Tally, program: str, reading: budlarem.Reading) -> None:
     """The program takes the machine, or refuses the line with its column."""
     given = reading.line if reading.machine is None else reading.machine
-    told = ended([program, "decide", "--steps=0"], given.encode("utf-8", "surrogateescape") + b"\n").output
-    right = None if told.startswith(b"refused") is False else int(told.split()[1])
-    tally.hold("the column of %r: %r" % (given, told), reading.column == right)
+    reply = ended([program, "decide", "--steps=0"], given.encode("utf-8", "surrogateescape") + b"\n").output
+    right = None if reply.startswith(b"refused") is False else int(reply.split()[1])
+    tally.hold("the column of %r: %r" % (given, reply), reading.column == right)
 
 
 def in_some_form(source: random.Random, machine: str) -> str:
@@ -130,12 +132,12 @@ def hold_read(tally: Tally, program: str, lines: List[str]) -> None:
             status, output, error = command("read", name, given=given)
             tally.hold("budlarem read of %s" % name, (status, output) == (1, right))
             shown = "standard input" if name == "-" else name
-            told = error.decode("utf-8", "surrogateescape").splitlines()
+            printed = error.decode("utf-8", "surrogateescape").splitlines()
             whole = all(
                 "%s:%d: refused: %s" % (shown, one.number, one.reason) in error.decode()
                 for one in refused[:50]
             )
-            tally.hold("what budlarem read tells of %s" % name, whole and len(told) > len(refused))
+            tally.hold("what budlarem read tells of %s" % name, whole and len(printed) > len(refused))
     decided = ended([program, "decide", *options(LIMITS)], right)
     tally.hold("the program reads each of the machines", b"refused" not in decided.output)
     found = command("decide", *options(LIMITS), given=right)
@@ -153,18 +155,18 @@ def hold_check(tally: Tally, program: str, lines: List[str]) -> None:
                 words = asked if row is GREATEST else [*asked, *options(row)]
                 status, output, error = command("check", *words, given=more)
                 tally.hold("budlarem check %s" % words, (status, output) == right[:2])
-                hold_told(tally, lines, right.output.decode().splitlines(), error.decode())
+                hold_counts(tally, lines, right.output.decode().splitlines(), error.decode())
 
 
-def hold_told(tally: Tally, lines: List[str], answers: List[str], told: str) -> None:
+def hold_counts(tally: Tally, lines: List[str], answers: List[str], printed: str) -> None:
     """Standard error has the counts and the first line that isn't confirmed."""
     counts = ", ".join(
         "%s %d" % (word, answers.count(word)) for word in ("ok", "bad", "over", "open", "unread")
     )
-    tally.hold("counts: %s" % told, counts in told)
+    tally.hold("counts: %s" % printed, counts in printed)
     place = next(place for place, answer in enumerate(answers) if answer not in ("ok", "open"))
     named = ":%d: %s: %s" % (place + 1, answers[place], lines[place][:150])
-    tally.hold("the first that isn't confirmed, %s: %s" % (named, told), named in told)
+    tally.hold("the first that isn't confirmed, %s: %s" % (named, printed), named in printed)
 
 
 def hold_trace(tally: Tally, program: str, machines: Sequence[str]) -> None:
@@ -228,9 +230,9 @@ def hold_words(tally: Tally, count: int, seed: int) -> None:
     true, swapped = [], []
     for verdict in verdicts_of(count, seed):
         line = source.choice(("%s %s", "%s, %s", "17;%s;%s;x", "%s\t%s"))
-        told = (halting, never) if isinstance(verdict, Halt) else (never, halting)
-        true.append(line % (verdict.machine, source.choice(told[0])))
-        swapped.append(line % (verdict.machine, source.choice(told[1])))
+        ends = (halting, never) if isinstance(verdict, Halt) else (never, halting)
+        true.append(line % (verdict.machine, source.choice(ends[0])))
+        swapped.append(line % (verdict.machine, source.choice(ends[1])))
     for lines, right in ((true, Judgement.CONFIRMED), (swapped, Judgement.CONTRADICTED)):
         judging = budlarem.judge(lines, limits=Limits(*LIMITS))
         missed = [str(one) for one in judging if one.judgement is not right]
@@ -241,18 +243,18 @@ def hold_table(tally: Tally) -> None:
     """The document lists the words that count."""
     text = pathlib.Path(DOCUMENT).read_text(encoding="utf-8")
     table = text.partition("| It says | Words |\n")[2].partition("\n\n")[0]
-    told = {word for row in table.splitlines()[1:] for word in row.split("|")[2].replace(",", " ").split()}
+    words = {word for row in table.splitlines()[1:] for word in row.split("|")[2].replace(",", " ").split()}
     tally.hold(
-        "the words of the document: %s" % sorted(told ^ set(budlarem.WORDS)), told == set(budlarem.WORDS)
+        "the words of the document: %s" % sorted(words ^ set(budlarem.WORDS)), words == set(budlarem.WORDS)
     )
 
 
 def hold_undefined_steps(tally: Tally, program: str, count: int, seed: int) -> None:
-    """Halts that count a step for an undefined entry are found out, and confirmed; told so in the command."""
+    """Halts that count a step for an undefined entry are found out, and confirmed; and the command says so."""
     verdicts = [verdict for verdict in verdicts_of(count, seed) if isinstance(verdict, Halt)]
     machines = [verdict.machine.replace("---", "1RZ") for verdict in verdicts]
-    told = ended([program, "decide", *options((LIMITS[0] + 1, *LIMITS[1:]))], joined(machines)).output
-    more = [line.partition(" ")[2] for line in told.decode().splitlines()]
+    decided = ended([program, "decide", *options((LIMITS[0] + 1, *LIMITS[1:]))], joined(machines)).output
+    more = [line.partition(" ")[2] for line in decided.decode().splitlines()]
     lines = ["%s %s" % (verdict.machine, one) for verdict, one in zip(verdicts, more)]
     changed = sum(line != str(verdict) for line, verdict in zip(lines, verdicts))
     status, output, error = command("judge", "-", given=joined(lines))
@@ -264,11 +266,11 @@ def hold_undefined_steps(tally: Tally, program: str, count: int, seed: int) -> N
     found = output.count(b"contradicted\t")
     tally.hold("not where one halt is as ours: %d" % found, (status, found) == (1, changed))
     status, output, _ = command("judge", "--undefined-steps", "-", given=joined(mixed_lines))
-    tally.hold("but where it is told", (status, output.count(b"contradicted\t")) == (1, 1))
+    tally.hold("but where the command says so", (status, output.count(b"contradicted\t")) == (1, 1))
 
 
 def hold_forms_of_machines(tally: Tally, machines: Sequence[str]) -> None:
-    """What has another form takes no longer to be told than is asked."""
+    """What has another form takes no longer than is asked."""
     began = time.process_time()
     forms = {form_of(machine).text for machine in machines}
     each = (time.process_time() - began) / len(machines)
@@ -303,9 +305,11 @@ def hold_progress(tally: Tally) -> None:
             texts, left = shown_on_terminal(name, *words, str(given))
             held = any(word in text for text in texts) and all(len(text) < 80 for text in texts)
             tally.hold("%s on a terminal: %s" % (name, texts[:5]), held)
-            told = left.count("\n") if name != "judge" else left.count("small letters read as capital ones")
+            lines_left = (
+                left.count("\n") if name != "judge" else left.count("small letters read as capital ones")
+            )
             right = {"judge": 100, "check": 1, "publish": 0}[name]
-            tally.hold("%s leaves no progress: %r" % (name, left[:400]), told == right)
+            tally.hold("%s leaves no progress: %r" % (name, left[:400]), lines_left == right)
 
 
 def examples() -> Iterator[Tuple[str, str]]:

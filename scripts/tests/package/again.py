@@ -1,7 +1,7 @@
 #!/usr/bin/python3
 """Holds `again.py`, the package's checker in plain Python, against the built program's checker.
 
-    scripts/tests/again.py crates/bb/out/bb [--quick] [--machines N] [--seed S]
+    scripts/tests/package/again.py crates/bb/out/bb [--quick] [--machines N] [--seed S]
 
 It says `true` to every verdict on the machines of four states, and to forged lines what `bb check` does: on
 random machines of all sizes, of which many have 3 and 4 symbols, with numbers, words and bytes changed. It
@@ -21,7 +21,7 @@ import sys
 import tempfile
 from typing import Counter, Iterator, List, Tuple
 
-sys.path.insert(0, os.path.join(os.path.dirname(os.path.dirname(os.path.abspath(__file__))), "lib"))
+sys.path.insert(0, os.path.join(os.path.dirname(os.path.abspath(__file__)), "..", "..", "lib"))
 
 from built import has_lister, listed  # noqa: E402
 from machines import mixed, seldom_halting  # noqa: E402
@@ -169,12 +169,12 @@ def forged(source: random.Random, line: bytes) -> bytes:
     return b" ".join(fields)
 
 
-def is_right(line: bytes, told: bytes, answer: bytes) -> bool:
+def is_right(line: bytes, printed: bytes, answer: bytes) -> bool:
     """Whether again.py answers a line as the program does. It has no bound on levels: a tree never has more
     of them than nodes."""
-    if told == b"over" and b" backward " in line and int(line.split(b" ")[2]) > NODES:
+    if printed == b"over" and b" backward " in line and int(line.split(b" ")[2]) > NODES:
         return answer in (b"too long", b"false")
-    return answer.decode() == WORDS[told.decode()]
+    return answer.decode() == WORDS[printed.decode()]
 
 
 def hold_forged(tally: Tally, program: str, count: int, seed: int) -> None:
@@ -185,12 +185,12 @@ def hold_forged(tally: Tally, program: str, count: int, seed: int) -> None:
     lines = [*verdicts, *(forged(source, line) for line in verdicts), b"refused 775", b"refused 776", b""]
     given = b"".join(line + b"\n" for line in lines) + b"1RA1RA undecided steps"
     lines.append(b"1RA1RA undecided steps")
-    told = ended([program, "check", *options(LIMITS)], given).output.split(b"\n")[:-1]
+    printed = ended([program, "check", *options(LIMITS)], given).output.split(b"\n")[:-1]
     _, answers, _ = said("--steps", str(STEPS), "--nodes", str(NODES), given=given)
-    tally.hold("an answer to each of %d lines" % len(lines), len(lines) == len(told) == len(answers))
-    counts: Counter[bytes] = collections.Counter(told)
+    tally.hold("an answer to each of %d lines" % len(lines), len(lines) == len(printed) == len(answers))
+    counts: Counter[bytes] = collections.Counter(printed)
     tally.hold("each answer comes: %r" % counts, len(counts) == 5 and min(counts.values()) >= 20)
-    for line, word, answer in zip(lines, told, answers):
+    for line, word, answer in zip(lines, printed, answers):
         tally.hold("%r: bb says %r, again.py %r" % (line, word, answer), is_right(line, word, answer))
 
 

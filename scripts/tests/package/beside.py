@@ -48,7 +48,7 @@ print(resource.getrusage(resource.RUSAGE_SELF).ru_maxrss)
 """
 
 
-def told(program: str, asked: Sequence[str], given: bytes) -> bytes:
+def printed_by(program: str, asked: Sequence[str], given: bytes) -> bytes:
     """What the program writes."""
     return ended([program, *asked], given).output
 
@@ -68,7 +68,7 @@ def hold_deciding(
     tally: Tally, program: str, row: Row, switches: Sequence[str], lines: List[str], threads: int
 ) -> List[str]:
     """The package's verdicts, as objects and as bytes, are the program's; gives their lines."""
-    expected = told(program, ["decide", *options(row), *switches], joined(lines))
+    expected = printed_by(program, ["decide", *options(row), *switches], joined(lines))
     limits, plan = Limits(*row), plan_of(switches)
     what = "%s %s, %d lines, %d threads" % (row, switches, len(lines), threads)
     found = b"".join(budlarem.decide_bytes(joined(lines), limits, plan, threads=threads))
@@ -101,7 +101,7 @@ def hold_claims(tally: Tally, program: str, lines: List[str], row: Row, seed: in
     """The answers to claims of which half are forged, and what `parse` takes of them."""
     source = random.Random(seed)
     claims = [forged(source, line) if k % 2 else line for k, line in enumerate(lines)]
-    expected = told(program, ["check", *options(row)], joined(claims))
+    expected = printed_by(program, ["check", *options(row)], joined(claims))
     answers = expected.decode().splitlines()
     found = b"".join(budlarem.check_bytes(joined(claims), Limits(*row)))
     tally.hold("check_bytes of %d claims at %s" % (len(claims), row), found == expected)
@@ -165,21 +165,23 @@ def noise(source: random.Random, count: int) -> Iterator[str]:
 def hold_noise(tally: Tally, program: str, count: int, seed: int) -> None:
     lines = [*noise(random.Random(seed), count), "1RA1RA" * 200_000, "x" * 3_000_000]
     hold_deciding_noise(tally, program, lines)
-    answers = told(program, ["check"], joined(lines)).decode().splitlines()
+    answers = printed_by(program, ["check"], joined(lines)).decode().splitlines()
     tally.hold("check of noise", [str(answer) for answer in budlarem.check(lines)] == answers)
     hold_parse(tally, lines, answers)
     blob = random.Random(seed).randbytes(1_000_000)
-    tally.hold("bytes of noise", b"".join(budlarem.decide_bytes(blob)) == told(program, ["decide"], blob))
     tally.hold(
-        "bytes of noise checked", b"".join(budlarem.check_bytes(blob)) == told(program, ["check"], blob)
+        "bytes of noise", b"".join(budlarem.decide_bytes(blob)) == printed_by(program, ["decide"], blob)
+    )
+    tally.hold(
+        "bytes of noise checked", b"".join(budlarem.check_bytes(blob)) == printed_by(program, ["check"], blob)
     )
 
 
 def hold_deciding_noise(tally: Tally, program: str, lines: List[str]) -> None:
-    expected = told(program, ["decide"], joined(lines)).decode().splitlines()
+    expected = printed_by(program, ["decide"], joined(lines)).decode().splitlines()
     found = list(budlarem.decide(lines))
     tally.hold("decide of noise", [str(verdict) for verdict in found] == expected)
-    tally.hold("what was refused is told", all(one.machine == line for one, line in zip(found, lines)))
+    tally.hold("what was refused keeps its text", all(one.machine == line for one, line in zip(found, lines)))
 
 
 def hold_four_states(tally: Tally, program: str, count: int) -> None:

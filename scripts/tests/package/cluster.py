@@ -1,7 +1,7 @@
 #!/usr/bin/python3
 """Holds `budlarem run --scheduler` against the built program, over real schedulers and workers of dask.
 
-    scripts/tests/cluster.py crates/bb/out/bb [--quick] [--seed S]
+    scripts/tests/package/cluster.py crates/bb/out/bb [--quick] [--seed S]
 
 A worker is killed; the only worker is killed five times on one piece; a line ends each worker that decides
 it; all workers are killed and new ones come; the scheduler is killed and started again, before and after the
@@ -27,7 +27,7 @@ import sys
 import time
 from typing import Dict, Iterator, List, Optional, Tuple
 
-sys.path.insert(0, os.path.join(os.path.dirname(os.path.dirname(os.path.abspath(__file__))), "lib"))
+sys.path.insert(0, os.path.join(os.path.dirname(os.path.abspath(__file__)), "..", "..", "lib"))
 
 from built import has_library  # noqa: E402
 from program import MAX_CELLS, MAX_STEPS  # noqa: E402
@@ -187,9 +187,9 @@ def hold_end(tally: Tally, what: str, case: Case, status: int, right: bytes) -> 
     tally.hold("%s: the verdicts" % what, case.verdicts() == right)
 
 
-def hold_told(tally: Tally, case: Case, process: Process, text: str) -> None:
+def hold_sentence(tally: Tally, case: Case, process: Process, text: str) -> None:
     """Waits until the run tells something."""
-    tally.hold("%r is told: %s" % (text, case.said()), seen(process, lambda: text in case.said()))
+    tally.hold("%r is printed: %s" % (text, case.said()), seen(process, lambda: text in case.said()))
 
 
 @contextlib.contextmanager
@@ -222,7 +222,7 @@ def hold_killed_worker(tally: Tally, program: str, lines: int, seed: int) -> Non
             status = process.wait()
         right = expected(program, case.list.read_bytes(), (QUICK_PASS, LONG_PASS))
         hold_end(tally, "a killed worker", case, status, right)
-        tally.hold("dask's page is told: %s" % case.said(), "page is at http://127.0.0.1:" in case.said())
+        tally.hold("dask's page is named: %s" % case.said(), "page is at http://127.0.0.1:" in case.said())
 
 
 def hold_five_kills(tally: Tally, program: str) -> None:
@@ -275,7 +275,7 @@ def hold_no_workers(tally: Tally, given: bytes, right: bytes) -> None:
         with case.start() as process:
             with stopped(tally, case, process):
                 found.kill_workers()
-            hold_told(tally, case, process, "has no workers; waiting")
+            hold_sentence(tally, case, process, "has no workers; waiting")
             found.start_worker()
             status = process.wait()
         hold_end(tally, "no workers for a while", case, status, right)
@@ -289,7 +289,9 @@ def hold_scheduler(tally: Tally, given: bytes, right: bytes, is_late: bool) -> N
         with case.start(more_environment=timeout) as process:
             with stopped(tally, case, process):
                 found.end()
-            hold_told(tally, case, process, "there is no scheduler" if is_late else "doesn't answer; waiting")
+            hold_sentence(
+                tally, case, process, "there is no scheduler" if is_late else "doesn't answer; waiting"
+            )
             found.start_scheduler()
             found.start_worker()
             status = process.wait()
@@ -331,13 +333,13 @@ def hold_wrong_worker(tally: Tally, what: str, given: bytes, right: bytes) -> No
         status = case.run(str(case.list), *more, more_environment=collecting(found.top))
         held = status == 3 and said in case.said() and "goes on" in case.said()
         tally.hold("a worker with %s: status %d: %s" % (what, status, case.said()), held)
-        tally.hold("dask's own lines aren't told: %s" % case.said(), "Traceback" not in case.said())
+        tally.hold("dask's own lines aren't printed: %s" % case.said(), "Traceback" not in case.said())
         found.kill_workers()
         found.start_worker()
         hold_end(tally, "after a worker with %s" % what, case, case.run(), right)
 
 
-def hold_told_seconds(tally: Tally, given: bytes, right: bytes) -> None:
+def hold_claimed_seconds(tally: Tally, given: bytes, right: bytes) -> None:
     """Workers that tell seconds that didn't pass: pieces don't become small by it, nor does the run fail."""
     for seconds in ("1e9", "1e308"):
         with cluster(0) as found:
@@ -417,7 +419,7 @@ def hold_encryption(tally: Tally, given: bytes, right: bytes) -> None:
 
 
 def hold_large_pieces(tally: Tally, program: str) -> None:
-    """Pieces as large as they may be, which are also checked; dask's warning of large tasks isn't told."""
+    """Pieces as large as they may be, which are also checked; dask's warning of large tasks isn't printed."""
     given = b"1RB1LC_1RC1RB_1RD0LE_1LA1LD_1RZ0LA\n" * 100_000
     with cluster(2) as found:
         case = case_of(found, "large", given, (QUICK_PASS,))
@@ -448,7 +450,7 @@ def main() -> int:
         hold_scheduler(tally, given, right, is_late)
     for what in ("nothing", *WRONG_WORKERS):
         hold_wrong_worker(tally, what, few, right_few)
-    hold_told_seconds(tally, few, expected(program, few, PASSES[:1]))
+    hold_claimed_seconds(tally, few, expected(program, few, PASSES[:1]))
     hold_lies(tally, program)
     hold_runner(tally, program, 20_000, seed)
     hold_encryption(tally, few, right_few)

@@ -1,7 +1,7 @@
 #!/usr/bin/python3
 """Holds `budlarem publish` as a process: what an archive has, and that others can check it.
 
-    scripts/tests/publish.py crates/bb/out/bb [--quick] [--seed S]
+    scripts/tests/package/publish.py crates/bb/out/bb [--quick] [--seed S]
 
 The commands of an archive's own README run in the unpacked archive; each of 1,000 changed bytes there is
 noticed by them. The same contents are the same bytes, whatever the files are called and whether gzip
@@ -27,7 +27,7 @@ import tarfile
 import time
 from typing import Any, Callable, Dict, List, Optional, Sequence
 
-sys.path.insert(0, os.path.join(os.path.dirname(os.path.dirname(os.path.abspath(__file__))), "lib"))
+sys.path.insert(0, os.path.join(os.path.dirname(os.path.abspath(__file__)), "..", "..", "lib"))
 
 from built import has_library  # noqa: E402
 from machines import mixed  # noqa: E402
@@ -118,8 +118,8 @@ class Ways:
 def hold_silent(tally: Tally, ways: Ways, command: str) -> None:
     """A command that shows what isn't confirmed shows nothing."""
     done = ways.run(command)
-    told = done.stdout + done.stderr
-    tally.hold("%s: status %d, %s" % (command, done.returncode, told), done.returncode == 1 and not told)
+    output = done.stdout + done.stderr
+    tally.hold("%s: status %d, %s" % (command, done.returncode, output), done.returncode == 1 and not output)
 
 
 def hold_ways(tally: Tally, ways: Ways, count: int) -> None:
@@ -239,8 +239,8 @@ def hold_refused(tally: Tally, program: str, top: pathlib.Path) -> None:
         (lines, listed[:-2] + [b""], 2, "list.txt has 299 lines"),
         ([b""], [b""], 2, "verdicts.txt has no line"),
     ]
-    for told, given, status, sentence in cases:
-        place.verdicts.write_bytes(b"\n".join(told))
+    for rows, given, status, sentence in cases:
+        place.verdicts.write_bytes(b"\n".join(rows))
         place.list.write_bytes(b"\n".join(given))
         done = place.publish()
         right = done.returncode == status and sentence in done.stderr

@@ -1,7 +1,7 @@
 #!/usr/bin/python3
 """Holds `budlarem run` as a process against the built program, byte for byte, whatever ends it meanwhile.
 
-    scripts/tests/runner.py crates/bb/out/bb [--quick] [--seed S]
+    scripts/tests/package/runner.py crates/bb/out/bb [--quick] [--seed S]
 
 The runner is killed by SIGKILL at twenty random moments, and run again after each; interrupted in the middle
 of 1,000,000,000,000 steps; its disk is full, by a limit of a file's size and by a small file system (which
@@ -28,7 +28,7 @@ import sys
 import time
 from typing import Callable, Dict, List, Tuple
 
-sys.path.insert(0, os.path.join(os.path.dirname(os.path.dirname(os.path.abspath(__file__))), "lib"))
+sys.path.insert(0, os.path.join(os.path.dirname(os.path.abspath(__file__)), "..", "..", "lib"))
 
 from built import has_library  # noqa: E402
 from program import MAX_CELLS, MAX_STEPS  # noqa: E402
@@ -230,8 +230,8 @@ def hold_signals(tally: Tally, top: pathlib.Path) -> None:
             process.send_signal(number)
             status = process.wait(60)
         said = case.said()
-        told = "ended by %s; the same command goes on after what stands in %s\n" % (number.name, case.out)
-        tally.hold("%s: status %d: %s" % (number.name, status, said), status == 128 + number and told in said)
+        what = "ended by %s; the same command goes on after what stands in %s\n" % (number.name, case.out)
+        tally.hold("%s: status %d: %s" % (number.name, status, said), status == 128 + number and what in said)
 
 
 def hold_changing_list(tally: Tally, program: str, top: pathlib.Path) -> None:
@@ -407,8 +407,8 @@ def hold_no_memory(tally: Tally, top: pathlib.Path) -> None:
             at_work = not is_ended and is_at_work(process.pid)
             process.kill()
         said = case.said()
-        is_told = status == 3 and said.startswith("budlarem: ") and "Traceback" not in said
-        tally.hold("%s: status %s: %s" % (what, status, said), at_work or is_told)
+        is_right_end = status == 3 and said.startswith("budlarem: ") and "Traceback" not in said
+        tally.hold("%s: status %s: %s" % (what, status, said), at_work or is_right_end)
 
 
 def hold_closed_files(tally: Tally, top: pathlib.Path) -> None:
@@ -426,8 +426,8 @@ def hold_closed_files(tally: Tally, top: pathlib.Path) -> None:
         tally.hold("%s closed: status %d: %s" % (closed, status, case.said()), is_right)
     case = Case(top / "closed-list", b"")
     status = case.run("-", preexec_fn=lambda: os.close(0))
-    is_told = status == 3 and "standard input is closed" in case.said()
-    tally.hold("a closed list: status %d: %s" % (status, case.said()), is_told)
+    is_right_end = status == 3 and "standard input is closed" in case.said()
+    tally.hold("a closed list: status %d: %s" % (status, case.said()), is_right_end)
 
 
 def hold_clock(tally: Tally, top: pathlib.Path) -> None:
@@ -436,11 +436,11 @@ def hold_clock(tally: Tally, top: pathlib.Path) -> None:
     (top / "clock" / "sitecustomize.py").write_text(SET_BACK, encoding="utf-8")
     places = os.pathsep.join([str(top / "clock"), environment()["PYTHONPATH"]])
     status = case.run(more_environment={"PYTHONPATH": places})
-    told = json.loads((case.out / "summary.json").read_text()) if status == 0 else {}
+    summary = json.loads((case.out / "summary.json").read_text()) if status == 0 else {}
     tally.hold("a clock that is set back, status %d: %s" % (status, case.said()), status == 0)
-    seconds = [told.get("seconds", -1), *(one["work_seconds"] for one in told.get("passes", []))]
-    is_told = min(seconds) >= 0 and told["began"] <= told["ended"]
-    tally.hold("its summary: %s" % told, is_told)
+    seconds = [summary.get("seconds", -1), *(one["work_seconds"] for one in summary.get("passes", []))]
+    is_right_end = min(seconds) >= 0 and summary["began"] <= summary["ended"]
+    tally.hold("its summary: %s" % summary, is_right_end)
 
 
 def hold_memory(tally: Tally, top: pathlib.Path) -> None:

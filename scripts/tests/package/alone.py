@@ -49,8 +49,8 @@ for verdict in budlarem.decide(["1RB1LB_1LA1RZ", "1RA1RA", "1rB1LB"]): print(ver
 METADATA = """
 import importlib.metadata, json
 found = importlib.metadata.metadata("budlarem")
-told = {name: found[name] for name in ("Summary", "Keywords", "Description-Content-Type")}
-print(json.dumps({**told, "page": found.get_payload()}))
+facts = {name: found[name] for name in ("Summary", "Keywords", "Description-Content-Type")}
+print(json.dumps({**facts, "page": found.get_payload()}))
 """
 EXPECTED = ["1RB1LB_1LA1RZ halt 6 4", "1RA1RA translated R 1 2 1 1", "refused 2"]
 # The champions of two to five states, a translated cycler, and a line that is no machine.
@@ -93,8 +93,8 @@ def pythons() -> List[str]:
     for command in [*asked, *map(str, folders)]:
         if shutil.which(command) is None:
             continue
-        status, told = run([command, "-c", "import sys; print(sys.executable, *sys.version_info[:2])"])
-        parts = told.split()
+        status, output = run([command, "-c", "import sys; print(sys.executable, *sys.version_info[:2])"])
+        parts = output.split()
         if status == 0 and len(parts) == 3 and (int(parts[1]), int(parts[2])) >= (3, 9):
             found.setdefault((int(parts[1]), int(parts[2])), parts[0])
     return [found[version] for version in sorted(found)]
@@ -103,24 +103,26 @@ def pythons() -> List[str]:
 def hold_sources(tally: Tally, found: List[str]) -> None:
     """Types, formatting, doctests, and the unit tests by these Pythons, over the sources."""
     if tally.has("types", "mypy"):
-        status, told = run(["mypy", "--config-file", str(PACKAGE.parent / "mypy.ini"), "src", "tests"])
-        tally.hold("mypy --strict: %s" % told, status == 0)
+        status, output = run(["mypy", "--config-file", str(PACKAGE.parent / "mypy.ini"), "src", "tests"])
+        tally.hold("mypy --strict: %s" % output, status == 0)
     if tally.has("formatting", "black"):
-        status, told = run(["black", "--check", "--quiet", "src", "tests", "setup.py"])
-        tally.hold("black --check: %s" % told, status == 0)
+        status, output = run(["black", "--check", "--quiet", "src", "tests", "setup.py"])
+        tally.hold("black --check: %s" % output, status == 0)
     sources = {"PYTHONPATH": str(PACKAGE / "src"), "BB_LIBRARY": LIBRARY}
-    status, told = run(["/usr/bin/python3", "-c", DOCTESTS, *MODULES], sources)
-    counts = re.search(r"(\d+) 0\n$", told)
-    tally.hold("doctests: %s" % told, status == 0 and counts and int(counts.group(1)) > 15)
+    status, output = run(["/usr/bin/python3", "-c", DOCTESTS, *MODULES], sources)
+    counts = re.search(r"(\d+) 0\n$", output)
+    tally.hold("doctests: %s" % output, status == 0 and counts and int(counts.group(1)) > 15)
     for python in found:
         hold_units(tally, python, sources)
 
 
 def hold_units(tally: Tally, python: str, variables: Dict[str, str]) -> None:
     """The unit tests, by one Python."""
-    status, told = run([python, "-m", "unittest", "-q"], variables)
-    counts = re.search(r"Ran (\d+) tests", told)
-    tally.hold("unit tests by %s:\n%s" % (python, told), status == 0 and counts and int(counts.group(1)) > 30)
+    status, output = run([python, "-m", "unittest", "-q"], variables)
+    counts = re.search(r"Ran (\d+) tests", output)
+    tally.hold(
+        "unit tests by %s:\n%s" % (python, output), status == 0 and counts and int(counts.group(1)) > 30
+    )
 
 
 def hold_symbols(tally: Tally) -> None:
@@ -133,31 +135,31 @@ def hold_symbols(tally: Tally) -> None:
 
 def hold_wheel(tally: Tally, program: str, wheel: pathlib.Path, python: str, folder: pathlib.Path) -> None:
     """The wheel alone, in an empty environment: the first run, the command, the unit tests."""
-    status, told = run([python, "-m", "venv", str(folder)])
+    status, output = run([python, "-m", "venv", str(folder)])
     if status != 0:
         tally.skip("an environment of %s: no venv (package python3-venv)" % python)
         return
     inside, command = str(folder / "bin" / "python"), str(folder / "bin" / "budlarem")
-    status, told = run([inside, "-m", "pip", "install", "--quiet", "--no-index", str(wheel)])
-    tally.hold("pip install by %s: %s" % (python, told), status == 0)
-    status, told = run([inside, "-I", "-c", FIRST_RUN])
-    version, commit = told.splitlines()[0].split(maxsplit=1) if status == 0 else ("", "")
-    tally.hold("the first run by %s: %s" % (python, told), told.splitlines()[1:] == EXPECTED)
+    status, output = run([inside, "-m", "pip", "install", "--quiet", "--no-index", str(wheel)])
+    tally.hold("pip install by %s: %s" % (python, output), status == 0)
+    status, output = run([inside, "-I", "-c", FIRST_RUN])
+    version, commit = output.splitlines()[0].split(maxsplit=1) if status == 0 else ("", "")
+    tally.hold("the first run by %s: %s" % (python, output), output.splitlines()[1:] == EXPECTED)
     tally.hold("the version %s names the commit %s" % (version, commit), "+g" + commit[:12] in version)
     shutil.copytree(PACKAGE / "tests", folder / "tests")
-    status, told = run([inside, "-m", "unittest", "-q"], cwd=folder)
-    tally.hold("the wheel's unit tests by %s:\n%s" % (python, told), status == 0)
+    status, output = run([inside, "-m", "unittest", "-q"], cwd=folder)
+    tally.hold("the wheel's unit tests by %s:\n%s" % (python, output), status == 0)
     hold_metadata(tally, inside)
-    _, told = run([command, "decide"], cwd=folder, given="1RZ---, x\n")
-    tally.hold("the command: %s" % told, told == "1RZ--- halt 1 1\tx\n")
+    _, output = run([command, "decide"], cwd=folder, given="1RZ---, x\n")
+    tally.hold("the command: %s" % output, output == "1RZ--- halt 1 1\tx\n")
     hold_runner(tally, program, command, folder)
 
 
 def hold_metadata(tally: Tally, python: str) -> None:
     """What the wheel says of itself: a long description, and words by which it is found."""
-    status, told = run([python, "-I", "-c", METADATA])
-    tally.hold("the wheel's metadata: %s" % told, status == 0)
-    facts = json.loads(told) if status == 0 else {}
+    status, output = run([python, "-I", "-c", METADATA])
+    tally.hold("the wheel's metadata: %s" % output, status == 0)
+    facts = json.loads(output) if status == 0 else {}
     page = (PACKAGE / "README.md").read_text(encoding="utf-8")
     tally.hold("the long description: %s" % facts, facts.get("page", "").strip() == page.strip())
     tally.hold("its form: %s" % facts, facts.get("Description-Content-Type") == "text/markdown")
@@ -171,8 +173,8 @@ def hold_runner(tally: Tally, program: str, command: str, folder: pathlib.Path) 
     words = [command, "run", "list.txt", "--out", "out", "--check"]
     for count, left in enumerate(RUN_LEFT, 1):
         words += ["--pass", words_of(RUN_PASSES[count - 1])]
-        status, told = run(words, cwd=folder)
-        tally.hold("the runner, status %d: %s" % (status, told), status == 1)
+        status, output = run(words, cwd=folder)
+        tally.hold("the runner, status %d: %s" % (status, output), status == 1)
         right = expected(program, RUN_LIST, RUN_PASSES[:count])
         found = (folder / "out" / "verdicts.txt").read_bytes()
         tally.hold("the verdicts of %d passes: %r" % (count, found), found == right)
