@@ -85,7 +85,8 @@ class Fingers {
 
   /** The middle between the fingers, and how far they are apart. */
   span() {
-    const [one, two = one] = [...this.fingers.values()];
+    const [one, other] = [...this.fingers.values()];
+    const two = other ?? one;
     const { canvas } = this.diagram;
     const box = canvas.getBoundingClientRect();
     const [left, top] = [box.left + canvas.clientLeft, box.top + canvas.clientTop];

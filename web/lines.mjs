@@ -64,8 +64,8 @@ export class Lines {
     }
   }
 
-  /** The button of a kind. @param {number} k its number @param {number} count of its lines */
-  kindButton(k, count) {
+  /** The button of a kind, with how many lines have it. */
+  kindButton(/** @type {number} */ k, /** @type {number} */ count) {
     const { kindsShown } = this;
     const given = { type: "button", id: `kind-${KINDS[k]}`, "aria-pressed": kindsShown.has(k) };
     const button = made("button", given, `${KINDS[k]} ${shown(count)}`);

@@ -14,7 +14,9 @@ const MOST_COPIED = 50_000_000;
 const FIRST_LIST = "1RB1LB_1LA1RZ\n1RA1RA\n1rB1LB\n";
 
 const source = new Source();
+/** @type {Work} */
 const work = new Work(() => lines.show());
+/** @type {Lines} */
 const lines = new Lines(new View(), () => {
   const { results, run, isUnderWay } = work;
   return { results, plan: run.plan, isRead: source.clean.checked && run.mode === "decide", isUnderWay };

@@ -24,7 +24,10 @@ export class Source {
     part("defaults").addEventListener("click", () => this.toDefaults());
   }
 
-  /** How a list is answered that begins so. @returns {Mode} */
+  /**
+   * How a list is answered that begins so.
+   * @returns {Mode}
+   */
   modeOf(/** @type {Uint8Array} */ start) {
     const asked = this.mode.value;
     return asked === "check" || (asked === "auto" && hasVerdicts(start)) ? "check" : "decide";

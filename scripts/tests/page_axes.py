@@ -109,9 +109,7 @@ def hold_rows(held: Held, what: str, rows: Dict[int, Row]) -> None:
         row = rows[step.number]
         kinds = [HEAD if one.number == row.head else symbol_of(row, one.number) for one in positions]
         found = pixels(page, places)
-        same = [
-            kind == HEAD or pixel == colours[kind] for kind, pixel in zip(kinds, found)
-        ]
+        same = [kind == HEAD or pixel == colours[kind] for kind, pixel in zip(kinds, found)]
         held.hold("%s: the row of step %d: %s" % (what, step.number, found), same and all(same))
 
 

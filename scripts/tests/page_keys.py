@@ -115,7 +115,9 @@ def hold_keys(held: Held) -> None:
     hold_rest(held)
     walk(held, [*reversed(BEFORE + BEHIND)], back=True)
     key(page, "Tab", True)
-    held.hold("the page is left before its first element", page.js(FOCUS)["is_body"] or name_of(page) in BEHIND)
+    held.hold(
+        "the page is left before its first element", page.js(FOCUS)["is_body"] or name_of(page) in BEHIND
+    )
 
 
 def hold_rest(held: Held) -> None:
