@@ -5,6 +5,9 @@
  * @typedef {import("./scale.mjs").View} View
  * @typedef {(k: number, from: number, to: number) => number} Mean the colour of a row's cells from one to
  *   another, counted from the lowest one
+ * @typedef {(row: Uint32Array, k: number, first: number, end: number, cell: number) => void} Whole paints the
+ *   pixels of a row between two columns, all of whose cells were visited, from a cell on
+ * @typedef {{mean: Mean, whole: Whole}} How a row is painted whose pixels have several cells
  */
 import { FRAMED, symbolOf } from "./sample.mjs";
 
@@ -28,17 +31,25 @@ function pixelOf(/** @type {number[]} */ [red, green, blue]) {
 export function painted(sample, view, columns, palette) {
   const rows = sample.steps.length;
   const image = new Uint32Array(columns * rows);
-  const mean = (sample.bits === 1 ? meanOfTwo : meanOf)(sample, view, palette);
-  const pixels = Uint32Array.from(palette, pixelOf);
+  const paint = painterFor(sample, view, palette);
   for (let k = 0; k < rows; k += 1) {
-    const row = image.subarray(columns * k, columns * (k + 1));
-    if (view.across > 1) {
-      paintMeans(row, sample, k, view, mean);
-    } else {
-      paintCells(row, sample, k, view, pixels);
-    }
+    paint(image.subarray(columns * k, columns * (k + 1)), k);
   }
   return new Uint8ClampedArray(image.buffer);
+}
+
+/**
+ * What paints a row.
+ * @param {Sample} sample @param {View} view @param {number[][]} palette
+ * @returns {(row: Uint32Array, k: number) => void}
+ */
+function painterFor(sample, view, palette) {
+  if (view.across === 1) {
+    const pixels = Uint32Array.from(palette, pixelOf);
+    return (row, k) => paintCells(row, sample, k, view, pixels);
+  }
+  const how = (sample.bits === 1 ? howOfTwo : howOfMore)(sample, view, palette);
+  return (row, k) => paintMeans(row, sample, k, view, how);
 }
 
 /**
@@ -47,11 +58,12 @@ export function painted(sample, view, columns, palette) {
  * @param {Uint32Array} pixels of the palette
  */
 function paintCells(row, sample, k, view, pixels) {
-  const low = sample.lows[k] - view.left;
-  const begin = Math.max(0, low);
+  const { cells, bits } = sample;
+  const [begin, low, mask] = [sample.places[k], sample.lows[k] - view.left, (1 << bits) - 1];
   const end = Math.min(row.length, low + sample.wide[k]);
-  for (let x = begin; x < end; x += 1) {
-    row[x] = pixels[symbolOf(sample, k, x - low)];
+  for (let x = Math.max(0, low); x < end; x += 1) {
+    const bit = (x - low) * bits;
+    row[x] = pixels[(cells[begin + (bit >> 3)] >> (bit & 7)) & mask];
   }
   const head = sample.heads[k] - view.left;
   if ((view.wide < FRAMED || view.high < FRAMED) && head >= 0 && head < row.length) {
@@ -60,26 +72,30 @@ function paintCells(row, sample, k, view, pixels) {
 }
 
 /**
- * A row of which a pixel stands for several cells.
- * @param {Uint32Array} row @param {Sample} sample @param {number} k @param {View} view @param {Mean} mean
+ * A row of which a pixel stands for several cells; only the outermost ones may have cells that aren't visited.
+ * @param {Uint32Array} row @param {Sample} sample @param {number} k @param {View} view
+ * @param {How} how
  */
-function paintMeans(row, sample, k, { left, across }, mean) {
+function paintMeans(row, sample, k, { left, across }, { mean, whole }) {
   const low = sample.lows[k];
   const high = low + sample.wide[k] - 1;
   const first = Math.max(0, Math.floor((low - left) / across));
   const last = Math.min(row.length - 1, Math.floor((high - left) / across));
-  for (let x = first; x <= last; x += 1) {
+  const edges = first < last ? [first, last] : [first];
+  for (const x of first <= last ? edges : []) {
     const begin = left + x * across;
     row[x] = mean(k, Math.max(begin, low) - low, Math.min(begin + across - 1, high) - low);
   }
+  whole(row, k, first + 1, last, left + (first + 1) * across - low);
 }
 
 /**
- * The mean of two symbols' cells, by how many are 1; of so many that a pixel has, the others aren't visited.
+ * How rows of two symbols are painted: the mean goes by how many of a pixel's cells are 1, how many are 0, and
+ * how many aren't visited.
  * @param {Sample} sample @param {View} view @param {number[][]} palette
- * @returns {Mean}
+ * @returns {How}
  */
-function meanOfTwo({ cells, places }, { across }, palette) {
+function howOfTwo({ cells, places }, { across }, palette) {
   const mixed = (/** @type {number} */ ones, /** @type {number} */ seen) =>
     pixelOf(
       palette[UNVISITED].map((unvisited, part) => {
@@ -87,11 +103,16 @@ function meanOfTwo({ cells, places }, { across }, palette) {
         return Math.round((known + (across - seen) * unvisited) / across);
       }),
     );
-  const whole = Uint32Array.from({ length: across + 1 }, (_, ones) => mixed(ones, across));
-  return (k, from, to) => {
-    const ones = onesBetween(cells, places[k], from, to);
-    const seen = to - from + 1;
-    return seen === across ? whole[ones] : mixed(ones, seen);
+  const colours = Uint32Array.from({ length: across + 1 }, (_, ones) => mixed(ones, across));
+  return {
+    mean: (k, from, to) => mixed(onesBetween(cells, places[k], from, to), to - from + 1),
+    whole: (row, k, first, end, cell) => {
+      let from = cell;
+      for (let x = first; x < end; x += 1) {
+        row[x] = colours[onesBetween(cells, places[k], from, from + across - 1)];
+        from += across;
+      }
+    },
   };
 }
 
@@ -115,13 +136,14 @@ function onesBetween(cells, begin, from, to) {
 }
 
 /**
- * The same of any symbols.
+ * How rows of more symbols are painted.
  * @param {Sample} sample @param {View} view @param {number[][]} palette
- * @returns {Mean}
+ * @returns {How}
  */
-function meanOf(sample, { across }, palette) {
+function howOfMore(sample, { across }, palette) {
   const [reds, greens, blues] = [0, 1, 2].map((part) => Int32Array.from(palette, (colour) => colour[part]));
-  return (k, from, to) => {
+  /** @type {Mean} */
+  const mean = (k, from, to) => {
     const outside = across - (to - from + 1);
     let [red, green, blue] = palette[UNVISITED].map((one) => one * outside);
     for (let cell = from; cell <= to; cell += 1) {
@@ -131,5 +153,13 @@ function meanOf(sample, { across }, palette) {
       blue += blues[symbol];
     }
     return pixelOf([red, green, blue].map((sum) => Math.round(sum / across)));
+  };
+  return {
+    mean,
+    whole: (row, k, first, end, cell) => {
+      for (let x = first; x < end; x += 1) {
+        row[x] = mean(k, cell + (x - first) * across, cell + (x - first + 1) * across - 1);
+      }
+    },
   };
 }

@@ -1,10 +1,10 @@
 /**
  * Rows of a run as they are kept, painted and pointed at: their cells are packed.
  *
- * @typedef {{steps: Float64Array, heads: Float64Array, lows: Float64Array, wide: Float64Array,
- *   places: Float64Array, states: string, cells: Uint8Array, bits: number}} Sample of each row the step, the
- *   head, the lowest position visited, how many are, and where its cells begin in `cells`, lowest first, each
- *   of so many bits: 1 where the machine has two symbols, else 4
+ * @typedef {{steps: Float64Array, heads: Int32Array, lows: Int32Array, wide: Int32Array, places: Int32Array,
+ *   states: string, cells: Uint8Array, bits: number}} Sample of each row the step, the head, the lowest
+ *   position visited, how many are, and where its cells begin in `cells`, lowest first, each of so many bits:
+ *   1 where the machine has two symbols, else 4
  */
 
 // Where cells are at least so wide and high, the head is framed by the page, and no pixel of the picture.
@@ -57,9 +57,10 @@ export function symbolsOf(sample, k, first, last) {
 export function rowsOf(sample, first, apart, count) {
   const { places, states, cells, bits } = sample;
   const numbers = Array.from({ length: count }, (_, row) => first + row * apart);
-  const column = (/** @type {Float64Array} */ all) => Float64Array.from(numbers, (k) => all[k]);
-  const [steps, heads, lows, wide] = [sample.steps, sample.heads, sample.lows, sample.wide].map(column);
-  const begins = new Float64Array(count);
+  const column = (/** @type {Int32Array} */ all) => Int32Array.from(numbers, (k) => all[k]);
+  const [heads, lows, wide] = [sample.heads, sample.lows, sample.wide].map(column);
+  const steps = Float64Array.from(numbers, (k) => sample.steps[k]);
+  const begins = new Int32Array(count);
   const size = wide.reduce((sum, one) => sum + bytesFor(one, bits), 0);
   const own = new Uint8Array(size);
   let at = 0;

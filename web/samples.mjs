@@ -96,7 +96,7 @@ export class Run {
     const { machine, cells, upto, from, every } = asked;
     const line = new TextEncoder().encode(machine);
     const space = this.bytesOf(asked);
-    const { bytes, clean } = engine.traceBytes(line, { steps: upto, cells, from, every }, space);
+    const { bytes, clean } = engine.traceInPlace(line, { steps: upto, cells, from, every }, space);
     return { asked, ...readTrace(bytes, this.windows), cut: !clean };
   }
 

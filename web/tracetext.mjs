@@ -26,10 +26,9 @@ export function readTrace(text, windows) {
   const { agrees, begins, lengths, states, ...columns } = linesOf(text, windows);
   const bits = bitsFor(windows.inside.symbols);
   const pack = bits === 1 ? packTwo : packMore;
-  const places = new Float64Array(begins.length);
-  const [steps, heads, lows, wide] = [columns.steps, columns.heads, columns.lows, columns.wide].map((column) =>
-    Float64Array.from(column),
-  );
+  const places = new Int32Array(begins.length);
+  const steps = Float64Array.from(columns.steps);
+  const [heads, lows, wide] = [columns.heads, columns.lows, columns.wide].map((all) => Int32Array.from(all));
   const cells = new Uint8Array(wide.reduce((sum, one) => sum + bytesFor(one, bits), 0));
   let at = 0;
   begins.forEach((begin, k) => {
