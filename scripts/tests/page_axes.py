@@ -100,17 +100,23 @@ def hold_marks(
 
 
 def hold_rows(held: Held, what: str, rows: Dict[int, Row]) -> None:
-    """At a step's number stands that step's row, at a position's number that column."""
+    """At a step's number stands that step's row, each cell where the positions' numbers say, with its head."""
     page, colours = held.page, palette(held.page)
     view = page.drawn()
     steps, positions = ticks(page, view)
+    first, last = positions[0], positions[-1]
+    apart = (last.text - first.text) / (last.number - first.number)
     for step in steps:
-        places = [[one.text - view["x"], step.text - view["y"]] for one in positions]
-        row = rows[step.number]
-        kinds = [HEAD if one.number == row.head else symbol_of(row, one.number) for one in positions]
-        found = pixels(page, places)
-        same = [kind == HEAD or pixel == colours[kind] for kind, pixel in zip(kinds, found)]
-        held.hold("%s: the row of step %d: %s" % (what, step.number, found), same and all(same))
+        row, down = rows[step.number], step.text - view["y"]
+        middles = [first.text - view["x"] + apart * k for k in range(last.number - first.number + 1)]
+        is_head = [first.number + k == row.head for k in range(len(middles))]
+        # A head's frame is at the edge of its cell.
+        places = [[x - apart / 2 + 1 if head else x, down] for x, head in zip(middles, is_head)]
+        kinds = [HEAD if head else symbol_of(row, first.number + k) for k, head in enumerate(is_head)]
+        wrong = [k for k, pixel in enumerate(pixels(page, places)) if pixel != colours[kinds[k]]]
+        held.hold("%s: the row of step %d: %s" % (what, step.number, wrong), len(kinds) > 20 and not wrong)
+    heads = [first.number <= rows[step.number].head <= last.number for step in steps]
+    held.hold("%s: heads are in view: %s" % (what, heads), any(heads))
 
 
 def hold_told(held: Held, what: str, rows: Dict[int, Row]) -> None:
