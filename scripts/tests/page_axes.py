@@ -8,6 +8,8 @@ from page_input import in_window, mouse, soon
 from page_times import CHAMPION
 
 STEPS = 10_000
+# A step at which both ends of the tape are in view.
+EARLY = 301
 # What was painted of the diagram since it was drawn the last time: texts and the marks beside them.
 PAINTED = """
 window.painted = { texts: [], marks: [] };
@@ -170,10 +172,11 @@ def hold_axes(held: Held) -> None:
         hold_ticks(held, "closer, %d" % gesture)
         hold_told(held, "closer, %d" % gesture, rows)
     page.js(
-        "document.getElementById('tape-step').value = '6001';"
-        "document.getElementById('tape-form').requestSubmit()"
+        "document.getElementById('tape-step').value = arguments[0];"
+        "document.getElementById('tape-form').requestSubmit()",
+        str(EARLY),
     )
-    soon(lambda: page.drawn()["every"] == 1 and page.drawn()["top"] > 5_000)
+    soon(lambda: page.drawn()["every"] == 1 and page.drawn()["top"] > EARLY / 2)
     hold_ticks(held, "single cells")
     hold_rows(held, "single cells", rows)
     hold_told(held, "single cells", rows)

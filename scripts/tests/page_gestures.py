@@ -102,8 +102,9 @@ def hold_drag(held: Held) -> None:
     held.hold("and back", page.drawn() == before)
     drag(page, in_window(page, *begin), in_window(page, begin[0] + 1, begin[1] + 1))
     step = cell_at(before, begin)[0]
-    soon(lambda: page.text("tape-told").startswith("Step {:,}".format(step)))
-    held.hold("what moves little is a click", page.drawn() == before)
+    is_shown = soon(lambda: page.text("tape-told").startswith("Step {:,}".format(step)))
+    held.hold("what moves little is a click: " + page.text("tape-told"), is_shown)
+    held.hold("and moves nothing", page.drawn() == before)
 
 
 def hold_edges(held: Held) -> None:
@@ -173,15 +174,15 @@ def hold_fingers(held: Held) -> None:
     box = in_window(page, width / 2, height / 2)
     place = page.js("return scrollY")
     swipe(page, box, (box[0], box[1] - 120))
-    soon(lambda: page.js("return scrollY") != place)
-    held.hold("one finger scrolls the page", page.drawn() == before)
+    held.hold("one finger scrolls the page", soon(lambda: page.js("return scrollY") != place))
+    held.hold("and the picture stays", page.drawn() == before)
     page.js(INTO_VIEW)
     box = in_window(page, width / 2, height / 2)
     tap(page, box)
     soon(lambda: page.js("return document.activeElement.id") == "diagram")
     place = page.js("return scrollY")
     swipe(page, box, (box[0], box[1] - 120))
-    soon(lambda: page.drawn()["top"] > before["top"])
+    held.hold("after a tap it moves the picture", soon(lambda: page.drawn()["top"] > before["top"]))
     moved = (page.drawn()["top"] - before["top"]) / before["every"] * before["high"]
-    held.hold("after a tap it moves the picture: %.1f" % moved, page.js("return scrollY") == place)
+    held.hold("and the page stays", page.js("return scrollY") == place)
     held.hold("as far as the finger: %.1f" % moved, abs(moved - 120) <= before["high"])

@@ -72,7 +72,7 @@ def in_window(page: Any, right: float, down: float) -> Point:
 
 def drag(page: Any, begin: Point, end: Point) -> None:
     """Drags by the mouse from one place of the window to another."""
-    button = {"button": "left", "buttons": 1, "clickCount": 1}
+    button: Dict[str, Any] = {"button": "left", "buttons": 1, "clickCount": 1}
     mouse(page, "mouseMoved", begin)
     mouse(page, "mousePressed", begin, **button)
     for place in way(begin, end):
