@@ -118,8 +118,9 @@ def hold_edges(held: Held) -> None:
         drag(page, begin, end)
     soon(lambda: page.drawn()["left"] < before["left"])
     view, (_, _, left, right) = page.drawn(), seen(page)
+    lowest = traced(held.program, CHAMPION, STEPS)[-1].low
     held.hold("the first step is on top: %s" % view, view["top"] == 0)
-    held.hold("some cell is in view: %s" % [left, right], left <= 0 <= right)
+    held.hold("the lowest cell, %d, is in view: %s" % (lowest, [left, right]), left <= lowest <= right)
 
 
 def hold_pinch(held: Held) -> None:
