@@ -9,6 +9,17 @@ const [ZERO, NINE] = [48, 57];
 const [A, L, R, Z, UNDERSCORE] = [65, 76, 82, 90, 95];
 const [FEWEST_SYMBOLS, MOST_SYMBOLS] = [2, 10];
 const MOST_STATES = 25;
+// The bytes of an entry's text, and what stands at each: a bit for a digit, one for a direction, one for a
+// state's letter, one for a dash.
+const ENTRY_BYTES = 3;
+const [DIGIT, DIRECTION, LETTER, BAR] = [1, 2, 4, 8];
+const [FIRST, MIDDLE, LAST] = [DIGIT | BAR, DIRECTION | BAR, LETTER | BAR];
+const [ENTRY, UNDEFINED] = [DIGIT | DIRECTION | LETTER, BAR];
+const BYTES = Uint8Array.from({ length: 256 }, (_, byte) => {
+  const digit = byte >= ZERO && byte <= NINE ? DIGIT : 0;
+  const direction = byte === L || byte === R ? DIRECTION : 0;
+  return digit | direction | (byte >= A && byte <= Z ? LETTER : 0) | (byte === DASH ? BAR : 0);
+});
 const NUMBERS = "(?:(?:halt|cycler|backward) \\d+ \\d+|translated [LR] \\d+ \\d+(?: \\d+ \\d+)?)";
 const VERDICT = new RegExp(
   `^(?:[0-9LRA-Z_-]+ (?:${NUMBERS}|undecided (?:steps|cells))|refused \\d+)(?:\\t.*)?$`,
@@ -143,15 +154,24 @@ function wholeUpTo(/** @type {Uint8Array} */ bytes) {
  * than any line.
  */
 function machineEnd(/** @type {Uint8Array} */ bytes, /** @type {number} */ from) {
+  const { length } = bytes;
   let [symbols, size, groups, state, symbol] = [0, 0, 1, A, ZERO];
   let at = from;
-  while (isEntry(bytes, at)) {
+  // No byte beyond the end is asked for: that would cost each line as much again.
+  while (at + ENTRY_BYTES <= length) {
+    const first = bytes[at];
+    const last = bytes[at + 2];
+    const kinds = (BYTES[first] & FIRST) | (BYTES[bytes[at + 1]] & MIDDLE) | (BYTES[last] & LAST);
+    if (kinds === ENTRY) {
+      symbol = first > symbol ? first : symbol;
+      state = last > state && last !== Z ? last : state;
+    } else if (kinds !== UNDEFINED) {
+      break;
+    }
     symbols += 1;
-    symbol = bytes[at] === DASH ? symbol : Math.max(symbol, bytes[at]);
-    state = bytes[at] === DASH || bytes[at + 2] === Z ? state : Math.max(state, bytes[at + 2]);
-    at += 3;
+    at += ENTRY_BYTES;
     size = groups === 1 ? symbols : size;
-    if (bytes[at] === UNDERSCORE && symbols === size && size >= FEWEST_SYMBOLS) {
+    if (symbols === size && size >= FEWEST_SYMBOLS && at < length && bytes[at] === UNDERSCORE) {
       at += 1;
       symbols = 0;
       groups += 1;
@@ -159,15 +179,4 @@ function machineEnd(/** @type {Uint8Array} */ bytes, /** @type {number} */ from)
   }
   const isWhole = symbols === size && size >= FEWEST_SYMBOLS && size <= MOST_SYMBOLS && groups <= MOST_STATES;
   return isWhole && state < A + groups && symbol < ZERO + size && at - from <= LONGEST_LINE ? at : -1;
-}
-
-/** Whether an entry stands there, such as `1RB` or `---`. */
-function isEntry(/** @type {Uint8Array} */ bytes, /** @type {number} */ at) {
-  const symbol = bytes[at];
-  const move = bytes[at + 1];
-  const state = bytes[at + 2];
-  if (symbol === DASH) {
-    return move === DASH && state === DASH;
-  }
-  return symbol >= ZERO && symbol <= NINE && (move === L || move === R) && state >= A && state <= Z;
 }

@@ -45,7 +45,7 @@ def expected(given: bytes, limits: Sequence[Limits] = PASSES) -> bytes:
 
 def resealed(reply: tasks.PieceReply, written: bytes) -> tasks.PieceReply:
     """A reply with other bytes, and the digest of these."""
-    return (written, *reply[1:7], tasks.hash_of(written))
+    return (written, *reply[1:7], tasks.digest_of(written))
 
 
 class Answering(Executor):

@@ -23,7 +23,7 @@ LINES = b"1RZ---\n1RA1RA\n0RZ---\n1LA1LA\n1LZ---\n"
 def reply_to(lines: bytes, limits: tasks.Numbers) -> tasks.PieceReply:
     """A reply that tells which lines it belongs to."""
     written, seconds = lines.upper(), float(lines.count(b"\n"))
-    digests = (tasks.hash_of(lines), "asked", tasks.hash_of(written))
+    digests = (tasks.digest_of(lines), "asked", tasks.digest_of(written))
     return (written, seconds, "version", "commit", "library", *digests)
 
 

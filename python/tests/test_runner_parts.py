@@ -211,7 +211,7 @@ class LookTest(unittest.TestCase):
             [],
             reply[:4],
             reply[:5],
-            (*reply[:7], tasks.hash_of(KINDS)),
+            (*reply[:7], tasks.digest_of(KINDS)),
             (reply[0][:-1] + b" ", *reply[1:]),
             tasks.decide_piece(KINDS[:-1], SMALL.numbers()),
             tasks.decide_piece(KINDS, MIDDLE.numbers()),

@@ -12,8 +12,8 @@ none is named:
   decided alone, beside the program, four processes of it, and GNU parallel; each bar with its figure. What
   Python needs to start is left out: it is that of a run over no line.
 - `threads`: one process of the program, one thread of the runner, several, and GNU parallel; whole commands.
-- `dask`: one process, and dask with one worker and with three. Of dask the time is that of the summary, so
-  without the start of Python and of dask.
+- `dask`: one process, and dask with one worker and with three; with few steps over the machines of four
+  states five times. Of dask the time is that of the summary, so without the start of Python and of dask.
 - `waiting`: a thousand workers that only wait, threads of four processes: how many pieces a second the runner
   and the scheduler keep up with.
 - `memory`: of the runner over a list, and over one of ten times as many lines.
@@ -308,6 +308,11 @@ def measure_memory(top: pathlib.Path) -> None:
         print("%d lines | most memory | %d KiB" % (count, most_memory(case, count, QUICK_PASS)), flush=True)
 
 
+def four_states(most: int) -> bytes:
+    """The machines of four states, so many at most."""
+    return b"".join(listed(4).splitlines(keepends=True)[:most])
+
+
 PARTS = ("memory", "bars", "threads", "dask", "waiting")
 TIMES = 20
 
@@ -329,8 +334,7 @@ def main() -> int:
         if "memory" in parts:
             measure_memory(top)
         if "bars" in parts:
-            four = b"".join(listed(4).splitlines(keepends=True)[: asked.lines])
-            case = Case(top / "bars", four * TIMES, ROWS[:1])
+            case = Case(top / "bars", four_states(asked.lines) * TIMES, ROWS[:1])
             measure_bars(tally, asked.program, case, asked.threads, asked.runs)
             case.clear()
             case.list.unlink()
@@ -339,7 +343,10 @@ def main() -> int:
             if "threads" in parts:
                 measure_threads(tally, asked.program, case, limits, asked.threads, asked.runs)
             if "dask" in parts:
-                measure_dask(tally, asked.program, case, limits, asked.runs)
+                # With few steps, so many lines that pieces are large.
+                longer = limits == ROWS[0]
+                dask_case = Case(top / "dask", four_states(asked.lines) * 5, ROWS[:1]) if longer else case
+                measure_dask(tally, asked.program, dask_case, limits, asked.runs)
         if "waiting" in parts:
             measure_waiting(tally, top, min(asked.lines / 10**6, 1.0))
     return tally.end()

@@ -16,7 +16,7 @@ from types import FrameType
 from typing import List, Optional
 
 from ..limits import Limits
-from .cutting import MOST_LINES
+from .cutting import HERE, SENT
 from .errors import CheckError, FolderError, ListError, RunError, WordsError
 from .folder import VERDICTS, Folder, hold_apart, limits_of
 from .forms import hold_form
@@ -76,9 +76,8 @@ def add_command(commands: "argparse._SubParsersAction[argparse.ArgumentParser]")
     parser.add_argument(
         "--piece",
         type=int,
-        default=MOST_LINES,
         metavar="LINES",
-        help="lines of a piece at most (default: {:,})".format(MOST_LINES),
+        help="lines of a piece at most (default: {:,}, over dask {:,})".format(HERE.lines, SENT.lines),
     )
 
 
@@ -175,7 +174,7 @@ def do_run(asked: argparse.Namespace) -> int:
     fill_closed(asked.list == "-")
     progress = Progress()
     passes = passes_of(asked.passes)
-    if asked.piece < 1:
+    if asked.piece is not None and asked.piece < 1:
         raise WordsError("--piece is %d, but must be 1 or more" % asked.piece)
     end_at_interruption(progress, asked.out)
     try:

@@ -3,7 +3,7 @@
 from __future__ import annotations
 
 import dataclasses
-from typing import Iterator, Optional, Tuple
+from typing import Iterator, NamedTuple, Optional, Tuple
 
 from .errors import FolderError
 from .journal import Record
@@ -11,11 +11,19 @@ from .pieces import PassFolder
 from .reply_checks import Counts
 from .source import Cuttable
 
-# How many lines a piece has at most where nothing is said, and how many bytes: larger ones gain nothing.
-MOST_LINES = 20_000
-MOST_BYTES = 560_000
 # A piece that was cut before is cut so again, whatever it has.
 _ANY_SIZE = 1 << 62
+
+
+class PieceSize(NamedTuple):
+    """How many lines and bytes a piece has at most."""
+
+    lines: int
+    bytes: int
+
+
+# Larger pieces gain nothing here; those that are sent elsewhere cost something each.
+HERE, SENT = PieceSize(20_000, 560_000), PieceSize(80_000, 2_000_000)
 
 
 class PiecePace:
@@ -70,9 +78,10 @@ class Cutter:
     """Cuts the lines of a pass: those pieces that the journal has as it has them, the others by the pace.
     `list_name` is for sentences; `known` is how many lines there are, where that is known."""
 
-    def __init__(self, folder: PassFolder, list_name: str, most_lines: int, known: Optional[int]) -> None:
+    def __init__(self, folder: PassFolder, list_name: str, most: PieceSize, known: Optional[int]) -> None:
         self._folder, self._list_name, self._known = folder, list_name, known
-        self.pace = PiecePace(most_lines)
+        self._most_bytes = most.bytes
+        self.pace = PiecePace(most.lines)
 
     def pieces(self, lines: Cuttable) -> Iterator[Piece]:
         """The pieces. Raises FolderError where they aren't those that the journal was written for, RunError,
@@ -106,7 +115,7 @@ class Cutter:
             return record.lines, _ANY_SIZE, True
         gap = self._folder.journal.gap(index, first)
         if gap is None:
-            return self.pace.now, MOST_BYTES, False
+            return self.pace.now, self._most_bytes, False
         pieces, count = gap
         return -(-count // pieces), _ANY_SIZE, True
 

@@ -7,7 +7,7 @@ import time
 from concurrent.futures import CancelledError, Future, ThreadPoolExecutor
 from typing import Any, Dict, Iterator, List, Optional
 
-from .cutting import Piece
+from .cutting import SENT, Piece
 from .errors import DeadlyError, ReplyError, RunError
 from .passes import Pass, PassRun, sentence_of
 from .reply_checks import look_at_verdicts, opened, shown
@@ -22,6 +22,8 @@ _LOOKERS, _MOST_LOOKED_AT = 4, 8
 
 class HandingRun(PassRun):
     """Decides a pass by an executor."""
+
+    PIECE_SIZE = SENT
 
     def __init__(self, asked: Pass, place: Executing) -> None:
         super().__init__(asked)

@@ -9,7 +9,7 @@ import time
 from typing import Callable, Counter, Optional, Sequence
 
 from ..limits import Limits
-from .cutting import MOST_LINES, Cutter, Piece
+from .cutting import HERE, Cutter, Piece, PieceSize
 from .errors import CheckError, FolderError, ReplyError
 from .joining import number_in_list
 from .journal import Record
@@ -49,14 +49,15 @@ class PassResult:
 class Manner:
     """How the pieces of each pass are decided. `list_name` is for sentences; `hold_list` raises where the
     list isn't as it was, and is called before a piece is put down; `is_checked_here` has the checker of this
-    process confirm each verdict; `keep` says which verdict lines are kept; `seen` is given the verdict lines
+    process confirm each verdict; `most_lines` says how many lines a piece has at most, where a person said
+    so; `keep` says which verdict lines are kept; `seen` is given the verdict lines
     of each piece that is decided, before any of them is dropped, by whichever thread has them."""
 
     place: Workplace
     identity: Identity
     progress: Progress
     list_name: str
-    most_lines: int = MOST_LINES
+    most_lines: Optional[int] = None
     is_checked: bool = False
     is_checked_here: bool = False
     keep: Keep = Keep()
@@ -77,12 +78,15 @@ class Pass:
 
 
 class PassRun:
-    """Decides a pass."""
+    """Decides a pass. A piece has at most `PIECE_SIZE`."""
+
+    PIECE_SIZE: PieceSize = HERE
 
     def __init__(self, asked: Pass) -> None:
         self._folder, self._limits, self._manner = asked.folder, asked.limits, asked.manner
         self._before = asked.before
-        self._cutter = Cutter(asked.folder, asked.manner.list_name, asked.manner.most_lines, asked.known)
+        most = self.PIECE_SIZE._replace(lines=asked.manner.most_lines or self.PIECE_SIZE.lines)
+        self._cutter = Cutter(asked.folder, asked.manner.list_name, most, asked.known)
         self._writer = Writer(asked.folder)
         self._result = PassResult(asked.limits)
         self._next, self._took = 0.0, 0.0

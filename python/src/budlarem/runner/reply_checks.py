@@ -15,7 +15,7 @@ from .._library import look as looked
 from ..engine import Call, checking, deciding
 from ..limits import Limits, Plan
 from .errors import ReplyError
-from .tasks import Identity, hash_of
+from .tasks import Identity, digest_of
 
 # By these a line costs no step: they are for the form of lines alone.
 _LOWEST = Limits(steps=0, cells=1, depth=0, nodes=0)
@@ -158,9 +158,9 @@ def opened(reply: object, ours: Identity, asked: str, lines: bytes) -> Tuple[byt
 
 def _hold_digests(digests: Tuple[object, ...], asked: str, lines: bytes, written: bytes) -> None:
     """Raises ReplyError where a reply isn't that to what was asked of these lines, or was changed."""
-    if digests[:1] != (hash_of(lines),):
+    if digests[:1] != (digest_of(lines),):
         raise ReplyError("what came back answers other lines")
     if digests[1:2] != (asked,):
         raise ReplyError("what came back answers something else: %.200r, not %r" % (digests[1:2], asked))
-    if digests[2:] != (hash_of(written),):
+    if digests[2:] != (digest_of(written),):
         raise ReplyError("what came back was changed on its way: its digest is another one's")

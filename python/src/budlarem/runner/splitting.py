@@ -8,7 +8,7 @@ from concurrent.futures import Future
 from typing import Any, List, Tuple
 
 from .errors import DeadlyError
-from .tasks import Numbers, Task, hash_of
+from .tasks import Numbers, Task, digest_of
 
 
 @dataclasses.dataclass(eq=False)
@@ -70,7 +70,7 @@ def reply_of_parts(parts: List[bytes], replies: List[Any]) -> Any:
     written: bytes = b"".join(reply[0] for reply in replies)
     seconds: float = sum(reply[1] for reply in replies)
     *identity, asked = _made_by(replies[0])
-    return (written, seconds, *identity, hash_of(b"".join(parts)), asked, hash_of(written))
+    return (written, seconds, *identity, digest_of(b"".join(parts)), asked, digest_of(written))
 
 
 def _made_by(reply: Any) -> Tuple[Any, ...]:
@@ -84,5 +84,5 @@ def _has_form(reply: Any, lines: bytes) -> bool:
         and len(reply) == 8
         and isinstance(reply[0], bytes)
         and isinstance(reply[1], float)
-        and (reply[5], reply[7]) == (hash_of(lines), hash_of(reply[0]))
+        and (reply[5], reply[7]) == (digest_of(lines), digest_of(reply[0]))
     )

@@ -12,6 +12,7 @@ import functools
 import hashlib
 import threading
 import time
+import zlib
 from typing import Callable, Tuple
 
 from .._library import Room, loaded
@@ -56,6 +57,12 @@ def hash_of(data: bytes) -> str:
     return hashlib.blake2b(data, digest_size=32).hexdigest()
 
 
+def digest_of(data: bytes) -> str:
+    """What bytes that are sent are held to, in 8 hexadecimal digits: CRC-32. It finds accidents;
+    whoever changes bytes on purpose can change their digest too, which is what encryption is for."""
+    return "%08x" % zlib.crc32(data)
+
+
 def question(what: str, limits: Numbers) -> str:
     """What is asked of some lines, as a reply tells it."""
     return "%s steps=%d,cells=%d,depth=%d,nodes=%d" % (what, *limits)
@@ -72,7 +79,7 @@ def _room() -> Room:
 def reply_of(asked: str, lines: bytes, written: bytes, seconds: float) -> PieceReply:
     """The reply to some lines, of which this was asked and for which this was written."""
     ours = identity()
-    about = (ours.version, ours.commit, ours.library, hash_of(lines), asked, hash_of(written))
+    about = (ours.version, ours.commit, ours.library, digest_of(lines), asked, digest_of(written))
     return (written, seconds, *about)
 
 
