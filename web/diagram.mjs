@@ -135,8 +135,8 @@ export class Diagram {
   }
 
   /**
-   * Takes a picture; that of an older view is shown, scaled, until the last one comes. It is drawn at once, so
-   * that it stands ready for the browser's next frame.
+   * Takes a picture; that of an older view is shown, scaled, until the last one comes. It is drawn at once,
+   * so that it stands ready for the browser's next frame.
    */
   take(/** @type {any} */ answer, /** @type {boolean} */ isLast) {
     if (!isLast && (answer.error || this.view === null)) {

@@ -113,7 +113,7 @@ export class Lines {
     if (place >= 0 && place < rows.length) {
       this.rows.choose(place, true);
     } else {
-      tellLive(isUndecided ? "There is no other undecided line that way." : "There is no other line that way.");
+      tellLive(`There is no other ${isUndecided ? "undecided line" : "line"} that way.`);
     }
   }
 }

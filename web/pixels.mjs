@@ -72,7 +72,7 @@ function paintCells(row, sample, k, view, pixels) {
 }
 
 /**
- * A row of which a pixel stands for several cells; only the outermost ones may have cells that aren't visited.
+ * A row of which a pixel stands for several cells; only the outermost ones may have some that aren't visited.
  * @param {Uint32Array} row @param {Sample} sample @param {number} k @param {View} view
  * @param {How} how
  */
@@ -90,8 +90,8 @@ function paintMeans(row, sample, k, { left, across }, { mean, whole }) {
 }
 
 /**
- * How rows of two symbols are painted: the mean goes by how many of a pixel's cells are 1, how many are 0, and
- * how many aren't visited.
+ * How rows of two symbols are painted: the mean goes by how many of a pixel's cells are 1, how many are 0,
+ * and how many aren't visited.
  * @param {Sample} sample @param {View} view @param {number[][]} palette
  * @returns {How}
  */

@@ -1,6 +1,6 @@
 /**
  * Rows of a machine's run, by the engine's trace. A trace begins at step 0 each time, so rows are kept, and
- * those of closer, neighbouring and farther views are taken ahead: a view whose rows are there needs no trace.
+ * those of closer, neighbouring and farther views are taken ahead: most views need no trace then.
  *
  * @typedef {import("./sample.mjs").Sample} Sample
  * @typedef {{machine: string, upto: number, cells: number, from: number, every: number}} Asked the rows of
@@ -101,7 +101,7 @@ export class Run {
   }
 
   /**
-   * What views closer than this one need, those above and below it, and farther ones, as far as it isn't kept.
+   * What views closer than this one need, those above and below it, and farther ones, but for what is kept.
    * @param {Asked} given @param {Next} next
    * @returns {Asked[]}
    */
@@ -143,5 +143,6 @@ function picked({ asked: own, sample, agrees, cut }, { from, upto, every }) {
   const apart = every / own.every;
   const end = Math.min(sample.steps.length, Math.floor((upto - own.from) / own.every) + 1);
   const count = Math.max(0, Math.ceil((end - first) / apart));
-  return { sample: count === sample.steps.length ? sample : rowsOf(sample, first, apart, count), agrees, cut };
+  const isAll = count === sample.steps.length;
+  return { sample: isAll ? sample : rowsOf(sample, first, apart, count), agrees, cut };
 }

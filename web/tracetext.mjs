@@ -46,8 +46,9 @@ export function readTrace(text, windows) {
  * @returns {Lines}
  */
 function linesOf(text, windows) {
+  const columns = { steps: [], heads: [], lows: [], wide: [], begins: [], lengths: [] };
   /** @type {Lines} */
-  const lines = { steps: [], heads: [], lows: [], wide: [], begins: [], lengths: [], states: "", agrees: true };
+  const lines = { ...columns, states: "", agrees: true };
   for (let from = 0; from < text.length; ) {
     const letter = text.indexOf(SPACE, from) + 1;
     const begin = text.indexOf(SPACE, letter + 2) + 1;

@@ -8,10 +8,10 @@ First it runs `scripts/web`, which builds the page where it isn't up to date, in
 byte for byte (the first run of the README, the examples, all plans at some limits, random machines and claims
 at random limits, all machines of four states as a dropped file, noise), and its reader against `forms.json`;
 then refused limits, a stop in the middle of a machine, links, settings, pictures, axes, mouse, fingers and
-keys, the tape, what is known of a machine, contrasts, names, widths, a phone, and what the page could send. It takes six minutes, `--quick` less
-than one. Without `chromium`, `chromedriver` and Python's
-selenium it is skipped, with a line that says which package is missing. The last line is `N passed, M
-failed`, with `, K skipped` where some were; the status is 1 where any failed.
+keys, the tape, what is known of a machine, contrasts, names, widths, a phone, and what the page could send.
+It takes six minutes, `--quick` one. Without `chromium`, `chromedriver` and Python's selenium it is skipped,
+with a line that says which package is missing. The last line is `N passed, M failed`, with `, K skipped`
+where some were; the status is 1 where any failed.
 """
 
 import functools
@@ -244,9 +244,8 @@ def hold_unsupported(tally: Tally, folder: str) -> None:
     page.end()
 
 
-def hold_all(program: str, tally: Tally, quick: bool, seed: int) -> None:
-    """All of it, in pages that are ended whatever comes."""
-    from browser import Page
+def hold_page(held: Held, quick: bool, seed: int) -> None:
+    """All that is tried in one page."""
     from page_access import hold_access
     from page_axes import hold_axes
     from page_gestures import hold_drag, hold_edges
@@ -255,29 +254,36 @@ def hold_all(program: str, tally: Tally, quick: bool, seed: int) -> None:
     from page_machine import hold_machine
     from page_pictures import hold_pictures
 
+    hold_first(held)
+    hold_examples(held, quick)
+    hold_cleaning(held)
+    hold_stop(held)
+    hold_refused(held)
+    hold_link(held)
+    hold_lists(held, quick, seed)
+    hold_pictures(held, quick, seed)
+    hold_axes(held)
+    hold_drag(held)
+    hold_keys(held)
+    hold_access(held)
+    if not quick:
+        hold_edges(held)
+        hold_machine(held)
+        hold_random(held, 20_000, seed)
+        hold_noise(held, random.Random(seed))
+        hold_four_states(held)
+
+
+def hold_all(program: str, tally: Tally, quick: bool, seed: int) -> None:
+    """All of it, in pages that are ended whatever comes."""
+    from browser import Page
+
     with tempfile.TemporaryDirectory() as folder:
         page = Page(PAGE, folder)
         try:
             held = Held(program, page, tally)
-            hold_first(held)
-            hold_examples(held, quick)
-            hold_cleaning(held)
-            hold_stop(held)
-            hold_refused(held)
-            hold_link(held)
-            hold_lists(held, quick, seed)
-            hold_pictures(held, quick, seed)
-            hold_axes(held)
-            hold_drag(held)
-            hold_keys(held)
+            hold_page(held, quick, seed)
             if not quick:
-                hold_edges(held)
-                hold_machine(held)
-            hold_access(held)
-            if not quick:
-                hold_random(held, 20_000, seed)
-                hold_noise(held, random.Random(seed))
-                hold_four_states(held)
                 hold_phone(program, tally, folder)
                 hold_unsupported(tally, folder)
             requests, errors = page.requests(), page.errors()

@@ -102,7 +102,7 @@ def hold_marks(
 
 
 def hold_rows(held: Held, what: str, rows: Dict[int, Row]) -> None:
-    """At a step's number stands that step's row, each cell where the positions' numbers say, with its head."""
+    """At a step's number stands its row, with its head, each cell where the positions' numbers say."""
     page, colours = held.page, palette(held.page)
     view = page.drawn()
     steps, positions = ticks(page, view)
