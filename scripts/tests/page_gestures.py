@@ -65,8 +65,8 @@ def hold_cells_shown(held: Held, what: str) -> None:
     view = page.drawn()
     first, last = int(view["top"]), int(view["top"] + 12)
     rows = {row.step: row for row in traced(held.program, CHAMPION, last)}
-    left = int(view["left"])
-    cells = [(rows[step], at) for step in range(first, last + 1) for at in range(left, left + 24)]
+    left, columns = int(view["left"]), int((page.js(SIZE)[0] - view["x"]) / view["wide"])
+    cells = [(rows[step], at) for step in range(first, last + 1) for at in range(left, left + columns)]
     # A head's frame is in its own cell.
     plain = [(row, at) for row, at in cells if at != row.head]
     places = [

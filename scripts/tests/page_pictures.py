@@ -12,14 +12,17 @@ from typing import Any, Dict, List, Tuple
 
 from selenium.webdriver.common.keys import Keys
 
+from built import MODULE
 from machines import mixed, seldom_halting
 from node import Engine
 from page_held import HEAD, Held, Row, colour, palette, pixels, symbol_of, traced
 from page_times import CHAMPION as CHAMPION_5
 from page_times import PAUSE, end, steps_seen, traced_views, views
+from program import ended
 from tally import TOP
 
 WINDOWS = os.path.join(TOP, "scripts", "tests", "windows.mjs")
+KEPT = os.path.join(TOP, "scripts", "tests", "kept_rows.mjs")
 CHAMPION = "1RB1LB_1LA0LC_1RZ1LD_1RD0RA"
 TRANSLATED = "1LB0LA_1RA---"
 # The champion of four states, which goes to the right for ever in place of its halt.
@@ -65,6 +68,42 @@ def hold_windows(held: Held, count: int, seed: int) -> None:
         if json.loads(line) != [[row.low, row.low + len(row.cells) - 1] for row in rows]:
             wrong.append((machine, upto))
     held.hold("visited positions of %d machines: %s" % (len(machines), wrong[:3]), not wrong)
+
+
+def questions(source: random.Random) -> List[Dict[str, int]]:
+    """Rows that are asked for one after another, some of which are among those before."""
+    every = source.choice([1, 2, 3, 4])
+    begin = every * source.randrange(50)
+    found = [{"from": begin, "every": every, "upto": begin + 600 * every}]
+    for _ in range(5):
+        times, skipped = source.randint(1, 5), source.randrange(40)
+        first = begin + every * skipped
+        upto = source.choice([first + every * source.randrange(200), begin + 600 * every])
+        found.append({"from": first, "every": every * times, "upto": upto})
+    return found
+
+
+def hold_kept(held: Held, count: int, seed: int) -> None:
+    """Rows that are kept and picked out of others are the program's."""
+    if not held.tally.has("rows that are kept", "node"):
+        return
+    source = random.Random(seed)
+    machines = [seldom_halting(source, source.randint(2, 5), source.randint(2, 10)) for _ in range(count)]
+    asked = [(machine, questions(source)) for machine in [CHAMPION_5, CHAMPION, LATE, TREE, *machines]]
+    given = "".join(json.dumps({"machine": one, "cells": 512, "asked": rows}) + "\n" for one, rows in asked)
+    command = ["node", KEPT, MODULE]
+    done = subprocess.run(command, input=given, stdout=subprocess.PIPE, text=True, check=True)
+    known, wrong = 0, []
+    for (machine, rows), line in zip(asked, map(json.loads, done.stdout.splitlines())):
+        known += line["known"]
+        words = [held.program, "trace", "--upto=5000", "--cells=512", "--", machine]
+        lines = {int(text.split()[0]): text for text in ended(words).output.decode().splitlines()}
+        for one, found in zip(rows, line["lines"]):
+            steps = range(one["from"], one["upto"] + 1, one["every"])
+            if found != [lines[step] for step in steps if step in lines]:
+                wrong.append((machine, one))
+    held.hold("rows that are kept, of %d machines: %s" % (len(asked), wrong[:3]), not wrong)
+    held.hold("%d questions needed no trace" % known, known > 2 * len(asked))
 
 
 def mean(row: Row, first: int, across: int, colours: List[List[int]]) -> List[float]:
@@ -357,6 +396,7 @@ def hold_png(held: Held) -> None:
 def hold_pictures(held: Held, quick: bool, seed: int) -> None:
     """All that diagrams show; the long runs only where there is time."""
     hold_windows(held, 50 if quick else 500, seed)
+    hold_kept(held, 20 if quick else 200, seed)
     hold_cells(held, CHAMPION, 107)
     hold_cells(held, "1RB1LB_1LA1RZ", 6)
     hold_stretch(held)
