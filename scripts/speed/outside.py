@@ -339,7 +339,7 @@ def measure_views(figures: Figures, program: str, folder: str) -> None:
     milliseconds(figures, "the longest of 18 views, with pauses of %.1f s between" % PAUSE, paused, 100)
     usual = min(sorted(taken)[len(taken) // 2] for taken in each)
     milliseconds(figures, "the middle one of them", usual)
-    milliseconds(figures, "the longest of 8 whose rows aren't known, so that each is traced", traced, 100)
+    milliseconds(figures, "the longest of 8 whose rows aren't known, so that each is traced", traced)
     milliseconds(figures, "the longest of 18, one at once after another", hurried)
     milliseconds(figures, "to step 47,176,860 of 50,000,000, with the tape", last, 1_500)
     milliseconds(figures, "the longest that it stood still meanwhile", max(longest), 100)
