@@ -73,8 +73,8 @@ uint32_t bb_decide(uint64_t steps, uint64_t cells, uint64_t depth, uint64_t node
                    bool translated, bool backward, const uint8_t *list, size_t list_len, uint8_t *out,
                    size_t out_len, size_t *count);
 
-/* The reply to one line, without a newline. A line that is refused costs no tapes. Where more than 1,024 cells
- * are allowed, up to 4,096 steps are tried on small tapes first: so it makes at most
+/* The reply to one line, without a newline. A line that is refused costs no tapes. Where more than 1,024
+ * cells are allowed, up to 4,096 steps are tried on small tapes first: so it makes at most
  * 3 * steps + 3 * min(steps, 4096) steps. */
 uint32_t bb_decide_line(uint64_t steps, uint64_t cells, uint64_t depth, uint64_t nodes, bool cyclers,
                         bool translated, bool backward, const uint8_t *line, size_t line_len, uint8_t *out,
@@ -99,9 +99,9 @@ uint32_t bb_trace(uint64_t steps, uint64_t cells, uint64_t from, uint64_t every,
  * newline, and whether there are no more. A reply has its form where it is the line's bytes, a space and a
  * verdict, together a verdict line; or `refused` and the line's column, where the line is no machine. Then
  * `counts` tells how many there are of halt, cycler, translated, backward, undecided steps, undecided cells
- * and refused, in this order, and `*lines` is their sum. Else `counts` is as it was, and `*lines` is the first
- * line that has none, from 0: the number of lines where each has one. Whether a verdict is right isn't looked
- * at: no step is made. It takes no memory. */
+ * and refused, in this order, and `*lines` is their sum. Else `counts` is as it was, and `*lines` is the
+ * first line that has none, from 0: the number of lines where each has one. Whether a verdict is right isn't
+ * looked at: no step is made. It takes no memory. */
 uint32_t bb_look(const uint8_t *list, size_t list_len, const uint8_t *replies, size_t replies_len,
                  uint64_t counts[7], uint64_t *lines);
 

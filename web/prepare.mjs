@@ -52,17 +52,18 @@ function isNothing(/** @type {string} */ text) {
   return text === "" || text.startsWith("#") || text.startsWith("//");
 }
 
+/** A list that is given as it stands. @returns {Prepared} */
+export function asGiven(/** @type {Uint8Array} */ bytes) {
+  return { bytes, numbers: null, places: null, left: 0 };
+}
+
 /**
  * What the engine is given of a list.
  * @param {Uint8Array} bytes @param {{mode: string, clean: boolean}} asked
  * @returns {Prepared}
  */
 export function prepared(bytes, { mode, clean }) {
-  const isMachines = mode !== "check";
-  if (!clean || (isMachines && wholeUpTo(bytes) === bytes.length)) {
-    return { bytes, numbers: null, places: null, left: 0 };
-  }
-  return taken(bytes, isMachines ? machineIn : claimIn);
+  return clean ? taken(bytes, mode === "check" ? claimIn : machineIn) : asGiven(bytes);
 }
 
 /**
@@ -134,19 +135,6 @@ function endOf(/** @type {Uint8Array} */ bytes, /** @type {number} */ from) {
 export function lineAt(bytes, from, most) {
   const end = Math.min(endOf(bytes, from), from + most);
   return decoder.decode(bytes.subarray(from, bytes[end - 1] === RETURN ? end - 1 : end));
-}
-
-/** Where the first line begins that isn't a machine and nothing else; the end where there is none. */
-function wholeUpTo(/** @type {Uint8Array} */ bytes) {
-  let from = 0;
-  while (from < bytes.length) {
-    const end = machineEnd(bytes, from);
-    if (end < 0 || (end < bytes.length && bytes[end] !== NEWLINE)) {
-      return from;
-    }
-    from = Math.min(end + 1, bytes.length);
-  }
-  return bytes.length;
 }
 
 /**

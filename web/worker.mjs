@@ -18,7 +18,7 @@
 import { load } from "./bb.mjs";
 import { LONGEST_SHOWN } from "./lengths.mjs";
 import { ANSWERS, KINDS } from "./machine.mjs";
-import { lineAt, prepared } from "./prepare.mjs";
+import { asGiven, lineAt, prepared } from "./prepare.mjs";
 import { readAnswers, readLines, startsOf, tallied } from "./replies.mjs";
 import { growthOf, keep, lastOf, pictured, takenAhead, traced } from "./traced.mjs";
 
@@ -67,11 +67,15 @@ function answered(
   return { ...written, ...lines, answers, kindCounts, answerCounts, held: host.held };
 }
 
-/** Answers a piece of a list in batches, each sent when it is done. */
+/**
+ * Answers a piece of a list in batches, each sent when it is done. The engine is given the piece as it stands
+ * where machines may be; from the first batch on in which it refuses a line, they are read line by line.
+ */
 function work(/** @type {any} */ { job, bytes: given, line: first, asked }) {
-  const list = prepared(given, asked);
-  let [from, line] = [0, 0];
-  do {
+  const standing = asGiven(given);
+  let list = asked.mode === "check" ? prepared(given, asked) : standing;
+  let [from, line, done] = [0, 0, false];
+  while (!done) {
     const newline = list.bytes.indexOf(NEWLINE, Math.max(from, Math.min(from + size, list.bytes.length) - 1));
     const end = newline < 0 ? list.bytes.length : newline + 1;
     const batch = list.bytes.subarray(from, end);
@@ -80,16 +84,20 @@ function work(/** @type {any} */ { job, bytes: given, line: first, asked }) {
     postMessage({ job, at: lineAt(batch, 0, LONGEST_SHOWN), lines: count, bytes: batch.length });
     const begun = performance.now();
     const part = answered(batch, asked, starts);
+    if (list === standing && asked.clean && part.kindCounts[REFUSED] > 0) {
+      list = prepared(given, asked);
+      continue;
+    }
     const taken = performance.now() - begun;
     size = nextSize(taken, count);
-    const done = end === list.bytes.length;
+    done = end === list.bytes.length;
     const origin = originOf(list, given, { from, line, count }, part.kindCounts);
     const next = done ? given.length : list.places?.[line + count] ?? end;
     const nextLine = list.numbers?.[line + count] ?? line + count;
     const place = { first: list.numbers === null ? first + line : first, next, nextLine };
     send({ job, ...part, ...origin, ...place, left: done ? list.left : 0, done, taken });
     [from, line] = [end, line + count];
-  } while (from < list.bytes.length);
+  }
 }
 
 /**

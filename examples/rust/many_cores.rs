@@ -3,7 +3,8 @@
 //!     rustc -O examples/rust/many_cores.rs -L crates/bb_c/out -l static=bb
 //!     ./many_cores [--threads N] [--steps N] [--cells N] [--depth N] [--nodes N] < machines.txt
 //!
-//! It writes what `bb decide` does. Its status is 0, 1 for a refused line, 2 for words or limits, 3 for a fault.
+//! It writes what `bb decide` does. Its status is 0, 1 for a refused line, 2 for words or limits, 3 for a
+//! fault.
 
 use std::collections::BTreeMap;
 use std::io::{self, Read, Write};

@@ -57,8 +57,9 @@ class Sources:
 
     Names stand by their crate (`below` has what a crate stands on), and by what they are members of: a type,
     a record, a module or a crate. Those of other languages stand by the language: `python`, `script`
-    (JavaScript, HTML), `header` (C) or `coq`. `options` are those of all commands, `program_options` those of `bb`;
-    `texts` has the words of the scripts that make files, `words` those of the lines that the program writes.
+    (JavaScript, HTML), `header` (C) or `coq`. `options` are those of all commands, `program_options` those of
+    `bb`; `texts` has the words of the scripts that make files, `words` those of the lines that the program
+    writes.
     """
 
     files: Set[str] = dataclasses.field(default_factory=set)

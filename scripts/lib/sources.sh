@@ -1,5 +1,5 @@
-# For scripts that build: read by `.`, with the repository's folder in $here. Here is found out whether what is
-# built is up to date.
+# For scripts that build: read by `.`, with the repository's folder in $here. Here is found out whether what
+# is built is up to date.
 
 # Ends a script that takes no words where it is given one: `--help` prints the comment at its head; others are
 # refused.
@@ -20,8 +20,8 @@ needs_of() {
 }
 
 # Whether a crate's built file is missing, or older than what it is made of: the code, the definitions and the
-# proofs of the crate and of those that it stands on, or one of these other files. Edits, tests and other crates
-# are no part of it.
+# proofs of the crate and of those that it stands on, or one of these other files. Edits, tests and other
+# crates are no part of it.
 is_older() {
     of=$1
     built=$2

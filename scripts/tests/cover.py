@@ -4,13 +4,13 @@
     scripts/tests/cover.py crates/bb/out/bb [--quick] [--machines N] [--seed S]
 
 Whole lists, decided by the program, cover their sizes: those of up to four states and two symbols, two states
-and three or four, one state and more. What `cover` counts is counted again. Lists in which a line is left out,
-stands twice, is swapped with another or has one number changed, N of each list's kinds of change in all, are
-refused, each at its line. So are the limits, wrong words, unread lines, files that aren't there and a full
-disk, by their statuses and sentences. `cover` may take one and a half times as long as `bb check` over the same
-list. It builds `cover` where it isn't up to date. It takes two minutes; `--quick`, without four states and with
-a tenth of the changes, some seconds. The last line is `N passed, M failed`, with `, K skipped`; the status is 1
-where any failed.
+and three or four, one state and more. What `cover` counts is counted again. Lists in which a line is left
+out, stands twice, is swapped with another or has one number changed, N of each list's kinds of change in all,
+are refused, each at its line. So are the limits, wrong words, unread lines, files that aren't there and a
+full disk, by their statuses and sentences. `cover` may take one and a half times as long as `bb check` over
+the same list. It builds `cover` where it isn't up to date. It takes two minutes; `--quick`, without four
+states and with a tenth of the changes, some seconds. The last line is `N passed, M failed`, with `, K
+skipped`; the status is 1 where any failed.
 """
 
 from __future__ import annotations

@@ -5,10 +5,10 @@
 
 It looks at README.md, CHANGELOG.md, `docs/`, the manual page and the examples' README. Of each it takes the
 links and the words in backquotes, and tells by their form what they are: files, names of the crates, lemmas,
-clauses of contracts, edits, options, lines of the program. What isn't there is printed with document and line.
-It is also tried on a document in which one of each is broken. The README has at most so many words beside
-tables and code, each item of the decisions is short, and the version is one wherever it stands. It takes a
-second. The last line is `N passed, M failed`; the status is 1 where any failed.
+clauses of contracts, edits, options, lines of the program. What isn't there is printed with document and
+line. It is also tried on a document in which one of each is broken. The README has at most so many words
+beside tables and code, each item of the decisions is short, and the version is one wherever it stands. It
+takes a second. The last line is `N passed, M failed`; the status is 1 where any failed.
 """
 
 from __future__ import annotations

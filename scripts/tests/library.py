@@ -4,11 +4,11 @@
     scripts/tests/library.py crates/bb/out/bb [--part PART]...
 
 The parts, both of which are run where none is named: `calls`, and `room`, the room that the header's macros
-give for a reply, which takes a second. For `calls` it runs `scripts/library`, and gcc, g++, rustc and valgrind
-beside; what isn't installed is skipped. The lists are the first 100,000 machines of four states in tree normal
-form, all of two states, and claims that someone made up; the traces those of a hundred of the machines, at
-every first step and every distance up to 50. It takes two minutes, after the proof. The last line is `N
-passed, M failed, K skipped`; the status is 1 where any failed.
+give for a reply, which takes a second. For `calls` it runs `scripts/library`, and gcc, g++, rustc and
+valgrind beside; what isn't installed is skipped. The lists are the first 100,000 machines of four states in
+tree normal form, all of two states, and claims that someone made up; the traces those of a hundred of the
+machines, at every first step and every distance up to 50. It takes two minutes, after the proof. The last
+line is `N passed, M failed, K skipped`; the status is 1 where any failed.
 """
 
 import os

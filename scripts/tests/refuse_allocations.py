@@ -8,8 +8,8 @@ The program must then end as ever, or with status 3, a beginning of its output a
 fault. It stops at the first k that no call reaches. The last calls are those that make the tapes and the
 path, before a byte is read: where one of them is refused, nothing is written and memory is the cause.
 Those before them read the words, and there must be some. Opening FILE allocates nothing, so none of them may
-end as a failed read. It builds `cover` where it isn't up to date. It takes a few seconds. The last line is `N passed, M failed`; the status is 1
-where any failed. Needs cc and Linux.
+end as a failed read. It builds `cover` where it isn't up to date. It takes a few seconds. The last line is `N
+passed, M failed`; the status is 1 where any failed. Needs cc and Linux.
 """
 
 import os

@@ -4,9 +4,9 @@
     ./bb trace --upto 107 1RB1LB_1LA0LC_1RZ1LD_1RD0RA | scripts/tools/picture.py --scale 4 > picture.png
 
 A row is a step, from the top down; a column is a position, from the left. A colour is a symbol: 0 is white,
-1 black. The head is red. Positions not visited yet are grey. A long trace is sampled and a wide one scaled down
-by itself: a pixel then has the mean colour of its cells, and the head isn't seen. `--columns`, `--left` and
-`--right` cut. Standard error says which steps and positions are shown. A row whose head lies outside the
+1 black. The head is red. Positions not visited yet are grey. A long trace is sampled and a wide one scaled
+down by itself: a pixel then has the mean colour of its cells, and the head isn't seen. `--columns`, `--left`
+and `--right` cut. Standard error says which steps and positions are shown. A row whose head lies outside the
 positions shown has no red. A picture of more than 100 million pixels is refused. A trace of 60,000 lines
 takes about a second. Needs nothing but Python; it uses the package in `python/src`, without its library.
 """

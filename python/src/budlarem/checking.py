@@ -30,8 +30,8 @@ class Checked:
 def answers_to(
     file: BinaryReader, limits: Limits, threads: int, found: Checked, tell: Callable[[Checked], None]
 ) -> Iterator[bytes]:
-    """The bytes that `bb check` writes for a file, block by block; `found` counts them, and `tell` is called with
-    it after each."""
+    """The bytes that `bb check` writes for a file, block by block; `found` counts them, and `tell` is called
+    with it after each."""
     for lines, answers in checked(file, limits, threads=threads):
         if found.first is None:
             found.first = _first_of(lines, answers, found.lines)

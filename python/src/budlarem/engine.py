@@ -297,8 +297,8 @@ class Trace(Iterator[Configuration]):
         return lines
 
     def _asked(self, count: int, left: int, room: int) -> Reply:
-        """What a call returns for the next `count` lines; where they are all that are `left`, of the last step
-        too."""
+        """What a call returns for the next `count` lines; where they are all that are `left`, of the last
+        step too."""
         last = self._upto if count == left else self._next + self._every * (count - 1)
         return _apart(self._machine, (last, self._cells, self._next, self._every), room)
 

@@ -85,7 +85,13 @@ impl Tape {
     }
 
     /// The verdict of what was found, or of how the run ended without; blanks what the run wrote.
-    pub fn verdict(&mut self, found: Option<Verdict>, run: Run, machine: &Machine, most_steps: u64) -> Verdict {
+    pub fn verdict(
+        &mut self,
+        found: Option<Verdict>,
+        run: Run,
+        machine: &Machine,
+        most_steps: u64,
+    ) -> Verdict {
         let verdict = found.unwrap_or_else(|| self.ending(run, machine, most_steps).into());
         self.clear(&run);
         verdict
@@ -94,7 +100,12 @@ impl Tape {
     /// The first step whose configuration is that of the greatest power of two below it, and where the run
     /// ended.
     #[inline(never)]
-    pub fn cycle(&mut self, kept: &mut Kept, machine: &Machine, most_steps: u64) -> (Option<(u64, u64)>, Run) {
+    pub fn cycle(
+        &mut self,
+        kept: &mut Kept,
+        machine: &Machine,
+        most_steps: u64,
+    ) -> (Option<(u64, u64)>, Run) {
         let mut run = Run::start(self);
         kept.clear();
         kept.run = run;

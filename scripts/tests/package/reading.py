@@ -250,7 +250,7 @@ def hold_table(tally: Tally) -> None:
 
 
 def hold_undefined_steps(tally: Tally, program: str, count: int, seed: int) -> None:
-    """Halts that count a step for an undefined entry are found out, and confirmed; and the command says so."""
+    """Halts that count a step for an undefined entry are found out, and confirmed; the command says so."""
     verdicts = [verdict for verdict in verdicts_of(count, seed) if isinstance(verdict, Halt)]
     machines = [verdict.machine.replace("---", "1RZ") for verdict in verdicts]
     decided = ended([program, "decide", *options((LIMITS[0] + 1, *LIMITS[1:]))], joined(machines)).output

@@ -49,8 +49,8 @@ def judge(
     which of them have no line, and which lines are of none.
 
     Both lists are what `read` takes. Their list is read twice, so what isn't a path to a file is copied to
-    the disk first. `tell` is called with what is done beside judging, and with how many lines it was done. Raises
-    what `read` and `decide` do.
+    the disk first. `tell` is called with what is done beside judging, and with how many lines it was done.
+    Raises what `read` and `decide` do.
 
     >>> lines = ["1RB1LB_1LA1RZ halt 6 4", "1LB1RB_1RA1LZ nonhalt", "1RA1RA undecided"]
     >>> for judged in judge(lines):

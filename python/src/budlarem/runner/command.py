@@ -32,8 +32,8 @@ _HELP = """Decides a list of any length in pieces, on all cores of this computer
 gets verdicts.txt, with a line for each line of LIST in its order, and summary.json. Whatever ended it, the
 same command goes on after what stands. More passes may be added at the end of the command later: they decide
 what is left. Lines are read as they are, for speed: where more than half of the first thousand would be
-refused, nothing is decided, and the first of them is printed; `budlarem read` takes the machines out of a list
-in other forms."""
+refused, nothing is decided, and the first of them is printed; `budlarem read` takes the machines out of a
+list in other forms."""
 
 # dask's options of TLS, and what its client calls them.
 TLS = {

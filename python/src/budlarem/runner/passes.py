@@ -67,8 +67,8 @@ class Manner:
 
 @dataclasses.dataclass(frozen=True)
 class Pass:
-    """A pass that is to be run: where, with which limits and how. `before` are the passes before it; `known` is
-    how many lines there are, where that is known."""
+    """A pass that is to be run: where, with which limits and how. `before` are the passes before it; `known`
+    is how many lines there are, where that is known."""
 
     folder: PassFolder
     limits: Limits
