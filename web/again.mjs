@@ -2,7 +2,7 @@
 import { larger } from "./fields.mjs";
 import { readLine, shown } from "./machine.mjs";
 import { part } from "./parts.mjs";
-import { Asker } from "./pool.mjs";
+import { Asker } from "./asker.mjs";
 
 /** @typedef {import("./view.mjs").About} About */
 

@@ -99,7 +99,7 @@ export class Engine {
     const { cyclers = true, translated = true, backward = true, ...limits } = plan;
     const words = [...limitsOf(limits, LIMITS), ...switchesOf({ cyclers, translated, backward })];
     const space = list.length + VERDICT_ROOM * lines;
-    return this.called("bb_decide", LIMITS, words, list, space);
+    return copied(this.called("bb_decide", LIMITS, words, list, space));
   }
 
   /**
@@ -108,7 +108,7 @@ export class Engine {
    */
   checkBytes(list, limits = {}, lines = countLines(list)) {
     const words = limitsOf(limits, LIMITS);
-    return this.called("bb_check", LIMITS, words, list, ANSWER_ROOM * lines);
+    return copied(this.called("bb_check", LIMITS, words, list, ANSWER_ROOM * lines));
   }
 
   /**
@@ -117,6 +117,14 @@ export class Engine {
    * @param {Uint8Array} line @param {Sample} sample @param {number} [space]
    */
   traceBytes(line, sample, space = 0) {
+    return copied(this.traceInPlace(line, sample, space));
+  }
+
+  /**
+   * As `traceBytes`, without a copy: the bytes are the engine's own, which its next call overwrites.
+   * @param {Uint8Array} line @param {Sample} sample @param {number} [space]
+   */
+  traceInPlace(line, sample, space = 0) {
     if (sample.steps === undefined) {
       throw new TypeError("a trace needs a limit of steps");
     }
@@ -125,7 +133,8 @@ export class Engine {
   }
 
   /**
-   * A call with room for a reply of so many bytes, and again where it has more.
+   * A call with room for a reply of so many bytes, and again where it has more. The reply stands in the
+   * engine's memory until the next call.
    * @param {string} name @param {Limit[]} names of the limits among the words
    * @param {(bigint | boolean)[]} words @param {Uint8Array} given @param {number} space
    * @returns {Reply}
@@ -151,8 +160,13 @@ export class Engine {
       return this.called(name, names, words, given, length);
     }
     raise(status, names, words);
-    return { bytes: room.bytes(out, length).slice(), clean: status === 0 };
+    return { bytes: room.bytes(out, length), clean: status === 0 };
   }
+}
+
+/** A reply with bytes of its own. @returns {Reply} */
+function copied(/** @type {Reply} */ { bytes, clean }) {
+  return { bytes: bytes.slice(), clean };
 }
 
 /**

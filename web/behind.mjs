@@ -1,5 +1,5 @@
 /** What stands behind a verdict: what is marked on the diagram, and what is shown below it. */
-import { Asker } from "./pool.mjs";
+import { Asker } from "./asker.mjs";
 import { counted, machineOf, shown, stateLetter } from "./machine.mjs";
 import { made, part } from "./parts.mjs";
 import { nodeText, treeOf } from "./tree.mjs";

@@ -8,7 +8,7 @@
  */
 import { counted, machineOf, shown, stateLetter } from "./machine.mjs";
 import { made, part, signed } from "./parts.mjs";
-import { Asker } from "./pool.mjs";
+import { Asker } from "./asker.mjs";
 
 const NORMAL_STEPS = 10_000;
 const MOST_GROWTH_STEPS = 1_000_000;
@@ -182,7 +182,8 @@ function askGrowth(/** @type {About} */ about) {
     }
     const { growth, steps: last, visited } = /** @type {Growth} */ (answer.growth);
     const many = visited.map(shown).join(", ");
-    const looks = `${many} after a hundredth, a tenth and all of ${counted(last, "step")}; a guess from these`;
+    const all = counted(last, "step");
+    const looks = `${many} after a hundredth, a tenth and all of ${all}; a guess from these`;
     const rest = growth === "halts" ? `, with ${counted(visited[2], "cell")}` : `: ${looks}`;
     part("fact-growth").textContent = `${GROWTHS[growth]}${rest}.`;
   });

@@ -1,4 +1,5 @@
 /** The fields of limits and switches, and the link that has them. */
+import { LONGEST_SHOWN } from "./lengths.mjs";
 import { LimitsError, RANGES } from "./limits.mjs";
 import { shown } from "./machine.mjs";
 import { made, part } from "./parts.mjs";
@@ -79,7 +80,10 @@ export function numberOf(/** @type {string} */ given) {
   return rest < 0 ? null : BigInt(whole + part) * 10n ** BigInt(rest);
 }
 
-/** What the fields say; throws a LimitsError of a limit that is no number. @returns {Record<string, any>} */
+/**
+ * What the fields say; throws a LimitsError of a limit that is no number or is refused.
+ * @returns {Record<string, any>}
+ */
 export function planOf() {
   forget();
   /** @type {Record<string, any>} */
@@ -87,11 +91,15 @@ export function planOf() {
   for (const name of NAMES) {
     const text = field(name).value;
     const number = numberOf(text);
-    if (number === null || number >= 10n ** 19n) {
+    const { least, most } = RANGES[name];
+    if (number === null || number < least || number > most) {
       const isLarge = number !== null || /^\d{20,}$/.test(text.replace(/[\s,_]/g, ""));
       throw new LimitsError(name, isLarge ? `${name} out of range` : `${name} is no number`);
     }
     plan[name] = number;
+  }
+  if (2n * plan.depth > plan.cells + 1n) {
+    throw new LimitsError("depth", "depth does not fit in cells");
   }
   return plan;
 }
@@ -155,5 +163,5 @@ export function readLink(/** @type {string} */ hash) {
   SWITCHES.filter((name) => words.get(name) === "off").forEach((name) => {
     plan[name] = false;
   });
-  return { machine: machine.slice(0, 1_023), plan };
+  return { machine: machine.slice(0, LONGEST_SHOWN), plan };
 }

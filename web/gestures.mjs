@@ -1,12 +1,11 @@
 /** Moving and zooming a diagram by wheel, keys, mouse and fingers, and pointing at its cells. */
+import { ZOOM } from "./scale.mjs";
 
-const STEP = 4;
 const DOUBLE = 8;
 // A wheel's notch has so many pixels, and zooms twice.
 const NOTCH_PIXELS = 100;
 const LINE_PIXELS = 33;
 const MOST_NOTCHES = 3;
-const PINCH_RATIO = 1.15;
 // What moves less than this is a click.
 const CLICK_PIXELS = 4;
 
@@ -30,7 +29,13 @@ export function listen(diagram, tell) {
   new Fingers(diagram, tell);
 }
 
-/** What fingers, or the mouse, do on a diagram. */
+/**
+ * What fingers, or the mouse, do on a diagram.
+ *
+ * @typedef {import("./places.mjs").Point} Point
+ * @typedef {{view: import("./scale.mjs").View, middle: Point, apart: number}} Begin the view when the fingers
+ *   that are there began to move it, the middle between them in the canvas, and how far they were apart
+ */
 class Fingers {
   /**
    * @param {import("./diagram.mjs").Diagram} diagram @param {(told: string, byKeys: boolean) => void} tell
@@ -38,17 +43,21 @@ class Fingers {
   constructor(diagram, tell) {
     this.diagram = diagram;
     this.tell = tell;
-    /** @type {Map<number, {x: number, y: number}>} */
+    /**
+     * Where each finger is in the window.
+     * @type {Map<number, Point>}
+     */
     this.fingers = new Map();
-    this.apart = 0;
     this.moved = 0;
+    /** @type {Begin | null} */
+    this.begin = null;
     // One finger scrolls the page until the picture has been tapped.
     this.moves = false;
     const { canvas } = diagram;
     canvas.addEventListener("pointerdown", (event) => this.down(event));
     canvas.addEventListener("pointermove", (event) => this.move(event));
     canvas.addEventListener("pointerup", (event) => this.up(event));
-    canvas.addEventListener("pointercancel", (event) => this.fingers.delete(event.pointerId));
+    canvas.addEventListener("pointercancel", (event) => this.lost(event));
   }
 
   down(/** @type {PointerEvent} */ event) {
@@ -58,30 +67,66 @@ class Fingers {
       canvas.setPointerCapture(event.pointerId);
     }
     this.fingers.set(event.pointerId, { x: event.clientX, y: event.clientY });
-    this.apart = this.distance();
-    this.moved = 0;
+    this.moved = this.fingers.size > 1 ? CLICK_PIXELS : 0;
+    this.begin = this.begun();
+  }
+
+  /** A finger is no longer there. */
+  lost(/** @type {PointerEvent} */ event) {
+    this.fingers.delete(event.pointerId);
+    this.begin = this.begun();
+  }
+
+  /** Where the fingers begin that are there now. @returns {Begin | null} */
+  begun() {
+    const { view } = this.diagram;
+    return view === null || this.fingers.size === 0 ? null : { view, ...this.span() };
+  }
+
+  /** The middle between the fingers, and how far they are apart. */
+  span() {
+    const [one, other] = [...this.fingers.values()];
+    const two = other ?? one;
+    const { canvas } = this.diagram;
+    const box = canvas.getBoundingClientRect();
+    const [left, top] = [box.left + canvas.clientLeft, box.top + canvas.clientTop];
+    const middle = { x: (one.x + two.x) / 2 - left, y: (one.y + two.y) / 2 - top };
+    return { middle, apart: Math.hypot(one.x - two.x, one.y - two.y) };
   }
 
   move(/** @type {PointerEvent} */ event) {
-    const { diagram, fingers } = this;
-    const before = fingers.get(event.pointerId);
+    const before = this.fingers.get(event.pointerId);
     if (before === undefined) {
-      const place = diagram.placeAt(event.offsetX, event.offsetY);
-      this.tell(place === null ? "" : diagram.placeTold(place), false);
+      this.point(event);
       return;
     }
     const now = { x: event.clientX, y: event.clientY };
     const far = Math.hypot(now.x - before.x, now.y - before.y);
-    if (!this.moves) {
-      this.moved += far;
-    } else if (fingers.size === 2) {
-      fingers.set(event.pointerId, now);
-      this.pinch();
-    } else if (far >= Math.max(CLICK_PIXELS, this.diagram.view?.high ?? 1) || this.moved > 0) {
-      this.moved += far;
-      diagram.move(before.x - now.x, before.y - now.y);
-      fingers.set(event.pointerId, now);
+    if (this.moved === 0 && far < CLICK_PIXELS) {
+      return;
     }
+    this.moved += far;
+    if (this.moves) {
+      this.fingers.set(event.pointerId, now);
+      this.follow();
+    }
+  }
+
+  /** Moves and zooms the picture: what was between the fingers stays there. */
+  follow() {
+    const { diagram, begin } = this;
+    if (begin === null) {
+      return;
+    }
+    const { middle, apart } = this.span();
+    const factor = begin.apart > 0 && apart > 0 ? (apart / begin.apart) ** 2 : 1;
+    diagram.stretch(begin.view, factor, begin.middle, middle);
+  }
+
+  /** Tells what is under the mouse. */
+  point(/** @type {PointerEvent} */ event) {
+    const place = this.diagram.placeAt(event.offsetX, event.offsetY);
+    this.tell(place === null ? "" : this.diagram.placeTold(place), false);
   }
 
   up(/** @type {PointerEvent} */ event) {
@@ -94,26 +139,7 @@ class Fingers {
       }
       diagram.canvas.focus({ preventScroll: true });
     }
-    fingers.delete(event.pointerId);
-  }
-
-  /** How far two fingers are apart; 0 where there aren't two. */
-  distance() {
-    const [one, two] = [...this.fingers.values()];
-    return two === undefined ? 0 : Math.hypot(one.x - two.x, one.y - two.y);
-  }
-
-  /** Zooms where two fingers went apart or together far enough. */
-  pinch() {
-    const now = this.distance();
-    if (this.apart > 0 && (now > this.apart * PINCH_RATIO || now < this.apart / PINCH_RATIO)) {
-      const [one, two] = [...this.fingers.values()];
-      const box = this.diagram.canvas.getBoundingClientRect();
-      const place = { x: (one.x + two.x) / 2 - box.left, y: (one.y + two.y) / 2 - box.top };
-      this.diagram.zoom((now / this.apart) ** 2, place);
-      this.apart = now;
-    }
-    this.moved += CLICK_PIXELS;
+    this.lost(event);
   }
 }
 
@@ -142,9 +168,9 @@ function pressed(diagram, event, tell) {
     ArrowRight: point(1, 0),
     ArrowUp: point(0, -1),
     ArrowDown: point(0, 1),
-    "+": () => diagram.zoom(STEP),
-    "=": () => diagram.zoom(STEP),
-    "-": () => diagram.zoom(1 / STEP),
+    "+": () => diagram.zoom(ZOOM),
+    "=": () => diagram.zoom(ZOOM),
+    "-": () => diagram.zoom(1 / ZOOM),
     0: () => diagram.fit(),
     Enter: choose,
     " ": choose,

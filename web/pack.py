@@ -6,7 +6,8 @@
 A page that is opened from a disk may load no other files, so the modules stand in it as three scripts: that
 of the page, that of the worker, and what both begin with. Each module stands there once, after those that it
 imports, as a function that gives what it exports. A content security policy names these scripts by their
-hashes, so that the browser runs no other one and connects to nothing. Comments, types and indentation are left out; the modules in the repository have them.
+hashes, so that the browser runs no other one and connects to nothing. Comments, types, indentation, and spaces
+on lines without texts are left out; the modules in the repository have them.
 """
 
 import base64
@@ -28,6 +29,9 @@ COMMENT = re.compile(r"^[ \t]*(?:/\*\*(?:(?!\*/).)*\*/|//[^\n]*)\n", re.MULTILIN
 
 TYPE = re.compile(r"/\*\* @(?:type|param|returns) [^\n]*? \*/ ?")
 INDENT = re.compile(r"^[ \t]+|\n(?=\n)", re.MULTILINE)
+# Lines with none of these have no text and no regular expression; there no space beside these signs counts.
+PLAIN = re.compile(r"^[^\"'`/\n]+$", re.MULTILINE)
+SPACED = re.compile(r" ?([=(){}\[\],;:?<>&|*!]) ?")
 
 
 def read(*path: str) -> str:
@@ -51,7 +55,8 @@ def wrapped(name: str) -> str:
     exported += [found.strip() for names in REEXPORT.findall(text) for found in names.split(",")]
     text = IMPORT.sub(r"const \1 = of_\2;", REEXPORT.sub("", text))
     text = INDENT.sub("", TYPE.sub("", COMMENT.sub("", EXPORT.sub(r"\1", text))))
-    return "const of_%s = (() => {\n%s\nreturn { %s };\n})();\n" % (name, text, ", ".join(exported))
+    script = "const of_%s = (() => {\n%s\nreturn { %s };\n})();\n" % (name, text, ", ".join(exported))
+    return PLAIN.sub(lambda line: SPACED.sub(r"\1", line[0]), script)
 
 
 def joined(modules: List[str]) -> str:
@@ -120,7 +125,8 @@ def main() -> None:
         '<script type="module">%s</script>' % own,
     ]
     parts = {
-        "<!--policy-->": '<meta http-equiv="content-security-policy" content="%s">' % policy(style, both, own),
+        "<!--policy-->": '<meta http-equiv="content-security-policy" content="%s">'
+        % policy(style, both, own),
         "<!--style-->": "<style>%s</style>" % style,
         "<!--scripts-->": "\n".join(scripts),
     }

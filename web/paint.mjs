@@ -3,6 +3,8 @@
  *
  * @typedef {import("./scale.mjs").View} View
  * @typedef {import("./sample.mjs").Sample} Sample
+ * @typedef {import("./diagram.mjs").Picture} Picture
+ * @typedef {import("./places.mjs").Place} Place
  * @typedef {{step: number, from: number | null, to: number | null, label: string}} Band a stretch of a row
  * @typedef {{bands: Band[], arrow: boolean}} Mark
  * @typedef {{x: number, y: number, width: number, height: number}} Area where the picture stands
@@ -20,6 +22,11 @@ const LEAST_HALO = 3;
 const STEPS_APART = 44;
 const POSITIONS_APART = 84;
 const LETTERED = 16;
+// A step's number ends so far from the picture, beside the arrow at the chosen step.
+const NUMBER_PIXELS = 9;
+const ARROW_PIXELS = 6;
+// A number on an axis has a mark as long, in the pixel where its row or column has its middle.
+const MARK_PIXELS = 4;
 
 /**
  * The colours that were asked for; the browser works out its style anew each time that it is asked.
@@ -66,11 +73,45 @@ function columnAt(/** @type {Area} */ area, /** @type {View} */ view, /** @type 
 }
 
 /**
+ * Paints all of a canvas, and gives how many of its pixels one of the page has.
+ * @param {HTMLCanvasElement} canvas @param {{view: View, area: Area, data: Picture}} scene
+ * @param {{sheet: HTMLCanvasElement | null, marks: Mark[], chosen: number, place: Place | null}} beside its
+ *   pixels, what is marked, the chosen step, and what the keys point at
+ */
+export function paintAll(canvas, { view, area, data }, { sheet, marks, chosen, place }) {
+  const ratio = window.devicePixelRatio || 1;
+  canvas.width = Math.round(canvas.clientWidth * ratio);
+  canvas.height = Math.round(canvas.clientHeight * ratio);
+  const pen = /** @type {CanvasRenderingContext2D} */ (canvas.getContext("2d"));
+  pen.scale(ratio, ratio);
+  paintPicture(pen, area, view, { ...data, rows: data.sample.steps.length, sheet });
+  paintHeads(pen, area, view, data.sample);
+  paintMarks(pen, area, view, marks);
+  paintAxes(pen, area, view, chosen);
+  if (place !== null) {
+    paintPlace(pen, area, view, place);
+  }
+  return ratio;
+}
+
+/** A picture's pixels, so that they can be scaled; null where there are none. */
+export function sheetOf(/** @type {Picture} */ { image, columns, sample }) {
+  const rows = sample.steps.length;
+  if (rows === 0 || columns < 1) {
+    return null;
+  }
+  const sheet = document.createElement("canvas");
+  Object.assign(sheet, { width: columns, height: rows });
+  sheet.getContext("2d")?.putImageData(new ImageData(image, columns, rows), 0, 0);
+  return sheet;
+}
+
+/**
  * Paints a picture, which may have been made for another view: it is then scaled.
  * @param {CanvasRenderingContext2D} pen @param {Area} area @param {View} view
  * @param {{view: View, every: number, columns: number, rows: number, sheet: HTMLCanvasElement | null}} made
  */
-export function paintPicture(pen, area, view, { view: own, every, columns, rows, sheet }) {
+function paintPicture(pen, area, view, { view: own, every, columns, rows, sheet }) {
   pen.fillStyle = ink("--unvisited");
   pen.fillRect(area.x, area.y, area.width, area.height);
   if (sheet === null) {
@@ -89,7 +130,7 @@ export function paintPicture(pen, area, view, { view: own, every, columns, rows,
  * on each symbol's colour.
  * @param {CanvasRenderingContext2D} pen @param {Area} area @param {View} view @param {Sample} sample
  */
-export function paintHeads(pen, area, view, sample) {
+function paintHeads(pen, area, view, sample) {
   if (view.wide < FRAMED || view.high < FRAMED) {
     return;
   }
@@ -119,7 +160,7 @@ export function paintHeads(pen, area, view, sample) {
  * The axes: steps at the left, positions on top, with the chosen step's place.
  * @param {CanvasRenderingContext2D} pen @param {Area} area @param {View} view @param {number} chosen step
  */
-export function paintAxes(pen, area, view, chosen) {
+function paintAxes(pen, area, view, chosen) {
   pen.fillStyle = ink("--panel");
   pen.fillRect(0, 0, area.x, area.y + area.height);
   pen.fillRect(0, 0, area.x + area.width, area.y);
@@ -130,8 +171,8 @@ export function paintAxes(pen, area, view, chosen) {
   for (const step of ticks(view.top, stepsOf(view), area.height, STEPS_APART)) {
     const y = rowAt(area, view, step) + view.high / 2;
     if (y >= area.y && y < area.y + area.height - 4) {
-      pen.fillText(shown(step), area.x - 8, y);
-      pen.fillRect(area.x - 4, y, 4, 1);
+      pen.fillText(shown(step), area.x - NUMBER_PIXELS, y);
+      pen.fillRect(area.x - MARK_PIXELS, Math.floor(y), MARK_PIXELS, 1);
     }
   }
   pen.textAlign = "center";
@@ -139,7 +180,7 @@ export function paintAxes(pen, area, view, chosen) {
     const x = columnAt(area, view, position) + view.wide / 2;
     if (x > area.x + 8 && x < area.x + area.width - 14) {
       pen.fillText(signed(position), x, area.y - 11);
-      pen.fillRect(x, area.y - 4, 1, 4);
+      pen.fillRect(Math.floor(x), area.y - MARK_PIXELS, 1, MARK_PIXELS);
     }
   }
   paintChosen(pen, area, view, chosen);
@@ -154,8 +195,8 @@ function paintChosen(pen, area, view, chosen) {
   pen.fillStyle = ink("--accent");
   pen.beginPath();
   pen.moveTo(area.x, y);
-  pen.lineTo(area.x - 8, y - 5);
-  pen.lineTo(area.x - 8, y + 5);
+  pen.lineTo(area.x - ARROW_PIXELS, y - ARROW_PIXELS);
+  pen.lineTo(area.x - ARROW_PIXELS, y + ARROW_PIXELS);
   pen.fill();
 }
 
@@ -164,7 +205,7 @@ function paintChosen(pen, area, view, chosen) {
  * @param {CanvasRenderingContext2D} pen @param {Area} area @param {View} view
  * @param {{step: number, position: number}} place
  */
-export function paintPlace(pen, area, view, { step, position }) {
+function paintPlace(pen, area, view, { step, position }) {
   const [x, y] = [columnAt(area, view, position), rowAt(area, view, step)];
   const [wide, high] = [Math.max(5, view.wide), Math.max(5, view.high)];
   pen.lineWidth = 4;
@@ -179,7 +220,7 @@ export function paintPlace(pen, area, view, { step, position }) {
  * Outlines what stands behind the verdict, with an arrow from the first band to the second where asked.
  * @param {CanvasRenderingContext2D} pen @param {Area} area @param {View} view @param {Mark[]} marks
  */
-export function paintMarks(pen, area, view, marks) {
+function paintMarks(pen, area, view, marks) {
   const mark = ink("--mark");
   for (const { bands, arrow } of marks) {
     const boxes = bands.map((band) => boxOf(band, view, area));

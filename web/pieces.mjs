@@ -1,5 +1,6 @@
 /** A list, read piece by piece, each of whole lines. */
 import { countLines } from "./bb.mjs";
+import { BYTES_KEPT } from "./lengths.mjs";
 
 const NEWLINE = 10;
 // A read has so many bytes at first, then twice as many each time.
@@ -7,8 +8,6 @@ const FIRST_READ_BYTES = 262_144;
 const MOST_READ_BYTES = 4_194_304;
 const LEAST_BYTES = 64;
 const MOST_BYTES = 262_144;
-// What is kept of a line; the engine says the same of the whole line as of these bytes.
-const KEPT_BYTES = 65_536;
 
 export class Pieces {
   /** @param {Blob} blob @param {number} workers that share it */
@@ -54,8 +53,8 @@ export class Pieces {
   /** Drops what a long line has beyond the bytes that are kept, up to its newline. */
   shorten() {
     const begin = this.held.lastIndexOf(NEWLINE) + 1;
-    if (this.held.length - begin > KEPT_BYTES) {
-      this.held = this.held.slice(0, begin + KEPT_BYTES);
+    if (this.held.length - begin > BYTES_KEPT) {
+      this.held = this.held.slice(0, begin + BYTES_KEPT);
       this.skips = true;
     }
   }

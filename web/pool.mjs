@@ -13,16 +13,12 @@
  *   fail: (error: {error: string, message: string, limit?: string}) => void}} Work
  */
 
-import { isSupported } from "./memory.mjs";
-import { part } from "./parts.mjs";
+import { giveBack, newWorker, ready, takeWorker, toldOf } from "./workers.mjs";
 
 // A worker has the next piece before it is done with one, so that it never waits for the page.
 const PIECES = 2;
 // A worker whose engine holds more isn't kept for the next list.
 const MOST_HELD = 16_777_216;
-const READY_MILLISECONDS = 50;
-// A question is ended for the next one where it takes longer.
-const PATIENCE_MILLISECONDS = 400;
 // What a worker has decided is handed over after so long at the latest.
 const PATIENCE_OF_LISTS = 250;
 const WATCH_MILLISECONDS = 50;
@@ -30,157 +26,6 @@ const WATCH_MILLISECONDS = 50;
 const FEWER = 8;
 // What a hand has before its first batch, which has one line.
 const UNUSED = { held: 0, taken: 0, size: 1 };
-
-/** A text that stands in the page. */
-function text(/** @type {string} */ id) {
-  return part(id).textContent ?? "";
-}
-
-/** The engine's module, compiled once for all workers. */
-async function compiled() {
-  const encoded = atob(text("module").trim());
-  const bytes = new Uint8Array(encoded.length);
-  for (let at = 0; at < bytes.length; at += 1) {
-    bytes[at] = encoded.charCodeAt(at);
-  }
-  return WebAssembly.compile(bytes);
-}
-
-const scripts = new Blob([text("shared"), text("worker")], { type: "text/javascript" });
-const url = URL.createObjectURL(scripts);
-/** @type {Promise<WebAssembly.Module | null>} */
-const ready = isSupported() ? compiled() : Promise.resolve(null);
-ready.catch(() => undefined);
-/**
- * Workers that wait for a list.
- * @type {Worker[]}
- */
-const idle = [];
-let isWarm = false;
-
-/**
- * Begins workers for the next list, one after another since each takes a while, until so many wait or a list
- * has come. The first one answers the examples for a moment: what the browser compiles then, it has for all.
- * @param {number} most @param {() => boolean} isBusy
- */
-export function makeReady(most, isBusy) {
-  setTimeout(() => {
-    warm();
-    if (idle.length < most && !isBusy()) {
-      idle.push(new Worker(url));
-      makeReady(most, isBusy);
-    }
-  }, READY_MILLISECONDS);
-}
-
-/** Has a worker that waits answer the examples, once. */
-function warm() {
-  if (isWarm || idle.length === 0) {
-    return;
-  }
-  isWarm = true;
-  const worker = idle[0];
-  /** @type {{call: string, lines: string}[]} */
-  const examples = JSON.parse(text("examples-data"));
-  const lists = examples.filter(({ call }) => call === "decide").map(({ lines }) => lines);
-  const list = new TextEncoder().encode(lists.join("\n"));
-  ready.then(
-    (module) => worker.postMessage({ module, what: "warm", list }),
-    () => undefined,
-  );
-}
-
-/** What went wrong, as it is told. */
-function toldOf(/** @type {Error} */ { name, message }) {
-  return { error: name, message };
-}
-
-/**
- * A worker of its own for one question after another, as for pictures. A new question waits a moment for the
- * one before, and takes the place of one that waits; one that takes longer is ended.
- */
-export class Asker {
-  /** @param {number} patience the milliseconds after which a question is ended for the next one */
-  constructor(patience = PATIENCE_MILLISECONDS) {
-    this.patience = patience;
-    /** @type {Worker | undefined} */
-    this.worker = undefined;
-    /** @type {(() => void) | null} */
-    this.waiting = null;
-    this.isBusy = false;
-    this.begun = 0;
-    this.timer = 0;
-  }
-
-  /**
-   * Asks, and hands over what comes back.
-   * @param {Record<string, any>} question @param {(answer: any) => void} done
-   */
-  ask(question, done) {
-    if (!this.isBusy) {
-      this.begin(question, done);
-      return;
-    }
-    this.waiting = () => this.begin(question, done);
-    clearTimeout(this.timer);
-    const left = this.begun + this.patience - performance.now();
-    this.timer = setTimeout(() => this.endWorker(), Math.max(0, left));
-  }
-
-  /**
-   * Tells the worker what has no answer, if there is one.
-   * @param {Record<string, any>} message @param {Transferable[]} moved
-   */
-  tell(message, moved) {
-    ready.then(
-      (module) => this.worker?.postMessage({ module, ...message }, moved),
-      () => undefined,
-    );
-  }
-
-  /** Ends the worker in the middle of its answer, which isn't handed over. */
-  end() {
-    this.waiting = null;
-    this.endWorker();
-  }
-
-  /** Ends the worker in the middle of its answer, and asks what waits. */
-  endWorker() {
-    this.worker?.terminate();
-    this.worker = undefined;
-    this.next();
-  }
-
-  /** Asks what waits. */
-  next() {
-    const { waiting } = this;
-    clearTimeout(this.timer);
-    Object.assign(this, { isBusy: false, waiting: null });
-    waiting?.();
-  }
-
-  /** @param {Record<string, any>} question @param {(answer: any) => void} done */
-  begin(question, done) {
-    this.worker ??= new Worker(url);
-    const worker = this.worker;
-    this.isBusy = true;
-    this.begun = performance.now();
-    const heard = (/** @type {any} */ answer) => {
-      const isLast = this.waiting === null;
-      this.next();
-      // Of a question that another one followed only rows and pictures are of use.
-      if (isLast || answer.picture || answer.kept) {
-        done(answer);
-      }
-    };
-    worker.onmessage = (event) => heard(event.data);
-    worker.onerror = (event) => heard({ error: "Error", message: event.message });
-    ready.then(
-      (module) => worker.postMessage({ module, ...question }),
-      (error) => heard(toldOf(error)),
-    );
-  }
-}
 
 /** Workers over the pieces of one list. */
 export class Pool {
@@ -206,7 +51,7 @@ export class Pool {
   /** A worker for this list. @returns {Hand} */
   begun() {
     /** @type {Hand} */
-    const hand = { worker: idle.pop() ?? new Worker(url), pieces: [], note: null, since: 0, ...UNUSED };
+    const hand = { worker: takeWorker(), pieces: [], note: null, since: 0, ...UNUSED };
     this.listen(hand);
     return hand;
   }
@@ -238,9 +83,9 @@ export class Pool {
   /** Sends a worker a piece, without what is done of it; the page keeps it until it is answered. */
   async send(/** @type {Hand} */ hand, /** @type {Given} */ { job, bytes, line, done }) {
     const { worker, size } = hand;
-    const module = await ready;
+    await ready;
     const rest = bytes.slice(done);
-    const message = { module, what: "list", job, bytes: rest, line, asked: this.asked, size };
+    const message = { what: "list", job, bytes: rest, line, asked: this.asked, size };
     worker.postMessage(message, [rest.buffer]);
     hand.size = undefined;
   }
@@ -284,7 +129,7 @@ export class Pool {
     }
     hand.worker.terminate();
     const size = Math.max(1, Math.floor(note.bytes / FEWER));
-    Object.assign(hand, { worker: new Worker(url), note: null, size });
+    Object.assign(hand, { worker: newWorker(), note: null, size });
     this.listen(hand);
     for (const piece of pieces) {
       Object.assign(piece, { begin: piece.done, line: piece.nextLine });
@@ -308,7 +153,7 @@ export class Pool {
     this.ended = true;
     clearInterval(this.watch);
     for (const { worker, held } of this.hands) {
-      held > MOST_HELD ? worker.terminate() : idle.push(worker);
+      held > MOST_HELD ? worker.terminate() : giveBack(worker);
     }
     this.work.end();
   }

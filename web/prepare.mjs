@@ -1,4 +1,5 @@
 /** A list as it is given to the engine: the machines that its lines are read as. */
+import { LONGEST_LINE } from "./lengths.mjs";
 import { readingOf } from "./reading.mjs";
 
 const NEWLINE = 10;
@@ -19,13 +20,10 @@ const BYTES = Uint8Array.from({ length: 256 }, (_, byte) => {
   const direction = byte === L || byte === R ? DIRECTION : 0;
   return digit | direction | (byte >= A && byte <= Z ? LETTER : 0) | (byte === DASH ? BAR : 0);
 });
-// A longer line has no machine; it is given as it is, and refused.
-const LONGEST_LINE = 16_384;
 const NUMBERS = "(?:(?:halt|cycler|backward) \\d+ \\d+|translated [LR] \\d+ \\d+(?: \\d+ \\d+)?)";
 const VERDICT = new RegExp(
   `^(?:[0-9LRA-Z_-]+ (?:${NUMBERS}|undecided (?:steps|cells))|refused \\d+)(?:\\t.*)?$`,
 );
-const BEGIN_BYTES = 65_536;
 const decoder = new TextDecoder();
 const encoder = new TextEncoder();
 
@@ -35,6 +33,9 @@ const encoder = new TextEncoder();
  *   what the engine is given; of each of its lines the number among the lines that were given, from 0, and
  *   where it begins there, null where all are as they were; and how many lines were left out
  */
+
+/** So many bytes of a list tell whether it has verdict lines. */
+export const BEGIN_BYTES = 65_536;
 
 /** Whether a list has verdict lines: most of the lines at its begin are whole ones. */
 export function hasVerdicts(/** @type {Uint8Array} */ bytes) {
@@ -137,9 +138,8 @@ export function lineAt(bytes, from, most) {
 }
 
 /**
- * Where the machine ends that begins there, as the engine reads it; -1 where none does, or where it is
- * longer than
- * any line.
+ * Where the machine ends that begins there, as the engine reads it; -1 where none does, or where it is longer
+ * than any line.
  */
 function machineEnd(/** @type {Uint8Array} */ bytes, /** @type {number} */ from) {
   const { length } = bytes;

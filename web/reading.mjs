@@ -1,8 +1,7 @@
 /**
  * A line of a list: its one machine, what else stands there, or why there is none. A machine is taken only
- * where
- * one reading is possible, and every rewriting is told. The reader of the Python package is held to the same
- * forms.
+ * where one reading is possible, and every rewriting is told. The reader of the Python package is held to the
+ * same forms.
  *
  * @typedef {import("./words.mjs").Text} Text
  * @typedef {import("./texts.mjs").Found} Found
@@ -12,11 +11,10 @@
  * @typedef {Reason & {kind: "refusal"}} Refusal
  * @typedef {Machine | Refusal | {kind: "nothing"}} Reading
  */
+import { LONGEST_LINE } from "./lengths.mjs";
 import { cut, isMachine, readWords, reasonOf } from "./texts.mjs";
 import { isLoneEntry, partsOf, rowBeside, textOf, written } from "./words.mjs";
 
-// A longer line isn't looked through.
-const LONGEST_LINE = 16_384;
 const VERDICT =
   /^(?:(?:halt|cycler|backward) [0-9]+ [0-9]+|translated [LR](?: [0-9]+){2,4}|undecided (?:steps|cells))$/;
 const QUOTES = ["``", '""', "''", "\u201c\u201d", "\u2018\u2019", "\u00ab\u00bb"];

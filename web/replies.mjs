@@ -82,7 +82,7 @@ function behind(bytes, from, spaces) {
 }
 
 /** The number that stands there, or -1. */
-function numberAt(/** @type {Uint8Array} */ bytes, /** @type {number} */ from) {
+export function numberAt(/** @type {Uint8Array} */ bytes, /** @type {number} */ from) {
   let at = from;
   let value = 0;
   for (; at < bytes.length && bytes[at] >= ZERO && bytes[at] <= NINE; at += 1) {

@@ -4,13 +4,11 @@
  * @typedef {import("./worker.mjs").Part} Part
  * @typedef {{part: Part, line: number}} Place
  */
+import { BYTES_KEPT, LONGEST_SHOWN } from "./lengths.mjs";
 import { ANSWERS, KINDS, readLine } from "./machine.mjs";
 import { lineAt } from "./prepare.mjs";
 import { startsOf } from "./replies.mjs";
 
-const LONGEST_SHOWN = 1_100;
-// More bytes of a line than the reader looks through.
-const LONGEST_GIVEN = 70_000;
 // Rows that are read before the page rests.
 const RESTS = 2_000;
 const decoder = new TextDecoder();
@@ -71,7 +69,7 @@ export class Results {
     const read = readLine(decoder.decode(text.subarray(part.starts[line], end)).replace(/[\r\n]+$/, ""));
     const number = part.first + (part.numbers === null ? line : part.numbers[line]);
     const { source, places } = part;
-    const given = source === null || places === null ? null : lineAt(source, places[line], LONGEST_GIVEN);
+    const given = source === null || places === null ? null : lineAt(source, places[line], BYTES_KEPT);
     return { ...read, answer: ANSWERS[part.answers[line]], kind: KINDS[part.kinds[line]], number, given };
   }
 

@@ -1,4 +1,5 @@
 /** The table of lines: only the rows that are seen stand in the page, so a list of millions scrolls. */
+import { LONGEST_SHOWN } from "./lengths.mjs";
 import { made, part } from "./parts.mjs";
 import { shown } from "./machine.mjs";
 import { readingOf } from "./reading.mjs";
@@ -6,7 +7,6 @@ import { readingOf } from "./reading.mjs";
 // A row's height; on a phone it has two lines.
 const ROW_PIXELS = 28;
 const PHONE_ROW_PIXELS = 48;
-const LONGEST_SHOWN = 1_000;
 const PHONE = "(max-width: 600px)";
 // Browsers have no higher elements; in longer lists a pixel of the bar stands for more than one.
 const MOST_PIXELS = 8_000_000;

@@ -1,6 +1,6 @@
 /**
  * Rows of a machine's run, by the engine's trace. A trace begins at step 0 each time, so rows are kept, and
- * those of closer and neighbouring views are taken ahead: a view whose rows are there needs no trace.
+ * those of closer, neighbouring and farther views are taken ahead: most views need no trace then.
  *
  * @typedef {import("./sample.mjs").Sample} Sample
  * @typedef {{machine: string, upto: number, cells: number, from: number, every: number}} Asked the rows of
@@ -8,29 +8,33 @@
  * @typedef {{asked: Asked, sample: Sample, agrees: boolean, cut: boolean}} Kept
  * @typedef {{sample: Sample, agrees: boolean, cut: boolean, every: number, last: number}} Found with the last
  *   step up to `upto` that there is
+ * @typedef {{closer: number, farther: number, beyond: number, most: number}} Next views that may come: how
+ *   many steps apart the rows of a closer and of a farther one are, how many steps above and below this view
+ *   the farther one may have, and the last step of any
  */
+import { rowsOf } from "./sample.mjs";
+import { readTrace } from "./tracetext.mjs";
 import { Windows } from "./windows.mjs";
 
-const SPACE = 32;
-const NEWLINE = 10;
 // Bytes of a trace's line beside its cells, at most.
 const LINE_ROOM = 64;
 // A trace with more bytes is taken with fewer rows.
 const MOST_BYTES = 100_000_000;
-// What is taken ahead has no more bytes, and all that is kept has no more.
+// A trace that is taken ahead has no more bytes.
 const MOST_AHEAD = 24_000_000;
-const MOST_KEPT = 100_000_000;
-// Zooming by keys goes this much closer; below so many steps of a row, all steps are taken at once.
-const CLOSER = 4;
+// All rows that are kept have no more bytes; their cells are packed.
+const MOST_KEPT = 40_000_000;
+// Below so many steps of a row all steps are taken for closer views, if that isn't too much.
 const ALL_STEPS = 32;
-
-const decoder = new TextDecoder();
 
 export class Run {
   constructor(/** @type {string} */ machine) {
     this.machine = machine;
     this.windows = new Windows(machine);
-    /** @type {Kept[]} */
+    /**
+     * Rows that are kept, those that were used last first.
+     * @type {Kept[]}
+     */
     this.kept = [];
   }
 
@@ -62,29 +66,29 @@ export class Run {
   rows(engine, given, isView) {
     const asked = this.fitting(given);
     const last = this.windows.reach(asked.upto, asked.cells);
-    const known = this.kept.find((one) => this.has(one.asked, asked, last));
-    const kept = known ?? this.trace(engine, asked);
-    if (isView && known === undefined) {
+    const kept = this.kept.find((one) => this.has(one.asked, asked)) ?? this.trace(engine, asked);
+    if (isView) {
       this.keep(kept);
     }
     return { ...picked(kept, asked), every: asked.every, last };
   }
 
-  /** Keeps rows, the last ones first; older ones are given up where all have too many bytes. */
+  /**
+   * Keeps rows as the first ones, without others of which they have all; where all are too many bytes those
+   * that were used first are given up.
+   */
   keep(/** @type {Kept} */ made) {
+    const others = this.kept.filter((one) => !this.has(made.asked, one.asked));
     let total = 0;
-    this.kept = [made, ...this.kept].filter(({ sample }) => (total += sample.bytes.length) <= MOST_KEPT);
+    this.kept = [made, ...others].filter(({ sample }) => (total += sample.cells.length) <= MOST_KEPT);
   }
 
-  /**
-   * Whether rows that are kept are those that are asked for, and others.
-   * @param {Asked} kept @param {Asked} asked @param {number} last step that there is
-   */
-  has(kept, asked, last) {
-    const isInside = asked.from >= kept.from && Math.min(asked.upto, last) <= kept.upto;
-    const isEnded = asked.upto <= kept.upto || this.windows.ended;
+  /** Whether rows that are kept are those that are asked for, and others, as far as the run is known. */
+  has(/** @type {Asked} */ kept, /** @type {Asked} */ asked) {
+    const { ended, step } = this.windows;
+    const isWhole = asked.upto <= kept.upto || (ended && step <= kept.upto);
     const falls = (asked.from - kept.from) % kept.every === 0 && asked.every % kept.every === 0;
-    return isInside && isEnded && falls && asked.cells === kept.cells;
+    return asked.from >= kept.from && isWhole && falls && asked.cells === kept.cells;
   }
 
   /** A trace of these rows. @returns {Kept} */
@@ -92,58 +96,42 @@ export class Run {
     const { machine, cells, upto, from, every } = asked;
     const line = new TextEncoder().encode(machine);
     const space = this.bytesOf(asked);
-    const { bytes, clean } = engine.traceBytes(line, { steps: upto, cells, from, every }, space);
-    return { asked, ...read(bytes, this.windows), cut: !clean };
+    const { bytes, clean } = engine.traceInPlace(line, { steps: upto, cells, from, every }, space);
+    return { asked, ...readTrace(bytes, this.windows), cut: !clean };
   }
 
   /**
-   * What views closer than this one need, and those above and below it, as far as it isn't kept nor too much.
-   * @param {Asked} given @param {number} most the last step that a view may have
+   * What views closer than this one need, those above and below it, and farther ones, but for what is kept.
+   * @param {Asked} given @param {Next} next
    * @returns {Asked[]}
    */
-  ahead(given, most) {
+  ahead(given, { closer, farther, beyond, most }) {
     const asked = this.fitting(given);
     const { from, upto, every } = asked;
     const half = Math.ceil((upto - from) / every / 2) * every;
     const above = Math.floor(Math.min(half, from) / every) * every;
-    const wide = { ...asked, from: from - above, upto: Math.max(upto, Math.min(most, upto + half)) };
-    return [{ ...asked, every: closer(every) }, wide].filter((one) => {
-      const last = this.windows.reach(one.upto, one.cells);
-      const isKept = this.kept.some((kept) => this.has(kept.asked, one, last));
-      return !isKept && this.bytesOf(one, MOST_AHEAD) <= MOST_AHEAD;
-    });
+    const beside = { ...asked, from: from - above, upto: Math.max(upto, Math.min(most, upto + half)) };
+    const near = [1, closer].map((one) => multiples(asked, one, 0, most));
+    const closest = every < ALL_STEPS && this.isFew(near[0]) ? near[0] : near[1];
+    const wanted = [closest, beside, multiples(asked, farther, beyond, most)];
+    return wanted.filter((one) => !this.kept.some((kept) => this.has(kept.asked, one)));
+  }
+
+  /** Whether a trace of these rows may be taken ahead. */
+  isFew(/** @type {Asked} */ asked) {
+    return this.bytesOf(asked, MOST_AHEAD) <= MOST_AHEAD;
   }
 }
 
-/** Between which steps a closer view has its rows. */
-function closer(/** @type {number} */ every) {
-  if (every < ALL_STEPS) {
-    return 1;
-  }
-  return [CLOSER, 2].map((factor) => every / factor).find(Number.isInteger) ?? every;
-}
-
-/** The rows of a trace, held against the windows: each has as many cells. */
-function read(/** @type {Uint8Array} */ bytes, /** @type {Windows} */ windows) {
-  /** @type {number[][]} */
-  const found = [];
-  let [states, agrees] = ["", true];
-  for (let from = 0; from < bytes.length; ) {
-    const head = bytes.indexOf(SPACE, bytes.indexOf(SPACE, from) + 1) + 1;
-    const place = bytes.indexOf(SPACE, head) + 1;
-    const [step, state, position] = decoder.decode(bytes.subarray(from, place - 1)).split(" ");
-    const [low, high] = [windows.low(Number(step)), windows.high(Number(step))];
-    const wide = high - low + 1;
-    const end = bytes.indexOf(NEWLINE, place);
-    const isInside = state === "Z" || (Number(position) >= low && Number(position) <= high);
-    agrees = agrees && isInside && wide === end - place;
-    found.push([Number(step), Number(position), low, place, wide]);
-    states += state;
-    from = end + 1;
-  }
-  const column = (/** @type {number} */ k) => Float64Array.from(found, (row) => row[k]);
-  const [steps, heads, lows, places, wide] = [0, 1, 2, 3, 4].map(column);
-  return { sample: { steps, heads, lows, places, wide, states, bytes }, agrees };
+/**
+ * The rows whose steps are multiples of a number, as views have them after a zoom: from so many steps above
+ * other rows to as many below.
+ * @param {Asked} about @param {number} every @param {number} beyond @param {number} most the last step
+ * @returns {Asked}
+ */
+function multiples(about, every, beyond, most) {
+  const from = Math.max(0, Math.floor((about.from - beyond) / every) * every);
+  return { ...about, from, upto: Math.max(about.upto, Math.min(most, about.upto + beyond + every)), every };
 }
 
 /**
@@ -154,14 +142,7 @@ function picked({ asked: own, sample, agrees, cut }, { from, upto, every }) {
   const first = (from - own.from) / own.every;
   const apart = every / own.every;
   const end = Math.min(sample.steps.length, Math.floor((upto - own.from) / own.every) + 1);
-  const length = Math.max(0, Math.ceil((end - first) / apart));
-  if (length === sample.steps.length) {
-    return { sample, agrees, cut };
-  }
-  const places = Array.from({ length }, (_, k) => first + k * apart);
-  const column = (/** @type {Float64Array} */ all) => Float64Array.from(places, (k) => all[k]);
-  const { steps, heads, lows, wide, places: begins, states, bytes } = sample;
-  const columns = { steps: column(steps), heads: column(heads), lows: column(lows), wide: column(wide) };
-  const letters = places.map((k) => states[k]).join("");
-  return { sample: { ...columns, places: column(begins), states: letters, bytes }, agrees, cut };
+  const count = Math.max(0, Math.ceil((end - first) / apart));
+  const isAll = count === sample.steps.length;
+  return { sample: isAll ? sample : rowsOf(sample, first, apart, count), agrees, cut };
 }

@@ -11,6 +11,8 @@
  * @typedef {{last: number, low: number, high: number}} Whole
  */
 
+// Keys and buttons zoom so many times.
+export const ZOOM = 4;
 // Pixels of a cell where one is seen by itself.
 const SIZES = [1, 2, 3, 4, 6, 8, 12, 16, 24, 32];
 // A cell has so many where a step is gone to from far away.
@@ -26,6 +28,12 @@ const LEAST_LEVEL = 2;
 const APART_PIXELS = 24;
 // The last step's row is outlined; it has this room below the sampled ones.
 const LAST_ROW_PIXELS = 6;
+
+/** Whether two views show the same. */
+export function isSame(/** @type {View} */ one, /** @type {View} */ two) {
+  const isPlaced = one.top === two.top && one.left === two.left;
+  return isPlaced && stepsOf(one) === stepsOf(two) && cellsOf(one) === cellsOf(two);
+}
 
 /** Steps of a pixel. */
 export function stepsOf(/** @type {View} */ { every, high }) {

@@ -5,12 +5,12 @@
  *   taken: number}} Run a list that is worked on: its bytes, the milliseconds at which the work began, and
  *   those that it took; 0 while it is under way
  */
+import { LONGEST_QUOTED } from "./lengths.mjs";
 import { ANSWERS, KINDS, counted, shown } from "./machine.mjs";
 
 const [UNDECIDED, REFUSED] = [KINDS.indexOf("undecided"), KINDS.indexOf("refused")];
 // What takes longer is named.
 const NAMED_MILLISECONDS = 500;
-const LONGEST_NAMED = 60;
 
 /**
  * How far a list is, and what the checker says of it. Each line of the list is counted once.
@@ -45,6 +45,6 @@ export function underWayTold(/** @type {{text: string, taken: number} | null} */
   if (under === null || under.taken < NAMED_MILLISECONDS) {
     return "";
   }
-  const text = under.text.length > LONGEST_NAMED ? `${under.text.slice(0, LONGEST_NAMED)}…` : under.text;
+  const text = under.text.length > LONGEST_QUOTED ? `${under.text.slice(0, LONGEST_QUOTED)}…` : under.text;
   return `At work on ${text} for ${(under.taken / 1000).toFixed(1)} s.`;
 }

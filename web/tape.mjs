@@ -1,5 +1,5 @@
 /** The tape at one step: its cells about the head, the entry that is used next, and moving on by one step. */
-import { Asker } from "./pool.mjs";
+import { Asker } from "./asker.mjs";
 import { machineOf, shown, stateLetter } from "./machine.mjs";
 import { made, part, signed } from "./parts.mjs";
 

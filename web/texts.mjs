@@ -8,6 +8,7 @@
  *   and the character of the line where it is, from 1
  * @typedef {[number, string][]} Group entries, each with how many characters come before it
  */
+import { LONGEST_QUOTED } from "./lengths.mjs";
 
 const STATES = "ABCDEFGHIJKLMNOPQRSTUVWXY";
 const MOST_SYMBOLS = 10;
@@ -17,7 +18,6 @@ const GROUP = "(?:[0-9][LR][A-Z]|---){2,10}";
 const WHOLE = new RegExp(`^${GROUP}(?:_${GROUP}){0,24}$`);
 const ENTRY = /^(?:[0-9][LRlr][A-Za-z]|---|\.\.\.)$/;
 const LOST = /^[0-9][LRlr][-_]$/;
-const LONGEST_SHOWN = 60;
 /** What is rewritten, in the order in which it is told, in words. */
 export const REWRITINGS = {
   "small-letters": "small letters read as capital ones",
@@ -37,7 +37,7 @@ export function reasonOf(refusal, reason, place) {
 
 /** A text as a sentence has it: cut where it is long. */
 export function cut(/** @type {string} */ text) {
-  return text.length <= LONGEST_SHOWN ? text : `${text.slice(0, LONGEST_SHOWN - 2)}..`;
+  return text.length <= LONGEST_QUOTED ? text : `${text.slice(0, LONGEST_QUOTED - 2)}..`;
 }
 
 /** Whether the engine reads a text as a machine. */

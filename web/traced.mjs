@@ -3,16 +3,13 @@
  *
  * @typedef {{step: number, state: string, head: number, low: number, cells: Uint8Array}} Row
  * @typedef {{rows: Row[], agrees: boolean, cut: boolean, low: number, high: number}} Traced
- * @typedef {import("./sample.mjs").Sample} Sample
  * @typedef {import("./samples.mjs").Asked} Asked
  * @typedef {import("./samples.mjs").Kept} Kept
  */
-import { machineOf } from "./machine.mjs";
 import { painted } from "./pixels.mjs";
+import { symbolsOf } from "./sample.mjs";
 import { Run } from "./samples.mjs";
-import { fitted } from "./scale.mjs";
-
-const ZERO = 48;
+import { ZOOM, fitted, zoomed } from "./scale.mjs";
 
 /**
  * What is known of the last machine's run.
@@ -39,19 +36,19 @@ export function traced(engine, asked) {
     const [first, end] = [sample.lows[k], sample.lows[k] + sample.wide[k] - 1];
     const low = Math.min(Math.max(left, first), end);
     const high = Math.max(low, Math.min(right, end));
-    const place = sample.places[k] - first;
-    const cells = sample.bytes.slice(place + low, place + high + 1).map((byte) => byte - ZERO);
+    const cells = symbolsOf(sample, k, low - first, high - first);
     return { step, state: sample.states[k], head: sample.heads[k], low, cells };
   });
   return { rows, agrees, cut, low: run.windows.low(last), high: run.windows.high(last) };
 }
 
 /**
- * Rows that views will need, as another worker keeps them.
+ * Rows that views may need, as another worker keeps them; null where they are too many bytes.
  * @param {import("./bb.mjs").Engine} engine @param {Asked} asked
  */
 export function takenAhead(engine, asked) {
-  return runOf(asked.machine).trace(engine, asked);
+  const run = runOf(asked.machine);
+  return run.isFew(asked) ? run.trace(engine, asked) : null;
 }
 
 /** Keeps rows that another worker took, if they are of the machine that is shown. */
@@ -110,27 +107,29 @@ export function pictured(engine, asked) {
   const whole = { last: reached, low: windows.low(reached), high: windows.high(reached) };
   const { home, opening } = fitted(width, height, whole, fit.pair);
   const view = asked.view ?? (fit.opens ? opening : home);
-  const rows = Math.ceil(height / view.high);
   const top = Math.min(view.top, upto);
-  const end = Math.min(upto, top + (rows - 1) * view.every);
+  const end = Math.min(upto, top + (rowsIn(view, height) - 1) * view.every);
   const given = { machine, cells, upto: end, from: top, every: view.every };
-  const { sample: all, agrees, cut, every, last } = run.rows(engine, given, true);
+  const { sample, agrees, cut, every, last } = run.rows(engine, given, true);
   const columns = Math.ceil(width / view.wide);
-  const image = painted(all, view, columns, palette, machineOf(machine).symbols);
+  const image = painted(sample, view, columns, palette);
   const span = { low: windows.low(last), high: windows.high(last) };
-  const made = { sample: copied(all), agrees, cut: cut && last < end, every, columns, image, ...span };
-  return { ...made, view, home, ahead: run.ahead(given, upto) };
+  const made = { sample, agrees, cut: cut && last < end, every, columns, image, ...span };
+  return { ...made, view, home, ahead: run.ahead(given, nextTo(view, home, height, upto)) };
 }
 
-/** Rows with bytes of their own, which can be handed over. */
-function copied(/** @type {Sample} */ sample) {
-  const { places, wide } = sample;
-  const bytes = new Uint8Array(wide.reduce((sum, one) => sum + one, 0));
-  let length = 0;
-  const moved = places.map((place, k) => {
-    bytes.set(sample.bytes.subarray(place, place + wide[k]), length);
-    length += wide[k];
-    return length - wide[k];
-  });
-  return { ...sample, places: moved, bytes };
+/** How many rows a view has. */
+function rowsIn(/** @type {import("./scale.mjs").View} */ { high }, /** @type {number} */ height) {
+  return Math.ceil(height / high);
+}
+
+/**
+ * The views that keys zoom to from this one, by their rows.
+ * @param {import("./scale.mjs").View} view @param {import("./scale.mjs").View} home
+ * @param {number} height @param {number} most the last step
+ */
+function nextTo(view, home, height, most) {
+  const [near, far] = [ZOOM, 1 / ZOOM].map((factor) => zoomed(view, home, factor, { x: 0, y: 0 }));
+  const beyond = rowsIn(far, height) * far.every - rowsIn(view, height) * view.every;
+  return { closer: near.every, farther: far.every, beyond: Math.max(0, beyond), most };
 }

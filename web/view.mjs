@@ -8,6 +8,7 @@ import { listen } from "./gestures.mjs";
 import { tellGiven } from "./given.mjs";
 import { machineOf, sentence, stateLetter } from "./machine.mjs";
 import { copy, copyPicture, made, part, save, tellLive } from "./parts.mjs";
+import { ZOOM } from "./scale.mjs";
 import { Tape } from "./tape.mjs";
 
 const NARROW = "(max-width: 900px)";
@@ -38,8 +39,8 @@ export class View {
     });
     /** @param {string} id @param {() => void} act */
     const on = (id, act) => part(id).addEventListener("click", act);
-    on("zoom-in", () => this.diagram.zoom(4));
-    on("zoom-out", () => this.diagram.zoom(1 / 4));
+    on("zoom-in", () => this.diagram.zoom(ZOOM));
+    on("zoom-out", () => this.diagram.zoom(1 / ZOOM));
     on("fit", () => this.diagram.fit());
     on("marked", () => this.diagram.reopen());
     on("png", async () => save(/** @type {Blob} */ (await this.diagram.png()), `${this.about?.machine}.png`));

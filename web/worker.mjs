@@ -16,6 +16,7 @@
  * @typedef {import("./bb.mjs").Engine} Host
  */
 import { load } from "./bb.mjs";
+import { LONGEST_SHOWN } from "./lengths.mjs";
 import { ANSWERS, KINDS } from "./machine.mjs";
 import { asGiven, lineAt, prepared } from "./prepare.mjs";
 import { readAnswers, readLines, startsOf, tallied } from "./replies.mjs";
@@ -26,7 +27,6 @@ const NEWLINE = 10;
 const BATCH_MILLISECONDS = 60;
 // The first batch has one line.
 const FIRST_BYTES = 1;
-const MOST_NAMED = 1_023;
 const REFUSED = KINDS.indexOf("refused");
 const MOST_BYTES = 1_048_576;
 // A call costs much by itself where a line of a larger batch takes less than this part of the time.
@@ -39,6 +39,11 @@ const WARM_SAMPLE = { steps: 10_000, cells: 256, from: 0, every: 100 };
 
 /** @type {import("./bb.mjs").Engine | undefined} */
 let engine;
+/**
+ * Ends when the engine's module is loaded, which comes before anything is asked.
+ * @type {Promise<void>}
+ */
+let loaded = Promise.resolve();
 let size = FIRST_BYTES;
 // Milliseconds that a line of the batch before took; infinite before the first one.
 let pace = Infinity;
@@ -76,7 +81,7 @@ function work(/** @type {any} */ { job, bytes: given, line: first, asked }) {
     const batch = list.bytes.subarray(from, end);
     const starts = startsOf(batch).slice();
     const count = starts.length - 1;
-    postMessage({ job, at: lineAt(batch, 0, MOST_NAMED), lines: count, bytes: batch.length });
+    postMessage({ job, at: lineAt(batch, 0, LONGEST_SHOWN), lines: count, bytes: batch.length });
     const begun = performance.now();
     const part = answered(batch, asked, starts);
     if (list === standing && asked.clean && part.kindCounts[REFUSED] > 0) {
@@ -172,11 +177,12 @@ const QUESTIONS = {
   sort: (_, { rows, steps, down }) => ({ told: { order: sorted(rows, steps, down) } }),
   picture: (host, asked) => {
     const picture = pictured(host, asked);
-    return { told: { picture }, moved: [picture.image.buffer, picture.sample.bytes.buffer] };
+    // The rows are kept here too.
+    return { told: { picture }, moved: [picture.image.buffer] };
   },
   ahead: (host, { rows }) => {
     const kept = takenAhead(host, rows);
-    return { told: { kept }, moved: [kept.sample.bytes.buffer] };
+    return { told: { kept }, moved: kept === null ? [] : [kept.sample.cells.buffer] };
   },
   growth: (_, asked) => ({ told: { growth: growthOf(asked) } }),
   one: (_, asked) => ({ told: decidedOne(asked) }),
@@ -184,9 +190,21 @@ const QUESTIONS = {
   trace: (host, asked) => ({ told: { traced: traced(host, asked) } }),
 };
 
+/** Takes in the engine's module; where it can't be loaded, each question is answered with the reason. */
+function take(/** @type {WebAssembly.Module} */ module) {
+  loaded = load(module).then((made) => {
+    engine = made;
+  });
+  loaded.catch(() => undefined);
+}
+
 /** Does what a message asks. */
 async function answer(/** @type {any} */ asked) {
-  engine ??= await load(asked.module);
+  if (asked.what === "load") {
+    take(asked.module);
+    return;
+  }
+  await loaded;
   if (asked.what === "list") {
     if (asked.size !== undefined) {
       [size, pace] = [asked.size, Infinity];
@@ -197,7 +215,7 @@ async function answer(/** @type {any} */ asked) {
   } else if (asked.what === "keep") {
     keep(asked.kept);
   } else {
-    const { told, moved = [] } = QUESTIONS[asked.what](engine, asked);
+    const { told, moved = [] } = QUESTIONS[asked.what](/** @type {Host} */ (engine), asked);
     postMessage(told, /** @type {any} */ (moved));
   }
 }

@@ -296,7 +296,7 @@ def measure_views(figures: Figures, program: str, folder: str) -> None:
     """Views of the five-state champion's run in the page, and what the module takes of them in Node."""
     from built import has_page
     from page import has_selenium
-    from page_times import PAUSE, end, views
+    from page_times import PAUSE, end, traced_views, views
 
     tally = figures.tally
     if (
@@ -316,6 +316,12 @@ def measure_views(figures: Figures, program: str, folder: str) -> None:
                 each.append(taken)
             return max(taken)
 
+    def longest_traced() -> float:
+        with page_of(folder) as page:
+            taken = max(traced_views(page, PAUSE))
+            longest.append(page.js("return window.longest") / 1_000)
+            return taken
+
     def last_steps() -> float:
         with page_of(folder) as page:
             taken = end(page)
@@ -327,10 +333,13 @@ def measure_views(figures: Figures, program: str, folder: str) -> None:
     )
     module = figures.least(lambda: traced_in_node(folder))[0]
     milliseconds(figures, "the module's part, which begins at step 0: 10,000,000 steps, 545 lines", module)
-    paused, hurried, last = figures.least(lambda: longest_view(PAUSE), lambda: longest_view(0.0), last_steps)
+    paused, traced, hurried, last = figures.least(
+        lambda: longest_view(PAUSE), longest_traced, lambda: longest_view(0.0), last_steps
+    )
     milliseconds(figures, "the longest of 18 views, with pauses of %.1f s between" % PAUSE, paused, 100)
     usual = min(sorted(taken)[len(taken) // 2] for taken in each)
     milliseconds(figures, "the middle one of them", usual)
+    milliseconds(figures, "the longest of 8 whose rows aren't known, so that each is traced", traced)
     milliseconds(figures, "the longest of 18, one at once after another", hurried)
     milliseconds(figures, "to step 47,176,860 of 50,000,000, with the tape", last, 1_500)
     milliseconds(figures, "the longest that it stood still meanwhile", max(longest), 100)

@@ -7,11 +7,11 @@ First it runs `scripts/web`, which builds the page where it isn't up to date, in
 `./bb`. The page is opened from the disk, in a headless Chromium: what it writes is held against the program,
 byte for byte (the first run of the README, the examples, all plans at some limits, random machines and claims
 at random limits, all machines of four states as a dropped file, noise), and its reader against `forms.json`;
-then refused limits, a stop in the middle of a machine, links, settings, pictures, the tape, what is known of a
-machine, contrasts, names, widths, a phone, and what the page could send. It takes six minutes, `--quick` less
-than one. Without `chromium`, `chromedriver` and Python's
-selenium it is skipped, with a line that says which package is missing. The last line is `N passed, M
-failed`, with `, K skipped` where some were; the status is 1 where any failed.
+then refused limits, a stop in the middle of a machine, links, settings, pictures, axes, mouse, fingers and
+keys, the tape, what is known of a machine, contrasts, names, widths, a phone, and what the page could send.
+It takes six minutes, `--quick` one. Without `chromium`, `chromedriver` and Python's selenium it is skipped,
+with a line that says which package is missing. The last line is `N passed, M failed`, with `, K skipped`
+where some were; the status is 1 where any failed.
 """
 
 import functools
@@ -206,7 +206,7 @@ def hold_phone(program: str, tally: Tally, folder: str) -> None:
     """A phone: widths, fingers, and a line that is chosen by keys."""
     from browser import Page
     from page_access import hold_digits, hold_narrow
-    from page_pictures import hold_fingers
+    from page_gestures import hold_fingers, hold_pinch
 
     page = Page(PAGE, folder, 390, 844, is_phone=True)
     page.open()
@@ -218,7 +218,9 @@ def hold_phone(program: str, tally: Tally, folder: str) -> None:
     page.js(script)
     page.until(lambda: page.text("machine-text") == "1RA1RA")
     hold_narrow(page, tally, 390)
-    hold_fingers(page, Held(program, page, tally))
+    held = Held(program, page, tally)
+    hold_fingers(held)
+    hold_pinch(held)
     tally.hold("no error in a phone's console: %s" % page.errors(), not page.errors())
     page.end()
     narrow = Page(PAGE, folder, 320, 640, is_phone=True)
@@ -242,33 +244,46 @@ def hold_unsupported(tally: Tally, folder: str) -> None:
     page.end()
 
 
-def hold_all(program: str, tally: Tally, quick: bool, seed: int) -> None:
-    """All of it, in pages that are ended whatever comes."""
-    from browser import Page
+def hold_page(held: Held, quick: bool, seed: int) -> None:
+    """All that is tried in one page."""
     from page_access import hold_access
+    from page_axes import hold_axes
+    from page_gestures import hold_drag, hold_edges
+    from page_keys import hold_keys
     from page_lists import hold_lists
     from page_machine import hold_machine
     from page_pictures import hold_pictures
+
+    hold_first(held)
+    hold_examples(held, quick)
+    hold_cleaning(held)
+    hold_stop(held)
+    hold_refused(held)
+    hold_link(held)
+    hold_lists(held, quick, seed)
+    hold_pictures(held, quick, seed)
+    hold_axes(held)
+    hold_drag(held)
+    hold_keys(held)
+    hold_access(held)
+    if not quick:
+        hold_edges(held)
+        hold_machine(held)
+        hold_random(held, 20_000, seed)
+        hold_noise(held, random.Random(seed))
+        hold_four_states(held)
+
+
+def hold_all(program: str, tally: Tally, quick: bool, seed: int) -> None:
+    """All of it, in pages that are ended whatever comes."""
+    from browser import Page
 
     with tempfile.TemporaryDirectory() as folder:
         page = Page(PAGE, folder)
         try:
             held = Held(program, page, tally)
-            hold_first(held)
-            hold_examples(held, quick)
-            hold_cleaning(held)
-            hold_stop(held)
-            hold_refused(held)
-            hold_link(held)
-            hold_lists(held, quick, seed)
-            hold_pictures(held, quick, seed)
+            hold_page(held, quick, seed)
             if not quick:
-                hold_machine(held)
-            hold_access(held)
-            if not quick:
-                hold_random(held, 20_000, seed)
-                hold_noise(held, random.Random(seed))
-                hold_four_states(held)
                 hold_phone(program, tally, folder)
                 hold_unsupported(tally, folder)
             requests, errors = page.requests(), page.errors()

@@ -278,15 +278,17 @@ def hold_narrow(page: Any, tally: Tally, width: int) -> None:
 
 
 def hold_digits(page: Any, tally: Tally) -> None:
-    """Beside a long run the narrow axis has room for the digits of its steps."""
-    page.open("#machine=1RB1LC_1RC1RB_1RD0LE_1LA1LD_1RZ0LA&steps=50000000")
-    page.drawn()
-    room = page.js(
+    """On a narrow axis there is room for the digits of all steps."""
+    script = (
         "const pen = document.createElement('canvas').getContext('2d');"
         "pen.font = '11px system-ui, sans-serif';"
-        "return document.getElementById('diagram').dataset.x - 8 - pen.measureText('40,000,000').width"
+        "return document.getElementById('diagram').dataset.x - 9 - pen.measureText(arguments[0]).width"
     )
-    tally.hold("room beside the digits of steps: %.1f" % room, room >= 0)
+    for steps in (999_999, 9_999_999, 50_000_000):
+        page.open("#machine=1RB1LC_1RC1RB_1RD0LE_1LA1LD_1RZ0LA&steps=%d" % steps)
+        page.drawn()
+        room = page.js(script, "{:,}".format(steps))
+        tally.hold("room beside the digits of %d steps: %.1f" % (steps, room), room >= 0)
 
 
 def hold_access(held: Held) -> None:

@@ -40,6 +40,12 @@ class Row(NamedTuple):
     cells: str
 
 
+def symbol_of(row: Row, position: int) -> int:
+    """The symbol of a row at a position, or the number of what isn't visited yet."""
+    at = position - row.low
+    return int(row.cells[at]) if 0 <= at < len(row.cells) else UNVISITED
+
+
 def traced(program: str, machine: str, steps: int, cells: int = 65_536) -> List[Row]:
     """All steps of a run, each with its lowest position."""
     command = [program, "trace", "--upto", str(steps), "--cells", str(cells), "--", machine]

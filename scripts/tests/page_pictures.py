@@ -12,14 +12,17 @@ from typing import Any, Dict, List, Tuple
 
 from selenium.webdriver.common.keys import Keys
 
+from built import MODULE
 from machines import mixed, seldom_halting
 from node import Engine
-from page_held import HEAD, UNVISITED, Held, Row, colour, palette, pixels, traced
+from page_held import HEAD, Held, Row, colour, palette, pixels, symbol_of, traced
 from page_times import CHAMPION as CHAMPION_5
-from page_times import PAUSE, end, steps_seen, views
+from page_times import PAUSE, end, steps_seen, traced_views, views
+from program import ended
 from tally import TOP
 
 WINDOWS = os.path.join(TOP, "scripts", "tests", "windows.mjs")
+KEPT = os.path.join(TOP, "scripts", "tests", "kept_rows.mjs")
 CHAMPION = "1RB1LB_1LA0LC_1RZ1LD_1RD0RA"
 TRANSLATED = "1LB0LA_1RA---"
 # The champion of four states, which goes to the right for ever in place of its halt.
@@ -67,10 +70,45 @@ def hold_windows(held: Held, count: int, seed: int) -> None:
     held.hold("visited positions of %d machines: %s" % (len(machines), wrong[:3]), not wrong)
 
 
+def questions(source: random.Random) -> List[Dict[str, int]]:
+    """Rows that are asked for one after another, some of which are among those before."""
+    every = source.choice([1, 2, 3, 4])
+    begin = every * source.randrange(50)
+    found = [{"from": begin, "every": every, "upto": begin + 600 * every}]
+    for _ in range(5):
+        times, skipped = source.randint(1, 5), source.randrange(40)
+        first = begin + every * skipped
+        upto = source.choice([first + every * source.randrange(200), begin + 600 * every])
+        found.append({"from": first, "every": every * times, "upto": upto})
+    return found
+
+
+def hold_kept(held: Held, count: int, seed: int) -> None:
+    """Rows that are kept and picked out of others are the program's."""
+    if not held.tally.has("rows that are kept", "node"):
+        return
+    source = random.Random(seed)
+    machines = [seldom_halting(source, source.randint(2, 5), source.randint(2, 10)) for _ in range(count)]
+    asked = [(machine, questions(source)) for machine in [CHAMPION_5, CHAMPION, LATE, TREE, *machines]]
+    given = "".join(json.dumps({"machine": one, "cells": 512, "asked": rows}) + "\n" for one, rows in asked)
+    command = ["node", KEPT, MODULE]
+    done = subprocess.run(command, input=given, stdout=subprocess.PIPE, text=True, check=True)
+    known, wrong = 0, []
+    for (machine, rows), line in zip(asked, map(json.loads, done.stdout.splitlines())):
+        known += line["known"]
+        words = [held.program, "trace", "--upto=5000", "--cells=512", "--", machine]
+        lines = {int(text.split()[0]): text for text in ended(words).output.decode().splitlines()}
+        for one, found in zip(rows, line["lines"]):
+            steps = range(one["from"], one["upto"] + 1, one["every"])
+            if found != [lines[step] for step in steps if step in lines]:
+                wrong.append((machine, one))
+    held.hold("rows that are kept, of %d machines: %s" % (len(asked), wrong[:3]), not wrong)
+    held.hold("%d questions needed no trace" % known, known > 2 * len(asked))
+
+
 def mean(row: Row, first: int, across: int, colours: List[List[int]]) -> List[float]:
     """The mean colour of so many cells of a row."""
-    cells = [at - row.low for at in range(first, first + across)]
-    kinds = [int(row.cells[at]) if 0 <= at < len(row.cells) else UNVISITED for at in cells]
+    kinds = [symbol_of(row, at) for at in range(first, first + across)]
     return [sum(colours[kind][part] for kind in kinds) / across for part in range(3)]
 
 
@@ -153,6 +191,7 @@ def hold_times(held: Held) -> None:
     held.tally.within("a view up to step 10^7", max(taken), VIEW)
     held.tally.within("it stood still meanwhile for", held.page.js("return window.longest") / 1000, STILL)
     held.hold("it went near and back", len(taken) > 6 and steps_seen(held.page) >= 0.9 * 10**7)
+    held.tally.within("a view that is traced anew", max(traced_views(held.page, PAUSE)), VIEW)
     held.tally.within("the champion's last steps", end(held.page), LAST_VIEW)
     held.hold("they are shown", "Step 47,176,860:" in held.page.text("tape-told"))
     held.tally.within("it stood still meanwhile for", held.page.js("return window.longest") / 1000, STILL)
@@ -336,49 +375,6 @@ def hold_marks_in_view(held: Held) -> None:
     held.hold("and again", True)
 
 
-def hold_fingers(page: Any, held: Held) -> None:
-    """On a phone one finger scrolls the page; the picture is moved only after a tap into it."""
-    page.open("#machine=%s&steps=100000" % CHAMPION_5)
-    before = page.drawn()
-    page.js("document.getElementById('diagram').scrollIntoView({ block: 'center' })")
-    hint = page.js("return document.getElementById('diagram-keys').innerText")
-    held.hold("the hint says so: " + hint, "Tap into the picture first" in hint)
-    box = page.js(
-        "const { x, y, width, height } = document.getElementById('diagram').getBoundingClientRect();"
-        "return [x + width / 2, y + height / 2]"
-    )
-    place = page.js("return scrollY")
-    swipe(page, box)
-    page.until(lambda: page.js("return scrollY") != place)
-    held.hold("one finger scrolls the page", page.drawn() == before)
-    page.js("document.getElementById('diagram').scrollIntoView({ block: 'center' })")
-    box = page.js(
-        "const { x, y, width, height } = document.getElementById('diagram').getBoundingClientRect();"
-        "return [x + width / 2, y + height / 2]"
-    )
-    touch(page, "touchStart", [box])
-    touch(page, "touchEnd", [])
-    page.until(lambda: page.js("return document.activeElement.id") == "diagram")
-    place = page.js("return scrollY")
-    swipe(page, box)
-    page.until(lambda: page.drawn()["top"] > before["top"])
-    held.hold("after a tap it moves the picture", page.js("return scrollY") == place)
-
-
-def touch(page: Any, kind: str, places: List[List[float]]) -> None:
-    points = [{"x": x, "y": y} for x, y in places]
-    page.driver.execute_cdp_cmd("Input.dispatchTouchEvent", {"type": kind, "touchPoints": points})
-
-
-def swipe(page: Any, place: List[float]) -> None:
-    """Moves one finger up."""
-    x, y = place
-    touch(page, "touchStart", [[x, y]])
-    for far in range(10, 130, 10):
-        touch(page, "touchMove", [[x, y - far]])
-    touch(page, "touchEnd", [])
-
-
 def hold_tree(held: Held) -> None:
     """The levels and nodes of a tree are those of the line."""
     page = held.page
@@ -400,6 +396,7 @@ def hold_png(held: Held) -> None:
 def hold_pictures(held: Held, quick: bool, seed: int) -> None:
     """All that diagrams show; the long runs only where there is time."""
     hold_windows(held, 50 if quick else 500, seed)
+    hold_kept(held, 20 if quick else 200, seed)
     hold_cells(held, CHAMPION, 107)
     hold_cells(held, "1RB1LB_1LA1RZ", 6)
     hold_stretch(held)

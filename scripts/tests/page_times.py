@@ -11,6 +11,8 @@ NEAR_END = 47_176_860
 SEEN = 100
 MOST_GESTURES = 12
 NOTCHES = 2
+# So small a turn of the wheel leads to a view whose rows no other one has: it is traced from step 0.
+SMALL_TURN, SMALL_TURNS = 0.7, 8
 # A person pauses so long between gestures, in seconds.
 PAUSE = 0.3
 # Where in the picture the wheel turns, from its left edge, in pixels, and how near to its lower edge at most.
@@ -52,6 +54,18 @@ def views(page: Any, pause: float) -> List[float]:
     for _ in range(len(taken)):
         time.sleep(pause)
         taken.append(zoomed_late(page, -NOTCHES))
+    return taken
+
+
+def traced_views(page: Any, pause: float) -> List[float]:
+    """Zooms at a late step by so little that no rows are known before; the seconds of each view."""
+    page.open("#machine=%s&steps=%d" % (CHAMPION, STEPS))
+    page.drawn()
+    time.sleep(1)
+    taken: List[float] = []
+    for _ in range(SMALL_TURNS):
+        time.sleep(pause)
+        taken.append(zoomed_late(page, SMALL_TURN))
     return taken
 
 

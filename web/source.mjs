@@ -1,0 +1,111 @@
+/** The list that is given, as a text or a file, and the settings with which it is answered. */
+import { planWords, setPlan } from "./fields.mjs";
+import { counted } from "./machine.mjs";
+import { part } from "./parts.mjs";
+import { BEGIN_BYTES, hasVerdicts } from "./prepare.mjs";
+import { keep } from "./session.mjs";
+
+/** @typedef {"decide" | "check"} Mode */
+
+export class Source {
+  constructor() {
+    this.list = /** @type {HTMLTextAreaElement} */ (part("list"));
+    this.mode = /** @type {HTMLSelectElement} */ (part("mode"));
+    this.clean = /** @type {HTMLInputElement} */ (part("clean"));
+    /** @type {File | null} */
+    this.file = null;
+    // Whether the settings are those of an example: then the next list has the defaults again.
+    this.isExample = false;
+    this.list.addEventListener("input", () => {
+      this.forgetExample();
+      this.nameRun();
+    });
+    this.mode.addEventListener("change", () => this.nameRun());
+    part("defaults").addEventListener("click", () => this.toDefaults());
+  }
+
+  /**
+   * How a list is answered that begins so.
+   * @returns {Mode}
+   */
+  modeOf(/** @type {Uint8Array} */ start) {
+    const asked = this.mode.value;
+    return asked === "check" || (asked === "auto" && hasVerdicts(start)) ? "check" : "decide";
+  }
+
+  /** Has the button say what it does with the text. */
+  nameRun() {
+    if (this.file === null) {
+      nameRun(this.modeOf(new TextEncoder().encode(this.list.value.slice(0, BEGIN_BYTES))));
+    }
+  }
+
+  /** What is to be answered, and whether it is decided or checked; the button says so. */
+  async given() {
+    const blob = this.file ?? new Blob([this.list.value]);
+    const mode = this.modeOf(new Uint8Array(await blob.slice(0, BEGIN_BYTES).arrayBuffer()));
+    nameRun(mode);
+    return { blob, mode };
+  }
+
+  /** Puts a text into the list. */
+  fill(/** @type {string} */ text) {
+    this.list.value = text;
+    this.hold(null);
+  }
+
+  /** Takes a file in place of the text; null takes it away again. */
+  hold(/** @type {File | null} */ file) {
+    this.file = file;
+    part("file-shown").hidden = file === null;
+    part("list-gone").hidden = true;
+    this.list.hidden = file !== null;
+    if (file !== null) {
+      part("file-name").textContent = `${file.name}, ${counted(file.size, "byte")}`;
+    }
+    this.nameRun();
+  }
+
+  /** Says that a list is gone. */
+  tellGone(/** @type {string} */ name) {
+    const words = `${name} isn’t kept over a reload; choose it again.`;
+    Object.assign(part("list-gone"), { textContent: words, hidden: false });
+  }
+
+  /** All settings as they are at first. */
+  toDefaults() {
+    this.isExample = false;
+    this.set({}, true, "auto");
+  }
+
+  /**
+   * Sets limits, deciders, whether lines are cleaned, and what they are.
+   * @param {Record<string, any>} plan @param {boolean} clean @param {string} mode
+   */
+  set(plan, clean, mode) {
+    setPlan(plan);
+    this.clean.checked = clean;
+    this.mode.value = mode;
+    this.nameRun();
+  }
+
+  /** Gives the next list the defaults again, where the settings are an example's. */
+  forgetExample() {
+    if (this.isExample) {
+      this.toDefaults();
+      /** @type {HTMLSelectElement} */ (part("examples")).value = "";
+    }
+  }
+
+  /** Keeps list and settings for a reload. */
+  keep() {
+    const { file, list, mode, clean } = this;
+    const gone = file === null ? "" : `The file ${file.name}`;
+    keep({ text: list.value, gone, plan: planWords(), mode: mode.value, clean: clean.checked });
+  }
+}
+
+/** Has the button say what it does. */
+function nameRun(/** @type {Mode} */ mode) {
+  part("run").textContent = mode === "check" ? "Check" : "Decide";
+}

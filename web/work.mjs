@@ -1,0 +1,157 @@
+/** The work on a list: workers answer it, and how far they are is told. */
+import { refuse } from "./fields.mjs";
+import { KINDS } from "./machine.mjs";
+import { part, tellLive } from "./parts.mjs";
+import { Pieces } from "./pieces.mjs";
+import { Pool } from "./pool.mjs";
+import { Results } from "./results.mjs";
+import { statusOf, underWayTold } from "./status.mjs";
+import { makeReady } from "./workers.mjs";
+
+/** @typedef {import("./worker.mjs").Asked} Asked */
+
+const MOST_WORKERS = 8;
+const REFRESH_MILLISECONDS = 200;
+// So often it is told how far a list is, to those who hear the page.
+const TELL_MILLISECONDS = 10_000;
+// A worker isn't begun for fewer bytes.
+const LEAST_BYTES = 256;
+const UNDECIDED = KINDS.indexOf("undecided");
+const NO_MEMORY =
+  "Out of memory. What was decided until then stays. Fewer cells would do, or a browser with more memory.";
+
+/** Says what went wrong, above the results. */
+export function tell(/** @type {string} */ message) {
+  Object.assign(part("error"), { textContent: message, hidden: message === "" });
+}
+
+/** How many workers a list has at most. */
+function mostWorkers() {
+  return Math.min(MOST_WORKERS, navigator.hardwareConcurrency || 1);
+}
+
+export class Work {
+  /** @param {() => void} shows what else is shown, when more of the list is answered */
+  constructor(shows) {
+    this.shows = shows;
+    /** @type {Pool | null} */
+    this.pool = null;
+    this.results = new Results();
+    /** @type {import("./status.mjs").Run} */
+    this.run = { mode: "decide", plan: {}, size: 0, begun: 0, taken: 0 };
+    // Whether anything of the list is shown.
+    this.isShown = false;
+    this.refresh = 0;
+    this.clock = 0;
+    // When it was last told how far the list is.
+    this.told = 0;
+  }
+
+  get isUnderWay() {
+    return this.pool !== null;
+  }
+
+  /** Has workers answer a list. */
+  begin(/** @type {Blob} */ blob, /** @type {Asked} */ asked) {
+    const { mode, plan } = asked;
+    this.run = { mode, plan, size: blob.size, begun: performance.now(), taken: 0 };
+    this.told = this.run.begun;
+    this.results = new Results();
+    this.isShown = false;
+    part("results").hidden = false;
+    this.beginPool(blob, asked);
+    this.clock = setInterval(() => this.showClock(), REFRESH_MILLISECONDS);
+    this.showSoon();
+  }
+
+  beginPool(/** @type {Blob} */ blob, /** @type {Asked} */ asked) {
+    const workers = Math.max(1, Math.min(mostWorkers(), Math.ceil(blob.size / LEAST_BYTES)));
+    const source = new Pieces(blob, workers);
+    /** @type {HTMLButtonElement} */ (part("stop")).disabled = false;
+    this.pool = new Pool(workers, asked, {
+      piece: () => source.next(),
+      part: (one, read) => {
+        this.results.add(one, read);
+        this.showSoon();
+      },
+      end: () => this.ended("Done"),
+      fail: (error) => this.failed(error),
+    });
+  }
+
+  /** The work is over, by itself or since it was stopped. */
+  ended(/** @type {string} */ how) {
+    clearInterval(this.clock);
+    this.run.taken = performance.now() - this.run.begun;
+    this.pool = null;
+    /** @type {HTMLButtonElement} */ (part("stop")).disabled = true;
+    part("results").dataset.state = how.toLowerCase();
+    this.show(how);
+    tellLive(part("status").textContent ?? "");
+    makeReady(mostWorkers(), () => this.isUnderWay);
+  }
+
+  /** What can't be done, in words that say what would do. */
+  failed(/** @type {{error: string, message: string, limit?: string}} */ { error, message, limit }) {
+    this.ended("Ended");
+    if (error === "LimitsError" && limit !== undefined) {
+      refuse(limit, message);
+    } else if (error === "MemoryError" || error === "RangeError") {
+      tell(NO_MEMORY);
+    } else if (error === "NotReadableError" || error === "NotFoundError") {
+      tell("The file could not be read; it may have changed. Choose it again.");
+    } else {
+      tell(`The engine ended: ${message}`);
+    }
+  }
+
+  stop() {
+    if (this.pool !== null) {
+      this.pool.stop();
+      this.ended("Stopped");
+    }
+  }
+
+  /** Shows results soon, but not too often. */
+  showSoon() {
+    part("results").dataset.state = "running";
+    if (this.refresh === 0) {
+      this.refresh = setTimeout(() => this.show("Running"), this.isShown ? REFRESH_MILLISECONDS : 0);
+    }
+  }
+
+  /** The time, how far the list is, and what takes long. */
+  showClock() {
+    if (this.pool === null) {
+      return;
+    }
+    this.showProgress("Running");
+    if (performance.now() - this.told > TELL_MILLISECONDS) {
+      this.told = performance.now();
+      tellLive(part("status").textContent ?? "");
+    }
+  }
+
+  showProgress(/** @type {string} */ how) {
+    const { run, results } = this;
+    const share = how === "Done" || run.size === 0 ? 1 : results.read / run.size;
+    /** @type {HTMLProgressElement} */ (part("progress")).value = share;
+    part("status").textContent = statusOf(how, share, run, results);
+    const words = underWayTold(this.pool?.underWay() ?? null);
+    Object.assign(part("under-way"), { textContent: words, hidden: words === "" });
+  }
+
+  /** Shows what is known by now. */
+  show(/** @type {string} */ how) {
+    clearTimeout(this.refresh);
+    this.refresh = 0;
+    if (how === "Running" && this.pool === null) {
+      return;
+    }
+    const { run, results } = this;
+    this.showProgress(how);
+    part("left").hidden = how === "Running" || run.mode === "check" || results.counts[UNDECIDED] === 0;
+    this.isShown = results.lines > 0;
+    this.shows();
+  }
+}

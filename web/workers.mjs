@@ -1,0 +1,92 @@
+/** Workers, each with the engine's module, which is compiled once for all of them. */
+import { isSupported } from "./memory.mjs";
+import { part } from "./parts.mjs";
+
+const READY_MILLISECONDS = 50;
+
+/** A text that stands in the page. */
+function text(/** @type {string} */ id) {
+  return part(id).textContent ?? "";
+}
+
+/** The engine's module. */
+async function compiled() {
+  const encoded = atob(text("module").trim());
+  const bytes = new Uint8Array(encoded.length);
+  for (let at = 0; at < bytes.length; at += 1) {
+    bytes[at] = encoded.charCodeAt(at);
+  }
+  return WebAssembly.compile(bytes);
+}
+
+const scripts = new Blob([text("shared"), text("worker")], { type: "text/javascript" });
+const url = URL.createObjectURL(scripts);
+/**
+ * Ends when the module is compiled; null where it isn't.
+ * @type {Promise<WebAssembly.Module | null>}
+ */
+export const ready = isSupported() ? compiled() : Promise.resolve(null);
+ready.catch(() => undefined);
+/**
+ * Workers that wait for a list.
+ * @type {Worker[]}
+ */
+const idle = [];
+let isWarm = false;
+
+/** A new worker, which gets the module before anything that waits for `ready` is sent to it. */
+export function newWorker() {
+  const worker = new Worker(url);
+  ready.then(
+    (module) => worker.postMessage({ what: "load", module }),
+    () => undefined,
+  );
+  return worker;
+}
+
+/** A worker for a list: one that waits, or a new one. */
+export function takeWorker() {
+  return idle.pop() ?? newWorker();
+}
+
+/** Has a worker wait for the next list. */
+export function giveBack(/** @type {Worker} */ worker) {
+  idle.push(worker);
+}
+
+/**
+ * Begins workers for the next list, one after another since each takes a while, until so many wait or a list
+ * has come. The first one answers the examples for a moment: what the browser compiles then, it has for all.
+ * @param {number} most @param {() => boolean} isBusy
+ */
+export function makeReady(most, isBusy) {
+  setTimeout(() => {
+    warm();
+    if (idle.length < most && !isBusy()) {
+      idle.push(newWorker());
+      makeReady(most, isBusy);
+    }
+  }, READY_MILLISECONDS);
+}
+
+/** Has a worker that waits answer the examples, once. */
+function warm() {
+  if (isWarm || idle.length === 0) {
+    return;
+  }
+  isWarm = true;
+  const worker = idle[0];
+  /** @type {{call: string, lines: string}[]} */
+  const examples = JSON.parse(text("examples-data"));
+  const lists = examples.filter(({ call }) => call === "decide").map(({ lines }) => lines);
+  const list = new TextEncoder().encode(lists.join("\n"));
+  ready.then(
+    () => worker.postMessage({ what: "warm", list }),
+    () => undefined,
+  );
+}
+
+/** What went wrong, as it is told. */
+export function toldOf(/** @type {Error} */ { name, message }) {
+  return { error: name, message };
+}
