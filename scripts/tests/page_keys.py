@@ -68,7 +68,7 @@ return {
   is_seen: one.checkVisibility() && width > 0 && height > 0 && isIn && one.contains(upper),
   is_outlined: one.matches(":focus-visible") && style.outlineStyle === "solid"
     && parseFloat(style.outlineWidth) >= 2,
-  contrast: contrast(light(parse(style.outlineColor)), light(parse(getComputedStyle(ground).backgroundColor))),
+  contrast: contrast(...[style.outlineColor, getComputedStyle(ground).backgroundColor].map(parse).map(light)),
 };
 """
 

@@ -113,7 +113,7 @@ def mean(row: Row, first: int, across: int, colours: List[List[int]]) -> List[fl
 
 
 def with_origin(machine: str) -> str:
-    """A machine that runs as this one, with its symbols doubled: where it begins it writes the second ones."""
+    """A machine that runs as this one, with its symbols doubled: where it begins it writes second ones."""
     groups = [re.findall("...", group) for group in machine.split("_")]
     symbols = len(groups[0])
 
@@ -257,28 +257,32 @@ def entry_of(machine: str, row: Row) -> str:
     return machine.split("_")[ord(row.state) - ord("A")][3 * symbol : 3 * symbol + 3]
 
 
+def is_tape(page: Any, row: Row) -> bool:
+    """Whether the tape shows a row: its cells, what is said of it, and the entry that is used next."""
+    shown = page.js(
+        "return [...document.querySelectorAll('#tape-cells .cell')].filter((one) => "
+        "!one.querySelector('.blank')).map((one) => [Number(one.dataset.at), "
+        "one.querySelector('.symbol').textContent])"
+    )
+    used = page.js("return document.querySelector('#machine-table td.used')?.dataset.entry")
+    around = dict(enumerate(row.cells, row.low))
+    is_told = page.text("tape-told").startswith(tape_told(row, entry_of(CHAMPION, row)))
+    is_shown = all(around.get(at, "0") == symbol for at, symbol in shown)
+    return is_told and is_shown and bool(used == row.state + around.get(row.head, "0"))
+
+
 def hold_tape(held: Held) -> None:
-    """The tape goes on and back by a step, by buttons and keys; it plays, or steps where that is preferred."""
+    """The tape goes on and back by a step, by buttons and keys; it plays, or steps where that is wanted."""
     page = held.page
     page.open("#machine=%s" % CHAMPION)
     page.drawn()
-    rows = traced(held.program, CHAMPION, 107)
-    right = True
-    for row in rows[:60]:
+    wrong = []
+    for row in traced(held.program, CHAMPION, 107)[:60]:
         page.until(lambda: page.text("tape-told").startswith("Step %d:" % row.step))
-        right = right and page.text("tape-told").startswith(tape_told(row, entry_of(CHAMPION, row)))
-        shown = page.js(
-            "return [...document.querySelectorAll('#tape-cells .cell')].filter((one) => "
-            "!one.querySelector('.blank')).map((one) => [Number(one.dataset.at), "
-            "one.querySelector('.symbol').textContent])"
-        )
-        around = {at: symbol for at, symbol in enumerate(row.cells, row.low)}
-        right = right and all(around.get(at, "0") == symbol for at, symbol in shown)
-        used = page.js("return document.querySelector('#machine-table td.used')?.dataset.entry")
-        symbol = around.get(row.head, "0")
-        right = right and used == row.state + symbol
+        if not is_tape(page, row):
+            wrong.append(row)
         page.click("tape-on") if row.step % 2 else page.press("tape", Keys.ARROW_RIGHT)
-    held.hold("60 steps of the tape", right)
+    held.hold("60 steps of the tape: %s" % wrong[:2], not wrong)
     page.click("tape-back")
     page.until(lambda: page.text("tape-told").startswith("Step 59:"))
     page.press("tape", Keys.ARROW_LEFT, Keys.HOME)
