@@ -33,10 +33,10 @@ VIEW, LAST_VIEW = 0.1, 1.5
 STILL = 0.1
 
 
-def hold_cells(held: Held, machine: str, upto: int) -> None:
+def hold_cells(held: Held, machine: str, upto: int, limits: str = "") -> None:
     """Each cell of a diagram has its symbol's colour, or the head's."""
     page = held.page
-    page.open("#machine=%s" % machine)
+    page.open("#machine=%s%s" % (machine, limits))
     view, colours = page.drawn(), palette(page)
     wide, high, left = view["wide"], view["high"], view["left"]
     is_framed = wide >= 6 and high >= 6
@@ -126,8 +126,8 @@ def with_origin(machine: str) -> str:
     return "_".join([begin, *doubled])
 
 
-def sampled(step: int) -> Row:
-    """A step of the run of the champion of five states, above 0, by the engine alone."""
+def sampled_with_origin(step: int) -> Row:
+    """A step above 0 of the champion of five states, with its symbols doubled, by the engine alone."""
     with tempfile.TemporaryDirectory() as folder:
         engine = Engine(folder)
         reply = engine.call(
@@ -136,30 +136,53 @@ def sampled(step: int) -> Row:
         engine.end()
     _, state, head, cells = reply.reply.decode().split()
     begin = next(at for at, symbol in enumerate(cells) if symbol in "23")
-    before = state if state == "Z" else chr(ord(state) - 1)
-    return Row(step, before, int(head), -begin, cells.replace("2", "0").replace("3", "1"))
+    return Row(step, state, int(head), -begin, cells)
+
+
+def sampled(step: int) -> Row:
+    """The same of the champion itself."""
+    row = sampled_with_origin(step)
+    before = row.state if row.state == "Z" else chr(ord(row.state) - 1)
+    return row._replace(state=before, cells=row.cells.replace("2", "0").replace("3", "1"))
+
+
+def hold_means(held: Held, source: random.Random, row: Row) -> None:
+    """In a view of a whole run the pixels of a row have the mean colours of its cells."""
+    page = held.page
+    view, colours = page.drawn(), palette(page)
+    across = int(view["across"])
+    wide = page.js("return document.getElementById('diagram').clientWidth") - int(view["x"])
+    columns = [source.randrange(1, wide - 40) for _ in range(40)]
+    begins = [int(view["left"]) + across * (x + 20) for x in columns]
+    wanted = [mean(row, begin, across, colours) for begin in begins]
+    found = pixels(page, [[x + 20, row.step / view["every"]] for x in columns])
+    near = [all(abs(a - b) <= 1 for a, b in zip(*pair)) for pair in zip(found, wanted)]
+    held.hold("the means of step %d: %d of 40" % (row.step, sum(near)), all(near))
+
+
+def hold_symbols(held: Held, seed: int) -> None:
+    """Machines of more than two symbols: single cells, and a wide run whose pixels are means."""
+    # It halts after 38 steps: before, nothing is marked over the cells.
+    hold_cells(held, "1RB2LB1RZ_2LA2RB1LB", 30, "&steps=30")
+    held.page.open("#machine=%s&steps=300000" % with_origin(CHAMPION_5))
+    view, source = held.page.drawn(), random.Random(seed)
+    held.hold("a pixel has several cells: %s" % view, view["across"] > 1)
+    for number in (60, 200, 400):
+        hold_means(held, source, sampled_with_origin(number * int(view["every"])))
 
 
 def hold_scaled(held: Held, seed: int) -> None:
     """The run of the champion of five states is seen whole: a pixel has the mean colour of its cells."""
     page, source = held.page, random.Random(seed)
     page.open("#machine=%s&steps=50000000" % CHAMPION_5)
-    view, colours = page.drawn(), palette(page)
+    view, told = page.drawn(), page.text("diagram-told")
     every, across = int(view["every"]), int(view["across"])
-    wide = page.js("return document.getElementById('diagram').clientWidth") - int(view["x"])
-    told = page.text("diagram-told")
     held.hold("a pixel is the mean of cells: " + told, "mean colour of %d cells" % across in told)
     held.hold("all cells are seen: " + told, "all of 12,289 cells visited" in told)
     last = int(re.sub(r"\D", "", told.split(" to ")[1].split(",  ")[0].split(" every")[0]))
     held.hold("it goes from the start to the halt", last <= 47_176_870 < last + every and view["top"] == 0)
     for number in source.sample(range(50, last // every), 6):
-        row = sampled(number * every)
-        columns = [source.randrange(1, wide - 40) for _ in range(40)]
-        begins = [int(view["left"]) + across * (x + 20) for x in columns]
-        wanted = [mean(row, begin, across, colours) for begin in begins]
-        found = pixels(page, [[x + 20, number] for x in columns])
-        near = [all(abs(a - b) <= 1 for a, b in zip(*pair)) for pair in zip(found, wanted)]
-        held.hold("the means of step %d: %d of 40" % (row.step, sum(near)), all(near))
+        hold_means(held, source, sampled(number * every))
 
 
 def hold_zoom(held: Held) -> None:
@@ -403,6 +426,7 @@ def hold_pictures(held: Held, quick: bool, seed: int) -> None:
     hold_kept(held, 20 if quick else 200, seed)
     hold_cells(held, CHAMPION, 107)
     hold_cells(held, "1RB1LB_1LA1RZ", 6)
+    hold_symbols(held, seed)
     hold_stretch(held)
     hold_png(held)
     hold_tree(held)
