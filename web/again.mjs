@@ -23,7 +23,7 @@ export class Again {
   forget(/** @type {About} */ about) {
     this.stop();
     this.about = about;
-    Object.assign(part("again-told"), { textContent: "", hidden: true });
+    Object.assign(part("again-text"), { textContent: "", hidden: true });
     part("again").hidden = about.verdict.kind !== "undecided";
   }
 
@@ -66,6 +66,6 @@ export class Again {
   }
 
   tell(/** @type {string} */ words) {
-    Object.assign(part("again-told"), { textContent: words, hidden: false });
+    Object.assign(part("again-text"), { textContent: words, hidden: false });
   }
 }

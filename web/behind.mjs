@@ -118,14 +118,14 @@ function rowsBehind(/** @type {Verdict} */ { kind, numbers, side }, /** @type {R
       `The two records: the same ${counted(extent, "cell")}, ` + `${counted(shift ?? 0, "cell")} farther out`,
   };
   const shownRows = made("div", { class: "cells" }, ...lines);
-  return { bands, parts: [made("h3", {}, titles[kind]), shownRows, told(kind, rows, bands, second)] };
+  return { bands, parts: [made("h3", {}, titles[kind]), shownRows, seen(kind, rows, bands, second)] };
 }
 
 /**
  * What the page itself sees in the rows.
  * @param {string} kind @param {Row[]} rows @param {any[]} bands @param {number} score
  */
-function told(kind, rows, bands, score) {
+function seen(kind, rows, bands, score) {
   let holds = rows.length > 0;
   if (kind === "halt") {
     holds = rows[0].cells.filter((symbol) => symbol !== 0).length === score;

@@ -16,7 +16,7 @@ import { forgetColours, paintAll, palette, sheetOf } from "./paint.mjs";
 import { part } from "./parts.mjs";
 import { areaOf, isSeen, kept, middleOf, moved, placeAt, wayTo } from "./places.mjs";
 import { closeTo, isSame, zoomed } from "./scale.mjs";
-import { pictureTold, placeTold } from "./telling.mjs";
+import { pictureWords, placeWords } from "./telling.mjs";
 
 // A picture is waited for so long before the next one is begun: what was traced for it is of use.
 const PATIENCE_MILLISECONDS = 1_500;
@@ -123,7 +123,7 @@ export class Diagram {
     const { machine, cells, upto, last, pair } = this.shown;
     const { width, height } = this.area;
     if (this.data === null) {
-      part("diagram-told").textContent = "Drawing …";
+      part("diagram-text").textContent = "Drawing …";
     }
     this.canvas.dataset.state = "asked";
     const fit = { last, pair, opens: this.opens };
@@ -143,7 +143,7 @@ export class Diagram {
       return;
     }
     if (answer.error) {
-      part("diagram-told").textContent = `No diagram: ${answer.message}.`;
+      part("diagram-text").textContent = `No diagram: ${answer.message}.`;
       return;
     }
     /** @type {Picture} */
@@ -238,8 +238,8 @@ export class Diagram {
   }
 
   /** What is at a place, in words. */
-  placeTold(/** @type {Place} */ place) {
-    return placeTold(this.data, place);
+  placeWords(/** @type {Place} */ place) {
+    return placeWords(this.data, place);
   }
 
   /** Moves what the keys point at by cells that are seen, or by so much of the view. */
@@ -290,7 +290,7 @@ export class Diagram {
     const ratio = paintAll(canvas, { ...scene, data }, { marks, sheet, chosen: chosen.step, place });
     const isNew = canvas.dataset.state === "taken" || canvas.dataset.state === "drawn";
     Object.assign(canvas.dataset, { ...scene.view, x: scene.area.x, y: scene.area.y, ratio });
-    part("diagram-told").textContent = pictureTold(data, scene.area.width);
+    part("diagram-text").textContent = pictureWords(data, scene.area.width);
     canvas.dataset.state = isNew ? "drawn" : "asked";
   }
 

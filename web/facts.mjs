@@ -27,10 +27,10 @@ const GROWTHS = {
 const asker = new Asker();
 const growthAsker = new Asker();
 /**
- * What is told of: an answer that comes for another one is too late.
+ * What it is about: an answer that comes for another one is too late.
  * @type {About | null}
  */
-let told = null;
+let current = null;
 
 /** The machine with left and right swapped. */
 export function mirrorOf(/** @type {string} */ text) {
@@ -72,7 +72,7 @@ export function normalOf(/** @type {string} */ text) {
 }
 
 /** What a verdict says of the machines that fill a `---`. */
-function completionsTold(/** @type {About} */ { machine, verdict }, /** @type {string} */ lastState) {
+function completionsWords(/** @type {About} */ { machine, verdict }, /** @type {string} */ lastState) {
   if (!machine.includes("---")) {
     return "It has no undefined entry.";
   }
@@ -93,7 +93,7 @@ function completionsTold(/** @type {About} */ { machine, verdict }, /** @type {s
 }
 
 /** What a verdict says of other starts than A on the blank tape. */
-function startsTold(/** @type {Verdict} */ { kind, numbers: [levels] }) {
+function startsWords(/** @type {Verdict} */ { kind, numbers: [levels] }) {
   return kind === "backward"
     ? "From each of its states, at any position of any tape, it halts within " +
         `${counted(levels, "step")} or never.`
@@ -116,7 +116,7 @@ function laterOf({ kind, numbers: [first, second, shift], side }) {
 /** Tells what is known; what takes a run comes when it is done. */
 export function tellFacts(/** @type {About} */ about) {
   const { machine, verdict, isConfirmed } = about;
-  told = about;
+  current = about;
   const normal = normalOf(machine);
   const mirror = mirrorOf(machine);
   const code = (/** @type {string} */ text) => made("code", {}, text);
@@ -126,11 +126,11 @@ export function tellFacts(/** @type {About} */ about) {
     ["mirror", "Mirror image", code(mirror)],
     ["growth", "Cells visited", "…"],
     ["completions", "Undefined entries", isConfirmed ? "…" : "The checker hasn’t confirmed the verdict."],
-    ["starts", "Every start", isConfirmed ? startsTold(verdict) : "–"],
+    ["starts", "Every start", isConfirmed ? startsWords(verdict) : "–"],
     ["later", "Step 10¹⁵", isConfirmed ? "…" : "–"],
   ];
-  const parts = facts.flatMap(([id, name, told]) => {
-    return [made("dt", {}, name), made("dd", { id: `fact-${id}` }, told)];
+  const parts = facts.flatMap(([id, name, words]) => {
+    return [made("dt", {}, name), made("dd", { id: `fact-${id}` }, words)];
   });
   part("facts").replaceChildren(...parts);
   askGrowth(about);
@@ -145,7 +145,7 @@ function askLater(/** @type {About} */ about) {
   const { kind, numbers } = verdict;
   const isPair = kind === "cycler" || kind === "translated";
   if (!isPair && kind !== "halt") {
-    part("fact-completions").textContent = completionsTold(about, "");
+    part("fact-completions").textContent = completionsWords(about, "");
     part("fact-later").textContent = "The verdict doesn’t say.";
     return;
   }
@@ -153,10 +153,10 @@ function askLater(/** @type {About} */ about) {
   const sample = { from: early, every: 1, upto: early, between: [-FAR, FAR] };
   asker.ask({ what: "trace", machine, cells, ...sample }, (answer) => {
     const row = answer.traced?.rows[0];
-    if (row === undefined || told !== about) {
+    if (row === undefined || current !== about) {
       return;
     }
-    part("fact-completions").textContent = completionsTold(about, row.state);
+    part("fact-completions").textContent = completionsWords(about, row.state);
     const isWithout = kind === "translated" && numbers[2] === undefined;
     const place = `state ${row.state}, head at ${signed(BigInt(row.head) + farther)}`;
     const later = kind === "halt" ? "It halted before." : isWithout ? "The line has no shift." : `${place}.`;
@@ -173,7 +173,7 @@ function askGrowth(/** @type {About} */ about) {
     return;
   }
   growthAsker.ask({ what: "growth", machine, cells, upto }, (answer) => {
-    if (told !== about) {
+    if (current !== about) {
       return;
     }
     if (answer.growth === undefined) {

@@ -35,9 +35,9 @@ export function tellLimits() {
   const limits = NAMES.filter((name) => field(name).value.trim() !== String(RANGES[name].usual));
   const off = SWITCHES.filter((name) => !field(name).checked);
   const limit = (/** @type {string} */ text) => numberOf(text)?.toLocaleString("en") ?? text;
-  const told = limits.map((name) => `${name} ${limit(field(name).value)}`);
-  const words = [...told, ...off.map((name) => `no ${name}`)];
-  part("limits-told").textContent = words.join(", ");
+  const named = limits.map((name) => `${name} ${limit(field(name).value)}`);
+  const words = [...named, ...off.map((name) => `no ${name}`)];
+  part("limits-text").textContent = words.join(", ");
 }
 
 /** Sets fields; those that aren't given get their defaults. */

@@ -11,7 +11,7 @@ const CLICK_PIXELS = 4;
 
 /**
  * Lets a diagram be moved and zoomed.
- * @param {import("./diagram.mjs").Diagram} diagram @param {(told: string, byKeys: boolean) => void} tell
+ * @param {import("./diagram.mjs").Diagram} diagram @param {(words: string, byKeys: boolean) => void} tell
  *   what is pointed at
  */
 export function listen(diagram, tell) {
@@ -38,7 +38,7 @@ export function listen(diagram, tell) {
  */
 class Fingers {
   /**
-   * @param {import("./diagram.mjs").Diagram} diagram @param {(told: string, byKeys: boolean) => void} tell
+   * @param {import("./diagram.mjs").Diagram} diagram @param {(words: string, byKeys: boolean) => void} tell
    */
   constructor(diagram, tell) {
     this.diagram = diagram;
@@ -126,7 +126,7 @@ class Fingers {
   /** Tells what is under the mouse. */
   point(/** @type {PointerEvent} */ event) {
     const place = this.diagram.placeAt(event.offsetX, event.offsetY);
-    this.tell(place === null ? "" : this.diagram.placeTold(place), false);
+    this.tell(place === null ? "" : this.diagram.placeWords(place), false);
   }
 
   up(/** @type {PointerEvent} */ event) {
@@ -134,7 +134,7 @@ class Fingers {
     if (fingers.size === 1 && this.moved < CLICK_PIXELS) {
       const place = diagram.placeAt(event.offsetX, event.offsetY);
       if (place !== null) {
-        this.tell(diagram.placeTold(place), false);
+        this.tell(diagram.placeWords(place), false);
         diagram.choose(place);
       }
       diagram.canvas.focus({ preventScroll: true });
@@ -154,12 +154,12 @@ function wheeled(/** @type {import("./diagram.mjs").Diagram} */ diagram, /** @ty
 
 /**
  * @param {import("./diagram.mjs").Diagram} diagram @param {KeyboardEvent} event
- * @param {(told: string, byKeys: boolean) => void} tell
+ * @param {(words: string, byKeys: boolean) => void} tell
  */
 function pressed(diagram, event, tell) {
   const point = (/** @type {number} */ right, /** @type {number} */ down) => () => {
     diagram.point(right, down, event.shiftKey);
-    tell(diagram.place === null ? "" : diagram.placeTold(diagram.place), true);
+    tell(diagram.place === null ? "" : diagram.placeWords(diagram.place), true);
   };
   const choose = () => diagram.place !== null && diagram.choose(diagram.place);
   /** @type {Record<string, () => void>} */

@@ -1,4 +1,4 @@
-/** What is told of a line that isn't the machine and nothing else: how it was read, or why it wasn't. */
+/** What is said of a line that isn't the machine and nothing else: how it was read, or why it wasn't. */
 import { part } from "./parts.mjs";
 import { ADVICE, readingOf } from "./reading.mjs";
 import { REWRITINGS } from "./texts.mjs";
@@ -18,13 +18,13 @@ const AROUND = 30;
 export function tellGiven(/** @type {Given} */ given, /** @type {Verdict} */ verdict) {
   const isRefused = verdict.kind === "refused";
   const reading = given.text !== null && given.isRead ? readingOf(given.text) : null;
-  const told = reading?.kind === "machine" && !isRefused ? rewrittenTold(reading, given.text ?? "") : "";
-  Object.assign(part("machine-given"), { textContent: told, hidden: told === "" });
+  const words = reading?.kind === "machine" && !isRefused ? rewrittenWords(reading, given.text ?? "") : "";
+  Object.assign(part("machine-given"), { textContent: words, hidden: words === "" });
   const caret = isRefused && given.text !== null ? caretOf(given.text, placeOf(reading, verdict)) : "";
   Object.assign(part("machine-caret"), { textContent: caret, hidden: caret === "" });
   if (isRefused) {
     part("machine-text").textContent = `Line ${shown(given.number + 1)} is no machine`;
-    part("machine-says").textContent = refusedTold(reading, verdict);
+    part("machine-says").textContent = refusedWords(reading, verdict);
   }
 }
 
@@ -34,7 +34,7 @@ function placeOf(reading, { numbers: [column] }) {
 }
 
 /** @param {Reading | null} reading @param {Verdict} verdict */
-function refusedTold(reading, { numbers: [column], text }) {
+function refusedWords(reading, { numbers: [column], text }) {
   if (reading?.kind !== "refusal") {
     return `Refused: as it stands it goes wrong at column ${shown(column)}; ${ADVICE.none}.`;
   }
@@ -42,7 +42,7 @@ function refusedTold(reading, { numbers: [column], text }) {
 }
 
 /** @param {import("./reading.mjs").Machine} reading @param {string} text */
-function rewrittenTold({ rewritten, before, behind }, text) {
+function rewrittenWords({ rewritten, before, behind }, text) {
   const kinds = rewritten.map((kind) => REWRITINGS[/** @type {"spaces"} */ (kind)]);
   const beside = [before, behind].filter((one) => one !== "").map((one) => `“${one}”`);
   const parts = [

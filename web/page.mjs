@@ -44,7 +44,7 @@ async function begin() {
   }
 }
 
-/** What the fields say; null where a limit is refused, which is told beside it. */
+/** What the fields say; null where a limit is refused, which is said beside it. */
 function planOrRefused() {
   try {
     return planOf();

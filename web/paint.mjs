@@ -201,7 +201,7 @@ function paintChosen(pen, area, view, chosen) {
 }
 
 /**
- * Outlines the place that is told, when it is moved by keys.
+ * Outlines the place that is named, when it is moved by keys.
  * @param {CanvasRenderingContext2D} pen @param {Area} area @param {View} view
  * @param {{step: number, position: number}} place
  */

@@ -43,13 +43,13 @@ export function save(/** @type {Blob} */ blob, /** @type {string} */ name) {
   setTimeout(() => URL.revokeObjectURL(url), 60_000);
 }
 
-/** Puts a text where it can be pasted from, and tells it by a button's words for a while. */
+/** Puts a text where it can be pasted from, and says so by a button's words for a while. */
 export async function copy(/** @type {string} */ text, /** @type {HTMLElement} */ button) {
-  await told(button, () => navigator.clipboard.writeText(text));
+  await saying(button, () => navigator.clipboard.writeText(text));
 }
 
-/** Does something, and tells by a button's words for a while how it went. */
-async function told(/** @type {HTMLElement} */ button, /** @type {() => Promise<void>} */ does) {
+/** Does something, and says by a button's words for a while how it went. */
+async function saying(/** @type {HTMLElement} */ button, /** @type {() => Promise<void>} */ does) {
   const words = (button.dataset.words ??= button.textContent ?? "");
   try {
     await does();
@@ -68,7 +68,7 @@ async function told(/** @type {HTMLElement} */ button, /** @type {() => Promise<
  * @param {Promise<Blob | null>} png @param {HTMLElement} button
  */
 export async function copyPicture(png, button) {
-  await told(button, async () => {
+  await saying(button, async () => {
     const item = new ClipboardItem({ "image/png": png.then((blob) => /** @type {Blob} */ (blob)) });
     await navigator.clipboard.write([item]);
   });
@@ -76,15 +76,15 @@ export async function copyPicture(png, button) {
 
 // A little more than a second, since a timer may come a little early beside what it is held against.
 const LIVE_MILLISECONDS = 1_050;
-let lastTold = -Infinity;
+let lastSaid = -Infinity;
 let liveTimer = 0;
 
 /** Tells whoever hears the page, at most once a second; of what comes faster the last. */
 export function tellLive(/** @type {string} */ words) {
   clearTimeout(liveTimer);
-  const left = lastTold + LIVE_MILLISECONDS - performance.now();
+  const left = lastSaid + LIVE_MILLISECONDS - performance.now();
   liveTimer = setTimeout(() => {
-    lastTold = performance.now();
+    lastSaid = performance.now();
     part("live").textContent = words;
   }, Math.max(0, left));
 }

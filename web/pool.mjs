@@ -91,16 +91,16 @@ export class Pool {
   }
 
   /** What a worker sent: what it begins, a part of its piece, or what went wrong. */
-  heard(/** @type {Hand} */ hand, /** @type {any} */ told) {
+  heard(/** @type {Hand} */ hand, /** @type {any} */ answer) {
     if (this.ended) {
       return;
     }
-    if (told.error) {
-      this.failed(told);
-    } else if (told.at !== undefined) {
-      Object.assign(hand, { note: told, since: performance.now() });
+    if (answer.error) {
+      this.failed(answer);
+    } else if (answer.at !== undefined) {
+      Object.assign(hand, { note: answer, since: performance.now() });
     } else {
-      this.take(hand, told);
+      this.take(hand, answer);
     }
   }
 

@@ -1,6 +1,6 @@
 /**
  * A line of a list: its one machine, what else stands there, or why there is none. A machine is taken only
- * where one reading is possible, and every rewriting is told. The reader of the Python package is held to the
+ * where one reading is possible, and every rewriting is named. The reader of the Python package is held to the
  * same forms.
  *
  * @typedef {import("./words.mjs").Text} Text
@@ -57,8 +57,8 @@ export function readingOf(given) {
   const line = given.replace(/^\ufeff+/, "").replace(/\r+$/, "");
   const bare = line.trim();
   if (line.length > LONGEST_LINE) {
-    const told = `the line has more than ${LONGEST_LINE.toLocaleString("en")} characters`;
-    return { kind: "refusal", ...reasonOf("long", told, LONGEST_LINE + 1) };
+    const sentence = `the line has more than ${LONGEST_LINE.toLocaleString("en")} characters`;
+    return { kind: "refusal", ...reasonOf("long", sentence, LONGEST_LINE + 1) };
   }
   if (bare === "" || bare.startsWith("#") || bare.startsWith("//")) {
     return { kind: "nothing" };
@@ -100,8 +100,8 @@ function readTexts(line) {
     const isPlain = "machine" in outcome && !written(text).includes("_");
     const row = isPlain ? rowBeside(line, text, rows) : undefined;
     if (row !== undefined) {
-      const told = `${cut(row.text)} may be a rule or a group of the machine`;
-      return reasonOf("rule-or-group", told, row.begin + 1);
+      const sentence = `${cut(row.text)} may be a rule or a group of the machine`;
+      return reasonOf("rule-or-group", sentence, row.begin + 1);
     }
   }
   return oneOf(found);
@@ -149,19 +149,19 @@ function dotted(/** @type {import("./words.mjs").Word} */ { begin, text }) {
   const isFound = (/** @type {number} */ at, /** @type {string} */ part) =>
     "machine" in readWords([{ begin: at, text: part }]);
   const [head, tail] = [text.slice(0, -3), text.slice(3)];
-  const told = "... may be an undefined entry, or no part of the machine";
+  const sentence = "... may be an undefined entry, or no part of the machine";
   if (text.endsWith("...") && head !== "" && isFound(begin, head) && isFound(begin, text)) {
-    return reasonOf("dots", told, begin + head.length + 1);
+    return reasonOf("dots", sentence, begin + head.length + 1);
   }
   if (text.startsWith("...") && tail !== "" && isFound(begin + 3, tail) && isFound(begin, text)) {
-    return reasonOf("dots", told, begin + 1);
+    return reasonOf("dots", sentence, begin + 1);
   }
   return null;
 }
 
 function eachOf(/** @type {number} */ count, /** @type {number} */ place) {
-  const told = `each of ${count} words is a machine by itself, and they may be one together`;
-  return reasonOf("words", told, place);
+  const sentence = `each of ${count} words is a machine by itself, and they may be one together`;
+  return reasonOf("words", sentence, place);
 }
 
 /**
@@ -183,14 +183,14 @@ function oneOf(found) {
   const { machine } = /** @type {Found} */ (read[0][1]);
   if (others.length > 0) {
     const [text] = others[0];
-    const told = `${cut(written(text))} beside the machine ${cut(machine)} may be a part of it`;
-    return reasonOf("part", told, text.words[0].begin + 1);
+    const sentence = `${cut(written(text))} beside the machine ${cut(machine)} may be a part of it`;
+    return reasonOf("part", sentence, text.words[0].begin + 1);
   }
   for (const [text, outcome] of read) {
     const other = /** @type {Found} */ (outcome).machine;
     if (other !== machine) {
-      const told = `two different machines: ${cut(machine)} and ${cut(other)}`;
-      return reasonOf("two", told, text.words[0].begin + 1);
+      const sentence = `two different machines: ${cut(machine)} and ${cut(other)}`;
+      return reasonOf("two", sentence, text.words[0].begin + 1);
     }
   }
   const plain = read.filter(([text]) => !text.isAddress && !written(text).includes("_"));

@@ -15,7 +15,7 @@ const REFUSED = KINDS.indexOf("refused");
 // The kind by its first letter and the answer by its second one; no two have the same.
 for (const letters of [KINDS.map((word) => word[0]), ANSWERS.map((word) => word[1])]) {
   if (new Set(letters).size < letters.length) {
-    throw new Error("two kinds or answers can't be told apart by their letters");
+    throw new Error("two kinds or answers can't be known by their letters");
   }
 }
 const KIND_BY_LETTER = new Uint8Array(256).fill(REFUSED);

@@ -113,11 +113,11 @@ export class Rows {
       text.append(made("span", { class: "from" }, ` ← ${given?.trim()}`));
       text.title = `${machine} ← ${given?.trim()}`;
     }
-    const told = [text, cell(verdict.text), isRefused ? cell("–", "none") : cell(answer, answer)];
+    const cells = [text, cell(verdict.text), isRefused ? cell("–", "none") : cell(answer, answer)];
     const line = cell(shown(number + 1), "number");
     const about = { role: "row", class: "row", id: `row-${place}`, "aria-rowindex": place + 2 };
     const chosen = { "aria-selected": place === this.chosen, "data-place": place };
-    return made("div", { ...about, ...chosen }, line, ...told);
+    return made("div", { ...about, ...chosen }, line, ...cells);
   }
 
   clicked(/** @type {MouseEvent} */ event) {

@@ -24,7 +24,7 @@ const MOST_WIDE = 4;
 const HALVED = 16;
 // What zooms less goes through all sizes.
 const LEAST_LEVEL = 2;
-// Rows of a pair nearer than this many pixels aren't told apart: then the picture opens on them.
+// Rows of a pair nearer than this many pixels can't be kept apart: then the picture opens on them.
 const APART_PIXELS = 24;
 // The last step's row is outlined; it has this room below the sampled ones.
 const LAST_ROW_PIXELS = 6;

@@ -26,13 +26,13 @@ export function statusOf(how, share, run, results) {
     parts[0] += `, ${Math.floor(100 * share)} % done`;
   }
   const decided = lines - counts[UNDECIDED] - counts[REFUSED];
-  const told = [
+  const numbers = [
     `${shown(decided)} decided`,
     `${shown(counts[UNDECIDED])} undecided`,
     `${shown(counts[REFUSED])} refused`,
     ...(left > 0 ? [`${shown(left)} left out (comments and empty lines)`] : []),
   ];
-  parts.push(told.join(", "));
+  parts.push(numbers.join(", "));
   const answers = ANSWERS.map((answer, k) => `${shown(results.answers[k])} ${answer}`);
   const answered = answers.filter((_, k) => results.answers[k] > 0 && ANSWERS[k] !== "open").join(", ");
   const what = run.mode === "check" ? `These are ${counted(lines, "verdict line")}, checked` : "The checker";
@@ -41,7 +41,7 @@ export function statusOf(how, share, run, results) {
 }
 
 /** The machine that is worked on, where it takes long; nothing else. */
-export function underWayTold(/** @type {{text: string, taken: number} | null} */ under) {
+export function underWayWords(/** @type {{text: string, taken: number} | null} */ under) {
   if (under === null || under.taken < NAMED_MILLISECONDS) {
     return "";
   }

@@ -104,7 +104,7 @@ export class Tape {
 
   take(/** @type {any} */ answer) {
     if (answer.error) {
-      part("tape-told").textContent = `The tape can’t be shown: ${answer.message}.`;
+      part("tape-text").textContent = `The tape can’t be shown: ${answer.message}.`;
       return;
     }
     /** @type {Row[]} */
@@ -206,9 +206,9 @@ export class Tape {
       cells.push(cellOf(row, at));
     }
     part("tape-cells").replaceChildren(...cells);
-    const told = this.told(row);
-    part("tape-told").textContent = told;
-    this.box.setAttribute("aria-label", `Tape. ${told}`);
+    const words = this.words(row);
+    part("tape-text").textContent = words;
+    this.box.setAttribute("aria-label", `Tape. ${words}`);
     const field = /** @type {HTMLInputElement} */ (part("tape-step"));
     if (document.activeElement !== field) {
       field.value = String(row.step);
@@ -231,7 +231,7 @@ export class Tape {
   }
 
   /** The step, the state, and what comes next, in words. */
-  told(/** @type {Row} */ row) {
+  words(/** @type {Row} */ row) {
     const symbol = row.cells[row.head - row.low] ?? 0;
     const head = `Step ${shown(row.step)}: `;
     if (row.state === "Z") {

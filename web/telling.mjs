@@ -10,7 +10,7 @@ import { symbolAt } from "./sample.mjs";
 import { cellsOf } from "./scale.mjs";
 
 /** What is at a place, in words; nothing where the picture has no such row. */
-export function placeTold(
+export function placeWords(
   /** @type {Picture | null} */ data,
   /** @type {import("./places.mjs").Place} */ { step, position },
 ) {
@@ -27,7 +27,7 @@ export function placeTold(
 }
 
 /** What a picture of so many pixels shows, and how it is sampled and scaled. */
-export function pictureTold(/** @type {Picture} */ picture, /** @type {number} */ width) {
+export function pictureWords(/** @type {Picture} */ picture, /** @type {number} */ width) {
   const { sample, agrees, cut, every, view, low, high } = picture;
   const { steps } = sample;
   if (steps.length === 0) {

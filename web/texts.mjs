@@ -18,7 +18,7 @@ const GROUP = "(?:[0-9][LR][A-Z]|---){2,10}";
 const WHOLE = new RegExp(`^${GROUP}(?:_${GROUP}){0,24}$`);
 const ENTRY = /^(?:[0-9][LRlr][A-Za-z]|---|\.\.\.)$/;
 const LOST = /^[0-9][LRlr][-_]$/;
-/** What is rewritten, in the order in which it is told, in words. */
+/** What is rewritten, in the order in which it is named, in words. */
 export const REWRITINGS = {
   "small-letters": "small letters read as capital ones",
   "halting-state": "H read as Z, the halting state",
@@ -122,8 +122,8 @@ function entriesOf(group, before, place, isFollowed) {
 function noEntry(text, number, place, isFollowed) {
   const whole = text.length === 2 && isFollowed ? `${text}_` : text;
   if (LOST.test(whole)) {
-    const told = `entry ${number} is ${whole}: the ${whole[0]} that it writes would be lost`;
-    return reasonOf("lost", told, place);
+    const sentence = `entry ${number} is ${whole}: the ${whole[0]} that it writes would be lost`;
+    return reasonOf("lost", sentence, place);
   }
   return reasonOf("entry", `entry ${number} is no entry: ${text}`, place);
 }
@@ -143,13 +143,13 @@ function rewrittenIn(/** @type {Word[]} */ groups) {
 function divided(entries, rewritten) {
   const count = entries.length;
   const place = entries[0][0] + 1;
-  const told = count === 1 ? "1 entry" : `${count} entries`;
+  const all = count === 1 ? "1 entry" : `${count} entries`;
   const states = Array.from(STATES, (_, k) => k + 1).filter((number) => {
     const size = count / number;
     return Number.isInteger(size) && size >= 2 && size <= MOST_SYMBOLS;
   });
   if (states.length === 0) {
-    return reasonOf("division", `${told} can't be divided into 1 to 25 groups of 2 to 10`, place);
+    return reasonOf("division", `${all} can't be divided into 1 to 25 groups of 2 to 10`, place);
   }
   const outcomes = states.map((number) => {
     const size = count / number;
@@ -161,8 +161,8 @@ function divided(entries, rewritten) {
     return found[0] ?? outcomes[0];
   }
   return found.length === 0
-    ? reasonOf("division", `no way to divide ${told} into groups makes a machine`, place)
-    : reasonOf("divisions", `${found.length} ways to divide ${told} into groups make a machine`, place);
+    ? reasonOf("division", `no way to divide ${all} into groups makes a machine`, place)
+    : reasonOf("divisions", `${found.length} ways to divide ${all} into groups make a machine`, place);
 }
 
 /**
@@ -204,13 +204,13 @@ function wrongSize(/** @type {Group[]} */ groups) {
   const place = groups[0][0][0] + 1;
   if (lengths.length > 1) {
     const other = /** @type {Group} */ (groups.find((group) => group.length !== lengths[0]));
-    const told = `${lengths.slice(0, -1).join(", ")} and ${lengths[lengths.length - 1]}`;
-    return reasonOf("groups", `the groups have ${told} entries`, other[0][0] + 1);
+    const counts = `${lengths.slice(0, -1).join(", ")} and ${lengths[lengths.length - 1]}`;
+    return reasonOf("groups", `the groups have ${counts} entries`, other[0][0] + 1);
   }
   const [size] = lengths;
   if (size < 2 || size > MOST_SYMBOLS) {
-    const told = size === 1 ? "1 entry" : `${size} entries`;
-    return reasonOf("symbols", `the groups have ${told}, not 2 to 10`, place);
+    const each = size === 1 ? "1 entry" : `${size} entries`;
+    return reasonOf("symbols", `the groups have ${each}, not 2 to 10`, place);
   }
   if (groups.length > STATES.length) {
     const [begin] = groups[STATES.length][0];
@@ -229,8 +229,8 @@ function wrongEntry(entry, number, begin, states, symbols) {
     return null;
   }
   if (Number(entry[0]) >= symbols) {
-    const told = `entry ${number} writes ${entry[0]}, but there are ${symbols} symbols`;
-    return reasonOf("symbol", told, begin + 1);
+    const sentence = `entry ${number} writes ${entry[0]}, but there are ${symbols} symbols`;
+    return reasonOf("symbol", sentence, begin + 1);
   }
   if (entry[2] === "Z" || STATES.slice(0, states).includes(entry[2])) {
     return null;

@@ -33,9 +33,9 @@ export class View {
     this.again = new Again((about) => this.showAgain(about));
     /** @type {About | null} */
     this.about = null;
-    listen(this.diagram, (told, byKeys) => {
-      part("place-told").textContent = told;
-      byKeys && tellLive(told);
+    listen(this.diagram, (words, byKeys) => {
+      part("place-text").textContent = words;
+      byKeys && tellLive(words);
     });
     /** @param {string} id @param {() => void} act */
     const on = (id, act) => part(id).addEventListener("click", act);

@@ -1,18 +1,18 @@
-/** The work on a list: workers answer it, and how far they are is told. */
+/** The work on a list: workers answer it, and how far they are is said. */
 import { refuse } from "./fields.mjs";
 import { KINDS } from "./machine.mjs";
 import { part, tellLive } from "./parts.mjs";
 import { Pieces } from "./pieces.mjs";
 import { Pool } from "./pool.mjs";
 import { Results } from "./results.mjs";
-import { statusOf, underWayTold } from "./status.mjs";
+import { statusOf, underWayWords } from "./status.mjs";
 import { makeReady } from "./workers.mjs";
 
 /** @typedef {import("./worker.mjs").Asked} Asked */
 
 const MOST_WORKERS = 8;
 const REFRESH_MILLISECONDS = 200;
-// So often it is told how far a list is, to those who hear the page.
+// So often it is said how far a list is, to those who hear the page.
 const TELL_MILLISECONDS = 10_000;
 // A worker isn't begun for fewer bytes.
 const LEAST_BYTES = 256;
@@ -43,8 +43,8 @@ export class Work {
     this.isShown = false;
     this.refresh = 0;
     this.clock = 0;
-    // When it was last told how far the list is.
-    this.told = 0;
+    // When it was last said how far the list is.
+    this.saidAt = 0;
   }
 
   get isUnderWay() {
@@ -55,7 +55,7 @@ export class Work {
   begin(/** @type {Blob} */ blob, /** @type {Asked} */ asked) {
     const { mode, plan } = asked;
     this.run = { mode, plan, size: blob.size, begun: performance.now(), taken: 0 };
-    this.told = this.run.begun;
+    this.saidAt = this.run.begun;
     this.results = new Results();
     this.isShown = false;
     part("results").hidden = false;
@@ -126,8 +126,8 @@ export class Work {
       return;
     }
     this.showProgress("Running");
-    if (performance.now() - this.told > TELL_MILLISECONDS) {
-      this.told = performance.now();
+    if (performance.now() - this.saidAt > TELL_MILLISECONDS) {
+      this.saidAt = performance.now();
       tellLive(part("status").textContent ?? "");
     }
   }
@@ -137,7 +137,7 @@ export class Work {
     const share = how === "Done" || run.size === 0 ? 1 : results.read / run.size;
     /** @type {HTMLProgressElement} */ (part("progress")).value = share;
     part("status").textContent = statusOf(how, share, run, results);
-    const words = underWayTold(this.pool?.underWay() ?? null);
+    const words = underWayWords(this.pool?.underWay() ?? null);
     Object.assign(part("under-way"), { textContent: words, hidden: words === "" });
   }
 

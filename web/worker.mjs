@@ -57,13 +57,14 @@ function answered(
   const { steps, cells, depth, nodes } = plan;
   const host = /** @type {import("./bb.mjs").Engine} */ (engine);
   const count = starts.length - 1;
-  const told = mode === "decide" ? host.decideBytes(given, plan, count).bytes : given;
-  const reply = host.checkBytes(told, { steps, cells, depth, nodes }, count).bytes;
-  const lines = readLines(told, count, mode === "decide" ? starts : null);
+  const verdicts = mode === "decide" ? host.decideBytes(given, plan, count).bytes : given;
+  const reply = host.checkBytes(verdicts, { steps, cells, depth, nodes }, count).bytes;
+  const lines = readLines(verdicts, count, mode === "decide" ? starts : null);
   const answers = readAnswers(reply, count);
   const kindCounts = tallied(lines.kinds, KINDS.length);
   const answerCounts = tallied(answers, ANSWERS.length);
-  const written = mode === "decide" ? { bytes: told, lines: null } : { bytes: reply, lines: told.slice() };
+  const written =
+    mode === "decide" ? { bytes: verdicts, lines: null } : { bytes: reply, lines: verdicts.slice() };
   return { ...written, ...lines, answers, kindCounts, answerCounts, held: host.held };
 }
 
@@ -170,24 +171,24 @@ function sorted(rows, steps, down) {
 }
 
 /**
- * What is told of each question but a list, and which bytes are handed over with it.
- * @type {Record<string, (host: Host, asked: any) => {told: any, moved?: ArrayBufferLike[]}>}
+ * What is answered to each question but a list, and which bytes are handed over with it.
+ * @type {Record<string, (host: Host, asked: any) => {says: any, moved?: ArrayBufferLike[]}>}
  */
 const QUESTIONS = {
-  sort: (_, { rows, steps, down }) => ({ told: { order: sorted(rows, steps, down) } }),
+  sort: (_, { rows, steps, down }) => ({ says: { order: sorted(rows, steps, down) } }),
   picture: (host, asked) => {
     const picture = pictured(host, asked);
     // The rows are kept here too.
-    return { told: { picture }, moved: [picture.image.buffer] };
+    return { says: { picture }, moved: [picture.image.buffer] };
   },
   ahead: (host, { rows }) => {
     const kept = takenAhead(host, rows);
-    return { told: { kept }, moved: kept === null ? [] : [kept.sample.cells.buffer] };
+    return { says: { kept }, moved: kept === null ? [] : [kept.sample.cells.buffer] };
   },
-  growth: (_, asked) => ({ told: { growth: growthOf(asked) } }),
-  one: (_, asked) => ({ told: decidedOne(asked) }),
-  last: (_, asked) => ({ told: { last: lastOf(asked) } }),
-  trace: (host, asked) => ({ told: { traced: traced(host, asked) } }),
+  growth: (_, asked) => ({ says: { growth: growthOf(asked) } }),
+  one: (_, asked) => ({ says: decidedOne(asked) }),
+  last: (_, asked) => ({ says: { last: lastOf(asked) } }),
+  trace: (host, asked) => ({ says: { traced: traced(host, asked) } }),
 };
 
 /** Takes in the engine's module; where it can't be loaded, each question is answered with the reason. */
@@ -215,8 +216,8 @@ async function answer(/** @type {any} */ asked) {
   } else if (asked.what === "keep") {
     keep(asked.kept);
   } else {
-    const { told, moved = [] } = QUESTIONS[asked.what](/** @type {Host} */ (engine), asked);
-    postMessage(told, /** @type {any} */ (moved));
+    const { says, moved = [] } = QUESTIONS[asked.what](/** @type {Host} */ (engine), asked);
+    postMessage(says, /** @type {any} */ (moved));
   }
 }
 

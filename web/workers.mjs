@@ -86,7 +86,7 @@ function warm() {
   );
 }
 
-/** What went wrong, as it is told. */
+/** What went wrong, as it is said. */
 export function toldOf(/** @type {Error} */ { name, message }) {
   return { error: name, message };
 }

@@ -7,7 +7,7 @@ First it runs `scripts/web`, which builds the module where it isn't up to date, 
 `./bb`. It then decides, checks and traces by the module: the first run of the README, the examples, all
 plans at some limits, random machines and claims at random limits, all machines of four states, long lines
 and noise, refused limits, and memory that can't be had. It takes two minutes, `--quick` some seconds. It
-needs `node` with vectors (16.4 or later) and checks types by `tsc`; what is missing is told and skipped.
+needs `node` with vectors (16.4 or later) and checks types by `tsc`; what is missing is named and skipped.
 The last line is `N passed, M failed`, with `, K skipped` where some were; the status is 1 where any failed.
 """
 
@@ -184,8 +184,8 @@ def hold_limits(held: Held) -> None:
         ({"backward": 1}, "TypeError"),
     ]
     for plan, error in wrong:
-        told = held.engine.call("decide", plan, b"1RA1RA\n").answer
-        held.tally.hold("%s: %s" % (plan, told), told.get("error") == error)
+        printed = held.engine.call("decide", plan, b"1RA1RA\n").answer
+        held.tally.hold("%s: %s" % (plan, printed), printed.get("error") == error)
     for name in ("decide", "check"):
         reply = held.same("the greatest limits", name, MOST, b"1RB1LB_1LA1RZ\n1RB1LB_1LA1RZ halt 6 4\n")
         print("memory of %s at the greatest limits: %d MB" % (name, reply.answer.get("held", 0) // 10**6))
@@ -205,13 +205,13 @@ def hold_document(held: Held, folder: str) -> None:
 
 
 def hold_memory(held: Held) -> None:
-    """Memory that can't be had is told; it doesn't grow from call to call."""
+    """Memory that can't be had is an error; it doesn't grow from call to call."""
     some = 64 * TOTAL_BYTES
     for name, plan in (("decide", {"cells": 10**7}), ("check", {"cells": 10**7})):
-        told = held.engine.call(name, plan, b"1RA1RA translated R 1 2\n", memory=some).answer
-        held.tally.hold("%s without memory: %s" % (name, told), told.get("error") == "MemoryError")
-    told = held.engine.call("decide", {}, b"1RA1RA\n" * 10**6, memory=some).answer
-    held.tally.hold("a list without memory: %s" % told, told.get("error") == "MemoryError")
+        printed = held.engine.call(name, plan, b"1RA1RA translated R 1 2\n", memory=some).answer
+        held.tally.hold("%s without memory: %s" % (name, printed), printed.get("error") == "MemoryError")
+    printed = held.engine.call("decide", {}, b"1RA1RA\n" * 10**6, memory=some).answer
+    held.tally.hold("a list without memory: %s" % printed, printed.get("error") == "MemoryError")
     reply = held.engine.call("decide", {"cells": 64, "depth": 9}, b"1RZ---\n", memory=some)
     held.tally.hold("enough memory", reply.reply == b"1RZ--- halt 1 1\n")
 
@@ -245,8 +245,8 @@ def hold_traces(held: Held, count: int, source: random.Random) -> None:
     wanted = ended(command).output
     held.tally.hold("a trace at the greatest limits", (reply.status, reply.reply) == (0, wanted))
     for plan in ({"every": 0}, {"cells": 0}, {"steps": 10**12 + 1}):
-        told = held.engine.call("trace", {**most, **plan}, b"1RB1LB_1LA1RZ").answer
-        held.tally.hold("%s: %s" % (plan, told), told.get("limit") == next(iter(plan)))
+        printed = held.engine.call("trace", {**most, **plan}, b"1RB1LB_1LA1RZ").answer
+        held.tally.hold("%s: %s" % (plan, printed), printed.get("limit") == next(iter(plan)))
     reply = held.engine.call("trace", {"steps": 5}, b"1rB")
     held.tally.hold("a trace of no machine", (reply.status, reply.reply) == (1, b"refused 2\n"))
 
@@ -263,16 +263,18 @@ def hold_narrowing(tally: Tally, folder: str) -> None:
             file.write(wide)
         command = ["python3", os.path.join(TOP, "web", "narrow.py"), given, made]
         refused = ended(command)
-        told = refused.error.startswith(b"narrow: ") and refused.error.count(b"\n") == 1
-        tally.hold("%s: %r" % (what, refused), refused.status == 1 and told and not os.path.exists(made))
+        is_explained = refused.error.startswith(b"narrow: ") and refused.error.count(b"\n") == 1
+        tally.hold(
+            "%s: %r" % (what, refused), refused.status == 1 and is_explained and not os.path.exists(made)
+        )
 
 
 def hold_types(tally: Tally) -> None:
     """The modules of `web/` pass the checks of types."""
     if not tally.has("types of web/", "tsc"):
         return
-    status, told, _ = ended(["tsc", "-p", os.path.join(TOP, "web")])
-    tally.hold("types of web/:\n" + told.decode(), status == 0)
+    status, output, _ = ended(["tsc", "-p", os.path.join(TOP, "web")])
+    tally.hold("types of web/:\n" + output.decode(), status == 0)
 
 
 def hold_all(program: str, tally: Tally, quick: bool, seed: int) -> None:

@@ -69,8 +69,8 @@ def hold_cleaning(held: Held) -> None:
     page.ended()
     wanted = held.written("decide", {}, b"1RB1LB_1LA1RZ\n1RA1RA\n1rB\nno machine\n")
     held.tally.hold("machines out of lines", page.saved() == wanted)
-    told = "2 decided, 0 undecided, 2 refused, 2 left out"
-    held.tally.hold("lines without one: " + page.text("status"), told in page.text("status"))
+    counts = "2 decided, 0 undecided, 2 refused, 2 left out"
+    held.tally.hold("lines without one: " + page.text("status"), counts in page.text("status"))
 
 
 def hold_examples(held: Held, quick: bool) -> None:
@@ -105,18 +105,18 @@ def hold_random(held: Held, count: int, seed: int) -> None:
     held.page.plan({}, "auto")
     held.page.file(decided)
     held.page.ended()
-    held.tally.hold("verdict lines are told", "verdict lines, checked" in held.page.text("status"))
+    held.tally.hold("verdict lines are known", "verdict lines, checked" in held.page.text("status"))
 
 
 def hold_refused(held: Held) -> None:
-    """Refused limits, told beside the field in the program's words."""
+    """Refused limits, said beside the field in the program's words."""
     page = held.page
-    for plan, name, words_told in REFUSED:
+    for plan, name, sentence in REFUSED:
         page.plan(plan, "auto")
         page.run()
         page.until(lambda: page.js("return document.getElementById(arguments[0]).ariaInvalid", name))
-        told = page.text(name + "-range")
-        held.tally.hold("%s: %s" % (plan, told), told.startswith(words_told) and len(told) > len(words_told))
+        shown = page.text(name + "-range")
+        held.tally.hold("%s: %s" % (plan, shown), shown.startswith(sentence) and len(shown) > len(sentence))
 
 
 def hold_noise(held: Held, source: random.Random) -> None:
@@ -230,15 +230,15 @@ def hold_phone(program: str, tally: Tally, folder: str) -> None:
 
 
 def hold_unsupported(tally: Tally, folder: str) -> None:
-    """A browser without vectors is told that it lacks them, and can't decide."""
+    """A browser without vectors hears that it lacks them, and can't decide."""
     from browser import Page
 
     page = Page(PAGE, folder)
     source = "WebAssembly.validate = () => false"
     page.driver.execute_cdp_cmd("Page.addScriptToEvaluateOnNewDocument", {"source": source})
     page.driver.get("file://" + PAGE)
-    told = page.text("error")
-    tally.hold("a browser without vectors: " + told, "no vectors" in told and "Chromium 156" in told)
+    shown = page.text("error")
+    tally.hold("a browser without vectors: " + shown, "no vectors" in shown and "Chromium 156" in shown)
     tally.hold("it can't decide", page.js("return document.getElementById('run').disabled"))
     tally.hold("no error in its console: %s" % page.errors(), not page.errors())
     page.end()

@@ -66,8 +66,8 @@ return [...found, ...ids.filter((id, k) => ids.indexOf(id) !== k)];
 """
 SEND = """
 const done = arguments[arguments.length - 1];
-const told = [];
-addEventListener("securitypolicyviolation", (event) => told.push(event.effectiveDirective));
+const violations = [];
+addEventListener("securitypolicyviolation", (event) => violations.push(event.effectiveDirective));
 const image = new Image();
 image.src = "https://example.invalid/x.png";
 const tried = [
@@ -95,7 +95,7 @@ const tried = [
     end(window.ran ? "sent" : "refused");
   }),
 ];
-Promise.all(tried).then((ends) => setTimeout(() => done([ends, told]), 300));
+Promise.all(tried).then((ends) => setTimeout(() => done([ends, violations]), 300));
 """
 WORKER = """
 const done = arguments[arguments.length - 1];
@@ -212,10 +212,12 @@ def hold_sending(held: Held) -> None:
     page.open()
     policy = page.js("return document.querySelector('meta[http-equiv]').content")
     held.hold("its policy: " + policy, "default-src 'none'" in policy and "connect-src" not in policy)
-    ends, told = page.driver.execute_async_script(SEND)
+    ends, violations = page.driver.execute_async_script(SEND)
     held.hold("refused: %s" % ends, ends == ["refused"] * 4)
     wanted = {"connect-src", "img-src", "script-src-elem"}
-    held.hold("by the policy: %s" % told, wanted <= set(told) and told.count("connect-src") == 3)
+    held.hold(
+        "by the policy: %s" % violations, wanted <= set(violations) and violations.count("connect-src") == 3
+    )
     held.hold("refused in a worker", page.driver.execute_async_script(WORKER) == "refused")
     page.requests(), page.errors()
     page.open_list("1RA1RA\n")

@@ -121,7 +121,7 @@ def hold_rows(held: Held, what: str, rows: Dict[int, Row]) -> None:
     held.hold("%s: heads are in view: %s" % (what, heads), any(heads))
 
 
-def hold_told(held: Held, what: str, rows: Dict[int, Row]) -> None:
+def hold_place(held: Held, what: str, rows: Dict[int, Row]) -> None:
     """At the pointer the program's row of that step is told."""
     page = held.page
     view = page.drawn()
@@ -136,10 +136,10 @@ def hold_told(held: Held, what: str, rows: Dict[int, Row]) -> None:
         step = view["top"] + (y - view["y"]) // view["high"] * view["every"]
         position = view["left"] + (x - view["x"]) // view["wide"] * view["across"]
         begin = "Step {:,}, ".format(int(step))
-        soon(lambda: page.text("place-told").startswith(begin) or step not in rows)
-        told = page.text("place-told")
-        found = TOLD.fullmatch(told)
-        held.hold("%s: at the pointer: %s" % (what, told), found is not None or step not in rows)
+        soon(lambda: page.text("place-text").startswith(begin) or step not in rows)
+        shown = page.text("place-text")
+        found = TOLD.fullmatch(shown)
+        held.hold("%s: at the pointer: %s" % (what, shown), found is not None or step not in rows)
         if found is not None:
             row = rows[int(step)]
             symbol = symbol_of(row, int(position))
@@ -152,7 +152,7 @@ def hold_told(held: Held, what: str, rows: Dict[int, Row]) -> None:
                 head,
                 int(found[4]) if found[4] else None,
             )
-            held.hold("%s: it is the program's row: %s, %s" % (what, told, wanted), is_same)
+            held.hold("%s: it is the program's row: %s, %s" % (what, shown, wanted), is_same)
 
 
 def hold_axes(held: Held) -> None:
@@ -165,12 +165,12 @@ def hold_axes(held: Held) -> None:
     view = page.drawn()
     held.hold("steps are sampled: %s" % view, view["every"] > 1)
     hold_ticks(held, "the whole")
-    hold_told(held, "the whole", rows)
+    hold_place(held, "the whole", rows)
     for gesture in range(3):
         page.zooming(1.3, 190, 130)
         page.drawn()
         hold_ticks(held, "closer, %d" % gesture)
-        hold_told(held, "closer, %d" % gesture, rows)
+        hold_place(held, "closer, %d" % gesture, rows)
     page.js(
         "document.getElementById('tape-step').value = arguments[0];"
         "document.getElementById('tape-form').requestSubmit()",
@@ -179,5 +179,5 @@ def hold_axes(held: Held) -> None:
     soon(lambda: page.drawn()["every"] == 1 and page.drawn()["top"] > EARLY / 2)
     hold_ticks(held, "single cells")
     hold_rows(held, "single cells", rows)
-    hold_told(held, "single cells", rows)
+    hold_place(held, "single cells", rows)
     page.driver.execute_cdp_cmd("Page.removeScriptToEvaluateOnNewDocument", made)

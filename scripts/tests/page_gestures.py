@@ -96,14 +96,14 @@ def hold_drag(held: Held) -> None:
     under = cell_at(before, begin), cell_at(after, end)
     held.hold("the cell under the mouse stays there: %s, %s" % under, under[0] == under[1])
     hold_cells_shown(held, "after a drag")
-    held.hold("a drag is no click", page.text("tape-told").startswith("Step {:,}".format(NEAR)))
+    held.hold("a drag is no click", page.text("tape-text").startswith("Step {:,}".format(NEAR)))
     drag(page, in_window(page, *end), in_window(page, *begin))
     soon(lambda: page.drawn()["top"] == before["top"])
     held.hold("and back", page.drawn() == before)
     drag(page, in_window(page, *begin), in_window(page, begin[0] + 1, begin[1] + 1))
     step = cell_at(before, begin)[0]
-    is_shown = soon(lambda: page.text("tape-told").startswith("Step {:,}".format(step)))
-    held.hold("what moves little is a click: " + page.text("tape-told"), is_shown)
+    is_shown = soon(lambda: page.text("tape-text").startswith("Step {:,}".format(step)))
+    held.hold("what moves little is a click: " + page.text("tape-text"), is_shown)
     held.hold("and moves nothing", page.drawn() == before)
 
 

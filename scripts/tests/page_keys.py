@@ -110,7 +110,7 @@ def hold_keys(held: Held) -> None:
     held.hold("the verdict: " + page.text("machine-says"), is_decided)
     held.hold("it is the machine's", page.text("machine-text") == MACHINE)
     page.drawn()
-    soon(lambda: page.text("tape-told").startswith("Step 4:"))
+    soon(lambda: page.text("tape-text").startswith("Step 4:"))
     held.hold("the focus stays at the button: " + name_of(page), name_of(page) == "Decide")
     walk(held, BEFORE[3:] + BEHIND)
     hold_rest(held)

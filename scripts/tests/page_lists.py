@@ -28,8 +28,8 @@ def readings(lines: List[str]) -> Tuple[Dict[str, Any], List[Dict[str, Any]]]:
     """What the page's reader says it rewrites and advises, and its readings of lines."""
     given = "".join(json.dumps(line) + "\n" for line in lines)
     done = subprocess.run(["node", READER], input=given, stdout=subprocess.PIPE, text=True, check=True)
-    told, *found = map(json.loads, done.stdout.splitlines())
-    return told, found
+    sentences, *found = map(json.loads, done.stdout.splitlines())
+    return sentences, found
 
 
 def wanted_of(form: Dict[str, Any]) -> Dict[str, Any]:
@@ -48,9 +48,9 @@ def hold_forms(tally: Tally) -> None:
         return
     with open(FORMS, encoding="utf-8") as file:
         forms = json.load(file)
-    told, found = readings([form["line"] for form in forms["forms"]])
+    sentences, found = readings([form["line"] for form in forms["forms"]])
     tally.hold(
-        "the sentences of the reader", told == {name: forms[name] for name in ("advice", "rewritings")}
+        "the sentences of the reader", sentences == {name: forms[name] for name in ("advice", "rewritings")}
     )
     for form, reading in zip(forms["forms"], found):
         tally.hold("%r is read as %s" % (form["line"], reading), reading == wanted_of(form))
@@ -112,8 +112,8 @@ def hold_refused_rows(held: Held) -> None:
     held.hold("what was rewritten stands beside it", "1RB1LB 1LA1RZ" in rows[0][1])
     held.hold("a refused line's text: %s" % rows, rows[1][:2] == ["4", "1RB1LH_1LA1RZ"])
     held.hold("its check", rows[1][3] == "\u2013")
-    told = page.text("machine-given")
-    held.hold("in words: " + told, "spaces between groups read as _" in told)
+    shown = page.text("machine-given")
+    held.hold("in words: " + shown, "spaces between groups read as _" in shown)
     page.js("document.querySelectorAll('#shown .row')[1].click()")
     head, says = page.text("machine-text"), page.text("machine-says")
     held.hold("its number: " + head, "Line 4" in head)
@@ -246,14 +246,14 @@ def hold_session(held: Held) -> None:
     page.file(b"1RA1RA\n")
     page.ended()
     page.driver.refresh()
-    told = page.until(lambda: page.text("list-gone"))
-    held.hold("a file is named as gone: " + told, "isn\u2019t kept" in told and "list" in told)
+    shown = page.until(lambda: page.text("list-gone"))
+    held.hold("a file is named as gone: " + shown, "isn\u2019t kept" in shown and "list" in shown)
     page.type("list", "# " + "x" * 1_000_001 + "\n1RA1RA\n")
     page.run()
     page.ended()
     page.driver.refresh()
-    told = page.until(lambda: page.text("list-gone"))
-    held.hold("a long list is named as gone: " + told, "1,000,0" in told)
+    shown = page.until(lambda: page.text("list-gone"))
+    held.hold("a long list is named as gone: " + shown, "1,000,0" in shown)
     page.js("sessionStorage.clear()")
     page.open("#1RB1LC_1RC1RB_1RD0LE_1LA1LD_1RZ0LA")
     held.hold("a machine as a link", page.text("machine-text") == "1RB1LC_1RC1RB_1RD0LE_1LA1LD_1RZ0LA")

@@ -28,14 +28,14 @@ import json, sys
 import budlarem
 for line in sys.stdin.read().splitlines():
     verdict = budlarem.parse(line)
-    told = {"normal": budlarem.normal(verdict.machine).normal}
-    told["growth"] = str(budlarem.triage(verdict.machine, steps=1_000_000).growth)
+    facts = {"normal": budlarem.normal(verdict.machine).normal}
+    facts["growth"] = str(budlarem.triage(verdict.machine, steps=1_000_000).growth)
     try:
         place = budlarem.at(verdict, 10**15)
-        told["later"] = [place.state, place.position]
+        facts["later"] = [place.state, place.position]
     except ValueError:
-        told["later"] = None
-    print(json.dumps(told))
+        facts["later"] = None
+    print(json.dumps(facts))
 """
 GROWTHS = {
     "stays": "They stay",
@@ -47,7 +47,7 @@ GROWTHS = {
 SWAPPED = str.maketrans("LR", "RL")
 
 
-def told_by_package(lines: List[str]) -> List[Dict[str, Any]]:
+def found_by_package(lines: List[str]) -> List[Dict[str, Any]]:
     """What the Python package says of verdict lines."""
     sources = {**os.environ, "PYTHONPATH": os.path.join(TOP, "python", "src")}
     done = subprocess.run(
@@ -67,18 +67,18 @@ def hold_facts(held: Held) -> None:
     if not has_library(held.tally, "what is known of a machine"):
         return
     lines = held.written("decide", {}, "\n".join(MACHINES).encode()).decode().splitlines()
-    for line, told in zip(lines, told_by_package(lines)):
+    for line, facts in zip(lines, found_by_package(lines)):
         machine = line.split()[0]
         page.open("#machine=" + machine)
         page.until(lambda: "\u2026" not in page.text("facts"))
         normal = machine if "is in normal form" in page.text("fact-normal") else page.text("fact-normal")
-        held.hold("%s: normal form %s" % (line, normal), normal == told["normal"])
+        held.hold("%s: normal form %s" % (line, normal), normal == facts["normal"])
         held.hold("%s: mirror image" % line, page.text("fact-mirror") == machine.translate(SWAPPED))
         growth = page.text("fact-growth")
-        held.hold("%s: %s" % (line, growth), GROWTHS[told["growth"]] in growth)
+        held.hold("%s: %s" % (line, growth), GROWTHS[facts["growth"]] in growth)
         later = page.text("fact-later")
-        if told["later"] is not None:
-            state, position = told["later"]
+        if facts["later"] is not None:
+            state, position = facts["later"]
             place = "{:,}".format(position).replace("-", "\u2212")
             held.hold("%s: %s" % (line, later), later == "state %s, head at %s." % (state, place))
         else:
@@ -100,8 +100,8 @@ def hold_laws(held: Held) -> None:
     for machine, (completions, starts) in wanted.items():
         page.open("#machine=" + machine)
         page.until(lambda: page.text("fact-completions") not in ("", "\u2026"))
-        told = page.text("fact-completions")
-        held.hold("%s: %s" % (machine, told), completions in told)
+        shown = page.text("fact-completions")
+        held.hold("%s: %s" % (machine, shown), completions in shown)
         held.hold("%s: %s" % (machine, page.text("fact-starts")), starts in page.text("fact-starts"))
     link = page.js("return document.getElementById('elsewhere').href")
     held.hold("a link: " + link, link == "https://bbchallenge.org/1RB1LB_1LA0RC_0LD1RC_---1LA")
@@ -161,8 +161,8 @@ def hold_late_answers(held: Held) -> None:
     )
     page.until(lambda: page.drawn() and "\u2026" not in page.text("facts"))
     time.sleep(0.5)
-    told = page.text("diagram-told")
-    held.hold("the diagram of the last line: " + told, "Steps 0 to 100" in told)
+    shown = page.text("diagram-text")
+    held.hold("the diagram of the last line: " + shown, "Steps 0 to 100" in shown)
     held.hold("nothing behind it: " + page.text("behind"), page.text("behind") == "")
     held.hold("later steps: " + page.text("fact-later"), "doesn\u2019t say" in page.text("fact-later"))
 
@@ -176,7 +176,7 @@ def hold_again(held: Held) -> None:
     page.press("rows", "n")
     page.click("again")
     page.until(lambda: "halts after 107 steps" in page.text("machine-says"))
-    held.hold("again: " + page.text("again-told"), "halt 107 13" in page.text("again-told"))
+    held.hold("again: " + page.text("again-text"), "halt 107 13" in page.text("again-text"))
     held.hold("the list keeps what it has", page.saved().endswith(b"undecided steps\n"))
     page.click("kind-halt")
     page.click("save-shown")

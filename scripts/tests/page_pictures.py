@@ -175,11 +175,11 @@ def hold_scaled(held: Held, seed: int) -> None:
     """The run of the champion of five states is seen whole: a pixel has the mean colour of its cells."""
     page, source = held.page, random.Random(seed)
     page.open("#machine=%s&steps=50000000" % CHAMPION_5)
-    view, told = page.drawn(), page.text("diagram-told")
+    view, shown = page.drawn(), page.text("diagram-text")
     every, across = int(view["every"]), int(view["across"])
-    held.hold("a pixel is the mean of cells: " + told, "mean colour of %d cells" % across in told)
-    held.hold("all cells are seen: " + told, "all of 12,289 cells visited" in told)
-    last = int(re.sub(r"\D", "", told.split(" to ")[1].split(",  ")[0].split(" every")[0]))
+    held.hold("a pixel is the mean of cells: " + shown, "mean colour of %d cells" % across in shown)
+    held.hold("all cells are seen: " + shown, "all of 12,289 cells visited" in shown)
+    last = int(re.sub(r"\D", "", shown.split(" to ")[1].split(",  ")[0].split(" every")[0]))
     held.hold("it goes from the start to the halt", last <= 47_176_870 < last + every and view["top"] == 0)
     for number in source.sample(range(50, last // every), 6):
         hold_means(held, source, sampled(number * every))
@@ -216,7 +216,7 @@ def hold_times(held: Held) -> None:
     held.hold("it went near and back", len(taken) > 6 and steps_seen(held.page) >= 0.9 * 10**7)
     held.tally.within("a view that is traced anew", max(traced_views(held.page, PAUSE)), VIEW)
     held.tally.within("the champion's last steps", end(held.page), LAST_VIEW)
-    held.hold("they are shown", "Step 47,176,860:" in held.page.text("tape-told"))
+    held.hold("they are shown", "Step 47,176,860:" in held.page.text("tape-text"))
     held.tally.within("it stood still meanwhile for", held.page.js("return window.longest") / 1000, STILL)
 
 
@@ -248,17 +248,17 @@ def hold_goto(held: Held) -> None:
     page.drawn()
     page.type("tape-step", "47,176,860")
     page.js("document.getElementById('tape-form').requestSubmit()")
-    page.until(lambda: "47,176,860" in page.text("tape-told"))
+    page.until(lambda: "47,176,860" in page.text("tape-text"))
     page.until(lambda: page.drawn()["every"] == 1)
     view, row = page.drawn(), sampled(47_176_860)
     held.hold("the step is in view: %s" % view, view["top"] <= 47_176_860 <= view["top"] + 400 / view["high"])
-    told = page.text("tape-told")
+    shown = page.text("tape-text")
     symbol = row.cells[row.head - row.low]
     wanted = "Step 47,176,860: state %s reads %s at position %s" % (row.state, symbol, signed(row.head))
-    held.hold("the tape: " + told, told.startswith(wanted))
+    held.hold("the tape: " + shown, shown.startswith(wanted))
     page.press("tape", Keys.END)
-    page.until(lambda: "halted" in page.text("tape-told"))
-    held.hold("its last step: " + page.text("tape-told"), "Step 47,176,870: halted" in page.text("tape-told"))
+    page.until(lambda: "halted" in page.text("tape-text"))
+    held.hold("its last step: " + page.text("tape-text"), "Step 47,176,870: halted" in page.text("tape-text"))
     page.type("tape-step", "many")
     page.js("document.getElementById('tape-form').requestSubmit()")
     held.hold("no number: " + page.text("tape-refused"), "whole number" in page.text("tape-refused"))
@@ -268,7 +268,7 @@ def signed(number: int) -> str:
     return "{:,}".format(number).replace("-", "\u2212")
 
 
-def tape_told(row: Row, entry: str) -> str:
+def tape_words(row: Row, entry: str) -> str:
     """What the page says of a step, as far as the entry that comes next."""
     symbol = row.cells[row.head - row.low] if 0 <= row.head - row.low < len(row.cells) else "0"
     head = "Step {:,}: state {} reads {} at position {}".format(row.step, row.state, symbol, signed(row.head))
@@ -289,9 +289,9 @@ def is_tape(page: Any, row: Row) -> bool:
     )
     used = page.js("return document.querySelector('#machine-table td.used')?.dataset.entry")
     around = dict(enumerate(row.cells, row.low))
-    is_told = page.text("tape-told").startswith(tape_told(row, entry_of(CHAMPION, row)))
+    is_described = page.text("tape-text").startswith(tape_words(row, entry_of(CHAMPION, row)))
     is_shown = all(around.get(at, "0") == symbol for at, symbol in shown)
-    return is_told and is_shown and bool(used == row.state + around.get(row.head, "0"))
+    return is_described and is_shown and bool(used == row.state + around.get(row.head, "0"))
 
 
 def hold_tape(held: Held) -> None:
@@ -301,28 +301,28 @@ def hold_tape(held: Held) -> None:
     page.drawn()
     wrong = []
     for row in traced(held.program, CHAMPION, 107)[:60]:
-        page.until(lambda: page.text("tape-told").startswith("Step %d:" % row.step))
+        page.until(lambda: page.text("tape-text").startswith("Step %d:" % row.step))
         if not is_tape(page, row):
             wrong.append(row)
         page.click("tape-on") if row.step % 2 else page.press("tape", Keys.ARROW_RIGHT)
     held.hold("60 steps of the tape: %s" % wrong[:2], not wrong)
     page.click("tape-back")
-    page.until(lambda: page.text("tape-told").startswith("Step 59:"))
+    page.until(lambda: page.text("tape-text").startswith("Step 59:"))
     page.press("tape", Keys.ARROW_LEFT, Keys.HOME)
-    page.until(lambda: page.text("tape-told").startswith("Step 0:"))
+    page.until(lambda: page.text("tape-text").startswith("Step 0:"))
     page.click("tape-play")
     held.hold("it plays", page.text("tape-play") == "Pause")
-    page.until(lambda: int(page.text("tape-told").split(":")[0].split()[1]) >= 2)
+    page.until(lambda: int(page.text("tape-text").split(":")[0].split()[1]) >= 2)
     page.click("tape-play")
     held.hold("it pauses", page.text("tape-play") == "Play")
     page.media(prefers_reduced_motion="reduce")
-    before = page.text("tape-told")
+    before = page.text("tape-text")
     page.until(lambda: page.text("tape-play") == "Step")
     page.click("tape-play")
-    page.until(lambda: page.text("tape-told") != before)
-    after = page.text("tape-told")
+    page.until(lambda: page.text("tape-text") != before)
+    after = page.text("tape-text")
     time.sleep(0.6)
-    held.hold("one step where less motion is wanted", page.text("tape-told") == after)
+    held.hold("one step where less motion is wanted", page.text("tape-text") == after)
     page.media()
 
 
@@ -344,13 +344,13 @@ def hold_pointed(held: Held) -> None:
             page.js(script, x + 1, y + 1)
             state = "halted" if row.state == "Z" else "state " + row.state
             wanted = "Step %d, %s; position %s: symbol %s; " % (row.step, state, signed(at), symbol)
-            right = right and page.text("place-told").startswith(wanted)
-    held.hold("told at the pointer: " + page.text("place-told"), right)
+            right = right and page.text("place-text").startswith(wanted)
+    held.hold("told at the pointer: " + page.text("place-text"), right)
     page.press("diagram", "0", *["+"] * 3, Keys.ARROW_DOWN, Keys.ARROW_DOWN, Keys.ARROW_RIGHT)
     page.drawn()
-    held.hold("told by keys: " + page.text("place-told"), "Step 2, state" in page.text("place-told"))
+    held.hold("told by keys: " + page.text("place-text"), "Step 2, state" in page.text("place-text"))
     page.press("diagram", Keys.ENTER)
-    page.until(lambda: page.text("tape-told").startswith("Step 2:"))
+    page.until(lambda: page.text("tape-text").startswith("Step 2:"))
     axes = page.js(
         "const pen = document.getElementById('diagram').getContext('2d');"
         "const data = pen.getImageData(0, 22, 76, 300).data; const colours = new Set();"
