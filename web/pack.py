@@ -6,8 +6,8 @@
 A page that is opened from a disk may load no other files, so the modules stand in it as three scripts: that
 of the page, that of the worker, and what both begin with. Each module stands there once, after those that it
 imports, as a function that gives what it exports. A content security policy names these scripts by their
-hashes, so that the browser runs no other one and connects to nothing. Comments, types, indentation, and spaces
-on lines without texts are left out; the modules in the repository have them.
+hashes, so that the browser runs no other one and connects to nothing. Comments, types, indentation, and
+spaces on lines without texts are left out; the modules in the repository have them.
 """
 
 import base64

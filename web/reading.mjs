@@ -1,7 +1,7 @@
 /**
  * A line of a list: its one machine, what else stands there, or why there is none. A machine is taken only
- * where one reading is possible, and every rewriting is named. The reader of the Python package is held to the
- * same forms.
+ * where one reading is possible, and every rewriting is named. The reader of the Python package is held to
+ * the same forms.
  *
  * @typedef {import("./words.mjs").Text} Text
  * @typedef {import("./texts.mjs").Found} Found

@@ -1,7 +1,7 @@
 /**
- * Rows of machines' runs as the page keeps them, for `page_pictures.py`: a machine, a limit of cells and which
- * rows are asked for, one question after another, in a line of standard input, as JSON; the lines of each
- * question back, as JSON, and how many questions needed no trace.
+ * Rows of machines' runs as the page keeps them, for `page_pictures.py`: a machine, a limit of cells and
+ * which rows are asked for, one question after another, in a line of standard input, as JSON; the lines of
+ * each question back, as JSON, and how many questions needed no trace.
  */
 import { readFileSync } from "node:fs";
 import { createInterface } from "node:readline";

@@ -32,14 +32,17 @@ const ground = (element) => {
   for (let one = element; one; one = one.parentElement) {
     layers.push(parse(getComputedStyle(one).backgroundColor));
   }
-  return layers.reverse().reduce((below, layer) => (layer.length ? over(layer, below) : below), [255, 255, 255]);
+  const white = [255, 255, 255];
+  return layers.reverse().reduce((below, layer) => (layer.length ? over(layer, below) : below), white);
 };
 const seen = (element) => element.checkVisibility() && element.getClientRects().length > 0;
 const all = [...document.querySelectorAll("body *")].filter(seen);
-const texts = all.filter((one) => [...one.childNodes].some((node) => node.nodeType === 3 && node.data.trim()));
+const hasText = (node) => node.nodeType === 3 && node.data.trim();
+const texts = all.filter((one) => [...one.childNodes].some(hasText));
 const bad = texts.map((one) => [contrast(parse(getComputedStyle(one).color), ground(one)), one])
   .filter(([ratio]) => ratio < arguments[0]).map(([ratio, one]) => one.outerHTML.slice(0, 80) + " " + ratio);
-const controls = all.filter((one) => one.matches("button:not(:disabled), input[type=text], select, textarea"));
+const used = "button:not(:disabled), input[type=text], select, textarea";
+const controls = all.filter((one) => one.matches(used));
 const borders = controls.map((one) => [contrast(parse(getComputedStyle(one).borderTopColor),
   ground(one.parentElement)), one]).filter(([ratio]) => ratio < arguments[1])
   .map(([ratio, one]) => one.outerHTML.slice(0, 80) + " " + ratio);
@@ -48,8 +51,9 @@ return [bad, borders];
 # What has no name, though it is used; and what names what isn't there.
 NAMES = """
 const nodes = arguments[0];
-return nodes.filter(({ role, name, ignored }) => !ignored && ["button", "textbox", "combobox", "checkbox", "link",
-  "grid", "img", "image", "listbox", "progressbar", "group", "region"].includes(role?.value) && !name?.value)
+const named = ["button", "textbox", "combobox", "checkbox", "link", "grid", "img", "image", "listbox",
+  "progressbar", "group", "region"];
+return nodes.filter(({ role, name, ignored }) => !ignored && named.includes(role?.value) && !name?.value)
   .map((node) => node.role.value + JSON.stringify(node.properties));
 """
 REFERENCES = """
@@ -99,7 +103,8 @@ Promise.all(tried).then((ends) => setTimeout(() => done([ends, violations]), 300
 """
 WORKER = """
 const done = arguments[arguments.length - 1];
-const source = "fetch('https://example.invalid/').then(() => postMessage('sent'), () => postMessage('refused'));";
+const source = "fetch('https://example.invalid/')" +
+  ".then(() => postMessage('sent'), () => postMessage('refused'));";
 const worker = new Worker(URL.createObjectURL(new Blob([source])));
 worker.onmessage = (event) => done(event.data);
 worker.onerror = () => done("error");
@@ -207,7 +212,7 @@ def hold_sentences(held: Held) -> None:
 
 
 def hold_sending(held: Held) -> None:
-    """The page can send nothing: the browser refuses it, also in a worker; and the page works all the same."""
+    """The page can send nothing: the browser refuses it, also in a worker; the page works all the same."""
     page = held.page
     page.open()
     policy = page.js("return document.querySelector('meta[http-equiv]').content")
