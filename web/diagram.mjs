@@ -48,6 +48,8 @@ export class Diagram {
      */
     this.view = null;
     this.opens = true;
+    // Whether the view is as large as fits, and nobody chose another.
+    this.isFitted = true;
     // The step that the tape shows, and its head.
     this.chosen = { step: 0, position: 0 };
     /**
@@ -82,7 +84,8 @@ export class Diagram {
 
   /** Shows a machine from its start on, or what is marked. */
   open(/** @type {Shown} */ asked, /** @type {import("./paint.mjs").Mark[]} */ marks) {
-    Object.assign(this, { shown: asked, marks, data: null, sheet: null, view: null, opens: true });
+    Object.assign(this, { shown: asked, marks, data: null, sheet: null });
+    Object.assign(this, { view: null, opens: true, isFitted: true });
     this.place = null;
     this.chosen = { step: 0, position: 0 };
     if (this.aheadAsker.isBusy) {
@@ -91,27 +94,29 @@ export class Diagram {
     this.fetch();
   }
 
+  /** Shows as much as fits now, where nobody chose another view. */
   resized() {
     if (this.shown !== null && this.canvas.clientWidth > 0) {
+      this.view = this.isFitted ? null : this.view;
       this.fetch();
     }
   }
 
   /** Shows the whole. */
   fit() {
-    Object.assign(this, { view: null, opens: false });
+    Object.assign(this, { view: null, opens: false, isFitted: true });
     this.fetch();
   }
 
   /** Shows what is marked, as the picture opened. */
   reopen() {
-    Object.assign(this, { view: null, opens: true });
+    Object.assign(this, { view: null, opens: true, isFitted: true });
     this.fetch();
   }
 
   /** Shows another view. */
   show(/** @type {View} */ view) {
-    this.view = view;
+    Object.assign(this, { view, isFitted: false });
     this.fetch();
   }
 

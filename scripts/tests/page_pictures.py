@@ -185,6 +185,32 @@ def hold_scaled(held: Held, seed: int) -> None:
         hold_means(held, source, sampled(number * every))
 
 
+def hold_resized(held: Held) -> None:
+    """A window of another width, as of a phone that is turned, shows the whole run again; a view that someone
+    chose stays."""
+    page = held.page
+    page.open("#machine=%s&steps=200" % CHAMPION)
+
+    def resize(width: int, height: int) -> str:
+        before = page.js("return document.getElementById('diagram').clientWidth")
+        metrics = {"width": width, "height": height, "deviceScaleFactor": 1, "mobile": False}
+        page.driver.execute_cdp_cmd("Emulation.setDeviceMetricsOverride", metrics)
+        page.until(lambda: page.js("return document.getElementById('diagram').clientWidth") != before)
+        time.sleep(0.2)
+        page.drawn()
+        return str(page.text("diagram-text"))
+
+    page.drawn()
+    for width in (390, 1280):
+        text = resize(width, 900)
+        held.hold("%d pixels wide: %s" % (width, text), "all of 14 cells visited" in text)
+    page.press("diagram", "+")
+    chosen = page.drawn()
+    resize(1000, 900)
+    held.hold("a view that was chosen: %s" % chosen, page.drawn()["high"] == chosen["high"])
+    page.driver.execute_cdp_cmd("Emulation.clearDeviceMetricsOverride", {})
+
+
 def hold_zoom(held: Held) -> None:
     """From a glance at 10^7 steps to 100 steps in a few gestures, at the head; and back to the whole."""
     page, gestures = held.page, 0
@@ -431,6 +457,7 @@ def hold_pictures(held: Held, quick: bool, seed: int) -> None:
     hold_png(held)
     hold_tree(held)
     hold_pointed(held)
+    hold_resized(held)
     hold_wheel(held)
     if not quick:
         hold_scaled(held, seed)
