@@ -152,7 +152,9 @@ fn tell_stop(rt: &HostRuntime, stop: &Stop, numbers: Option<Numbers>) -> u8 {
 }
 
 /// Prints help to standard output, and any other cause to standard error; on a terminal, also which of the
-/// limits were refused and what would do.
+/// limits were refused and what would do. It isn't inlined: where the watched run's function begins hangs on
+/// the functions before it (`docs/speed.md`).
+#[inline(never)]
 fn tell(rt: &HostRuntime, stop: &Stop, numbers: Option<Numbers>) -> io::Result<()> {
     match stop {
         Stop::Help(text) => rt.print(text),

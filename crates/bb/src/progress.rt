@@ -127,9 +127,7 @@ impl<'a> Progress<'a> {
         line
     }
 
-    /// How many of a hundred bytes are of lines that are answered, where the list's bytes are known. It isn't
-    /// inlined: where the watched run's function begins hangs on the functions before it (`docs/speed.md`).
-    #[inline(never)]
+    /// How many of a hundred bytes are of lines that are answered, where the list's bytes are known.
     fn percent(&self) -> Option<u64> {
         let size = self.size?;
         let hundredfold = self.answered.get().saturating_mul(100);
