@@ -164,9 +164,9 @@ static void hold_limits(void) {
 static bool looks(const char *list, const char *replies, uint32_t status, const uint64_t wanted[7],
                   uint64_t wanted_lines) {
     uint64_t counts[7] = {9, 9, 9, 9, 9, 9, 9}, lines = 99;
-    uint32_t status =
+    uint32_t found =
         bb_look(bytes(list), strlen(list), bytes(replies), strlen(replies), counts, &lines);
-    return told == status && lines == wanted_lines && memcmp(counts, wanted, sizeof counts) == 0;
+    return found == status && lines == wanted_lines && memcmp(counts, wanted, sizeof counts) == 0;
 }
 
 static void hold_looks(void) {
