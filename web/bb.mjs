@@ -22,6 +22,7 @@
 
 import { LimitsError, RANGES, limitsOf, raiseLimits, switchesOf } from "./limits.mjs";
 import { MemoryError, Room, UnsupportedError, isSupported } from "./memory.mjs";
+import { countLines } from "./newlines.mjs";
 
 export { LimitsError, MemoryError, RANGES, UnsupportedError, isSupported };
 
@@ -34,9 +35,6 @@ const VERDICT_ROOM = 98;
 const ANSWER_ROOM = 7;
 const STEP_ROOM = 64;
 const FIRST_TRACE_ROOM = 4_194_304;
-const NEWLINE = 10;
-const NEWLINES = 0x0a0a0a0a;
-const LOWER_BITS = 0x7f7f7f7f;
 /** @type {Limit[]} */
 const LIMITS = ["steps", "cells", "depth", "nodes"];
 /** @type {Limit[]} */
@@ -208,36 +206,6 @@ function traceRoom(/** @type {bigint[]} */ words) {
   const lines = steps < from || every === 0n ? 1n : (steps - from) / every + 1n;
   const bytes = lines * (BigInt(STEP_ROOM) + (cells < steps ? cells : steps));
   return bytes < FIRST_TRACE_ROOM ? Number(bytes) : FIRST_TRACE_ROOM;
-}
-
-/** The number of lines; a last one without a newline counts if it isn't empty. */
-export function countLines(/** @type {Uint8Array} */ bytes) {
-  const length = bytes.length;
-  const first = -bytes.byteOffset & 3;
-  const whole = Math.max(0, length - first) >> 2;
-  const words = new Int32Array(bytes.buffer, whole > 0 ? bytes.byteOffset + first : 0, whole);
-  let count = length > 0 && bytes[length - 1] !== NEWLINE ? 1 : 0;
-  for (let at = 0; at < words.length; at += 1) {
-    const differs = words[at] ^ NEWLINES;
-    // A byte's upper bit for each newline among the four.
-    const found = ~(((differs & LOWER_BITS) + LOWER_BITS) | differs | LOWER_BITS);
-    count += found === 0 ? 0 : bitsOf(found);
-  }
-  return count + newlines(bytes, 0, Math.min(first, length)) + newlines(bytes, first + 4 * whole, length);
-}
-
-/** How many of the four bytes have their upper bit; the other bits are 0. */
-function bitsOf(/** @type {number} */ word) {
-  return ((word >>> 7) & 1) + ((word >>> 15) & 1) + ((word >>> 23) & 1) + (word >>> 31);
-}
-
-/** The newlines between two places. */
-function newlines(/** @type {Uint8Array} */ bytes, /** @type {number} */ from, /** @type {number} */ end) {
-  let count = 0;
-  for (let at = from; at < end; at += 1) {
-    count += bytes[at] === NEWLINE ? 1 : 0;
-  }
-  return count;
 }
 
 /** The bytes of these lines, each with a newline. */

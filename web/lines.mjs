@@ -4,6 +4,9 @@ import { KINDS, shown } from "./machine.mjs";
 import { made, part, tellLive } from "./parts.mjs";
 import { Rows } from "./rows.mjs";
 
+// How the time is called, in the browser's list, at which the page showed its first verdict.
+const FIRST_VERDICT = "first verdict";
+
 /**
  * @typedef {import("./results.mjs").Results} Results
  * @typedef {{results: Results, plan: Record<string, any>, isRead: boolean, isUnderWay: boolean}} Answered the
@@ -49,7 +52,9 @@ export class Lines {
       this.isOpen = true;
       this.rows.choose(0, false);
       this.open(this.rows.rows[0] ?? 0, false);
-      performance.mark("first verdict");
+      if (performance.getEntriesByName(FIRST_VERDICT).length === 0) {
+        performance.mark(FIRST_VERDICT);
+      }
     }
   }
 

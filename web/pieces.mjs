@@ -1,6 +1,6 @@
 /** A list, read piece by piece, each of whole lines. */
-import { countLines } from "./bb.mjs";
 import { BYTES_KEPT } from "./lengths.mjs";
+import { countLines } from "./newlines.mjs";
 
 const NEWLINE = 10;
 // A read has so many bytes at first, then twice as many each time.
@@ -41,9 +41,9 @@ export class Pieces {
     }
   }
 
-  /** Gives the first bytes that are held. */
+  /** Gives the first bytes that are held, which nobody writes to. */
   given(/** @type {number} */ length) {
-    const bytes = this.held.slice(0, length);
+    const bytes = this.held.subarray(0, length);
     const { line } = this;
     this.held = this.held.subarray(length);
     this.line += countLines(bytes);
@@ -70,9 +70,15 @@ export class Pieces {
     return bytes;
   }
 
-  /** The next bytes of the list, without those that are skipped. */
+  /**
+   * The next bytes of the list, without those that are skipped. They end with a line where they have a whole
+   * one; what stands behind it is read again with the next bytes, so that nothing has to be joined.
+   */
   async read() {
-    const bytes = new Uint8Array(await (this.ahead ?? this.begun()));
+    const read = new Uint8Array(await (this.ahead ?? this.begun()));
+    const last = this.offset < this.blob.size ? read.lastIndexOf(NEWLINE) + 1 : read.length;
+    const bytes = last > 0 ? read.subarray(0, last) : read;
+    this.offset -= read.length - bytes.length;
     this.ahead = this.offset < this.blob.size ? this.begun() : null;
     if (!this.skips) {
       return bytes;
@@ -83,6 +89,10 @@ export class Pieces {
   }
 
   hold(/** @type {Uint8Array} */ bytes) {
+    if (this.held.length === 0) {
+      this.held = bytes;
+      return;
+    }
     const held = new Uint8Array(this.held.length + bytes.length);
     held.set(this.held);
     held.set(bytes, this.held.length);

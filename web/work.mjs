@@ -125,7 +125,9 @@ export class Work {
     if (this.pool === null) {
       return;
     }
-    this.showProgress("Running");
+    if (this.refresh === 0) {
+      this.showProgress("Running");
+    }
     if (performance.now() - this.saidAt > TELL_MILLISECONDS) {
       this.saidAt = performance.now();
       tellLive(part("status").textContent ?? "");

@@ -19,7 +19,7 @@ import { load } from "./bb.mjs";
 import { LONGEST_SHOWN } from "./lengths.mjs";
 import { ANSWERS, KINDS } from "./machine.mjs";
 import { asGiven, lineAt, prepared } from "./prepare.mjs";
-import { readAnswers, readLines, startsOf, tallied } from "./replies.mjs";
+import { readAnswers, readLines, readReply, startsOf, tallied } from "./replies.mjs";
 import { growthOf, keep, lastOf, pictured, takenAhead, traced } from "./traced.mjs";
 
 const NEWLINE = 10;
@@ -27,6 +27,10 @@ const NEWLINE = 10;
 const BATCH_MILLISECONDS = 60;
 // The first batch has one line.
 const FIRST_BYTES = 1;
+// The next batch is so many times as long; so many times where one took fewer milliseconds than these.
+const GROWTH = 2;
+const FAST_GROWTH = 8;
+const SHORT_MILLISECONDS = 4;
 const REFUSED = KINDS.indexOf("refused");
 const MOST_BYTES = 1_048_576;
 // A call costs much by itself where a line of a larger batch takes less than this part of the time.
@@ -59,7 +63,7 @@ function answered(
   const count = starts.length - 1;
   const verdicts = mode === "decide" ? host.decideBytes(given, plan, count).bytes : given;
   const reply = host.checkBytes(verdicts, { steps, cells, depth, nodes }, count).bytes;
-  const lines = readLines(verdicts, count, mode === "decide" ? starts : null);
+  const lines = mode === "decide" ? readReply(verdicts, starts) : readLines(verdicts, count);
   const answers = readAnswers(reply, count);
   const kindCounts = tallied(lines.kinds, KINDS.length);
   const answerCounts = tallied(answers, ANSWERS.length);
@@ -148,7 +152,8 @@ function nextSize(taken, lines) {
   pace = taken / Math.max(1, lines);
   const isCheaper = lines > 0 && pace < SHARED * before;
   const grows = taken < BATCH_MILLISECONDS / 2 || (taken < 2 * BATCH_MILLISECONDS && isCheaper);
-  const factor = taken > 2 * BATCH_MILLISECONDS ? 0.25 : grows ? 2 : 1;
+  const growth = taken < SHORT_MILLISECONDS ? FAST_GROWTH : GROWTH;
+  const factor = taken > 2 * BATCH_MILLISECONDS ? 0.25 : grows ? growth : 1;
   return Math.max(1, Math.min(MOST_BYTES, Math.floor(size * factor)));
 }
 

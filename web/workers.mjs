@@ -32,7 +32,11 @@ ready.catch(() => undefined);
  * @type {Worker[]}
  */
 const idle = [];
-let isWarm = false;
+/**
+ * Workers that answered the examples.
+ * @type {WeakSet<Worker>}
+ */
+const warmed = new WeakSet();
 
 /** A new worker, which gets the module before anything that waits for `ready` is sent to it. */
 export function newWorker() {
@@ -56,12 +60,12 @@ export function giveBack(/** @type {Worker} */ worker) {
 
 /**
  * Begins workers for the next list, one after another since each takes a while, until so many wait or a list
- * has come. The first one answers the examples for a moment: what the browser compiles then, it has for all.
+ * has come. Each answers the examples for a moment: the browser compiles then what a list calls often.
  * @param {number} most @param {() => boolean} isBusy
  */
 export function makeReady(most, isBusy) {
   setTimeout(() => {
-    warm();
+    idle.forEach(warm);
     if (idle.length < most && !isBusy()) {
       idle.push(newWorker());
       makeReady(most, isBusy);
@@ -70,12 +74,11 @@ export function makeReady(most, isBusy) {
 }
 
 /** Has a worker that waits answer the examples, once. */
-function warm() {
-  if (isWarm || idle.length === 0) {
+function warm(/** @type {Worker} */ worker) {
+  if (warmed.has(worker)) {
     return;
   }
-  isWarm = true;
-  const worker = idle[0];
+  warmed.add(worker);
   /** @type {{call: string, lines: string}[]} */
   const examples = JSON.parse(text("examples-data"));
   const lists = examples.filter(({ call }) => call === "decide").map(({ lines }) => lines);

@@ -235,7 +235,7 @@ def hold_kinds(tally: Tally) -> None:
         return
     for change, status in ((None, 0), ('"halt", ', 1)):
         with tempfile.TemporaryDirectory() as folder:
-            for name in ("replies.mjs", "machine.mjs"):
+            for name in ("replies.mjs", "machine.mjs", "newlines.mjs"):
                 with open(os.path.join(TOP, "web", name), encoding="utf-8") as file:
                     text = file.read()
                 text = text.replace('["halt", ', '["halt", "huge", ', 1) if change else text

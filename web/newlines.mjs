@@ -1,0 +1,49 @@
+/** Newlines among bytes, looked for in four bytes at once. */
+
+const NEWLINE = 10;
+const NEWLINES = 0x0a0a0a0a;
+const LOWER_BITS = 0x7f7f7f7f;
+
+/**
+ * The bytes in words of four, from the first place on that a word can begin at: `first`; they end at `end`.
+ * @returns {{words: Int32Array, first: number, end: number}}
+ */
+export function wordsOf(/** @type {Uint8Array} */ bytes) {
+  const { buffer, byteOffset, length } = bytes;
+  const first = Math.min(-byteOffset & 3, length);
+  const whole = (length - first) >> 2;
+  const words = new Int32Array(buffer, whole > 0 ? byteOffset + first : 0, whole);
+  return { words, first, end: first + 4 * whole };
+}
+
+/** A byte's upper bit for each newline among the four of a word; 0 where there is none. */
+export function newlinesIn(/** @type {number} */ word) {
+  const differs = word ^ NEWLINES;
+  return ~(((differs & LOWER_BITS) + LOWER_BITS) | differs | LOWER_BITS);
+}
+
+/** The number of lines; a last one without a newline counts if it isn't empty. */
+export function countLines(/** @type {Uint8Array} */ bytes) {
+  const { length } = bytes;
+  const { words, first, end } = wordsOf(bytes);
+  let count = length > 0 && bytes[length - 1] !== NEWLINE ? 1 : 0;
+  for (let at = 0; at < words.length; at += 1) {
+    const found = newlinesIn(words[at]);
+    count += found === 0 ? 0 : bitsOf(found);
+  }
+  return count + newlines(bytes, 0, first) + newlines(bytes, end, length);
+}
+
+/** How many of the four bytes have their upper bit; the other bits are 0. */
+function bitsOf(/** @type {number} */ word) {
+  return ((word >>> 7) & 1) + ((word >>> 15) & 1) + ((word >>> 23) & 1) + (word >>> 31);
+}
+
+/** The newlines between two places. */
+function newlines(/** @type {Uint8Array} */ bytes, /** @type {number} */ from, /** @type {number} */ end) {
+  let count = 0;
+  for (let at = from; at < end; at += 1) {
+    count += bytes[at] === NEWLINE ? 1 : 0;
+  }
+  return count;
+}
