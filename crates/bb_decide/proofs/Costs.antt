@@ -89,13 +89,7 @@ module _ (table : Table) (bounds : Bounds) where
 
 module _ (table : Table) (bounds : Bounds) where
   adds_nothing : (meter : Meter) → Adds table bounds 0 meter meter
-  adds_nothing meter = record {
-    steps = omega arith;
-    cells_kept = omega arith;
-    cells = λ last is_last. omega arith;
-    nodes = refl;
-    most_levels = refl;
-  }
+  adds_nothing meter = omega arith
 
   adds_run : (n : ℕ) (old new : Meter) → Inside table bounds n → CountsTo table n old new
       → Adds table bounds n old new
