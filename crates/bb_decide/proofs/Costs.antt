@@ -26,12 +26,7 @@ use Rattle.bb_decide.specs.Cost.{MakesWalk, StepsIfMade, TranslationSteps}
 -- no walk was made, and none was counted
 pub no_walk_counted : (Made : Type 0) (table : Table) (bounds : Bounds) (meter : Meter)
     → meter.most_levels ≡ 0 → meter.nodes ≡ 0 → (Made → ⊥) → CountsWalk Made table bounds meter
-no_walk_counted Made table bounds meter levels nodes never = record {
-  of_tree = λ made h k tree. absurd (never made);
-  within_levels = omega arith;
-  within_nodes = omega arith;
-  not_made = λ not_made. (levels, nodes);
-}
+no_walk_counted Made table bounds meter levels nodes never = omega arith
 
 -- what is made in other words costs the same
 if_made_as : {One Other : Type 0} (Cost : ℕ → Type 0) {n : ℕ} → (One → Other) → (Other → One)

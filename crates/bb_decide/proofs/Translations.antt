@@ -151,12 +151,7 @@ looked : {table : Table} (runner : Runner) {right left : Records} {saved_right s
     → GoesOn table (steps_of runner) L left saved_left
     → HasPassedBoth table (steps_of runner) right left saved_right saved_left
 looked {table} runner on_right on_left = (
-  record {
-    on_right = on_right.searched;
-    on_left = on_left.searched;
-    right_is = on_right.side_is;
-    left_is = on_left.side_is;
-  },
+  assumption,
   none_now,
 ) where
   none_now : (side : Side) (a : ℕ) → AgreesWithPartner table side a (steps_of runner) → ⊥
