@@ -132,17 +132,8 @@ module _ {T : Type 0} {view : T → TapeView} {grows : Bool} {table : Table} {bo
         {moved : Moved} {outcome : Outcome} → EndsRun table bounds before after run here meter moved
         → TellsEnd moved (steps_of after) (score run.content) outcome → Finds None
         → Seeks Finds grows view table bounds old new first meter (Ok (Ran outcome))
-    seeks_to_end ends tells none = let is = ran lent.meter ends in record {
-      found = none;
-      ran = ends.is_outcome _ tells;
-      counted = is.0;
-      cut = tt;
-      within = is.1;
-      never = tt;
-      promised = record { claim = tt; numbers = tt; memory = tt };
-      tapes = lent.tapes;
-      path = lent.path;
-    }
+    seeks_to_end {outcome = outcome} ends tells none =
+        let is = ran lent.meter ends in let told = ends.is_outcome outcome tells in assumption
 
     pub seeks_and_finds : {Finds : Option Verdict → Type 0} {verdict : Verdict}
         → IsFound Finds table bounds here meter verdict
@@ -161,14 +152,8 @@ module _ {T : Type 0} {view : T → TapeView} {grows : Bool} {table : Table} {bo
           → TellsEnd moved (steps_of after) (score run.content) outcome → HasNoTranslation table bounds
           → HasNoCycle table bounds
           → WatchesRun grows view table bounds key old new first meter (Ok (Some (Ran outcome)))
-      watches_to_end ends tells no_record no_cycle = let is = ran lent.meter ends in record {
-        watched = (no_record, is.0, ends.is_outcome _ tells, no_cycle, unstopped);
-        cut = tt;
-        within = is.1;
-        promised = record { claim = tt; numbers = tt; memory = tt };
-        tapes = lent.tapes;
-        path = lent.path;
-      }
+      watches_to_end {outcome = outcome} ends tells no_record no_cycle =
+          let is = ran lent.meter ends in let told = ends.is_outcome outcome tells in assumption
 
       pub watches_and_finds : {verdict : Verdict}
           → IsFound (FindsTranslation table bounds) table bounds here meter verdict
