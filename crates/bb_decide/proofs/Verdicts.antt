@@ -50,12 +50,9 @@ module _ (table : Table) (bounds : Bounds) where
   left_or_right a b c one other =
       let left = one.translation.pair in
       let right = other.translation.pair in
-      omega (
-        arith,
-        ints,
-        stands_on table L left.second_number b left.second_record,
-        stands_on table R right.second_number b right.second_record,
-      )
+      let at_left = stands_on table L left.second_number b left.second_record in
+      let at_right = stands_on table R right.second_number b right.second_record in
+      omega (arith, ints, at_left, at_right)
 
   side_is_one : (s r : Side) (a b c : ℕ) → IsFirstTranslation table bounds s a b
       → IsFirstTranslation table bounds r c b → s ≡ r

@@ -54,14 +54,9 @@ stood runner content = record { state = state_of runner; head = position_of runn
 top_here : (table : Table) (side : Side) (n j : ℕ) (top : ℤ) → IsTop table side n top
     → IsRecord table side j n → out side (head_at table n) ≡ top
 top_here table side n j top is made = elim (cases_lt is.step n) [
-  | inl before ↦ absurd (omega (
-    arith,
-    ints,
-    is.reached,
-    short_of_record table side j n made is.step before,
-    stands_on table side j n made,
-    is.bounds n (omega arith),
-  ))
+  | inl before ↦
+      let short = short_of_record table side j n made is.step before in
+      absurd (omega (arith, ints, is.reached, short, stands_on table side j n made, is.bounds n (omega arith)))
   | inr here ↦ let same : is.step ≡ n = omega (arith, is.no_later, here) in
       subst (λ k. out side (head_at table k) ≡ top) same is.reached
 ]
@@ -120,13 +115,9 @@ module _ (table : Table) (runner : Runner) (run saved : TapeView) (records : Rec
 
   pub keeps_step : (new : Records) → new ≡ with_kept records runner → KeepsStep table (steps_of runner) new
   keeps_step new is = rw is (record {
-    made = λ some none. omega (
-      arith,
-      ints,
-      (made.1).positive,
-      sym top_out ∙ stands_on table records.side made.0 (steps_of runner) made.1,
-      ap (out records.side) none ∙ out-zero records.side,
-    );
+    made = λ some none.
+        let at = stands_on table records.side made.0 (steps_of runner) made.1 in
+        omega (arith, ints, (made.1).positive, top_out, at, ap (out records.side) none ∙ out-zero records.side);
     at = λ some. refl;
   })
 
@@ -176,23 +167,13 @@ module _ (table : Table) (runner : Runner) (run saved : TapeView) (records : Rec
     are_comparable runs kept_runs =
         let reached = far_is_reached table records.side (steps_of records.kept)
         (steps_of runner) kept.before in
+        let below = far_bounds table records.side (steps_of records.kept) (steps_of runner) kept.before in
+        let above = followed.top.bounds (steps_of records.kept) kept.before in
         record {
           low = omega (arith, ints, stands, kept.low);
           high = omega (arith, ints, stands, kept.high);
-          order = omega (
-            arith,
-            ints,
-            kept.far_is,
-            number_out,
-            far_bounds table records.side (steps_of records.kept) (steps_of runner) kept.before,
-          );
-          later = omega (
-            arith,
-            ints,
-            count_is,
-            number_out,
-            followed.top.bounds (steps_of records.kept) kept.before,
-          );
+          order = omega (arith, ints, kept.far_is, number_out, below);
+          later = omega (arith, ints, count_is, number_out, above);
           far_seen = subst (IsInside run) (out_same records.side _ _ (sym (kept.far_is ∙ reached.is)))
               (head_inside runs reached.step reached.no_later);
           top_seen = subst (IsInside run) here_is (head_inside runs (steps_of runner) (omega arith));
@@ -244,13 +225,8 @@ module _ (table : Table) (runner : Runner) (run saved : TapeView) (records : Rec
           let one : agree.first ≡ stood records.kept saved.content = cc (agree.at_first, kept.at) in
           let two : agree.second ≡ stood runner run.content = cc in (
             (
-              λ none. omega (
-                arith,
-                ints,
-                followed.number_is,
-                some,
-                ap (out records.side) none ∙ out-zero records.side,
-              ),
+              λ none. let zero = ap (out records.side) none ∙ out-zero records.side in
+                  omega (arith, ints, followed.number_is, some, zero),
               sym (ap (λ (c : Configuration). c.state) one) ∙ agree.same_state
                   ∙ ap (λ (c : Configuration). c.state) two,
               kept_runs,
@@ -279,9 +255,6 @@ module _ (table : Table) (runner : Runner) (run saved : TapeView) (records : Rec
       → IsSound run → IsNarrow (position_of records.kept)
   number_narrow less sound = elim (cases_lt 0 followed.number) [
     | inl some ↦ kept_narrow some (less some) sound
-    | inr none ↦ omega (
-      arith,
-      ints,
-      at_zero records.side _ (followed.number_is ∙ ap pos (omega (arith, none))),
-    )
+    | inr none ↦
+        omega (arith, ints, at_zero records.side _ (followed.number_is ∙ ap pos (omega (arith, none))))
   ]

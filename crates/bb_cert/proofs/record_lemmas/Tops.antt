@@ -71,14 +71,8 @@ module _ (table : Table) (side : Side) (n count : ℕ) (top : IsTop table side n
   -- else none is
   pub none_next : far_out ≤ℤ pos count → MakesRecord table side (n + 1) → ⊥
   none_next low made =
-      omega (
-        arith,
-        ints,
-        low,
-        stands_on table side made.0 (n + 1) made.1,
-        top.reached,
-        short_of_record table side made.0 (n + 1) made.1 top.step (omega (arith, top.no_later)),
-      )
+      let short = short_of_record table side made.0 (n + 1) made.1 top.step (omega (arith, top.no_later)) in
+      omega (arith, ints, low, short, top.reached, stands_on table side made.0 (n + 1) made.1)
 
   pub farther : MakesRecord table side (n + 1) → pos count <ℤ far_out
   farther made = by_lt_z (pos count) far_out (λ high. high) (λ low. absurd (none_next low made))

@@ -200,11 +200,9 @@ module _ {list : List Rule} {starts : Dir → List ℕ} {root : Branch} {old mos
     comb_first rest = ap (λ ns. ns ∷ tail_of rest) first.first
 
     tail_long : (rest : List Node) → length (tail_of rest) ≡ length frames + 1
-    tail_long rest = omega (
-      arith,
-      long,
-      comb_long list rest (reverse frames) (with_cell view.content top.position top.before),
-    )
+    tail_long rest =
+        let e = comb_long list rest (reverse frames) (with_cell view.content top.position top.before) in
+        omega (arith, long, e)
 
     walked_first : (table : Table) (rest : List Node) → AreRules table list starts
         → IsWalked table ((branch_node blank root ∷ rest) ∷ []) old.nodes old.levels

@@ -240,11 +240,10 @@ written_nonzero content p symbol nonzero more has sum = record {
   one_less = with_cell has.one_less p symbol;
   each = λ q. by_position q p _
       (λ here.
-      omega (
-        arith,
-        ap (cell (with_cell has.one_less p symbol)) here ∙ cell-with_cell-same has.one_less p symbol,
-        ap (cell (with_cell content p (symbol + 1))) here ∙ cell-with_cell-same content p (symbol + 1),
-      ))
+      let new = ap (cell (with_cell has.one_less p symbol)) here
+      ∙ cell-with_cell-same has.one_less p symbol in
+      let is = ap (cell (with_cell content p (symbol + 1))) here ∙ cell-with_cell-same content p (symbol + 1) in
+      omega (arith, new, is))
       (λ apart.
       cell-with_cell-other has.one_less p symbol q apart ∙ has.each q
       ∙ ap (λ c. c - 1) (sym (cell-with_cell-other content p (symbol + 1) q apart)));

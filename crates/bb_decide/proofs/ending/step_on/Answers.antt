@@ -39,5 +39,6 @@ returns g c =
     let call = c.in-Ok.ensures in
     let step = has_moved c.requires.stands call.stands _ _ _ c.in-Stepped.is call.reaches call.moves
     (not_in_Z c.in-Some.ensures) in
-    step_goes_on c.advance.ensures.limit Stepped (step.0, step.1, refl,
-        omega (arith, step.1.within_steps, c.show_accepted.ensures.accepted.steps, c.requires.room))
+    let most = c.show_accepted.ensures.accepted.steps in
+    step_goes_on c.advance.ensures.limit Stepped
+    (step.0, step.1, refl, omega (arith, step.1.within_steps, most, c.requires.room))

@@ -32,14 +32,10 @@ loop-moved-init g c = record {
 
 pub count_run-requires-in_default-moved : goal.count_run-requires-in_default-moved
 count_run-requires-in_default-moved g c =
-    omega (
-      arith,
-      few_steps c.args.machine.now c.args.limits.now c.advance.new.self
-          (g.T.Tape.view c.advance.new.tape) _ c.in-Ok.ensures.reaches,
-      ap (λ (m : Meter). m.steps) c.loop-moved.invariant.lent.meter,
-      c.show_accepted.ensures.accepted.steps,
-      c.requires.room,
-    )
+    let few = few_steps c.args.machine.now c.args.limits.now c.advance.new.self
+    (g.T.Tape.view c.advance.new.tape) _ c.in-Ok.ensures.reaches in
+    let same = ap (λ (m : Meter). m.steps) c.loop-moved.invariant.lent.meter in
+    omega (arith, few, same, c.show_accepted.ensures.accepted.steps, c.requires.room)
 
 -- no memory for a step
 pub returns-in_default : goal.returns-in_default
@@ -163,13 +159,9 @@ look_on-requires-clause-ready g c =
 
 pub look_on-requires-clause-room : goal.look_on-requires-clause-room
 look_on-requires-clause-room g c =
-    omega (
-      arith,
-      (rw c.in-Stepped.is at c.in-Ok.ensures.reaches).0.within_steps,
-      ap (λ (m : Meter). m.steps) c.loop-moved.invariant.lent.meter,
-      c.show_accepted.ensures.accepted.steps,
-      c.requires.room,
-    )
+    let few = (rw c.in-Stepped.is at c.in-Ok.ensures.reaches).0.within_steps in
+    let same = ap (λ (m : Meter). m.steps) c.loop-moved.invariant.lent.meter in
+    omega (arith, few, same, c.show_accepted.ensures.accepted.steps, c.requires.room)
 
 -- no memory to keep it
 pub returns-in_err-verdict : goal.returns-in_err-verdict
