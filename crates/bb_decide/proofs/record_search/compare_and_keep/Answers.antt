@@ -1,7 +1,6 @@
-use Rattle.std.proofs.Common.{◌≡◌, ℕ, ◌*◌, ◌<◌, ◌≤◌, ℤ, pos, ◌*ℤ◌, ◌≤ℤ◌, ap, inl, inr, arith, refl, w64}
+use Rattle.std.proofs.Common.{◌≡◌, pos, ap, inl, inr, arith, refl, w64}
 use Rattle.std.proofs.Common.{rules}
 use Rattle.std.proofs.Common.{◌∙◌, FitsSigned}
-use Rattle.std.specs.Prelude.{◌<ℤ◌}
 use Rattle.std.proofs.lemmas.Int.{ints, to_z-of_z}
 use Rattle.bb_sim.specs.Runner.{position_of}
 use Rattle.bb_cert.specs.records.Follow.{number_of, top_of}
