@@ -98,8 +98,7 @@ more_symbols states symbols (Go write dir next) h of_table =
 in_table : (table : Table) (state symbol : ℕ) → symbol < length (get_or table state []) → state < length table
 in_table [] state symbol h = absurd (omega (arith, h))
 in_table (group ∷ groups) zero symbol h = omega arith
-in_table (group ∷ groups) (suc state) symbol h = let further = in_table groups state symbol h in
-    omega (arith, further)
+in_table (group ∷ groups) (suc state) symbol h = omega (arith, in_table groups state symbol h)
 
 rule_named : (table : Table) (next : Next) (rule : Rule) → IsMachine table
     → OneOf (λ other. other ≡ rule) (rules_to table next) → IsRule (length table) rule
