@@ -186,7 +186,8 @@ module _ {table : Table} {bounds : Bounds} {plan : Plan} {old new : Meter} where
   -- where one was found, the other isn't made
   pub counts_cycles : (verdict : Verdict) → IsTrue plan.cyclers → FindsCycle table bounds (Some verdict)
       → CountsSearch table bounds old new (Some verdict) → SearchesCount table bounds plan old new
-  counts_cycles verdict on finds counted = counts (cycles_searched table bounds (Some verdict) on counted finds)
+  counts_cycles verdict on finds counted =
+      counts (cycles_searched table bounds (Some verdict) on counted finds)
       (not_made table bounds (λ made. not_passed table bounds plan verdict on finds made.0))
 
 pub cycle_of_searches : (table : Table) (bounds : Bounds) (plan : Plan) (verdict : Verdict)
@@ -328,7 +329,8 @@ module _ {table : Table} {bounds : Bounds} (plan : Plan) {begin mid : Meter} (ze
   pub cost_of_deciders : HaltsNowhere table bounds → (meter : Meter)
       → DecidersCount table bounds plan mid meter → CountsCost table bounds plan meter
   cost_of_deciders nowhere meter deciders = cost
-      (if_made_as (CycleSteps table bounds) (λ on. (nowhere, on)) (λ made. made.1) deciders.searches.is_cycles)
+      (if_made_as (CycleSteps table bounds) (λ on. (nowhere, on)) (λ made. made.1)
+      deciders.searches.is_cycles)
       (if_made_as (TranslationSteps table bounds) (λ on. (nowhere, on.0, on.1)) (λ made. (made.1, made.2))
       deciders.searches.is_translations) deciders.searches.adds deciders.steps deciders.most_cells
       (walk_where_nowhere table bounds plan nowhere deciders.walk)

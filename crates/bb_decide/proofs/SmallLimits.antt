@@ -64,7 +64,8 @@ module _ (table : Table) (lower upper : Bounds) (within : NoneIsSmaller lower up
 pub small_limits_decide : SmallLimitsDecide
 small_limits_decide table lower upper plan trees (Halt n ones) within found is =
     let halts = is_halt_within plan is in
-    (record { halts = halts.halts; inside = inside_upper table lower upper within n halts.inside }, has_score plan is)
+    let inside = inside_upper table lower upper within n halts.inside in
+    (record { halts = halts.halts; inside = inside }, has_score plan is)
 small_limits_decide table lower upper plan trees (Cycler first second) within found is =
     found_is_verdict table upper plan (Cycler first second)
     (cyclers_are_on plan is, first_cycle_upper table lower upper within first second (is_first_cycle plan is))

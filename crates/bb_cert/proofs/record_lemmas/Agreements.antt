@@ -134,7 +134,8 @@ module _ (table : Table) (side : Side) (a b : ℕ) (records : AgreeingRecords ta
   step_beyond v alike =
       let head = head_at-is table (b + v) alike.second alike.at_second ∙ alike.moved.same_head in
       let is = ap (out side) head ∙ out-add side alike.first.head (distance table a b) in
-      (record { here = alike.second; exists = alike.at_second }, omega (arith, ints, is, alike.inside, farther))
+      let there : Exists table (b + v) = record { here = alike.second; exists = alike.at_second } in
+      (there, omega (arith, ints, is, alike.inside, farther))
 
   -- where all steps before are alike, there is one more, and the head is no nearer there
   stays : (u : ℕ) → ((v : ℕ) → v < u → IsAlike table side a b v) → Exists table (a + u)

@@ -56,7 +56,8 @@ top_here : (table : Table) (side : Side) (n j : ℕ) (top : ℤ) → IsTop table
 top_here table side n j top is made = elim (cases_lt is.step n) [
   | inl before ↦
       let short = short_of_record table side j n made is.step before in
-      absurd (omega (arith, ints, is.reached, short, stands_on table side j n made, is.bounds n (omega arith)))
+      let high = is.bounds n (omega arith) in
+      absurd (omega (arith, ints, is.reached, short, stands_on table side j n made, high))
   | inr here ↦ let same : is.step ≡ n = omega (arith, is.no_later, here) in
       subst (λ k. out side (head_at table k) ≡ top) same is.reached
 ]
@@ -117,7 +118,8 @@ module _ (table : Table) (runner : Runner) (run saved : TapeView) (records : Rec
   keeps_step new is = rw is (record {
     made = λ some none.
         let at = stands_on table records.side made.0 (steps_of runner) made.1 in
-        omega (arith, ints, (made.1).positive, top_out, at, ap (out records.side) none ∙ out-zero records.side);
+        let zero = ap (out records.side) none ∙ out-zero records.side in
+        omega (arith, ints, (made.1).positive, top_out, at, zero);
     at = λ some. refl;
   })
 

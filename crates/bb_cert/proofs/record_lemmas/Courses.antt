@@ -179,7 +179,8 @@ module _ (table : Table) (side : Side) (before after : Runner) (run_before run_a
     by_sides L R just made = absurd (just.1 made)
 
   pub told_by_window : (cells : ℕ) → cells ≡ cells_between (low_of before) (high_of before)
-      → (told : Option Side) → TellsWidening after cells told → (told ≡ Some side) ↔ MakesRecordOutsideZ table side n
+      → (told : Option Side) → TellsWidening after cells told
+      → (told ≡ Some side) ↔ MakesRecordOutsideZ table side n
   told_by_window cells were told widens = by_state (state_of after) refl where
     by_state : (state : Next) → state_of after ≡ state → (told ≡ Some side) ↔ MakesRecordOutsideZ table side n
     by_state Halt halts = (

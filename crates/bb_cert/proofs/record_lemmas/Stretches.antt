@@ -15,7 +15,8 @@ use Rattle.bb_cert.specs.declared.verdict.Side.{Side}
 use Rattle.bb_cert.specs.declared.verdict.Side.TheVariants.{L, R}
 use Rattle.bb_cert.specs.records.Record.{out}
 use Rattle.bb_cert.specs.declared.records.Records.{Records}
-use Rattle.bb_cert.specs.records.Follow.{HasSameCells, IsComparable, IsNarrow, nearest_out, lesser_of, number_of}
+use Rattle.bb_cert.specs.records.Follow.{HasSameCells, IsComparable, IsNarrow, nearest_out, lesser_of}
+use Rattle.bb_cert.specs.records.Follow.{number_of}
 use Rattle.bb_cert.specs.records.Follow.{top_of}
 use Rattle.bb_cert.proofs.record_lemmas.Heads.{out-out}
 

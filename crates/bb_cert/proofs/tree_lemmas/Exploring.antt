@@ -147,8 +147,8 @@ exploring_begins {list} {starts} {root} {old} {before = before} {after} {frame} 
     record {
       are = frames_entered known enters is_here symbols [] refl blank_before;
       few = some;
-      walked = λ table rest rules walked. rw counted
-          (walked_entered known enters is_here symbols table rest [] rules refl refl (rw blank_before walked));
+      walked = λ table rest rules walked. rw counted (walked_entered known enters is_here symbols table rest
+          [] rules refl refl (rw blank_before walked));
     }
 
 module _ {list : List Rule} {starts : Dir → List ℕ} {root : Branch} {old most : Count} {view : TapeView}
@@ -259,7 +259,8 @@ module _ {list : List Rule} {starts : Dir → List ℕ} {root : Branch} {old mos
         )
 
     pub exploring_returns : {parent : Frame} {then_frames : List Frame}
-        → frames ≡ then_frames ++ (parent ∷ []) → IsExploring list starts root old most after parent then_frames entered
+        → frames ≡ then_frames ++ (parent ∷ [])
+        → IsExploring list starts root old most after parent then_frames entered
     exploring_returns {parent} {then_frames} popped =
         let order : reverse frames ≡ parent ∷ reverse then_frames = ap reverse popped
         ∙ reverse-append then_frames (parent ∷ []) in

@@ -136,7 +136,8 @@ module _ (node : Node) (c : Configuration) (state symbol write : ℕ) (dir : Dir
         → cell c.tape (c.head +ℤ x) ≡ s
     other_symbols x s apart e =
         let there = then_matches.same_cells (x +ℤ left_cell dir) s e in
-        sym (cell-with_cell-other c.tape c.head write (c.head +ℤ x) (λ back. apart (omega (arith, ints, back))))
+        sym (cell-with_cell-other c.tape c.head write (c.head +ℤ x)
+        (λ back. apart (omega (arith, ints, back))))
         ∙ ap (cell (with_cell c.tape c.head write)) (sym (left_behind dir c.head x)) ∙ there
 
     pub matches_before : c.state ≡ State state → cell c.tape c.head ≡ symbol → Matches earlier c

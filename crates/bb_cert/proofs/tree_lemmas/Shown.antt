@@ -97,7 +97,8 @@ module _ (content : Content) (position : ℤ) (state : ℕ) (rule : Rule) (write
       ap (before_by_entry (shown_node content position state) rule.state rule.symbol) is ∙ cond-false _ _ _ no
 
   pub fit_before : (held : ℕ) → held ≡ cell content (position +ℤ left_cell dir)
-      → (held ≡ 0) ⊎ (held ≡ write + 1) → before_by (shown_node content position state) rule ≡ from_rule content
+      → (held ≡ 0) ⊎ (held ≡ write + 1)
+      → before_by (shown_node content position state) rule ≡ from_rule content
       (position +ℤ left_cell dir) rule ∷ []
   fit_before held shows fits =
       ap (before_by_entry (shown_node content position state) rule.state rule.symbol) is
@@ -242,7 +243,8 @@ written_nonzero content p symbol nonzero more has sum = record {
       (λ here.
       let new = ap (cell (with_cell has.one_less p symbol)) here
       ∙ cell-with_cell-same has.one_less p symbol in
-      let is = ap (cell (with_cell content p (symbol + 1))) here ∙ cell-with_cell-same content p (symbol + 1) in
+      let is = ap (cell (with_cell content p (symbol + 1))) here
+      ∙ cell-with_cell-same content p (symbol + 1) in
       omega (arith, new, is))
       (λ apart.
       cell-with_cell-other has.one_less p symbol q apart ∙ has.each q
