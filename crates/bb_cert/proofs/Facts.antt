@@ -13,16 +13,13 @@ pub use Rattle.bb_cert.proofs.record_lemmas.Heads.{runs_before}
 pub use Rattle.bb_cert.proofs.verdict_lemmas.Lengths.{length-line, length-verdict_text}
 pub use Rattle.bb_cert.proofs.verdict_lemmas.Lines.{line_unique}
 pub use Rattle.bb_cert.proofs.claim_lemmas.NoRecords.{agreeing_records_never_repeat}
-pub use Rattle.bb_cert.proofs.record_lemmas.Positions.{IsLed, climbs, head_at-is, head_at-start, led_by}
-pub use Rattle.bb_cert.proofs.record_lemmas.Positions.{one_number, out-subtract}
-pub use Rattle.bb_cert.proofs.record_lemmas.Positions.{out-zero, starts}
+pub use Rattle.bb_cert.proofs.record_lemmas.Positions.{head_at-is, led_by, one_number, starts}
 pub use Rattle.bb_cert.proofs.record_lemmas.RecordPairs.{record_pair}
 pub use Rattle.bb_cert.proofs.record_lemmas.Records.{record_has_one_step, record_takes_steps}
-pub use Rattle.bb_cert.proofs.record_lemmas.Records.{records_in_order}
-pub use Rattle.bb_cert.proofs.record_lemmas.Records.{short_of_record, stands_on}
+pub use Rattle.bb_cert.proofs.record_lemmas.Records.{records_in_order, stands_on}
 pub use Rattle.bb_cert.proofs.claim_lemmas.Repeats.{repeats_go_on, repeats_keep_distance, repeats_never_halt}
 pub use Rattle.bb_cert.proofs.claim_lemmas.Runs.{earlier, moves, steps_of_never}
-pub use Rattle.bb_cert.proofs.record_lemmas.Stretches.{are_narrow, limit_kept, out_as_far, twice_fits}
+pub use Rattle.bb_cert.proofs.record_lemmas.Stretches.{are_narrow, out_as_far}
 pub use Rattle.bb_cert.proofs.claim_lemmas.Standing.{AreAlike, same_of_alike, alike_of_same}
 pub use Rattle.bb_cert.proofs.claim_lemmas.Standing.{no_repeat_at_once}
 pub use Rattle.bb_cert.proofs.tree_lemmas.Levels.{matches_level, halts_from_level}

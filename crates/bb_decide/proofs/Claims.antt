@@ -34,8 +34,7 @@ module _ (table : Table) (bounds : Bounds) (plan : Plan) where
       let below = (is_first_cycle plan is).cycle.partner.below in omega (arith, below, not)
   in_order (Translated side first second extent) is not =
       let pair = pair_agrees table side first second (is_first_agreement plan extent is).translation.pair in
-      let below = pair.in_order in
-      omega (arith, below, not)
+      omega (arith, pair.in_order, not)
   in_order verdict is not = not
 
   -- the step that is named last is inside
@@ -46,8 +45,7 @@ module _ (table : Table) (bounds : Bounds) (plan : Plan) where
   needs_few (Cycler first second) is over =
       let few = (is_first_cycle plan is).cycle.inside.within_cells in omega (arith, few, over)
   needs_few (Translated side first second extent) is over =
-      let few = (is_first_agreement plan extent is).translation.inside.within_cells in
-      omega (arith, few, over)
+      omega (arith, (is_first_agreement plan extent is).translation.inside.within_cells, over)
   needs_few verdict is over = over
 
   pair_few : (first second : ℕ) → (second ≤ first → ⊥) → second ≤ bounds.steps
@@ -64,9 +62,7 @@ module _ (table : Table) (bounds : Bounds) (plan : Plan) where
       pair_few first second (in_order (Translated side first second extent) is)
       (is_first_agreement plan extent is).translation.inside.within_steps over
   names_few (Backward levels nodes) is over =
-      let deep = (is_tree plan is).within_levels in
-      let many = (is_tree plan is).within_nodes in
-      elim over [ inl a ↦ omega (arith, deep, a) | inr b ↦ omega (arith, many, b) ]
+      let tree = is_tree plan is in elim over [ inl a ↦ omega (arith, a) | inr b ↦ omega (arith, b) ]
   names_few (Undecided why) is over = over
 
   no_rule_before : (verdict : Verdict) → IsVerdict table bounds plan verdict → (IsUndecided verdict → ⊥)

@@ -47,19 +47,17 @@ cut_at_step {table} {bounds} {first} {meter} old new inside wanted unmade window
     let steps : meter.steps ≡ first.steps + steps_of old = ap (λ (m : Meter). m.steps) counts in
     let cells : meter.most_cells ≡ max first.most_cells (span table (steps_of old + 1)) =
     ap (λ (m : Meter). m.most_cells) counts in
-    let few = inside.within_steps in
-    let narrow = wanted.2 in
     let grows = span_grows table (steps_of old) (steps_of old + 1) (omega arith) in
     record {
       part = record {
         at = steps_of old;
         inside = inside;
         steps = steps;
-        cells = omega (arith, cells, grows);
+        cells = omega arith;
       };
       within = record {
-        steps = omega (arith, steps, few);
-        most_cells = omega (arith, cells, narrow);
+        steps = omega (arith, steps, inside.within_steps);
+        most_cells = omega (arith, cells, wanted.2);
         nodes = ap (λ (m : Meter). m.nodes) counts;
         most_levels = ap (λ (m : Meter). m.most_levels) counts;
       };

@@ -132,47 +132,18 @@ module _ {T : Type 0} {view : T → TapeView} {grows : Bool} {table : Table} {bo
         {moved : Moved} {outcome : Outcome} → EndsRun table bounds before after run here meter moved
         → TellsEnd moved (steps_of after) (score run.content) outcome → Finds None
         → Seeks Finds grows view table bounds old new first meter (Ok (Ran outcome))
-    seeks_to_end ends tells none = let is = ran lent.meter ends in record {
-      found = none;
-      ran = ends.is_outcome _ tells;
-      counted = is.0;
-      cut = tt;
-      within = is.1;
-      never = tt;
-      promised = record { claim = tt; numbers = tt; memory = tt };
-      tapes = lent.tapes;
-      path = lent.path;
-    }
+    seeks_to_end {outcome = outcome} ends tells none =
+        let is = ran lent.meter ends in let told = ends.is_outcome outcome tells in assumption
 
     pub seeks_and_finds : {Finds : Option Verdict → Type 0} {verdict : Verdict}
         → IsFound Finds table bounds here meter verdict
         → Seeks Finds grows view table bounds old new first meter (Ok (Found verdict))
-    seeks_and_finds found = let is = rw lent.meter at found in record {
-      found = is.found;
-      ran = tt;
-      counted = is.counted;
-      cut = tt;
-      within = is.within;
-      never = is.never;
-      promised = record { claim = is.claim; numbers = is.numbers; memory = tt };
-      tapes = lent.tapes;
-      path = lent.path;
-    }
+    seeks_and_finds found = let is = rw lent.meter at found in assumption
 
     pub seeks_until_cut : {Finds : Option Verdict → Type 0} {fault : Memory}
         → HasCut table bounds here meter → IsTrue grows
         → Seeks Finds grows view table bounds old new first meter (Err fault)
-    seeks_until_cut cut memory = let is = rw lent.meter at cut in record {
-      found = tt;
-      ran = tt;
-      counted = tt;
-      cut = is.part;
-      within = is.within;
-      never = tt;
-      promised = record { claim = tt; numbers = tt; memory = memory };
-      tapes = lent.tapes;
-      path = lent.path;
-    }
+    seeks_until_cut cut memory = let is = rw lent.meter at cut in assumption
 
     -- the watched run, where it wasn't stopped
     module _ {key : ℤ → ℕ} (unstopped : (n : ℕ) → IsStoppedAt key table bounds n → ⊥) where
@@ -181,26 +152,13 @@ module _ {T : Type 0} {view : T → TapeView} {grows : Bool} {table : Table} {bo
           → TellsEnd moved (steps_of after) (score run.content) outcome → HasNoTranslation table bounds
           → HasNoCycle table bounds
           → WatchesRun grows view table bounds key old new first meter (Ok (Some (Ran outcome)))
-      watches_to_end ends tells no_record no_cycle = let is = ran lent.meter ends in record {
-        watched = (no_record, is.0, ends.is_outcome _ tells, no_cycle, unstopped);
-        cut = tt;
-        within = is.1;
-        promised = record { claim = tt; numbers = tt; memory = tt };
-        tapes = lent.tapes;
-        path = lent.path;
-      }
+      watches_to_end {outcome = outcome} ends tells no_record no_cycle =
+          let is = ran lent.meter ends in let told = ends.is_outcome outcome tells in assumption
 
       pub watches_and_finds : {verdict : Verdict}
           → IsFound (FindsTranslation table bounds) table bounds here meter verdict
           → WatchesRun grows view table bounds key old new first meter (Ok (Some (Found verdict)))
-      watches_and_finds found = let is = rw lent.meter at found in record {
-        watched = (is.found, is.counted, unstopped);
-        cut = tt;
-        within = is.within;
-        promised = record { claim = is.claim; numbers = is.numbers; memory = tt };
-        tapes = lent.tapes;
-        path = lent.path;
-      }
+      watches_and_finds found = let is = rw lent.meter at found in assumption
 
     pub watches_to_stop : {key : ℤ → ℕ} (n : ℕ) → IsStoppedAt key table bounds n
         → CountsTo table n here meter
@@ -218,11 +176,4 @@ module _ {T : Type 0} {view : T → TapeView} {grows : Bool} {table : Table} {bo
 
     pub watches_until_cut : {key : ℤ → ℕ} {fault : Memory} → HasCut table bounds here meter → IsTrue grows
         → WatchesRun grows view table bounds key old new first meter (Err fault)
-    watches_until_cut cut memory = let is = rw lent.meter at cut in record {
-      watched = tt;
-      cut = is.part;
-      within = is.within;
-      promised = record { claim = tt; numbers = tt; memory = memory };
-      tapes = lent.tapes;
-      path = lent.path;
-    }
+    watches_until_cut cut memory = let is = rw lent.meter at cut in assumption

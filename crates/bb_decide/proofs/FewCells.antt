@@ -1,5 +1,5 @@
 -- Why what stays in few cells is always decided.
-use Rattle.std.proofs.Common.{◌≡◌, ℕ, zero, suc, ◌+◌, ◌*◌, ◌-◌, ◌^◌, ◌<◌, ◌≤◌, ◌⊎◌, inl, inr, Option}
+use Rattle.std.proofs.Common.{◌≡◌, ℕ, zero, suc, ◌+◌, ◌*◌, ◌-◌, ◌^◌, ◌<◌, ◌≤◌, inl, inr, max, Option}
 use Rattle.std.proofs.Common.{Some, refl, subst, arith}
 use Rattle.std.proofs.Math.Pow.{pow_mono}
 use Rattle.std.proofs.lemmas.Bool.{cases_lt}
@@ -36,41 +36,35 @@ power_for_one = record {
 }
 
 -- a power below a number is the power for the number before it, and its double is the next one
-power_doubled : (m power : ℕ) → IsPowerFor m power → power < m + 1 → IsPowerFor (m + 1) (2 * power)
+power_doubled : (m power : ℕ) → IsPowerFor m power → power < suc m → IsPowerFor (suc m) (2 * power)
 power_doubled m power is less = record {
   exponent = suc is.exponent;
-  is_power = let e = is.is_power in omega (arith, e);
-  not_below = let few = is.not_below in let small = is.small in omega (arith, few, small);
+  is_power = omega arith;
+  not_below = omega arith;
   least = λ other few. elim (cases_lt is.exponent other) [
     | inl lower ↦
-        let grows : 2 ^ suc is.exponent ≤ 2 ^ other = pow_mono (omega (arith, lower)) in
-        let e = is.is_power in
-        omega (arith, grows, e)
+        let grows : 2 ^ suc is.exponent ≤ 2 ^ other = pow_mono (omega (arith, lower)) in omega arith
     | inr higher ↦
-        let falls : 2 ^ other ≤ 2 ^ is.exponent = pow_mono higher in
-        let e = is.is_power in
-        absurd (omega (arith, falls, e, few, less))
+        let falls : 2 ^ other ≤ 2 ^ is.exponent = pow_mono higher in absurd (omega arith)
   ];
-  small = omega (arith, less);
+  small = omega arith;
 }
 
-power_kept : (m power : ℕ) → IsPowerFor m power → m + 1 ≤ power → IsPowerFor (m + 1) power
+power_kept : (m power : ℕ) → IsPowerFor m power → suc m ≤ power → IsPowerFor (suc m) power
 power_kept m power is enough = record {
   exponent = is.exponent;
   is_power = is.is_power;
   not_below = enough;
   least = λ other few. is.least other (omega (arith, few));
-  small = let small = is.small in omega (arith, small);
+  small = omega arith;
 }
 
-power_for : (k : ℕ) → (power : ℕ) × IsPowerFor (k + 1) power
+power_for : (k : ℕ) → (power : ℕ) × IsPowerFor (suc k) power
 power_for zero = (1, power_for_one)
-power_for (suc k) = let before = power_for k in elim (cases_lt before.0 ((k + 1) + 1)) [
-  | inl less ↦ (2 * before.0, at_next (2 * before.0) (power_doubled (k + 1) before.0 before.1 less))
-  | inr enough ↦ (before.0, at_next before.0 (power_kept (k + 1) before.0 before.1 enough))
-] where
-  at_next : (power : ℕ) → IsPowerFor ((k + 1) + 1) power → IsPowerFor (suc k + 1) power
-  at_next power is = let e : (k + 1) + 1 ≡ suc k + 1 = omega arith in subst (λ m. IsPowerFor m power) e is
+power_for (suc k) = let before = power_for k in elim (cases_lt before.0 (suc (suc k))) [
+  | inl less ↦ (2 * before.0, power_doubled (suc k) before.0 before.1 less)
+  | inr enough ↦ (before.0, power_kept (suc k) before.0 before.1 enough)
+]
 
 -- the least power of two that is at least both of two numbers, the second of which isn't 0, is below the
 -- double of any number that is not below either of them
@@ -79,37 +73,23 @@ record HasLeastPower (first second most : ℕ) : Type 0 where
   is : IsLeastPower power first second
   small : power < 2 * most
 
-power_of_greater : (first second most greater : ℕ) → 0 < greater → first ≤ greater → second ≤ greater
-    → (greater ≡ first) ⊎ (greater ≡ second) → greater ≤ most → HasLeastPower first second most
-power_of_greater first second most greater some one other is few =
-    let least = power_for (greater - 1) in
-    let e : (greater - 1) + 1 ≡ greater = omega (arith, some) in
+has_least_power : (first second most : ℕ) → 0 < second → first ≤ most → second ≤ most
+    → HasLeastPower first second most
+has_least_power first second most some one other =
+    let least = power_for (max first second - 1) in
+    let e : suc (max first second - 1) ≡ max first second = omega arith in
     let at = subst (λ m. IsPowerFor m least.0) e least.1 in
-    let above = at.not_below in
-    let small = at.small in
     record {
       power = least.0;
       is = record {
         exponent = at.exponent;
         is_power = at.is_power;
-        not_below_first = omega (arith, above, one);
-        not_below_second = omega (arith, above, other);
-        least = λ p at_first at_second. at.least p (elim is [
-          | inl same ↦ omega (arith, same, at_first)
-          | inr same ↦ omega (arith, same, at_second)
-        ]);
+        not_below_first = omega arith;
+        not_below_second = omega arith;
+        least = λ p at_first at_second. at.least p (omega (arith, at_first, at_second));
       };
-      small = omega (arith, small, few);
+      small = omega arith;
     }
-
-has_least_power : (first second most : ℕ) → 0 < second → first ≤ most → second ≤ most
-    → HasLeastPower first second most
-has_least_power first second most some one other = elim (cases_lt first second) [
-  | inl less ↦
-      power_of_greater first second most second some (omega (arith, less)) (omega arith) (inr refl) other
-  | inr more ↦
-      power_of_greater first second most first (omega (arith, some, more)) (omega arith) more (inl refl) one
-]
 
 -- a pair that the limits reach: where a configuration comes again, and the least power of two for it
 record IsReached (table : Table) (bounds : Bounds) : Type 0 where
@@ -129,24 +109,19 @@ module _ (table : Table) (bounds : Bounds) (machine : IsMachine table) (many : H
       let few = configurations_in table bounds.cells in
       let pair = few_cells_repeat_before table bounds.cells bounds.steps machine (omega (arith, many)) running
       inside.within_cells in
-      let order = pair.in_order in
-      let early = pair.not_later in
       let period = pair.second - pair.first in
-      let on : pair.second ≡ pair.first + period = omega (arith, order) in
-      let power = has_least_power pair.first period few (omega (arith, order)) (omega (arith, order, early))
-      (omega (arith, early)) in
-      let small = power.small in
+      let on : pair.second ≡ pair.first + period = omega arith in
+      let power = has_least_power pair.first period few (omega arith) (omega arith) (omega arith) in
       record {
         at = pair.first;
         period = period;
         power = power.power;
-        positive = omega (arith, order);
+        positive = omega arith;
         same = subst (λ n. Same table pair.first n) on
             (record { here = pair.here; at_first = pair.at_first; at_second = pair.at_second });
         is_power = power.is;
-        inside = earlier_is_inside table bounds (power.power + period) bounds.steps
-            (omega (arith, small, early, many)) inside;
-        early = omega (arith, small, early);
+        inside = earlier_is_inside table bounds (power.power + period) bounds.steps (omega arith) inside;
+        early = omega arith;
       }
 
 -- what is found by a step is found by a later one

@@ -15,9 +15,7 @@ sum_same : (f g : ℕ → ℕ) (n : ℕ) → ((k : ℕ) → k < n → f k ≡ g 
 unfolding sum_to
 sum_same f g zero same = refl
 sum_same f g (suc n) same =
-    let before = sum_same f g n (λ k below. same k (omega (arith, below))) in
-    let last = same n (omega arith) in
-    omega (arith, before, last)
+    omega (arith, sum_same f g n (λ k below. same k (omega (arith, below))), same n (omega arith))
 
 -- where one term differs, they differ by it
 sum_changed : (f g : ℕ → ℕ) (j n : ℕ) → j < n → ((k : ℕ) → k ≢ j → f k ≡ g k)
@@ -26,9 +24,7 @@ unfolding sum_to
 sum_changed f g j zero below same = absurd (omega (arith, below))
 sum_changed f g j (suc n) below same = elim (cases_lt j n) [
   | inl earlier ↦
-      let before = sum_changed f g j n earlier same in
-      let last = same n (λ is. omega (arith, is, earlier)) in
-      omega (arith, before, last)
+      omega (arith, sum_changed f g j n earlier same, same n (λ is. omega (arith, is, earlier)))
   | inr late ↦
       let is : j ≡ n = omega (arith, below, late) in
       let before = sum_same f g n (λ k less. same k (λ other. omega (arith, other, is, less))) in
@@ -39,10 +35,7 @@ sum_changed f g j (suc n) below same = elim (cases_lt j n) [
 sum_zero : (f : ℕ → ℕ) (n : ℕ) → ((k : ℕ) → f k ≡ 0) → sum_to f n ≡ 0
 unfolding sum_to
 sum_zero f zero none = refl
-sum_zero f (suc n) none =
-    let before = sum_zero f n none in
-    let last = none n in
-    omega (arith, before, last)
+sum_zero f (suc n) none = omega (arith, sum_zero f n none, none n)
 
 -- a position that a window may have is one of the places
 record IsPlace (p : ℤ) : Type 0 where
@@ -62,13 +55,9 @@ as_place (negsuc n) low high = record {
   is = omega (arith, ints, low);
 }
 
-places_differ : (i j : ℕ) → i ≢ j → place i ≢ place j
-places_differ i j apart same = apart (omega (arith, ints, same))
-
 -- a write takes away what the old symbol added, and adds the new one's
 total_written : (key : ℤ → ℕ) (tape : Content) (p : ℤ) (v : ℕ) → neg_ℤ (pos MAX_CELLS) ≤ℤ p
-    → p ≤ℤ pos MAX_CELLS
-    → total key (with_cell tape p v) + key p * cell tape p ≡ total key tape + key p * v
+    → p ≤ℤ pos MAX_CELLS → total key (with_cell tape p v) + key p * cell tape p ≡ total key tape + key p * v
 unfolding total
 total_written key tape p v low high =
     let at = as_place p low high in
@@ -76,7 +65,7 @@ total_written key tape p v low high =
     let g : ℕ → ℕ = λ k. key (place k) * cell (with_cell tape p v) (place k) in
     let changed = sum_changed f g at.number (2 * MAX_CELLS + 1) at.below (λ k apart.
     ap (λ s. key (place k) * s) (sym (cell-with_cell-other tape p v (place k) (λ is.
-    places_differ k at.number apart (is ∙ at.is))))) in
+    apart (omega (arith, ints, is, at.is)))))) in
     let old : f at.number ≡ key p * cell tape p = ap (λ x. key x * cell tape x) (sym at.is) in
     let new : g at.number ≡ key p * v =
     ap (λ x. key x * cell (with_cell tape p v) x) (sym at.is)

@@ -33,8 +33,6 @@ module _ (table : Table) (runner : Runner) (run : TapeView) (stands : Stands tab
   no_pair_in_Z a c d less at_first at_second same =
       let runs = runs_before table a (steps_of runner) less
       (record { here = d; exists = at_second }) in
-      let there = runs.exists in
-      let at = stands.at in
       let one : runs.here ≡ c = cc in
       let two : d ≡ record { state = state_of runner; head = position_of runner; tape = run.content } = cc in
       runs.runs (ap (λ (e : Configuration). e.state) one ∙ same ∙ ap (λ (e : Configuration). e.state) two

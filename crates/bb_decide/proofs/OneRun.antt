@@ -11,7 +11,6 @@ use Rattle.bb_sim.specs.declared.simulation.Outcome.{Outcome}
 use Rattle.bb_sim.specs.declared.simulation.Outcome.TheVariants as outcomes
 use Rattle.bb_sim.specs.Meter.{CountsRun, CountsTo}
 use Rattle.bb_sim.specs.Outcome.{HaltsInside, HaltsNowhere, IsOutcome}
-use Rattle.bb_sim.specs.Run.{Never}
 use Rattle.bb_sim.specs.Span.{Inside}
 use Rattle.bb_sim.proofs.Facts.{halts_last}
 use Rattle.bb_cert.specs.declared.verdict.Side.{Side}
@@ -32,7 +31,8 @@ use Rattle.bb_decide.specs.Verdict.{IsVerdict}
 use Rattle.bb_decide.specs.Cost.{CountsWalk, MakesWalk}
 use Rattle.bb_decide.specs.inside.Search.{SearchesFind}
 use Rattle.bb_decide.proofs.Translations.{pair_agrees}
-use Rattle.bb_decide.proofs.Costs.{counts_walk, no_walk_counted, not_reached, walk_where_nowhere}
+use Rattle.bb_decide.proofs.Costs.{counts_walk, no_walk_counted, not_reached, verdict_of_deciders}
+use Rattle.bb_decide.proofs.Costs.{walk_where_nowhere}
 
 module _ (table : Table) (bounds : Bounds) where
   -- where records agree, no configuration comes again
@@ -63,8 +63,7 @@ module _ (table : Table) (bounds : Bounds) (key : ℤ → ℕ) (old new : Meter)
       → EndingCosts key table bounds new.steps (Ran outcome)
   run_costs counts outcome is none =
       let steps : new.steps ≡ old.steps + counts.last = ap (λ (m : Meter). m.steps) counts.counts in
-      let named = (named_by_outcome table bounds outcome is counts.last counts.is_last.inside).1 in
-      omega (arith, steps, zero, named)
+      omega (arith, (named_by_outcome table bounds outcome is counts.last counts.is_last.inside).1)
 
   -- one search alone
   pub cycle_costs : (ending : Ending) → RanAs table bounds ending
@@ -141,8 +140,7 @@ module _ {table : Table} {bounds : Bounds} {key : ℤ → ℕ} {n : ℕ} (here :
   exact_costs old mid new zero counts (Found (Cycler first second)) found ran searched none =
       let one : mid.steps ≡ old.steps + n = ap (λ (m : Meter). m.steps) counts in
       let two : new.steps ≡ mid.steps + second = ap (λ (m : Meter). m.steps) searched in
-      let late = here.first first second (cycle_looks key found.cycle) in
-      omega (arith, one, two, late, zero)
+      omega (arith, here.first first second (cycle_looks key found.cycle))
   exact_costs old mid new zero counts (Ran outcome) found ran searched none =
       absurd (none (outcome_by_chance found outcome ran))
   exact_costs old mid new zero counts (Found verdict) found ran searched none = absurd found
@@ -200,25 +198,18 @@ module _ (table : Table) (bounds : Bounds) where
   translated_on plan off translated (Found verdict) found ran = absurd found
 
 module _ (table : Table) (bounds : Bounds) (plan : Plan) where
-  nowhere_of_never : Never table → HaltsNowhere table bounds
-  nowhere_of_never never n halts = never.never n halts.halts
-
   -- what a search finds is the verdict, since such a machine never halts
   pub found_is_verdict : (verdict : Verdict) → SearchesFind table bounds plan (Some verdict)
       → IsVerdict table bounds plan verdict
-  found_is_verdict (Cycler first second) found = (
-    nowhere_of_never (repeats_never_halt table first second found.1.cycle.partner.below found.1.cycle.same),
-    found.0,
-    found.1,
-  )
-  found_is_verdict (Translated side first second extent) found = (
-    nowhere_of_never (agreeing_records_never_halt table side first second
-        (pair_agrees table side first second found.2.translation.pair)),
-    found.0,
-    found.1,
-    found.2,
-    found.3,
-  )
+  found_is_verdict (Cycler first second) found =
+      let cycle = found.1.cycle in
+      verdict_of_deciders table bounds plan (Cycler first second)
+      (λ n halts. (repeats_never_halt table first second cycle.partner.below cycle.same).never n halts.halts)
+      found
+  found_is_verdict (Translated side first second extent) found =
+      verdict_of_deciders table bounds plan (Translated side first second extent) (λ n halts.
+      (agreeing_records_never_halt table side first second
+      (pair_agrees table side first second found.2.translation.pair)).never n halts.halts) found
   found_is_verdict verdict found = absurd found
 
   -- no walk is made then, nor where the machine halts

@@ -1,23 +1,5 @@
 -- What a step means for what is known of a side's records, whether it makes one or not.
-use Rattle.std.proofs.Common.{
-  ◌≡◌,
-  ℕ,
-  ◌+◌,
-  ◌*◌,
-  ◌<◌,
-  ◌≤◌,
-  inl,
-  inr,
-  Some,
-  None,
-  ℤ,
-  pos,
-  ◌*ℤ◌,
-  ◌≤ℤ◌,
-  refl,
-  ap,
-  sym,
-}
+use Rattle.std.proofs.Common.{◌≡◌, ℕ, ◌+◌, ◌<◌, inl, inr, Some, None, pos, refl, ap, sym}
 use Rattle.std.proofs.Common.{subst, ◌∙◌, arith}
 use Rattle.std.specs.Prelude.{◌<ℤ◌}
 use Rattle.std.proofs.lemmas.Int.{ints}
@@ -45,26 +27,14 @@ use Rattle.bb_cert.proofs.Facts.{
 }
 use Rattle.bb_cert.proofs.Facts.{followed_at_first, followed_farther, followed_nearer, head_at-is, keeps}
 use Rattle.bb_cert.proofs.Facts.{made_next, nearer_on, number_narrow, numbered, record_has_one_step}
-use Rattle.bb_cert.proofs.Facts.{records_in_order, stands_on, stays}
+use Rattle.bb_cert.proofs.Facts.{one_number, records_in_order, stands_on, stays}
 use Rattle.bb_decide.specs.inside.Follow.{Compares, IsReady, IsSearched, KeepsByTurn}
 use Rattle.bb_decide.specs.Partner.{IsKept, IsPartner}
 use Rattle.bb_decide.specs.Translation.{AgreesWithPartner}
 use Rattle.bb_decide.proofs.Partners.{is_kept_one, kept_at_first, kept_below, keeps_next, keeps_on}
 
-pub one_number : (i j : ℕ) (p : ℤ) → p ≡ pos i → p ≡ pos j → i ≡ j
-one_number i j p a b = omega (arith, ints, a, b)
-
-twice : (n k : ℕ) (p q : ℤ) → p ≡ pos n → q ≡ pos (k + 1) → (pos 2 *ℤ p) ≤ℤ q → 2 * n ≤ k + 1
-twice n k p q a b h = omega (arith, ints, a, b, h)
-
-short : (n k : ℕ) (p q : ℤ) → p ≡ pos n → q ≡ pos (k + 1) → q <ℤ (pos 2 *ℤ p) → k + 1 < 2 * n
-short n k p q a b h = omega (arith, ints, a, b, h)
-
-some_out : (n : ℕ) (p : ℤ) → p ≡ pos n → pos 0 ≤ℤ p
-some_out n p is = omega (arith, ints, is)
-
 some_partner : (n k : ℕ) → IsKept n k → 0 < n → IsPartner n (k + 1)
-some_partner n k (inl first) some = let none = first.1 in absurd (omega (arith, some, none))
+some_partner n k (inl first) some = absurd (omega (arith, some, first.1))
 some_partner n k (inr partner) some = partner
 
 -- at the start there is no record
@@ -114,11 +84,7 @@ module _ (table : Table) (n : ℕ) (runner : Runner) (run saved : TapeView) (old
       partner = searched.partner;
     };
     side_is = refl;
-    none = λ a pair. none (
-      pair.second_number,
-      subst (IsRecord table old.side pair.second_number) next
-          pair.second_record,
-    );
+    none = λ a pair. none (pair.second_number, rw next at pair.second_record);
   }
 
   module _ (made : ((j : ℕ) × IsRecord table old.side j (n + 1))) where
@@ -149,8 +115,8 @@ module _ (table : Table) (n : ℕ) (runner : Runner) (run saved : TapeView) (old
     -- it can be compared with the kept one
     pub ready : IsSound run → IsReady (passed old (position_of runner)) runner saved run
     ready sound = record {
-      kept_out = some_out _ _ searched.followed.number_is;
-      head_out = some_out _ _ top_is;
+      kept_out = omega (arith, ints, searched.followed.number_is);
+      head_out = omega (arith, ints, top_is);
       narrow = number_narrow table runner run saved with_next stands known makes kept_before sound;
       comparable = comparable table runner run saved with_next stands known makes;
     }
@@ -214,13 +180,13 @@ module _ (table : Table) (n : ℕ) (runner : Runner) (run saved : TapeView) (old
             rw (kept.1, kept.2) (record {
               followed = keeps table runner run saved with_next stands known makes;
               partner = keeps_next searched.followed.number searched.followed.count searched.partner
-                  (twice _ _ _ _ searched.followed.number_is top_is kept.0);
+                  (omega (arith, ints, searched.followed.number_is, top_is, kept.0));
             })
         by_turn (inr stayed) =
             rw stayed.1 (record {
               followed = stays table runner run saved with_next stands known makes new_saved stayed.2;
               partner = keeps_on searched.followed.number searched.followed.count searched.partner
-                  (short _ _ _ _ searched.followed.number_is top_is stayed.0);
+                  (omega (arith, ints, searched.followed.number_is, top_is, stayed.0));
             })
 
 -- a side by its name, whose records have taken in a step
@@ -237,17 +203,15 @@ module _ {table : Table} {n : ℕ} {side : Side} {runner : Runner} {run saved : 
     (here : HasPassed table n side runner run saved new) where
   pub side_passes_by : (((j : ℕ) × IsRecord table side j (n + 1)) → ⊥)
       → GoesOn table (steps_of runner) side new saved
-  side_passes_by none = subst (λ s. GoesOn table (steps_of runner) s new saved) here.side_is
-      (subst (λ r. GoesOn table (steps_of runner) here.old.side r saved) (sym here.new_is)
-      (passes_by table n runner run saved here.old here.stands here.next here.searched
-      (λ made. none (subst (λ s. (j : ℕ) × IsRecord table s j (n + 1)) here.side_is made))))
+  side_passes_by none = rw (← here.side_is, here.new_is) (passes_by table n runner run saved here.old
+      here.stands here.next here.searched (λ made. none (rw here.side_is at made)))
 
   module _ (made : ((j : ℕ) × IsRecord table side j (n + 1))) where
     made_there : (j : ℕ) × IsRecord table here.old.side j (n + 1)
-    made_there = subst (λ s. (j : ℕ) × IsRecord table s j (n + 1)) (sym here.side_is) made
+    made_there = rw here.side_is made
 
     pub side_ready : IsSound run → IsReady new runner saved run
-    side_ready sound = subst (λ r. IsReady r runner saved run) (sym here.new_is)
+    side_ready sound = rw here.new_is
         (ready table n runner run saved here.old here.stands here.next here.searched made_there sound)
 
     pub side_ends : (looked : Records) (looked_saved : TapeView) (verdict : Verdict)
@@ -255,14 +219,11 @@ module _ {table : Table} {n : ℕ} {side : Side} {runner : Runner} {run saved : 
         → TellsAgreement table (steps_of runner) verdict
     side_ends looked looked_saved verdict is =
         ends_with table n runner run saved here.old here.stands here.next here.searched made_there looked
-        looked_saved verdict
-        (subst (λ r. Compares r runner run saved looked looked_saved (Some verdict)) here.new_is is)
+        looked_saved verdict (rw here.new_is at is)
 
     pub side_goes_on : (looked : Records) (looked_saved : TapeView)
         → Compares new runner run saved looked looked_saved None → looked.side ≡ new.side
         → GoesOn table (steps_of runner) side looked looked_saved
-    side_goes_on looked looked_saved is same =
-        subst (λ s. GoesOn table (steps_of runner) s looked looked_saved) here.side_is
+    side_goes_on looked looked_saved is same = rw (← here.side_is)
         (goes_on table n runner run saved here.old here.stands here.next here.searched made_there looked
-        looked_saved (subst (λ r. Compares r runner run saved looked looked_saved None) here.new_is is)
-        (same ∙ ap (λ (r : Records). r.side) here.new_is))
+        looked_saved (rw here.new_is at is) (same ∙ ap (λ (r : Records). r.side) here.new_is))

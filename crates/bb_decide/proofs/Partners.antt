@@ -27,8 +27,7 @@ keeps_next k n (inl first) high = inr (record {
 keeps_next k n (inr partner) high = inr (record {
   exponent = partner.exponent + 1;
   is_power =
-      let most = partner.greatest in
-      let same : n + 1 ≡ 2 * k = omega arith in
+      let same : n + 1 ≡ 2 * k = omega (arith, partner.greatest) in
       same ∙ ap (λ m. 2 * m) partner.is_power ∙ sym (double partner.exponent);
   below = omega arith;
   greatest = omega arith;
@@ -37,14 +36,12 @@ keeps_next k n (inr partner) high = inr (record {
 -- else what is kept stays
 pub keeps_on : (k n : ℕ) → IsKept k n → n + 1 < 2 * k → IsKept k (n + 1)
 keeps_on k n (inl first) low = absurd (omega (arith, first.1, low))
-keeps_on k n (inr partner) low =
-    let below = partner.below in
-    inr (record {
-      exponent = partner.exponent;
-      is_power = partner.is_power;
-      below = omega arith;
-      greatest = omega arith;
-    })
+keeps_on k n (inr partner) low = inr (record {
+  exponent = partner.exponent;
+  is_power = partner.is_power;
+  below = omega (arith, partner.below);
+  greatest = omega (arith, low);
+})
 
 -- a number has one partner
 pub partner_is_unique : (p q j : ℕ) → IsPartner p j → IsPartner q j → p ≡ q
@@ -61,20 +58,13 @@ partner_is_unique p q j first second = elim (cases_lt first.exponent second.expo
   too_low x y i one other lower =
       let next : one.exponent + 1 ≤ other.exponent = omega (arith, lower) in
       let grows : 2 ^ (one.exponent + 1) ≤ 2 ^ other.exponent = pow_mono next in
-      let twice = double one.exponent in
-      let is_one = one.is_power in
-      let is_other = other.is_power in
-      let most = one.greatest in
-      let below = other.below in
-      omega (arith, grows, twice, is_one, is_other, most, below)
+      omega (arith, grows, double one.exponent, one.is_power, other.is_power, one.greatest, other.below)
 
 -- the partner of the next step is what is kept: step 1 has none
 pub is_kept_one : {k n m p : ℕ} → IsKept k n → m ≡ n + 1 → IsPartner p m → p ≡ k
 is_kept_one (inl first) next partner =
     let some = one-le-pow partner.exponent 2 (omega arith) in
-    let is = partner.is_power in
-    let below = partner.below in
-    absurd (omega (arith, first.0, first.1, some, is, below, next))
+    absurd (omega (arith, first.0, first.1, some, partner.is_power, partner.below, next))
 is_kept_one {k} {n} {m} {p} (inr kept) next partner = partner_is_unique p k m partner (rw next kept)
 
 -- what is kept is its partner, but before the first step

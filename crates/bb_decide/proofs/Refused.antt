@@ -16,15 +16,13 @@ module _ {key : ℤ → ℕ} {table : Table} {bounds : Bounds} where
   breaks : {cyclers translated : Bool} (before : ℕ) → RunsBefore key table bounds cyclers translated before
       → (old new : Meter) → old.steps ≡ before → CountsPart table bounds old new
       → BreaksOff key table bounds cyclers translated new.steps
-  breaks before runs old new is part =
-      let steps = part.steps in
-      record {
-        before = before;
-        runs = runs;
-        part = part.at;
-        inside = part.inside;
-        sum = omega (arith, steps, is);
-      }
+  breaks before runs old new is part = record {
+    before = before;
+    runs = runs;
+    part = part.at;
+    inside = part.inside;
+    sum = omega arith;
+  }
 
   -- in the first run, whichever searches are on
   pub breaks_at_once : (cyclers translated : Bool) (old new : Meter) → old.steps ≡ 0
@@ -54,7 +52,5 @@ module _ {key : ℤ → ℕ} {table : Table} {bounds : Bounds} where
         let made = makes_cycles table bounds (found_of ending) finds searched in
         let none = both_open ending unsettled finds ran in
         let counted : second.steps ≡ first.steps + made.steps = ap (λ (m : Meter). m.steps) made.counts in
-        let first_steps = stop_counted in
-        breaks (n + made.steps)
-        (inr (inr (n, made.steps, stopped, none.0, none.1, made.is_steps, refl))) second new
-        (omega (arith, counted, first_steps)) part
+        breaks (n + made.steps) (inr (inr (n, made.steps, stopped, none.0, none.1, made.is_steps, refl)))
+        second new (omega (arith, counted, stop_counted)) part

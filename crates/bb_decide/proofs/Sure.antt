@@ -33,8 +33,7 @@ repeats_are_found table bounds a p power positive same is inside = record {
   partner = partner_of_sum power a p positive is;
   inside = inside;
   same =
-      let few = is.not_below_first in
-      let on : a + (power - a) ≡ power = omega (arith, few) in
+      let on : a + (power - a) ≡ power = omega arith in
       subst (λ n. Same table n (n + p)) on (repeats_keep_distance table a p (power - a) positive same);
 }
 
@@ -70,15 +69,12 @@ pub finds_agreeing_records : (table : Table) (bounds : Bounds) (found : Option V
 finds_agreeing_records table bounds None none side i r a b power n positive first second agree is there
     inside =
     let pair = agreeing_records_are_found table bounds side i r a b power n positive first second agree is
-    there
-    inside in
+    there inside in
     absurd (none side pair.0 n pair.1)
 finds_agreeing_records table bounds (Some (Translated other one two extent)) found side i r a b power n
-    positive first second
-    agree is there inside =
+    positive first second agree is there inside =
     let pair = agreeing_records_are_found table bounds side i r a b power n positive first second agree is
-    there
-    inside in
+    there inside in
     found.0.first side pair.0 n pair.1
 finds_agreeing_records table bounds (Some verdict) found side i r a b power n positive first second agree is
     there inside = absurd found
@@ -90,8 +86,6 @@ larger_limits_keep table lower upper plan (Backward levels nodes) (Halt n ones) 
     (is_halt_within plan b).halts)
 larger_limits_keep table lower upper plan (Backward levels nodes) (Backward h k) machine within a b =
     let same = tree_has_one_end table h k levels nodes (is_tree plan b).ends (is_tree plan a).ends in
-    let levels_same = same.0 in
-    let nodes_same = same.1 in
     inl cc
 larger_limits_keep table lower upper plan (Backward levels nodes) (Undecided why) machine within a b =
     absurd (((passes_all plan why b).2 (trees_are_on plan a)).nowhere levels nodes

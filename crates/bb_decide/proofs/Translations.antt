@@ -38,18 +38,15 @@ use Rattle.bb_decide.proofs.SoFar.{none_earlier, none_inside, none_so_far}
 pub none_at_first : (table : Table) (bounds : Bounds) (side : Side) (a b : ℕ) → b ≤ 0
     → IsTranslation table bounds side a b → ⊥
 none_at_first table bounds side a b few found =
-    let record_b = found.pair.second_record in
-    let takes = record_takes_steps table side found.pair.second_number b record_b in
-    let some = record_b.positive in
-    omega (arith, few, takes, some)
+    let made = found.pair.second_record in
+    omega (arith, few, record_takes_steps table side found.pair.second_number b made, made.positive)
 
 -- a record that agrees with its partner is one of two that agree
 pub pair_agrees : (table : Table) (side : Side) (a b : ℕ) → AgreesWithPartner table side a b
     → AgreeingRecords table side a b
 pair_agrees table side a b pair = record {
   in_order = (records_in_order table side pair.first_number pair.second_number a b pair.first_record
-      pair.second_record).0
-      pair.partner.below;
+      pair.second_record).0 pair.partner.below;
   first_number = pair.first_number;
   second_number = pair.second_number;
   first_record = pair.first_record;
@@ -59,8 +56,7 @@ pair_agrees table side a b pair = record {
 
 -- in Z no record agrees with an earlier one
 pub no_pair_at_end : (table : Table) (runner : Runner) (run : TapeView) → Stands table runner run
-    → state_of runner ≡ Halt
-    → (side : Side) (a : ℕ) → AgreesWithPartner table side a (steps_of runner) → ⊥
+    → state_of runner ≡ Halt → (side : Side) (a : ℕ) → AgreesWithPartner table side a (steps_of runner) → ⊥
 no_pair_at_end table runner run stands halts side a pair =
     let agreeing = pair_agrees table side a (steps_of runner) pair in
     let agree = agreeing.agree in
@@ -147,18 +143,9 @@ module _ {table : Table} {before after : Runner} {view saved_right saved_left : 
 
 -- what is known of both sides then
 looked : {table : Table} (runner : Runner) {right left : Records} {saved_right saved_left : TapeView}
-    → GoesOn table (steps_of runner) R right saved_right
-    → GoesOn table (steps_of runner) L left saved_left
+    → GoesOn table (steps_of runner) R right saved_right → GoesOn table (steps_of runner) L left saved_left
     → HasPassedBoth table (steps_of runner) right left saved_right saved_left
-looked {table} runner on_right on_left = (
-  record {
-    on_right = on_right.searched;
-    on_left = on_left.searched;
-    right_is = on_right.side_is;
-    left_is = on_left.side_is;
-  },
-  none_now,
-) where
+looked {table} runner on_right on_left = (assumption, none_now) where
   none_now : (side : Side) (a : ℕ) → AgreesWithPartner table side a (steps_of runner) → ⊥
   none_now R a pair = on_right.none a pair
   none_now L a pair = on_left.none a pair
@@ -183,8 +170,7 @@ module _ {table : Table} {n : ℕ} {after : Runner} {view saved_right saved_left
     -- the two agree
     pub tells_pair : (side : Side) → widened ≡ Some side → (verdict : Verdict)
         → Looks side after view right left saved_right saved_left new_right new_left new_saved_right
-        new_saved_left (Some verdict)
-        → TellsAgreement table (steps_of after) verdict
+        new_saved_left (Some verdict) → TellsAgreement table (steps_of after) verdict
     tells_pair R is verdict looks =
         side_ends taken.on_right (rw is at taken.makes).0 new_right new_saved_right verdict looks.0
     tells_pair L is verdict looks =

@@ -1,5 +1,5 @@
 -- Why no machine has two verdicts, nor two counts of steps.
-use Rattle.std.proofs.Common.{◌≡◌, ℕ, ◌≤◌, ◌<◌, Option, ℤ, pos, neg_ℤ, inl, inr, refl, sym, subst, ◌∙◌, arith}
+use Rattle.std.proofs.Common.{◌≡◌, ℕ, ◌≤◌, ◌<◌, Option, inl, inr, refl, sym, ◌∙◌, arith}
 use Rattle.std.proofs.lemmas.Bool.{cases_lt}
 use Rattle.std.proofs.lemmas.Int.{ints}
 use Rattle.bb_machine.specs.Limits.{Bounds}
@@ -14,10 +14,8 @@ use Rattle.bb_cert.specs.declared.verdict.Extent.{Extent}
 use Rattle.bb_cert.specs.declared.verdict.Side.{Side}
 use Rattle.bb_cert.specs.declared.verdict.Side.TheVariants.{L, R}
 use Rattle.bb_cert.specs.verdict.Extent.{TellsExtent}
-use Rattle.bb_cert.specs.records.Record.{IsRecord}
-use Rattle.bb_cert.proofs.Facts.{record_has_one_step, stands_on, told_is_one, tree_has_one_end}
+use Rattle.bb_cert.proofs.Facts.{one_number, record_has_one_step, stands_on, told_is_one, tree_has_one_end}
 use Rattle.bb_decide.specs.Cycle.{IsFirstCycle}
-use Rattle.bb_decide.specs.Partner.{IsPartner}
 use Rattle.bb_decide.specs.Translation.{IsFirstTranslation}
 use Rattle.bb_decide.specs.Verdict.{IsVerdict}
 use Rattle.bb_decide.specs.Laws.{VerdictIsUnique, StepsAreBounded, StepsAreUnique}
@@ -28,17 +26,13 @@ use Rattle.bb_decide.proofs.KnownOfVerdicts.{asked_before, cyclers_are_on, exten
 use Rattle.bb_decide.proofs.KnownOfVerdicts.{is_first_cycle, is_halt_within, is_tree, no_halt_within}
 use Rattle.bb_decide.proofs.KnownOfVerdicts.{passes_cycles, passes_translations, passes_trees}
 use Rattle.bb_decide.proofs.KnownOfVerdicts.{translated_are_on, trees_are_on}
-use Rattle.bb_decide.proofs.OneSide.{one_number}
 use Rattle.bb_decide.proofs.Partners.{partner_is_unique}
 
 -- there is one first cycle
 module _ (table : Table) (bounds : Bounds) (a t b u : ℕ) (one : IsFirstCycle table bounds a t)
     (other : IsFirstCycle table bounds b u) where
   first_cycle_is_one : t ≡ u
-  first_cycle_is_one =
-      let below = one.first b u other.cycle in
-      let above = other.first a t one.cycle in
-      omega arith
+  first_cycle_is_one = omega (arith, one.first b u other.cycle, other.first a t one.cycle)
 
   partner_of_cycle_is_one : a ≡ b
   partner_of_cycle_is_one =
@@ -49,19 +43,16 @@ module _ (table : Table) (bounds : Bounds) where
   first_translation_is_one : (s r : Side) (a b c d : ℕ) → IsFirstTranslation table bounds s a b
       → IsFirstTranslation table bounds r c d → b ≡ d
   first_translation_is_one s r a b c d one other =
-      let below = one.first r c d other.translation in
-      let above = other.first s a b one.translation in
-      omega arith
+      omega (arith, one.first r c d other.translation, other.first s a b one.translation)
 
   left_or_right : (a b c : ℕ) → IsFirstTranslation table bounds L a b → IsFirstTranslation table bounds R c b
       → ⊥
   left_or_right a b c one other =
-      let left = one.translation.pair.second_record in
-      let right = other.translation.pair.second_record in
-      not_both _ _ _ (stands_on table L one.translation.pair.second_number b left)
-      (stands_on table R other.translation.pair.second_number b right) left.positive right.positive where
-        not_both : (p : ℤ) (i j : ℕ) → neg_ℤ p ≡ pos i → p ≡ pos j → 0 < i → 0 < j → ⊥
-        not_both p i j a b c d = omega (arith, ints, a, b, c, d)
+      let left = one.translation.pair in
+      let right = other.translation.pair in
+      let at_left = stands_on table L left.second_number b left.second_record in
+      let at_right = stands_on table R right.second_number b right.second_record in
+      omega (arith, ints, at_left, at_right)
 
   side_is_one : (s r : Side) (a b c : ℕ) → IsFirstTranslation table bounds s a b
       → IsFirstTranslation table bounds r c b → s ≡ r
@@ -79,9 +70,9 @@ module _ (table : Table) (bounds : Bounds) where
       (stands_on table s first.second_number b first.second_record)
       (stands_on table s second.second_number b second.second_record) in
       let partner = partner_is_unique first.first_number second.first_number second.second_number
-      (subst (IsPartner first.first_number) number first.partner) second.partner in
-      record_has_one_step table s second.first_number a c
-      (subst (λ n. IsRecord table s n a) partner first.first_record) second.first_record
+      (rw number at first.partner) second.partner in
+      record_has_one_step table s second.first_number a c (rw partner at first.first_record)
+      second.first_record
 
   translations_are_one : (s r : Side) (a b c d : ℕ) (one_told other_told : Option Extent)
       → IsFirstTranslation table bounds s a b → IsFirstTranslation table bounds r c d
@@ -89,14 +80,12 @@ module _ (table : Table) (bounds : Bounds) where
       → Translated s a b one_told ≡ Translated r c d other_told
   translations_are_one s r a b c d one_told other_told one other tells_one tells_other =
       let step = first_translation_is_one s r a b c d one other in
-      let there = subst (IsFirstTranslation table bounds r c) (sym step) other in
+      let there : IsFirstTranslation table bounds r c b = rw step other in
       let side = side_is_one s r a b c one there in
-      let here = subst (λ t. IsFirstTranslation table bounds t c b) (sym side) there in
+      let here : IsFirstTranslation table bounds s c b = rw side there in
       let partner = partner_of_translation_is_one s a b c one here in
-      let tells_step = subst (λ n. TellsExtent table r c n other_told) (sym step) tells_other in
-      let tells_side = subst (λ t. TellsExtent table t c b other_told) (sym side) tells_step in
-      let tells_here = subst (λ n. TellsExtent table s n b other_told) (sym partner) tells_side in
-      let told = told_is_one table s a b one_told other_told tells_one tells_here in
+      let tells : TellsExtent table s a b other_told = rw (step, side, partner) tells_other in
+      let told = told_is_one table s a b one_told other_told tells_one tells in
       cc
 
 -- what one verdict has found isn't passed over by one that comes later
@@ -132,10 +121,7 @@ verdict_is_unique table bounds plan (Translated side first second extent)
     (is_first_agreement plan extent a) (is_first_agreement plan told b) (extent_is_told plan extent a)
     (extent_is_told plan told b)
 verdict_is_unique table bounds plan (Backward levels nodes) (Backward h k) a b =
-    let same = tree_has_one_end table levels nodes h k (is_tree plan a).ends (is_tree plan b).ends in
-    let levels_same = same.0 in
-    let nodes_same = same.1 in
-    cc
+    let same = tree_has_one_end table levels nodes h k (is_tree plan a).ends (is_tree plan b).ends in cc
 verdict_is_unique table bounds plan (Undecided Steps) (Undecided Steps) a b = refl
 verdict_is_unique table bounds plan (Undecided Cells) (Undecided Cells) a b = refl
 verdict_is_unique table bounds plan (Undecided Steps) (Undecided Cells) a b =
@@ -157,8 +143,7 @@ module _ (table : Table) (bounds : Bounds) where
   cycle_steps_are_one n m (inr one) (inr other) = last_step_is_unique table bounds n m one.1 other.1
 
   pub translation_steps_are_one : (n m : ℕ) → TranslationSteps table bounds n
-      → TranslationSteps table bounds m
-      → n ≡ m
+      → TranslationSteps table bounds m → n ≡ m
   translation_steps_are_one n m (inl one) (inl other) =
       first_translation_is_one table bounds one.0 other.0 one.1 n other.1 m one.2 other.2
   translation_steps_are_one n m (inl one) (inr none) = absurd (none.0 one.0 one.1 n one.2.translation)
@@ -179,25 +164,20 @@ steps_are_unique table bounds plan a b first second =
     let cycles = steps_if_made_are_one (MakesCycleSearch table bounds plan) (CycleSteps table bounds)
     (cycle_steps_are_one table bounds) first.cycles second.cycles first.is_cycles second.is_cycles in
     let translations = steps_if_made_are_one (MakesTranslationSearch table bounds plan)
-    (TranslationSteps table bounds)
-    (translation_steps_are_one table bounds) first.translations second.translations first.is_translations
-    second.is_translations in
-    let one = first.sum in
-    let other = second.sum in
+    (TranslationSteps table bounds) (translation_steps_are_one table bounds) first.translations
+    second.translations first.is_translations second.is_translations in
     omega arith
 
 few_if_made : (Made : Type 0) (Cost : ℕ → Type 0) (most : ℕ) → ((n : ℕ) → Cost n → n ≤ most) → (n : ℕ)
     → StepsIfMade Made Cost n → n ≤ most
 few_if_made Made Cost most few n (inl made) = few n made.1
-few_if_made Made Cost most few n (inr not_made) = let none = not_made.1 in omega (arith, none)
+few_if_made Made Cost most few n (inr not_made) = omega (arith, not_made.1)
 
 pub steps_are_bounded : StepsAreBounded
 steps_are_bounded table bounds plan steps is =
-    let run = is.is_run.inside.within_steps in
     let cycles = few_if_made (MakesCycleSearch table bounds plan) (CycleSteps table bounds) bounds.steps
     (λ n made. (cycle_step_inside table bounds n made).within_steps) is.cycles is.is_cycles in
     let translations = few_if_made (MakesTranslationSearch table bounds plan) (TranslationSteps table bounds)
     bounds.steps (λ n made. (translation_step_inside table bounds n made).within_steps) is.translations
     is.is_translations in
-    let sum = is.sum in
-    omega (arith, run, cycles, translations, sum)
+    omega arith

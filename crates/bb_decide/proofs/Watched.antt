@@ -82,8 +82,6 @@ heads_apart table n c d at_c at_d same =
     let at_next : conf table (suc n) ≡ Some d = rw (← add-one) at_d in
     let moved = moves table n (record { here = d; exists = at_next }) in
     let led = led_by table moved.before moved.then_here moved.is_next in
-    let at_before = moved.at_before in
-    let at_then = moved.at_then in
     let c_is : moved.before ≡ c = cc in
     let d_is : moved.then_here ≡ d = cc in
     moved_apart led.to c.head (same ∙ ap (λ (e : Configuration). e.head) (sym d_is ∙ led.is)
@@ -118,15 +116,10 @@ module _ {table : Table} {before after : Runner} {view_before view_after : TapeV
       let here : counted_head table (steps_of before) ≡ position_of before =
       counted_head-at table (steps_of before) _ stands.at
       ∙ counted_running (state_of before) (position_of before) running in
-      let next = moved.next in
-      let few : steps_of before ≤ steps_of after = omega (arith, next) in
+      let few : steps_of before ≤ steps_of after = omega (arith, moved.next) in
       let below = least_bounds (counted_head table) (steps_of before) (steps_of after) few in
       let above = greatest_bounds (counted_head table) (steps_of before) (steps_of after) few in
-      let low = moved.stands.low in
-      let high = moved.stands.high in
-      let window_low = moved.stands.window_low in
-      let window_high = moved.stands.window_high in
-      rw (to_z-of_z w64 p fits, at) (omega (arith, ints), omega (arith, ints))
+      rw (to_z-of_z w64 p fits, at) (omega (arith, ints, moved.stands))
 
   -- and the tape is as it was but for the cell there
   pub written_there : view_after.content
@@ -136,9 +129,6 @@ module _ {table : Table} {before after : Runner} {view_before view_after : TapeV
       rw (← add-one, ← moved.next) moved.stands.at in
       let made = moves table (steps_of before) (record { here = _; exists = at_after }) in
       let led = led_by table made.before made.then_here made.is_next in
-      let at_before = made.at_before in
-      let at_then = made.at_then in
-      let stands_at = stands.at in
       let c_is : made.before ≡ configuration_of before view_before = cc in
       let d_is : made.then_here ≡ configuration_of after view_after = cc in
       let led_tape : made.then_here.tape ≡ with_cell made.before.tape made.before.head led.write =
@@ -199,10 +189,6 @@ module _ {table : Table} {bounds : Bounds} {key : ℤ → ℕ} {before after : R
 
     as_kept : LooksAsPartner key table (steps_of old.kept) (steps_of after) → AreAsKept printed after
     as_kept looks =
-        let at_kept = here.search.kept_stands.at in
-        let at_after = moved.stands.at in
-        let at_partner = looks.at_partner in
-        let at_step = looks.at_step in
         let one : looks.one ≡ configuration_of old.kept here.kept_view = cc in
         let other : looks.other ≡ configuration_of after view_after = cc in (
           print_is ∙ sym (ap (λ (c : Configuration). fingerprint key c.tape) other) ∙ sym looks.print
@@ -226,13 +212,11 @@ module _ {table : Table} {bounds : Bounds} {key : ℤ → ℕ} {before after : R
     pub watched_on : {new : Prints} → (AreAsKept printed after → ⊥) → KeepInTurn after printed new
         → IsWatched table bounds key after view_after new
     watched_on differs (inl stays_kept) =
-        let was_next = here.next in
         let same_next = ap (λ (p : Prints). p.next) stays in
-        let few = stays_kept.0 in
         rw (stays_kept.1, stays) (record {
           kept_view = here.kept_view;
           search = cycles.goes_on here.search moved inside (apart differs)
-              (omega (arith, was_next, same_next, few));
+              (omega (arith, here.next, same_next, stays_kept.0));
           print_is = print_is;
           kept_print_is = here.kept_print_is;
           next = here.next;
@@ -240,13 +224,11 @@ module _ {table : Table} {bounds : Bounds} {key : ℤ → ℕ} {before after : R
           running = moved.running;
         })
     watched_on differs (inr kept) =
-        let was_next = here.next in
         let same_next = ap (λ (p : Prints). p.next) stays in
-        let many = kept.0 in
         rw kept.1 (record {
           kept_view = view_after;
           search = cycles.keeps_this here.search moved inside (apart differs)
-              (omega (arith, was_next, same_next, many)) moved.stands;
+              (omega (arith, here.next, same_next, kept.0)) moved.stands;
           print_is = print_is;
           kept_print_is = print_is;
           next = refl;

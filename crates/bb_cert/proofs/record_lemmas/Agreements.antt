@@ -1,7 +1,6 @@
 -- Records that agree: from them on, the run goes alike.
 use Rattle.std.proofs.Common.{◌≡◌, ℕ, zero, suc, ◌+◌, ◌-◌, ◌<◌, ◌≤◌, inl, inr, Some, option_and_then, ℤ, pos}
 use Rattle.std.proofs.Common.{◌+ℤ◌, ◌-ℤ◌, ◌≤ℤ◌, ap, sym, subst, ◌∙◌, arith}
-use Rattle.std.specs.Prelude.{◌<ℤ◌}
 use Rattle.std.proofs.lemmas.Bool.{cases_lt}
 use Rattle.std.proofs.lemmas.Int.{ints, by_lt_z}
 use Rattle.bb_machine.specs.Machine.{Table}
@@ -36,24 +35,12 @@ pub record IsAlike (table : Table) (side : Side) (a b u : ℕ) : Type 0 where
   pub inside : beyond table side a b first.head
 
 -- the two heads, by their distance
-heads_apart : (p q p' q' : ℤ) → p ≡ p' → q ≡ q' → q' ≡ p' +ℤ (q -ℤ p)
-heads_apart p q p' q' at_p at_q = omega (arith, ints)
-
 distance_is : (p q p' q' : ℤ) → p ≡ p' → q ≡ q' → q' -ℤ p' ≡ q -ℤ p
 distance_is p q p' q' at_p at_q = omega (arith, ints)
-
-farther_out : {d p q : ℤ} {i j : ℕ} → d ≡ q -ℤ p → p ≡ pos i → q ≡ pos j → i < j → pos 1 ≤ℤ d
-farther_out e at_p at_q more = omega (arith, ints)
-
-past_first : (h x : ℤ) (i : ℕ) → h ≡ pos i → h <ℤ x → pos i ≤ℤ x
-past_first h x i at past = omega (arith, ints)
 
 past_second : (x : ℤ) {y d p q : ℤ} {i j : ℕ} → y ≡ x +ℤ d → d ≡ q -ℤ p → p ≡ pos i → q ≡ pos j → pos i ≤ℤ x
     → pos j ≤ℤ y
 past_second x e apart at_p at_q past = omega (arith, ints)
-
-still_beyond : (f p q d : ℤ) → q ≡ p +ℤ d → f ≤ℤ p → pos 1 ≤ℤ d → f ≤ℤ q
-still_beyond f p q d e near more = omega (arith, ints)
 
 module _ (table : Table) (side : Side) (a b : ℕ) (records : AgreeingRecords table side a b) where
   -- the head at b is farther out
@@ -63,7 +50,7 @@ module _ (table : Table) (side : Side) (a b : ℕ) (records : AgreeingRecords ta
       let at_second = stands_on table side records.second_number b records.second_record in
       let more = (records_in_order table side records.first_number records.second_number a b
       records.first_record records.second_record).1 records.in_order in
-      farther_out (out-subtract side (head_at table b) (head_at table a)) at_first at_second more
+      omega (arith, ints, out-subtract side (head_at table b) (head_at table a), at_first, at_second, more)
 
   -- from a to b the head is no nearer than the least
   within : (u : ℕ) → u ≤ b - a → beyond table side a b (head_at table (a + u))
@@ -94,7 +81,7 @@ module _ (table : Table) (side : Side) (a b : ℕ) (records : AgreeingRecords ta
       let on_first = ap (out side) (sym at_first)
       ∙ stands_on table side records.first_number a records.first_record in
       by_lt_z (out side agree.first.head) (out side x)
-      (λ past. blank_at_both x (past_first _ _ _ on_first past))
+      (λ past. blank_at_both x (omega (arith, ints, on_first, past)))
       (λ near. agree.same_cells x inside near
       ∙ ap (λ d. cell agree.second.tape (x +ℤ d)) (distance_is _ _ _ _ at_first at_second))
 
@@ -112,7 +99,7 @@ module _ (table : Table) (side : Side) (a b : ℕ) (records : AgreeingRecords ta
         at_second = rw none_more agree.at_second;
         moved = record {
           same_state = agree.same_state;
-          same_head = heads_apart _ _ _ _ at_first at_second;
+          same_head = omega (arith, ints, at_first, at_second);
           same_cells = start_cells;
         };
         inside = subst (beyond table side a b) (ap (head_at table) no_more ∙ at_first)
@@ -126,13 +113,11 @@ module _ (table : Table) (side : Side) (a b : ℕ) (records : AgreeingRecords ta
       let one_more : a + suc u ≡ suc (a + u) = omega arith in
       let and_more : b + suc u ≡ suc (b + u) = omega arith in
       let moved = moves table (a + u) (subst (Exists table) one_more step) in
-      let at_before = moved.at_before in
-      let at_first = alike.at_first in
-      let same : moved.before ≡ alike.first = cc in
+      let same : moved.before ≡ alike.first = cc (moved.at_before, alike.at_first) in
       let leads = step_alike (beyond table side a b) (distance table a b) table alike.first alike.second
       alike.moved alike.inside moved.then_here (ap (next table) (sym same) ∙ moved.is_next) in
       let at_next : conf table (a + suc u) ≡ Some leads.then_first = ap (conf table) one_more
-      ∙ conf-suc table (a + u) ∙ ap (option_and_then (next table)) at_first ∙ leads.first_next in
+      ∙ conf-suc table (a + u) ∙ ap (option_and_then (next table)) alike.at_first ∙ leads.first_next in
       record {
         first = leads.then_first;
         second = leads.then_second;
@@ -147,11 +132,10 @@ module _ (table : Table) (side : Side) (a b : ℕ) (records : AgreeingRecords ta
   step_beyond : (v : ℕ) → IsAlike table side a b v → Exists table (b + v)
       × beyond table side a b (head_at table (b + v))
   step_beyond v alike =
-      let head = head_at-is table (b + v) alike.second alike.at_second ∙ alike.moved.same_head in (
-        record { here = alike.second; exists = alike.at_second },
-        still_beyond _ _ _ _ (ap (out side) head ∙ out-add side alike.first.head (distance table a b))
-            alike.inside farther,
-      )
+      let head = head_at-is table (b + v) alike.second alike.at_second ∙ alike.moved.same_head in
+      let is = ap (out side) head ∙ out-add side alike.first.head (distance table a b) in
+      let there : Exists table (b + v) = record { here = alike.second; exists = alike.at_second } in
+      (there, omega (arith, ints, is, alike.inside, farther))
 
   -- where all steps before are alike, there is one more, and the head is no nearer there
   stays : (u : ℕ) → ((v : ℕ) → v < u → IsAlike table side a b v) → Exists table (a + u)

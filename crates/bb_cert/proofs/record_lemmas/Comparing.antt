@@ -1,9 +1,9 @@
 -- A record that was just made, and the kept one: when they agree.
 use Rattle.std.proofs.Common.{◌≡◌, ℕ, ◌<◌, ◌≤◌, inl, inr, ℤ, pos, ◌+ℤ◌, ◌-ℤ◌, ◌≤ℤ◌, refl, ap, sym, subst, ◌∙◌}
 use Rattle.std.proofs.Common.{arith}
-use Rattle.std.specs.Prelude.{◌≢◌, ◌<ℤ◌}
+use Rattle.std.specs.Prelude.{◌≢◌}
 use Rattle.std.proofs.lemmas.Bool.{cases_lt}
-use Rattle.std.proofs.lemmas.Int.{ints}
+use Rattle.std.proofs.lemmas.Int.{clamps, ints}
 use Rattle.bb_machine.specs.declared.entry.Next.TheVariants.{Halt}
 use Rattle.bb_machine.specs.Machine.{Table}
 use Rattle.bb_tape.specs.Content.{Content, cell}
@@ -29,16 +29,7 @@ use Rattle.bb_cert.proofs.record_lemmas.Heads.{far_bounds}
 use Rattle.bb_cert.proofs.record_lemmas.Heads.{far_is_reached}
 use Rattle.bb_cert.proofs.record_lemmas.Positions.{head_at-is, one_number, out-zero}
 use Rattle.bb_cert.proofs.record_lemmas.Records.{short_of_record, stands_on}
-use Rattle.bb_cert.proofs.record_lemmas.Stretches.{high_wider, low_wider, narrow_inside, seen_wider}
-
-pub some_number : (n : ℕ) (p : ℤ) → p ≡ pos n → p ≢ pos 0 → 0 < n
-some_number n p is apart = elim (cases_lt 0 n) [
-  | inl some ↦ some
-  | inr none ↦ absurd (apart (is ∙ ap pos (omega (arith, none))))
-]
-
-no_zero : (n : ℕ) (p : ℤ) → p ≡ pos n → 0 < n → p ≢ pos 0
-no_zero n p is some none = omega (arith, ints, is, some, none)
+use Rattle.bb_cert.proofs.record_lemmas.Stretches.{narrow_inside, seen_wider}
 
 -- positions that are as far out are the same
 out_same : (side : Side) (p q : ℤ) → out side p ≡ out side q → p ≡ q
@@ -47,39 +38,29 @@ out_same side p q is = sym (out-out side p) ∙ ap (out side) is ∙ out-out sid
 at_zero : (side : Side) (p : ℤ) → out side p ≡ pos 0 → p ≡ pos 0
 at_zero side p is = out_same side p (pos 0) (is ∙ sym (out-zero side))
 
-at_most_same : (p q r : ℤ) → p ≡ q → r ≤ℤ p → r ≤ℤ q
-at_most_same p q r is h = omega (arith, ints, is, h)
-
-same_order : (p : ℤ) → p ≤ℤ p
-same_order p = omega (arith, ints)
-
 -- a kept record has a number
 pub numbered_at : (table : Table) (records : Records) (saved : TapeView) (n : ℕ)
     (followed : IsFollowed table n records saved) → position_of records.kept ≢ pos 0 → 0 < followed.number
-numbered_at table records saved n followed apart =
-    some_number followed.number (number_of records) followed.number_is (λ none. apart
-    (at_zero records.side _ none))
+numbered_at table records saved n followed apart = elim (cases_lt 0 followed.number) [
+  | inl some ↦ some
+  | inr none ↦ absurd (apart (at_zero records.side _ (followed.number_is ∙ ap pos (omega (arith, none)))))
+]
 
 -- where a runner stands, on this content
 abbrev stood : Runner → Content → Configuration
-stood runner content =
-    record { state = state_of runner; head = position_of runner; tape = content }
+stood runner content = record { state = state_of runner; head = position_of runner; tape = content }
 
 -- the last record is as far out as the head ever was
 top_here : (table : Table) (side : Side) (n j : ℕ) (top : ℤ) → IsTop table side n top
-    → IsRecord table side j n
-    → out side (head_at table n) ≡ top
+    → IsRecord table side j n → out side (head_at table n) ≡ top
 top_here table side n j top is made = elim (cases_lt is.step n) [
-  | inl before ↦ absurd (
+  | inl before ↦
       let short = short_of_record table side j n made is.step before in
-      let stands = stands_on table side j n made in
       let high = is.bounds n (omega arith) in
-      below_top _ _ top j is.reached short stands high)
-  | inr here ↦ let few = is.no_later in let same : is.step ≡ n = omega (arith, few, here) in
+      absurd (omega (arith, ints, is.reached, short, stands_on table side j n made, high))
+  | inr here ↦ let same : is.step ≡ n = omega (arith, is.no_later, here) in
       subst (λ k. out side (head_at table k) ≡ top) same is.reached
-] where
-  below_top : (p q t : ℤ) (j : ℕ) → p ≡ t → p <ℤ pos j → q ≡ pos j → q ≤ℤ t → ⊥
-  below_top p q t j a b c d = omega (arith, ints, a, b, c, d)
+]
 
 module _ (table : Table) (runner : Runner) (run saved : TapeView) (records : Records)
     (stands : Stands table runner run)
@@ -87,12 +68,8 @@ module _ (table : Table) (runner : Runner) (run saved : TapeView) (records : Rec
     (made : MakesRecord table records.side (steps_of runner)) where
   -- the window of the run, by what was seen
   in_window : (p : ℤ) → (least (counted_head table) (steps_of runner) ≤ℤ p)
-      × (p ≤ℤ greatest (counted_head table) (steps_of runner))
-      → IsInside run p
-  in_window p between = (
-    subst (λ l. l ≤ℤ p) (sym (stands.window_low ∙ stands.low)) between.0,
-    subst (λ h. p ≤ℤ h) (sym (stands.window_high ∙ stands.high)) between.1,
-  )
+      × (p ≤ℤ greatest (counted_head table) (steps_of runner)) → IsInside run p
+  in_window p between = omega (arith, ints, stands, between)
 
   here_is : head_at table (steps_of runner) ≡ position_of runner
   here_is = head_at-is table (steps_of runner) _ stands.at
@@ -102,8 +79,7 @@ module _ (table : Table) (runner : Runner) (run saved : TapeView) (records : Rec
 
   head_inside : state_of runner ≢ Halt → (m : ℕ) → m ≤ steps_of runner → IsInside run (head_at table m)
   head_inside runs m few =
-      in_window (head_at table m)
-      (head_in_window table m (steps_of runner) few
+      in_window (head_at table m) (head_in_window table m (steps_of runner) few
       (runs_up_to table m (steps_of runner) few (runs_here runs)))
 
   top_out : out records.side (head_at table (steps_of runner)) ≡ top_of records runner
@@ -123,8 +99,8 @@ module _ (table : Table) (runner : Runner) (run saved : TapeView) (records : Rec
     before = omega arith;
     at = stands.at;
     far_is = sym top_out ∙ sym (far-here table records.side (steps_of runner));
-    low = subst (λ l. l ≤ℤ run.low) (stands.window_low ∙ stands.low) (same_order run.low);
-    high = subst (λ h. run.high ≤ℤ h) (stands.window_high ∙ stands.high) (same_order run.high);
+    low = omega (arith, ints, stands);
+    high = omega (arith, ints, stands);
     seen = λ runs. subst (IsInside run) here_is (head_inside runs (steps_of runner) (omega arith));
   }
 
@@ -138,12 +114,12 @@ module _ (table : Table) (runner : Runner) (run saved : TapeView) (records : Rec
     kept = kept_here;
   }
 
-  pub keeps_step : (new : Records) → new ≡ with_kept records runner
-      → KeepsStep table (steps_of runner) new
-  keeps_step new is = subst (KeepsStep table (steps_of runner)) (sym is) (record {
-    made = λ some none. no_zero made.0 (top_of records runner)
-        (sym top_out ∙ stands_on table records.side made.0 (steps_of runner) made.1) (made.1).positive
-        (ap (out records.side) none ∙ out-zero records.side);
+  pub keeps_step : (new : Records) → new ≡ with_kept records runner → KeepsStep table (steps_of runner) new
+  keeps_step new is = rw is (record {
+    made = λ some none.
+        let at = stands_on table records.side made.0 (steps_of runner) made.1 in
+        let zero = ap (out records.side) none ∙ out-zero records.side in
+        omega (arith, ints, (made.1).positive, top_out, at, zero);
     at = λ some. refl;
   })
 
@@ -155,20 +131,16 @@ module _ (table : Table) (runner : Runner) (run saved : TapeView) (records : Rec
     before = old.before;
     at = old.at;
     far_is = old.far_is;
-    low = low_wider _ _ saved old.low
-        (subst (λ l. l ≤ℤ records.nearest) (stands.window_low ∙ stands.low) inside.0);
-    high = high_wider _ _ saved old.high
-        (subst (λ h. records.nearest ≤ℤ h) (stands.window_high ∙ stands.high) inside.1);
+    low = omega (arith, ints, clamps, old.low, stands, inside);
+    high = omega (arith, ints, clamps, old.high, stands, inside);
     seen = λ runs. seen_wider saved _ _ (old.seen runs);
   }
 
   pub kept_wider : (new : TapeView) → IsWidened records run saved new → 0 < followed.number
       → IsKeptRecord table records.side followed.number (steps_of runner) records.kept (nearest_out records)
       new
-  kept_wider new (inl same) some = subst (IsKeptRecord table records.side followed.number (steps_of runner)
-      records.kept (nearest_out records)) (sym same) (followed.kept some)
-  kept_wider new (inr wider) some = subst (IsKeptRecord table records.side followed.number (steps_of runner)
-      records.kept (nearest_out records)) (sym wider.0) (wider_kept some wider.1)
+  kept_wider new (inl same) some = rw same (followed.kept some)
+  kept_wider new (inr wider) some = rw wider.0 (wider_kept some wider.1)
 
   -- else the kept one stays, in what was saved of it, which may have been widened
   abbrev pub stays : (new : TapeView) → IsWidened records run saved new
@@ -197,14 +169,13 @@ module _ (table : Table) (runner : Runner) (run saved : TapeView) (records : Rec
     are_comparable runs kept_runs =
         let reached = far_is_reached table records.side (steps_of records.kept)
         (steps_of runner) kept.before in
+        let below = far_bounds table records.side (steps_of records.kept) (steps_of runner) kept.before in
+        let above = followed.top.bounds (steps_of records.kept) kept.before in
         record {
-          low = subst (λ l. l ≤ℤ saved.low) (sym (stands.window_low ∙ stands.low)) kept.low;
-          high = subst (λ h. saved.high ≤ℤ h) (sym (stands.window_high ∙ stands.high)) kept.high;
-          order = subst (λ f. f ≤ℤ number_of records) (sym kept.far_is) (at_most_same _ _ _ number_out
-              (far_bounds table records.side (steps_of records.kept) (steps_of runner) kept.before));
-          later = subst (λ t. number_of records ≤ℤ t) (sym count_is)
-              (subst (λ p. p ≤ℤ pos followed.count) number_out
-              (followed.top.bounds (steps_of records.kept) kept.before));
+          low = omega (arith, ints, stands, kept.low);
+          high = omega (arith, ints, stands, kept.high);
+          order = omega (arith, ints, kept.far_is, number_out, below);
+          later = omega (arith, ints, count_is, number_out, above);
           far_seen = subst (IsInside run) (out_same records.side _ _ (sym (kept.far_is ∙ reached.is)))
               (head_inside runs reached.step reached.no_later);
           top_seen = subst (IsInside run) here_is (head_inside runs (steps_of runner) (omega arith));
@@ -241,9 +212,7 @@ module _ (table : Table) (runner : Runner) (run saved : TapeView) (records : Rec
       kept_runs : state_of records.kept ≢ Halt
       kept_runs =
           let runs = runs_at_kept in
-          let there = runs.exists in
-          let at_kept = kept.at in
-          let same : runs.here ≡ stood records.kept saved.content = cc in
+          let same : runs.here ≡ stood records.kept saved.content = cc (runs.exists, kept.at) in
           λ halts. runs.runs (ap (λ (c : Configuration). c.state) same ∙ halts)
 
       -- its number is that of a position that was visited
@@ -255,15 +224,11 @@ module _ (table : Table) (runner : Runner) (run saved : TapeView) (records : Rec
       pub cells_of_agree : Agree table records.side (steps_of records.kept) (steps_of runner)
           → AgreesWithKept records runner saved run
       cells_of_agree agree =
-          let first_is = agree.at_first in
-          let second_is = agree.at_second in
-          let kept_at = kept.at in
-          let at_here = stands.at in
-          let one : agree.first ≡ stood records.kept saved.content = cc in
+          let one : agree.first ≡ stood records.kept saved.content = cc (agree.at_first, kept.at) in
           let two : agree.second ≡ stood runner run.content = cc in (
             (
-              λ none. no_zero followed.number (number_of records) followed.number_is some
-                  (ap (out records.side) none ∙ out-zero records.side),
+              λ none. let zero = ap (out records.side) none ∙ out-zero records.side in
+                  omega (arith, ints, followed.number_is, some, zero),
               sym (ap (λ (c : Configuration). c.state) one) ∙ agree.same_state
                   ∙ ap (λ (c : Configuration). c.state) two,
               kept_runs,
@@ -292,8 +257,6 @@ module _ (table : Table) (runner : Runner) (run saved : TapeView) (records : Rec
       → IsSound run → IsNarrow (position_of records.kept)
   number_narrow less sound = elim (cases_lt 0 followed.number) [
     | inl some ↦ kept_narrow some (less some) sound
-    | inr none ↦ zero_narrow _
-        (at_zero records.side _ (followed.number_is ∙ ap pos (omega (arith, none))))
-  ] where
-    zero_narrow : (z : ℤ) → z ≡ pos 0 → IsNarrow z
-    zero_narrow z is = record { low = omega (arith, ints, is); high = omega (arith, ints, is) }
+    | inr none ↦
+        omega (arith, ints, at_zero records.side _ (followed.number_is ∙ ap pos (omega (arith, none))))
+  ]

@@ -45,7 +45,7 @@ use Rattle.bb_cert.specs.inside.Checks.{
   MakesRecordOutsideZ,
   Passes,
 }
-use Rattle.bb_cert.specs.records.Follow.{IsFollowed, IsKeptRecord, IsTop, TellsWidening, nearest_out, nearer}
+use Rattle.bb_cert.specs.records.Follow.{IsFollowed, IsKeptRecord, TellsWidening, nearest_out, nearer}
 use Rattle.bb_cert.specs.records.Follow.{passed}
 use Rattle.bb_cert.specs.records.Record.{out, head_at}
 use Rattle.bb_cert.proofs.record_lemmas.Heads.{far-next, window_falls, window_rises}
@@ -56,8 +56,7 @@ use Rattle.bb_cert.proofs.record_lemmas.Tops.{top_stays}
 
 -- at the start there is no record
 abbrev pub followed_at_first : (table : Table) (records : Records) (saved : TapeView)
-    → position_of records.kept ≡ pos 0
-    → IsFollowed table 0 records saved
+    → position_of records.kept ≡ pos 0 → IsFollowed table 0 records saved
 followed_at_first table records saved start = record {
   count = 0;
   number = 0;
@@ -68,12 +67,10 @@ followed_at_first table records saved start = record {
 
 none_at_first : (table : Table) (side : Side) → MakesRecord table side 0 → ⊥
 none_at_first table side made =
-    let record_is = made.1 in
-    omega (arith, record_takes_steps table side made.0 0 record_is, record_is.positive)
+    omega (arith, record_takes_steps table side made.0 0 made.1, (made.1).positive)
 
-pub course_at_first : (table : Table) (course : Course) (saved : TapeView) → position_of course.records.kept
-    ≡ pos 0
-    → course.is_record ≡ false → IsCourse table 0 course saved
+pub course_at_first : (table : Table) (course : Course) (saved : TapeView)
+    → position_of course.records.kept ≡ pos 0 → course.is_record ≡ false → IsCourse table 0 course saved
 course_at_first table course saved start none = record {
   followed = followed_at_first table course.records saved start;
   told = (λ yes. absurd cc, λ made. absurd (none_at_first table course.records.side made.0));
@@ -99,16 +96,12 @@ nearer_out R p q = refl
 nearer_out L p q = omega (arith, ints, clamps)
 
 module _ (table : Table) (n : ℕ) (records : Records) (saved : TapeView) (there : Exists table (n + 1))
-    (position : ℤ)
-    (at : position ≡ head_at table (n + 1)) (followed : IsFollowed table n records saved) where
+    (position : ℤ) (at : position ≡ head_at table (n + 1)) (followed : IsFollowed table n records saved) where
   pub kept_is : 0 < followed.number
       → IsKeptRecord table records.side followed.number (n + 1) records.kept
       (nearest_out (passed records position)) saved
-  kept_is some = subst (λ f. IsKeptRecord table records.side followed.number (n + 1) records.kept f saved)
-      (sym (nearer_out records.side records.nearest position
-      ∙ ap (λ p. int_min (nearest_out records) (out records.side p)) at))
-      (kept-next table records.side followed.number n records.kept (nearest_out records) saved
-      (followed.kept some))
+  kept_is some = rw (nearer_out, at) (kept-next table records.side followed.number n records.kept
+      (nearest_out records) saved (followed.kept some))
 
   -- farther out than before there is one record more
   abbrev pub followed_farther : pos followed.count <ℤ out records.side (head_at table (n + 1))
@@ -138,9 +131,8 @@ module _ (table : Table) (n : ℕ) (records : Records) (saved : TapeView) (there
     count = is.count;
     number = is.number;
     number_is = is.number_is;
-    top = subst (λ k. IsTop table records.side k (pos is.count)) (sym next) is.top;
-    kept = λ some. subst (λ k. IsKeptRecord table records.side is.number k records.kept
-        (nearest_out (passed records position)) saved) (sym next) (is.kept some);
+    top = rw next is.top;
+    kept = rw next is.kept;
   }
 
   pub followed-next : IsFollowed table (n + 1) (passed records position) saved
@@ -161,12 +153,9 @@ module _ (table : Table) (side : Side) (before after : Runner) (run_before run_a
   stands_now = rw next at stands.at
 
   outside : MakesRecordOutsideZ table side n → state_of after ≢ Halt
-  outside made halts = made.1.runs (state_is made.1.here halts stands_now made.1.exists) where
-    state_is : (here : Configuration) → state_of after ≡ Halt → conf table n ≡ Some now
-        → conf table n ≡ Some here → here.state ≡ Halt
-    state_is here halts a b =
-        let same : now ≡ here = cc in
-        sym (ap (λ (c : Configuration). c.state) same) ∙ halts
+  outside made halts =
+      let same : now ≡ made.1.here = cc (stands_now, made.1.exists) in
+      made.1.runs (sym (ap (λ (c : Configuration). c.state) same) ∙ halts)
 
   running : state_of after ≢ Halt → IsRunningAt table n (head_at table n)
   running runs = record {
@@ -189,9 +178,9 @@ module _ (table : Table) (side : Side) (before after : Runner) (run_before run_a
     by_sides R L just made = absurd (just.1 made)
     by_sides L R just made = absurd (just.1 made)
 
-  pub told_by_window : (cells : ℕ) → cells ≡ cells_between (low_of before) (high_of before) →
-      (told : Option Side)
-      → TellsWidening after cells told → (told ≡ Some side) ↔ MakesRecordOutsideZ table side n
+  pub told_by_window : (cells : ℕ) → cells ≡ cells_between (low_of before) (high_of before)
+      → (told : Option Side) → TellsWidening after cells told
+      → (told ≡ Some side) ↔ MakesRecordOutsideZ table side n
   told_by_window cells were told widens = by_state (state_of after) refl where
     by_state : (state : Next) → state_of after ≡ state → (told ≡ Some side) ↔ MakesRecordOutsideZ table side n
     by_state Halt halts = (
@@ -226,10 +215,7 @@ keeps_on table step old new same is = record {
 }
 
 pub goes_nowhere : {table : Table} {n : ℕ} {course : Course} → GoesOn table n n course course
-goes_nowhere = record {
-  course = λ saved is. is;
-  same = record { side = refl; kept = refl };
-}
+goes_nowhere = assumption
 
 pub goes-next : {table : Table} {from : ℕ} {first old new : Course} {before after : Runner}
     {run_before run_after : TapeView} {cells : ℕ}

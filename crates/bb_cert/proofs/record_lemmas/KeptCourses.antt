@@ -40,9 +40,7 @@ runs_at_pair table side a b pair = (
     here = pair.agree.second;
     exists = pair.agree.at_second;
     runs = λ halts.
-        let there = before.exists in
-        let first = pair.agree.at_first in
-        let same : before.here ≡ pair.agree.first = cc in
+        let same : before.here ≡ pair.agree.first = cc (before.exists, pair.agree.at_first) in
         before.runs (ap (λ (c : Configuration). c.state) same ∙ pair.agree.same_state ∙ halts);
     at = sym (head_at-is table b pair.agree.second pair.agree.at_second);
   },

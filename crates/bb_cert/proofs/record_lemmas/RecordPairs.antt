@@ -1,5 +1,5 @@
 -- Where two records agree, all later ones exist, and those at the same distance agree.
-use Rattle.std.proofs.Common.{◌≡◌, ℕ, zero, suc, ◌+◌, ◌-◌, ◌<◌, ◌≤◌, inl, inr, ℤ, pos, ◌+ℤ◌, ◌-ℤ◌, ◌≤ℤ◌, ap}
+use Rattle.std.proofs.Common.{◌≡◌, ℕ, zero, suc, ◌+◌, ◌-◌, ◌<◌, ◌≤◌, inl, inr, pos, ◌+ℤ◌, ◌-ℤ◌, ◌≤ℤ◌, ap}
 use Rattle.std.proofs.Common.{sym, subst, ◌∙◌, arith}
 use Rattle.std.proofs.lemmas.Bool.{cases_lt}
 use Rattle.std.proofs.lemmas.Int.{ints}
@@ -13,12 +13,6 @@ use Rattle.bb_cert.specs.claims.Laws.{HasRecord, RecordPair}
 use Rattle.bb_cert.proofs.record_lemmas.Positions.{out-add, out-subtract, head_at-is, least_at_least, through}
 use Rattle.bb_cert.proofs.record_lemmas.Records.{stands_on, reaches, records_in_order}
 use Rattle.bb_cert.proofs.record_lemmas.Agreements.{distance, beyond, farther, alike}
-
-at_least_none : (p : ℤ) (i : ℕ) → p ≡ pos i → pos 0 ≤ℤ p
-at_least_none p i e = omega (arith, ints)
-
-one_more_out : (p q d : ℤ) (k : ℕ) → q ≡ p +ℤ d → pos 1 ≤ℤ d → pos k ≤ℤ p → pos (suc k) ≤ℤ q
-one_more_out p q d k e more h = omega (arith, ints)
 
 module _ (table : Table) (side : Side) (a b : ℕ) (records : AgreeingRecords table side a b) where
   has_first : (u : ℕ) → Exists table (a + u)
@@ -48,18 +42,13 @@ module _ (table : Table) (side : Side) (a b : ℕ) (records : AgreeingRecords ta
   -- a step at which the head is so far out
   goes_out : (k : ℕ) → (u : ℕ) × (pos k ≤ℤ out side (head_at table (a + u)))
   goes_out zero =
-      let e : a ≡ a + 0 = omega arith in (
-        0,
-        subst (λ n. pos 0 ≤ℤ out side (head_at table n)) e
-            (at_least_none _ _ (stands_on table side records.first_number a records.first_record)),
-      )
+      let e : a + 0 ≡ a = omega arith in
+      (0, rw e (omega (arith, ints, stands_on table side records.first_number a records.first_record)))
   goes_out (suc k) =
       let before = goes_out k in
-      let e : b + before.0 ≡ a + ((b - a) + before.0) = omega (arith, records.in_order) in (
-        (b - a) + before.0,
-        subst (λ n. pos (suc k) ≤ℤ out side (head_at table n)) e
-            (one_more_out _ _ _ k (farther_by before.0) (farther table side a b records) before.1),
-      )
+      let e : a + ((b - a) + before.0) ≡ b + before.0 = omega (arith, records.in_order) in
+      let is = farther_by before.0 in
+      ((b - a) + before.0, rw e (omega (arith, ints, is, farther table side a b records, before.1)))
 
   every_record : (j : ℕ) → 0 < j → (n : ℕ) × IsRecord table side j n
   every_record j some =
@@ -75,7 +64,8 @@ module _ (table : Table) (side : Side) (a b : ℕ) (records : AgreeingRecords ta
       least_at_least (λ k. out side (head_at table (k + (a + u)))) (far table side a b) (λ k.
       let e : a + (u + k) ≡ k + (a + u) = omega arith in
       subst (λ n. beyond table side a b (head_at table n)) e (never_nearer (u + k))) ((b + u) - (a + u)) in
-      let apart = between _ _ _ here.moved.same_head in
+      let apart : distance table a b ≡ here.second.head -ℤ here.first.head =
+      omega (arith, ints, here.moved.same_head) in
       record {
         first = here.first;
         second = here.second;
@@ -84,20 +74,10 @@ module _ (table : Table) (side : Side) (a b : ℕ) (records : AgreeingRecords ta
         same_state = here.moved.same_state;
         same_cells = λ x inside near. here.moved.same_cells x (through _ _ _ nearest inside)
             ∙ ap (λ d. cell here.second.tape (x +ℤ d)) apart;
-      } where
-        between : (p q d : ℤ) → q ≡ p +ℤ d → d ≡ q -ℤ p
-        between p q d e = omega (arith, ints)
+      }
 
 pub has_record : HasRecord
 has_record table side a b j records some = every_record table side a b records j some
-
-exactly_out : {p q d s t : ℤ} {i j : ℕ} (r : ℕ) → q ≡ p +ℤ d → d ≡ t -ℤ s → s ≡ pos i → t ≡ pos (i + r)
-    → p ≡ pos j → q ≡ pos (j + r)
-exactly_out r e apart at_s at_t at_p = omega (arith, ints)
-
-exactly_back : {p q d s t : ℤ} {i j : ℕ} (r : ℕ) → q ≡ p +ℤ d → d ≡ t -ℤ s → s ≡ pos i → t ≡ pos (i + r)
-    → q ≡ pos (j + r) → p ≡ pos j
-exactly_back r e apart at_s at_t at_q = omega (arith, ints)
 
 module _ (table : Table) (side : Side) (i r a b : ℕ) (some : 0 < r) (first : IsRecord table side i a)
     (second : IsRecord table side (i + r) b) (agree : Agree table side a b) where
@@ -109,8 +89,7 @@ module _ (table : Table) (side : Side) (i r a b : ℕ) (some : 0 < r) (first : I
     in_order = in_order;
     first_number = i;
     second_number = i + r;
-    first_record =
-        first;
+    first_record = first;
     second_record = second;
     agree = agree;
   }
@@ -128,11 +107,11 @@ module _ (table : Table) (side : Side) (i r a b : ℕ) (some : 0 < r) (first : I
   -- so back
   on_later : (j u : ℕ) → out side (head_at table (a + u)) ≡ pos j
       → out side (head_at table (b + u)) ≡ pos (j + r)
-  on_later j u at = exactly_out r (farther_by table side a b records u) apart at_a at_b at
+  on_later j u at = omega (arith, ints, farther_by table side a b records u, apart, at_a, at_b, at)
 
   on_earlier : (j u : ℕ) → out side (head_at table (b + u)) ≡ pos (j + r)
       → out side (head_at table (a + u)) ≡ pos j
-  on_earlier j u at = exactly_back r (farther_by table side a b records u) apart at_a at_b at
+  on_earlier j u at = omega (arith, ints, farther_by table side a b records u, apart, at_a, at_b, at)
 
   -- no step before the one u after b makes record j + r, where the step u after a makes record j
   not_before : (j u m : ℕ) → i ≤ j → IsRecord table side j (a + u) → IsRecord table side (j + r) m
@@ -150,18 +129,12 @@ module _ (table : Table) (side : Side) (i r a b : ℕ) (some : 0 < r) (first : I
   later_record : (j u : ℕ) → i ≤ j → IsRecord table side j (a + u) → IsRecord table side (j + r) (b + u)
   later_record j u h made =
       let at = on_later j u (stands_on table side j (a + u) made) in
-      let positive : 0 < j + r = omega (arith, some) in
-      let found = reaches table side (j + r) (b + u) positive (has_second table side a b records u)
-      (as_far _ _ at) in
+      let found = reaches table side (j + r) (b + u) (omega (arith, some))
+      (has_second table side a b records u) (omega (arith, ints, at)) in
       elim (cases_lt found.0 (b + u)) [
         | inl less ↦ absurd (not_before j u found.0 h made found.2 less)
-        | inr more ↦ subst (IsRecord table side (j + r)) (there found.0 found.1 more) found.2
-      ] where
-        as_far : (p : ℤ) (k : ℕ) → p ≡ pos k → pos k ≤ℤ p
-        as_far p k e = omega (arith, ints)
-
-        there : (m : ℕ) → m ≤ b + u → b + u ≤ m → m ≡ b + u
-        there m less more = omega (arith, less, more)
+        | inr more ↦ let e : found.0 ≡ b + u = omega (arith, found.1, more) in rw e at found.2
+      ]
 
   pair_after : (j n : ℕ) → i ≤ j → IsRecord table side j n → a ≤ n → (k : ℕ) × (m : ℕ)
       × IsRecord table side j k × IsRecord table side (j + r) m × Agree table side k m
@@ -173,11 +146,9 @@ module _ (table : Table) (side : Side) (i r a b : ℕ) (some : 0 < r) (first : I
 pub record_pair : RecordPair
 record_pair table side i r a b j some first second agree h =
     let found = every_record table side a b (records table side i r a b some first second agree) j
-    (begun first.positive h) in
+    (omega (arith, first.positive, h)) in
     pair_after table side i r a b some first second agree j found.0 h found.1 (elim (cases_lt found.0 a) [
       | inl less ↦ let wrong = (records_in_order table side j i found.0 a found.1 first).1 less in
           absurd (omega (arith, wrong, h))
       | inr after ↦ after
-    ]) where
-      begun : 0 < i → i ≤ j → 0 < j
-      begun positive at_most = omega (arith, positive, at_most)
+    ])

@@ -1,24 +1,5 @@
 -- The stretch that is compared: how far out its ends are, and which positions those are.
-use Rattle.std.proofs.Common.{
-  ◌≡◌,
-  ℕ,
-  ◌+◌,
-  ◌*◌,
-  ◌^◌,
-  ◌<◌,
-  ◌↔◌,
-  ℤ,
-  pos,
-  negsuc,
-  neg_ℤ,
-  ◌+ℤ◌,
-  ◌-ℤ◌,
-  ◌≤ℤ◌,
-  inl,
-  inr,
-  refl,
-  ap,
-}
+use Rattle.std.proofs.Common.{◌≡◌, ℕ, ◌<◌, ◌↔◌, ℤ, pos, negsuc, neg_ℤ, ◌+ℤ◌, ◌-ℤ◌, ◌≤ℤ◌, refl, ap}
 use Rattle.std.proofs.Common.{sym, subst, ◌∙◌, arith}
 use Rattle.std.specs.Int.{int_min}
 use Rattle.std.specs.Int.RustNames.{unsigned_abs}
@@ -34,46 +15,29 @@ use Rattle.bb_cert.specs.declared.verdict.Side.{Side}
 use Rattle.bb_cert.specs.declared.verdict.Side.TheVariants.{L, R}
 use Rattle.bb_cert.specs.records.Record.{out}
 use Rattle.bb_cert.specs.declared.records.Records.{Records}
-use Rattle.bb_cert.specs.records.Follow.{
-  HasSameCells,
-  IsComparable,
-  IsNarrow,
-  IsWidened,
-  nearest_out,
-  lesser_of,
-  number_of,
-}
+use Rattle.bb_cert.specs.records.Follow.{HasSameCells, IsComparable, IsNarrow, nearest_out, lesser_of}
+use Rattle.bb_cert.specs.records.Follow.{number_of}
 use Rattle.bb_cert.specs.records.Follow.{top_of}
 use Rattle.bb_cert.proofs.record_lemmas.Heads.{out-out}
 
 pub narrow_inside : {s : TapeView} {p : ℤ} → IsSound s → IsInside s p → IsNarrow p
 narrow_inside sound inside =
-    let low = inside.0 in
-    let high = inside.1 in
-    record {
-      low = omega (arith, ints, low, high, sound.from_zero, sound.to_zero, sound.within, sound.limited);
-      high = omega (arith, ints, low, high, sound.from_zero, sound.to_zero, sound.within, sound.limited);
-    }
+    omega (arith, ints, inside, sound.from_zero, sound.to_zero, sound.within, sound.limited)
 
 -- a stretch whose ends are inside is inside
 pub stretch_inside : (side : Side) (s : TapeView) (near far_out from : ℤ) (len : ℕ)
-    → from ≡ lesser_of side near far_out
-    → pos len ≡ (far_out -ℤ near) +ℤ pos 1 → IsInside s (out side near) → IsInside s (out side far_out)
-    → IsStretch s from len
+    → from ≡ lesser_of side near far_out → pos len ≡ (far_out -ℤ near) +ℤ pos 1
+    → IsInside s (out side near) → IsInside s (out side far_out) → IsStretch s from len
 stretch_inside L s near far_out from len is long first last k less =
-    let a = first.1 in let b = last.0 in
-    (omega (arith, ints, is, long, a, b, less), omega (arith, ints, is, long, a, b, less))
+    omega (arith, ints, is, long, first, last, less)
 stretch_inside R s near far_out from len is long first last k less =
-    let a = first.0 in let b = last.1 in
-    (omega (arith, ints, is, long, a, b, less), omega (arith, ints, is, long, a, b, less))
+    omega (arith, ints, is, long, first, last, less)
 
 -- what lies between two positions that are inside is inside
 pub between_inside : (side : Side) (s : TapeView) (near x far_out : ℤ) → near ≤ℤ x → x ≤ℤ far_out
     → IsInside s (out side near) → IsInside s (out side far_out) → IsInside s (out side x)
-between_inside L s near x far_out a b first last =
-    let c = first.1 in let d = last.0 in (omega (arith, ints, a, b, c, d), omega (arith, ints, a, b, c, d))
-between_inside R s near x far_out a b first last =
-    let c = first.0 in let d = last.1 in (omega (arith, ints, a, b, c, d), omega (arith, ints, a, b, c, d))
+between_inside L s near x far_out a b first last = omega (arith, ints, a, b, first, last)
+between_inside R s near x far_out a b first last = omega (arith, ints, a, b, first, last)
 
 -- how far from the stretch's lesser end a position is
 pub record IsOffset (from x : ℤ) (len : ℕ) : Type 0 where
@@ -98,15 +62,13 @@ offset_of R near far_out from x len is long a b =
 reaches : (side : Side) (near far_out from : ℤ) (len k : ℕ) → from ≡ lesser_of side near far_out
     → pos len ≡ (far_out -ℤ near) +ℤ pos 1 → k < len
     → (near ≤ℤ out side (from +ℤ pos k)) × (out side (from +ℤ pos k) ≤ℤ far_out)
-reaches L near far_out from len k is long less =
-    (omega (arith, ints, is, long, less), omega (arith, ints, is, long, less))
-reaches R near far_out from len k is long less =
-    (omega (arith, ints, is, long, less), omega (arith, ints, is, long, less))
+reaches L near far_out from len k is long less = omega (arith, ints, is, long, less)
+reaches R near far_out from len k is long less = omega (arith, ints, is, long, less)
 
 -- the cells of a stretch, counted from its lesser end, or told by how far out they are
 module _ (side : Side) (near far_out shift from other : ℤ) (len : ℕ) (a b : Content)
-    (is : from ≡ lesser_of side near far_out)
-    (long : pos len ≡ (far_out -ℤ near) +ℤ pos 1) (shifted : other ≡ from +ℤ shift) where
+    (is : from ≡ lesser_of side near far_out) (long : pos len ≡ (far_out -ℤ near) +ℤ pos 1)
+    (shifted : other ≡ from +ℤ shift) where
   turned : (k : ℕ) → other +ℤ pos k ≡ (from +ℤ pos k) +ℤ shift
   turned k = omega (arith, ints, shifted)
 
@@ -124,10 +86,7 @@ module _ (side : Side) (near far_out shift from other : ℤ) (len : ℕ) (a b : 
       same (from +ℤ pos k) at.0 at.1 ∙ ap (cell b) (sym (turned k))
 
 pub lesser_narrow : (p q : ℤ) → IsNarrow p → IsNarrow q → IsNarrow (int_min p q)
-lesser_narrow p q n m = record {
-  low = let a = n.low in let b = m.low in omega (arith, ints, clamps, a, b);
-  high = let a = n.high in omega (arith, ints, clamps, a);
-}
+lesser_narrow p q n m = omega (arith, ints, clamps, n, m)
 
 -- the positions of records that can be compared are no farther from 0 than any position of a tape
 pub record AreNarrow (records : Records) (runner : Runner) : Type 0 where
@@ -164,29 +123,21 @@ pub out_as_far : (side : Side) (p : ℤ) → pos 0 ≤ℤ out side p → pos (un
 out_as_far R p some = abs_is p some
 out_as_far L p some = abs_down p (omega (arith, ints, some))
 
-pub twice_fits : (p : ℤ) → IsNarrow p → 2 * unsigned_abs p < 2 ^ 64
-twice_fits (pos n) narrow = let high = narrow.high in omega (arith, ints, high)
-twice_fits (negsuc n) narrow = let low = narrow.low in omega (arith, ints, low)
-
-one_more : (n : ℕ) (d : ℤ) → pos n ≡ d → pos (n + 1) ≡ d +ℤ pos 1
-one_more n d is = omega (arith, ints, is)
-
 pub length_is : (side : Side) (near far_out : ℤ) → out side near ≤ℤ out side far_out
     → pos (cells_between near far_out) ≡ (out side far_out -ℤ out side near) +ℤ pos 1
-length_is side near far_out order = one_more _ _ (distance_is side near far_out order)
+length_is side near far_out order = omega (arith, ints, distance_is side near far_out order)
 
 -- the stretch of the run, moved by the distance of the two records
 moved_order : (near number top : ℤ) → near ≤ℤ number → number ≤ℤ top
     → (near ≤ℤ (near +ℤ (top -ℤ number))) × ((near +ℤ (top -ℤ number)) ≤ℤ top)
-moved_order near number top a b = (omega (arith, ints, a, b), omega (arith, ints, a, b))
+moved_order near number top a b = omega (arith, ints, a, b)
 
 moved_length : (near number top : ℤ) (len : ℕ) → pos len ≡ (number -ℤ near) +ℤ pos 1
     → pos len ≡ (top -ℤ (near +ℤ (top -ℤ number))) +ℤ pos 1
 moved_length near number top len is = omega (arith, ints, is)
 
 moved_from : (side : Side) (near number top from other : ℤ)
-    → from ≡ lesser_of side (out side near) (out side number)
-    → other ≡ from +ℤ (top -ℤ number)
+    → from ≡ lesser_of side (out side near) (out side number) → other ≡ from +ℤ (top -ℤ number)
     → other ≡ lesser_of side (out side near +ℤ (out side top -ℤ out side number)) (out side top)
 moved_from R near number top from other is at = omega (arith, ints, is, at)
 moved_from L near number top from other is at = omega (arith, ints, is, at)
@@ -247,12 +198,10 @@ room_for saved run p sound limit low high inside =
     omega (arith, ints, clamps, sound.within, limit, low, high, inside.0, inside.1)
 
 pub seen_wider : (saved : TapeView) (p q : ℤ) → IsInside saved q → IsInside (visited saved p) q
-seen_wider saved p q inside =
-    let a = inside.0 in let b = inside.1 in
-    (omega (arith, ints, clamps, a, b), omega (arith, ints, clamps, a, b))
+seen_wider saved p q inside = omega (arith, ints, clamps, inside)
 
 pub seen_at : (saved : TapeView) (p : ℤ) → IsInside (visited saved p) p
-seen_at saved p = (omega (arith, ints, clamps), omega (arith, ints, clamps))
+seen_at saved p = omega (arith, ints, clamps)
 
 pub low_wider : (low p : ℤ) (saved : TapeView) → low ≤ℤ saved.low → low ≤ℤ p → low ≤ℤ (visited saved p).low
 low_wider low p saved a b = omega (arith, ints, clamps, a, b)
@@ -272,9 +221,3 @@ comparable_wider {records} {runner} {saved} {run} is = record {
   top_seen = is.top_seen;
   number_saved = seen_wider saved _ _ is.number_saved;
 }
-
--- what was saved has the same limit where it is widened
-pub limit_kept : (records : Records) (run saved new : TapeView) → IsWidened records run saved new
-    → new.limit ≡ saved.limit
-limit_kept records run saved new (inl same) = ap (λ (s : TapeView). s.limit) same
-limit_kept records run saved new (inr wider) = ap (λ (s : TapeView). s.limit) wider.0

@@ -43,22 +43,8 @@ top_at_first table side =
       no_later = omega arith;
       reached = start;
       bounds = λ m few. let same : 0 ≡ m = omega (arith, few) in
-          subst (λ k. out side (head_at table k) ≤ℤ pos 0) same (at_most _ start);
-    } where
-      at_most : (p : ℤ) → p ≡ pos 0 → p ≤ℤ pos 0
-      at_most p is = omega (arith, ints, is)
-
-next_up : (p q r : ℤ) → q ≤ℤ (r +ℤ pos 1) → r ≤ℤ p → p <ℤ q → q ≡ p +ℤ pos 1
-next_up p q r step below above = omega (arith, ints, step, below, above)
-
-one_up : (n : ℕ) (q : ℤ) → q ≡ pos n +ℤ pos 1 → q ≡ pos (n + 1)
-one_up n q is = omega (arith, ints, is)
-
-apart : (p q r : ℤ) → p ≤ℤ q → q <ℤ r → p ≢ r
-apart p q r a b is = omega (arith, ints, a, b, is)
-
-not_above : (p q : ℤ) (n : ℕ) → q ≤ℤ p → q ≡ pos n → p <ℤ pos n → ⊥
-not_above p q n a b c = omega (arith, ints, a, b, c)
+          subst (λ k. out side (head_at table k) ≤ℤ pos 0) same (omega (arith, ints, start));
+    }
 
 -- the next step, where the head was at most so far out
 module _ (table : Table) (side : Side) (n count : ℕ) (top : IsTop table side n (pos count))
@@ -70,7 +56,7 @@ module _ (table : Table) (side : Side) (n count : ℕ) (top : IsTop table side n
   number_next high =
       let step : out side (head_at table (n + 1)) ≤ℤ (out side (head_at table n) +ℤ pos 1) =
       rw add-one (climbs table side n (rw add-one at there)) in
-      one_up count far_out (next_up (pos count) far_out _ step (top.bounds n (omega arith)) high)
+      omega (arith, ints, step, top.bounds n (omega arith), high)
 
   -- where it is farther out, a record is made
   pub made_next : pos count <ℤ far_out → IsRecord table side (count + 1) (n + 1)
@@ -79,17 +65,14 @@ module _ (table : Table) (side : Side) (n count : ℕ) (top : IsTop table side n
     here = there.here;
     exists = there.exists;
     on_position = ap (out side) (sym (head_at-is table (n + 1) there.here there.exists)) ∙ number_next high;
-    is_first = λ m less. subst (λ q. out side (head_at table m) ≢ q) (number_next high)
-        (apart _ (pos count) far_out (top.bounds m (omega (arith, less))) high);
+    is_first = λ m less is. omega (arith, ints, is, number_next high, top.bounds m (omega (arith, less)));
   }
 
   -- else none is
   pub none_next : far_out ≤ℤ pos count → MakesRecord table side (n + 1) → ⊥
   none_next low made =
-      let short = short_of_record table side made.0 (n + 1) made.1 top.step
-      (let few = top.no_later in omega (arith, few)) in
-      not_above (pos count) far_out made.0 low (stands_on table side made.0 (n + 1) made.1)
-      (subst (λ t. t <ℤ pos made.0) top.reached short)
+      let short = short_of_record table side made.0 (n + 1) made.1 top.step (omega (arith, top.no_later)) in
+      omega (arith, ints, low, short, top.reached, stands_on table side made.0 (n + 1) made.1)
 
   pub farther : MakesRecord table side (n + 1) → pos count <ℤ far_out
   farther made = by_lt_z (pos count) far_out (λ high. high) (λ low. absurd (none_next low made))
@@ -139,7 +122,7 @@ end table side n = end_of side (least (counted_head table) n) (greatest (counted
 
 out_within : (side : Side) (l g p : ℤ) → (l ≤ℤ p) × (p ≤ℤ g) → out side p ≤ℤ out side (end_of side l g)
 out_within R l g p inside = inside.1
-out_within L l g p inside = let above = inside.0 in omega (arith, ints, above)
+out_within L l g p inside = omega (arith, ints, inside.0)
 
 -- the head stood there
 end_is_reached : (table : Table) (side : Side) (n : ℕ)
@@ -171,8 +154,8 @@ module _ (table : Table) (side : Side) (n : ℕ) (runs : IsRunningAt table n (he
   top_is : IsTop table side n (pos count.0)
   top_is = subst (IsTop table side n) count.1 (at_end table side n runs)
 
-  made_beyond : out side (end table side n) <ℤ out side (head_at table (n + 1)) → MakesRecord table side
-      (n + 1)
+  made_beyond : out side (end table side n) <ℤ out side (head_at table (n + 1))
+      → MakesRecord table side (n + 1)
   made_beyond beyond = (count.0 + 1, made_next table side n count.0 top_is there (rw (← count.1) beyond))
 
   none_within : out side (head_at table (n + 1)) ≤ℤ out side (end table side n)
@@ -195,23 +178,18 @@ module _ (after : Runner) (p : ℤ) {l g : ℤ} {cells : ℕ} (around : (l ≤�
   same_cells inside = omega (arith, ints, clamps, inside.0, inside.1, had, has)
 
   inside : TellsWidening after cells None → (l ≤ℤ p) × (p ≤ℤ g)
-  inside same = (
-    omega (arith, ints, clamps, around.0, around.1, had, has),
-    omega (arith, ints, clamps, around.0, around.1, had, has),
-  )
+  inside same = omega (arith, ints, clamps, around, had, has)
 
   -- beyond one end, and so within the other
   beyond : position_of after ≡ p → (side : Side) → TellsWidening after cells (Some side)
       → (out side (end_of side l g) <ℤ out side p)
       × (out (other side) p ≤ℤ out (other side) (end_of (other side) l g))
   beyond is R told =
-      let above : g <ℤ p =
-      omega (arith, ints, clamps, told.0, told.1, around.0, around.1, had, has) in
-      (above, omega (arith, ints, above, around.0, around.1))
+      let above : g <ℤ p = omega (arith, ints, clamps, told, around, had, has) in
+      omega (arith, ints, above, around)
   beyond is L told =
-      let below : p <ℤ l =
-      omega (arith, ints, clamps, told.0, told.1, around.0, around.1, had, has) in
-      (omega (arith, ints, below), omega (arith, ints, below, around.0, around.1))
+      let below : p <ℤ l = omega (arith, ints, clamps, told, around, had, has) in
+      omega (arith, ints, below, around)
 
 -- step n makes a record of this side and of no other; of none
 abbrev pub MakesJust : Table → ℕ → Option Side → Type 0
@@ -237,8 +215,7 @@ module _ {table : Table} {before after : Runner} {run_before run_after : TapeVie
   around : (low ≤ℤ pos 0) × (pos 0 ≤ℤ high)
   around = subst (λ z. (low ≤ℤ z) × (z ≤ℤ high)) (counted_head-at table 0 start (conf-start table)) (
     least_bounds (counted_head table) 0 n (omega arith),
-    greatest_bounds (counted_head table) 0 n
-        (omega arith),
+    greatest_bounds (counted_head table) 0 n (omega arith),
   )
 
   -- the position that its step counts
@@ -284,16 +261,11 @@ module _ {table : Table} {before after : Runner} {run_before run_after : TapeVie
         let is = beyond after _ around (low_is _ at) (high_is _ at) (were ∙ cells_were) refl side told in
         (makes side is.0, makes_none (other side) is.1)
 
-  is_wider : (side : Side) (cells : ℕ) → TellsWidening after cells (Some side)
-      → cells_between (low_of after) (high_of after) ≢ cells
-  is_wider R cells told = told.0
-  is_wider L cells told = told.0
-
   -- into Z nothing widens
   pub none_wider : state_of after ≡ Halt → (cells : ℕ) → cells ≡ cells_between (low_of before)
-      (high_of before)
-      → (side : Side) → TellsWidening after cells (Some side) → ⊥
+      (high_of before) → (side : Side) → TellsWidening after cells (Some side) → ⊥
   none_wider halts cells were side told =
       let at = ap (λ s. counted_position s (position_of after)) halts in
-      is_wider side cells told (same_cells after _ around (low_is _ at) (high_is _ at)
-      (were ∙ cells_were) around)
+      let same = same_cells after _ around (low_is _ at) (high_is _ at) (were ∙ cells_were) around in
+      elim side as (λ s. TellsWidening after cells (Some s) → ⊥) [ R ↦ λ is. is.0 same | L ↦ λ is. is.0 same ]
+      told

@@ -1,8 +1,7 @@
 -- What a walk knows between its steps, and why each step keeps it.
 use Rattle.std.proofs.Common.{◌≡◌, ℕ, ◌+◌, ◌<◌, ◌≤◌, max, true, false, List, [], ◌∷◌, ◌++◌, length}
-use Rattle.std.proofs.Common.{reverse, slice_index, slice_range, ℤ, pos, neg_ℤ, ◌+ℤ◌, ◌≤ℤ◌, refl, ap, sym}
+use Rattle.std.proofs.Common.{reverse, slice_index, slice_range, ℤ, pos, neg_ℤ, ◌≤ℤ◌, refl, ap, sym}
 use Rattle.std.proofs.Common.{subst, ◌∙◌, length-append, arith}
-use Rattle.std.specs.Int.{int_min, int_max}
 use Rattle.std.specs.List.{AllByRecursion}
 use Rattle.std.proofs.lemmas.Int.{ints, clamps}
 use Rattle.std.proofs.lemmas.List.{reverse-append, length-reverse}
@@ -21,7 +20,6 @@ use Rattle.bb_cert.specs.declared.tree.walk.Branch.{Branch}
 use Rattle.bb_cert.specs.declared.tree.walk.Count.{Count}
 use Rattle.bb_cert.specs.tree.Tree.{Node, before, before_by, rules_to}
 use Rattle.bb_cert.specs.inside.Walk.{AreRules, AreFrames, IsFrame, IsBranch, IsRange, IsRule, IsWalked}
-use Rattle.bb_cert.specs.inside.Walk.{HasNonzero}
 use Rattle.bb_cert.specs.inside.Walk.{Refused}
 use Rattle.bb_cert.specs.inside.Walk.{branches, comb_of, branch_node}
 use Rattle.bb_cert.specs.inside.Steps.{HasTable, Enters, Explores, IsFirstBranch, entered_on, states_of}
@@ -56,14 +54,8 @@ frames_wider list below above (f ∷ fs) content are = (
 pub comb_long : (list : List Rule) (rest : List Node) (fs : List Frame) (content : Content)
     → length (comb_of list rest content fs) ≡ length fs + 1
 comb_long list rest [] content = omega arith
-comb_long list rest (f ∷ fs) content = let e =
-    comb_long list rest fs (with_cell content f.position f.before) in omega (arith, e)
-
-int_min_below : (a b : ℤ) → int_min a b ≤ℤ a
-int_min_below a b = omega (arith, ints, clamps)
-
-int_max_above : (a b : ℤ) → a ≤ℤ int_max a b
-int_max_above a b = omega (arith, ints, clamps)
+comb_long list rest (f ∷ fs) content =
+    omega (arith, comb_long list rest fs (with_cell content f.position f.before))
 
 pub all_named : {list : List Rule} {starts : Dir → List ℕ} → HasTable list starts
     → AllByRecursion (IsRule (states_of starts)) list
@@ -104,9 +96,8 @@ module _ {list : List Rule} {starts : Dir → List ℕ} (known : HasTable list s
       → AreFrames list new.low new.high new.content (frame ∷ fs)
   frames_entered fs long are = (
     rw long frame_is,
-    frames_wider list {low = old.low} {high = old.high}
-        (rw enters.low (int_min_below old.low branch.position))
-        (rw enters.high (int_max_above old.high branch.position)) fs _ (rw undone are),
+    frames_wider list {low = old.low} {high = old.high} (omega (arith, ints, clamps, enters.low))
+        (omega (arith, ints, clamps, enters.high)) fs _ (rw undone are),
   )
 
   branches_before : (table : Table) → AreRules table list starts
@@ -152,39 +143,13 @@ pub exploring_begins : {list : List Rule} {starts : Dir → List ℕ} {root : Br
     → IsExploring list starts root old most after frame [] entered
 exploring_begins {list} {starts} {root} {old} {before = before} {after} {frame} known is blank_before symbols
     enters some counted =
-    let is_here : IsBranch (states_of starts) before.content 0 root =
-    subst (λ c. IsBranch (states_of starts) c 0 root) (sym blank_before) is in
+    let is_here : IsBranch (states_of starts) before.content 0 root = rw blank_before is in
     record {
       are = frames_entered known enters is_here symbols [] refl blank_before;
       few = some;
-      walked = λ table rest rules walked.
-          let here = subst (λ c. IsWalked table ((branch_node c root ∷ rest) ∷ []) old.nodes old.levels)
-          (sym blank_before) walked in
-          let now = walked_entered known enters is_here symbols table rest [] rules refl refl here in
-          subst (λ e. IsWalked table (comb_of list rest after.content (frame ∷ [])) e.nodes e.levels)
-          (sym counted) now;
+      walked = λ table rest rules walked. rw counted (walked_entered known enters is_here symbols table rest
+          [] rules refl refl (rw blank_before walked));
     }
-
-same_place : (z : ℤ) → z ≤ℤ z
-same_place z = omega (arith, ints)
-
-below_more : (p q : ℤ) (n : ℕ) → neg_ℤ (pos n) ≤ℤ p → p ≤ℤ (q +ℤ pos 1) → neg_ℤ (pos (n + 1)) ≤ℤ q
-below_more p q n a b = omega (arith, ints, a, b)
-
-above_more : (p q : ℤ) (n : ℕ) → p ≤ℤ pos n → q ≤ℤ (p +ℤ pos 1) → q ≤ℤ pos (n + 1)
-above_more p q n a b = omega (arith, ints, a, b)
-
-beside_low : (low p q : ℤ) → low ≤ℤ p → p ≤ℤ (q +ℤ pos 1) → low ≤ℤ (q +ℤ pos 1)
-beside_low low p q a b = omega (arith, ints, a, b)
-
-beside_high : (high p q : ℤ) → p ≤ℤ high → q ≤ℤ (p +ℤ pos 1) → q ≤ℤ (high +ℤ pos 1)
-beside_high high p q a b = omega (arith, ints, a, b)
-
-far_low : (p : ℤ) (n most : ℕ) → n ≤ most → neg_ℤ (pos n) ≤ℤ p → neg_ℤ (pos most) ≤ℤ p
-far_low p n most h a = omega (arith, ints, h, a)
-
-far_high : (p : ℤ) (n most : ℕ) → n ≤ most → p ≤ℤ pos n → p ≤ℤ pos most
-far_high p n most h a = omega (arith, ints, h, a)
 
 module _ {list : List Rule} {starts : Dir → List ℕ} {root : Branch} {old most : Count} {view : TapeView}
     {top : Frame} {frames : List Frame} {entered : Count}
@@ -196,12 +161,10 @@ module _ {list : List Rule} {starts : Dir → List ℕ} {root : Branch} {old mos
   top_is = rw long at now.are.0
 
   pub top_low : most.levels ≤ MAX_LEVELS → neg_ℤ (pos MAX_LEVELS) ≤ℤ top.position
-  top_low h = let few = now.few in far_low top.position (length frames) MAX_LEVELS (omega (arith, h, few))
-      top_is.not_below
+  top_low h = omega (arith, ints, h, now.few, top_is.not_below)
 
   pub top_high : most.levels ≤ MAX_LEVELS → top.position ≤ℤ pos MAX_LEVELS
-  top_high h = let few = now.few in far_high top.position (length frames) MAX_LEVELS (omega (arith, h, few))
-      top_is.not_above
+  top_high h = omega (arith, ints, h, now.few, top_is.not_above)
 
   pub top_inside : IsInside view top.position
   top_inside = (top_is.from_low, top_is.to_high)
@@ -212,20 +175,18 @@ module _ {list : List Rule} {starts : Dir → List ℕ} {root : Branch} {old mos
       (first : IsFirstBranch list (states_of starts) view.content top branch next) where
     pub branch_is : IsBranch (states_of starts) view.content (length frames + 1) branch
     branch_is = record {
-      not_below = below_more top.position branch.position (length frames) top_is.not_below first.not_below;
-      not_above = above_more top.position branch.position (length frames) top_is.not_above first.not_above;
+      not_below = omega (arith, ints, top_is.not_below, first.not_below);
+      not_above = omega (arith, ints, top_is.not_above, first.not_above);
       state = first.state;
       symbol = first.symbol;
       held = first.held;
-      nonzero_known = subst (HasNonzero view.content) (sym first.nonzero_known) top_is.nonzero_known;
-      few_nonzero = let few = top_is.few_nonzero in let e = first.nonzero_known in omega (arith, few, e);
+      nonzero_known = rw first.nonzero_known top_is.nonzero_known;
+      few_nonzero = omega (arith, top_is.few_nonzero, first.nonzero_known);
     }
 
     pub branch_beside : IsBeside view branch.position
-    branch_beside = (
-      beside_low view.low top.position branch.position top_is.from_low first.not_below,
-      beside_high view.high top.position branch.position top_is.to_high first.not_above,
-    )
+    branch_beside =
+        omega (arith, ints, top_is.from_low, first.not_below, top_is.to_high, first.not_above)
 
     abbrev tried_top : Frame
     tried_top = record top { next = next }
@@ -239,8 +200,9 @@ module _ {list : List Rule} {starts : Dir → List ℕ} {root : Branch} {old mos
     comb_first rest = ap (λ ns. ns ∷ tail_of rest) first.first
 
     tail_long : (rest : List Node) → length (tail_of rest) ≡ length frames + 1
-    tail_long rest = let e = comb_long list rest (reverse frames)
-        (with_cell view.content top.position top.before) in let l = long in omega (arith, e, l)
+    tail_long rest =
+        let e = comb_long list rest (reverse frames) (with_cell view.content top.position top.before) in
+        omega (arith, long, e)
 
     walked_first : (table : Table) (rest : List Node) → AreRules table list starts
         → IsWalked table ((branch_node blank root ∷ rest) ∷ []) old.nodes old.levels
@@ -265,11 +227,10 @@ module _ {list : List Rule} {starts : Dir → List ℕ} {root : Branch} {old mos
     exploring_descends {after} {child} {then_entered} {then_frames} known symbols enters deep counted pushed =
         let order : reverse then_frames ≡ tried_top ∷ reverse frames = ap reverse pushed ∙ reversed in
         let are_tried : AreFrames list view.low view.high view.content (tried_top ∷ reverse frames) = (
-          frame_kept next (same_place _) (same_place _) first.within now.are.0,
+          frame_kept next (omega (arith, ints)) (omega (arith, ints)) first.within now.are.0,
           now.are.1,
         ) in
-        let deep_frames : length (tried_top ∷ reverse frames) ≡ length frames + 1 = let l = long in
-        omega (arith, l) in
+        let deep_frames : length (tried_top ∷ reverse frames) ≡ length frames + 1 = omega (arith, long) in
         record {
           are = rw order (frames_entered known enters branch_is symbols (tried_top ∷ reverse frames)
               deep_frames are_tried);
@@ -293,8 +254,7 @@ module _ {list : List Rule} {starts : Dir → List ℕ} {root : Branch} {old mos
         → Explores list starts root most old entered content true
     explored empty same =
         let gone : reverse frames ≡ [] = ap reverse empty in (
-          same ∙ ap (λ s. s.content) left
-              ∙ (rw gone at now.are.1),
+          same ∙ ap (λ s. s.content) left ∙ (rw gone at now.are.1),
           λ table rest rules walked. rw gone at (walked_left table rest rules walked),
         )
 

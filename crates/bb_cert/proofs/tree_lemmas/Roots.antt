@@ -101,11 +101,7 @@ roots_end table list index to most entered past walked =
     walk_ends (rw (slice_none list index to past) at walked)
 
 pub no_more : (most entered : Count) → entered.nodes ≡ 0 → entered.levels ≡ 0 → IsWithin most entered
-no_more most entered none no_levels = record {
-  nodes = omega (arith, none);
-  levels = omega
-      (arith, no_levels);
-}
+no_more most entered none no_levels = omega arith
 
 -- where the halting rules end, as the code reads it
 pub end_at : {seen starts : List ℕ} {states n : ℕ} → seen ≡ starts → states ≡ n

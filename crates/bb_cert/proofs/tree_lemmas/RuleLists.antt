@@ -27,8 +27,8 @@ differs a b apart = elim (cases_Bool (is_same a b)) [
 
 -- one entry of a row, as the code read it
 
-module _ (next : Next) (state symbol : ℕ) (group : List Entry) (within : symbol < length group) (entry : Entry)
-    (is : entry ≡ get_or group symbol Undefined) where
+module _ (next : Next) (state symbol : ℕ) (group : List Entry) (within : symbol < length group)
+    (entry : Entry) (is : entry ≡ get_or group symbol Undefined) where
   abbrev here : List Rule
   here = rule state symbol entry ∷ []
 
@@ -102,7 +102,8 @@ module _ (next : Next) (state : ℕ) (table : Table) (within : state < length ta
       → length olds + length more ≤ most → length list + length row ≤ most
   rows_room list olds more most so_far room =
       let n = ap length (table_keeps list (list ++ row) (olds ++ more) refl so_far) in
-      omega (arith, n, length-append (list ++ row) rows, length-append list row, length-append olds more, room)
+      let long = length-append (list ++ row) rows in
+      omega (arith, n, long, length-append list row, length-append olds more, room)
 
 -- the end of a list was put in order, in place
 pub put_in_order : (olds rules list seen : List Rule) (from : ℕ) → list ≡ olds ++ rules → seen ≡ list

@@ -1,5 +1,5 @@
 -- What a tape shows of a node, and what changes where a branch is entered and left.
-use Rattle.std.proofs.Common.{◌≡◌, ◌≢◌, ℕ, zero, suc, ◌+◌, ◌-◌, ◌<◌, ◌≤◌, min, true, false, inl, inr, Option}
+use Rattle.std.proofs.Common.{◌≡◌, ℕ, zero, suc, ◌+◌, ◌-◌, ◌<◌, ◌≤◌, min, true, false, inl, inr, Option}
 use Rattle.std.proofs.Common.{Some, None, List, [], ◌∷◌, ◌++◌, length, get_or, take, drop, slice_range, ℤ}
 use Rattle.std.proofs.Common.{◌⊎◌, pos, neg_ℤ, ◌+ℤ◌, ◌≤ℤ◌, refl, ap, sym, subst, ◌∙◌, arith}
 use Rattle.std.proofs.Math.Path.{fun_ext}
@@ -32,20 +32,18 @@ use Rattle.bb_cert.proofs.tree_lemmas.Levels.{known-here, known-other}
 same_place : (p x : ℤ) → x ≡ pos 0 → p +ℤ x ≡ p
 same_place p x e = omega (arith, ints)
 
-other_place : (p x : ℤ) → x ≢ pos 0 → p +ℤ x ≢ p
-other_place p x apart e = apart (omega (arith, ints, e))
-
 known_more : (content : Content) (p : ℤ) (symbol : ℕ) (x : ℤ) → with_known (shown content p)
     (pos 0) symbol x ≡ shown (with_cell content p (symbol + 1)) p x
 known_more content p symbol x = by_position x (pos 0) _
     (λ here.
-    let there : cell (with_cell content p (symbol + 1)) (p +ℤ x) ≡ suc symbol = ap (cell
-    (with_cell content p (symbol + 1))) (same_place p x here) ∙ cell-with_cell-same content p
-    (symbol + 1) ∙ omega arith in
+    let there : cell (with_cell content p (symbol + 1)) (p +ℤ x) ≡ suc symbol =
+    ap (cell (with_cell content p (symbol + 1))) (same_place p x here)
+    ∙ cell-with_cell-same content p (symbol + 1) ∙ omega arith in
     known-here (shown content p) (pos 0) symbol x here ∙ sym (ap shown_symbol there))
     (λ apart.
     known-other (shown content p) (pos 0) symbol x apart
-    ∙ ap shown_symbol (sym (cell-with_cell-other content p (symbol + 1) (p +ℤ x) (other_place p x apart))))
+    ∙ ap shown_symbol (sym (cell-with_cell-other content p (symbol + 1) (p +ℤ x) (λ e.
+    apart (omega (arith, ints, e))))))
 
 seen_shown : (content : Content) (p d x : ℤ) → seen_from d (shown content p) x ≡ shown content (p +ℤ d) x
 seen_shown content p d x =
@@ -120,9 +118,6 @@ slice_none xs from to h =
     let n : to - from ≡ zero = omega (arith, h) in
     ap (λ k. take k (drop from xs)) n
 
-no_more : (nodes : List Node) → [] ++ nodes ≡ nodes
-no_more nodes = refl
-
 module _ (list : List Rule) (content : Content) (f : Frame) (d : Rule) (less : f.next < f.end)
     (within : f.end ≤ length list) where
   branches_step : branches list content f ≡ before_by (shown_node content f.position f.state)
@@ -134,18 +129,14 @@ module _ (list : List Rule) (content : Content) (f : Frame) (d : Rule) (less : f
 
   pub branches_skip : before_by (shown_node content f.position f.state) (get_or list f.next d) ≡ []
       → branches list content f ≡ branches list content (record f { next = f.next + 1 })
-  branches_skip none = branches_step ∙ ap (λ ns. ns ++ branches list content (record f {
-    next =
-        f.next + 1;
-  })) none
+  branches_skip none = branches_step ∙ ap (λ ns. ns ++ branches list content (record f { next = f.next + 1 }))
+      none
 
   pub branches_first : (n : Node) → before_by (shown_node content f.position f.state)
       (get_or list f.next d) ≡ n ∷ [] → branches list content f ≡ n ∷ branches list content
       (record f { next = f.next + 1 })
-  branches_first n one = branches_step ∙ ap (λ ns. ns ++ branches list content (record f {
-    next =
-        f.next + 1;
-  })) one
+  branches_first n one = branches_step
+      ∙ ap (λ ns. ns ++ branches list content (record f { next = f.next + 1 })) one
 
 -- what is read past a list's end
 abbrev pub no_rule : Rule
@@ -207,22 +198,19 @@ module _ {list seen : List Rule} (same : seen ≡ list) (content : Content) (f :
       nonzero_known = f.nonzero_known;
     }
 
-    near_low : f.position ≤ℤ (p +ℤ pos 1)
-    near_low = elim dir as (λ dir. p ≡ f.position +ℤ left_cell dir → f.position ≤ℤ
-        (p +ℤ pos 1)) [ L ↦ λ e. omega (arith, ints, e) | R ↦ λ e. omega (arith, ints, e) ] at
-
-    near_high : p ≤ℤ (f.position +ℤ pos 1)
-    near_high = elim dir as (λ dir. p ≡ f.position +ℤ left_cell dir → p ≤ℤ
-        (f.position +ℤ pos 1)) [ L ↦ λ e. omega (arith, ints, e) | R ↦ λ e. omega (arith, ints, e) ] at
+    near : (f.position ≤ℤ (p +ℤ pos 1)) × (p ≤ℤ (f.position +ℤ pos 1))
+    near = elim dir as (λ dir. p ≡ f.position +ℤ left_cell dir
+        → (f.position ≤ℤ (p +ℤ pos 1)) × (p ≤ℤ (f.position +ℤ pos 1)))
+        [ L ↦ λ e. omega (arith, ints, e) | R ↦ λ e. omega (arith, ints, e) ] at
 
     pub first_fitting : {states : ℕ} → AllByRecursion (IsRule states) list → (held ≡ 0) ⊎ (held ≡ write + 1)
         → IsFirstBranch list states content f found (index + 1)
     first_fitting {states} named fits =
-        let is : IsRule states tried = subst (IsRule states) there (named_at states list named index d
-        (omega (arith, less, within))) in
+        let is : IsRule states tried =
+        rw (← there) (named_at states list named index d (omega (arith, less, within))) in
         record {
-          not_below = near_low;
-          not_above = near_high;
+          not_below = near.0;
+          not_above = near.1;
           state = is.state;
           symbol = is.symbol;
           held = shows;
@@ -255,9 +243,9 @@ written_nonzero content p symbol nonzero more has sum = record {
       (λ here.
       let new = ap (cell (with_cell has.one_less p symbol)) here
       ∙ cell-with_cell-same has.one_less p symbol in
-      let shown_there = ap (cell (with_cell content p (symbol + 1))) here ∙ cell-with_cell-same content p
-      (symbol + 1) in
-      omega (arith, new, shown_there))
+      let is = ap (cell (with_cell content p (symbol + 1))) here
+      ∙ cell-with_cell-same content p (symbol + 1) in
+      omega (arith, new, is))
       (λ apart.
       cell-with_cell-other has.one_less p symbol q apart ∙ has.each q
       ∙ ap (λ c. c - 1) (sym (cell-with_cell-other content p (symbol + 1) q apart)));
@@ -281,8 +269,7 @@ some_nonzero content p nonzero has more = elim (cases_eq nonzero 0) [
 no_nonzero : (content : Content) (p : ℤ) → HasNonzero content 0 → cell content p ≤ 1
 no_nonzero content p has = elim (cases_eq (min 1 (cell content p - 1)) 0) [
   | inl e ↦ omega (arith, e)
-  | inr some ↦
-      absurd (omega (arith, some_nonzero content p 0 has (omega (arith, some))))
+  | inr some ↦ absurd (omega (arith, some_nonzero content p 0 has (omega (arith, some))))
 ]
 
 -- where the start matches

@@ -98,8 +98,7 @@ more_symbols states symbols (Go write dir next) h of_table =
 in_table : (table : Table) (state symbol : ℕ) → symbol < length (get_or table state []) → state < length table
 in_table [] state symbol h = absurd (omega (arith, h))
 in_table (group ∷ groups) zero symbol h = omega arith
-in_table (group ∷ groups) (suc state) symbol h = let further = in_table groups state symbol h in
-    omega (arith, further)
+in_table (group ∷ groups) (suc state) symbol h = omega (arith, in_table groups state symbol h)
 
 rule_named : (table : Table) (next : Next) (rule : Rule) → IsMachine table
     → OneOf (λ other. other ≡ rule) (rules_to table next) → IsRule (length table) rule
@@ -153,7 +152,8 @@ range_added table list added more next are =
       in_order = omega (arith, long);
       within = omega (arith, length-append (list ++ added) more);
       are = subst (IsPermutation (rules_to table next))
-          (sym (ap (λ xs. slice_range xs (length list) (length (list ++ added))) (append_assoc list added more)
+          (sym (ap (λ xs. slice_range xs (length list) (length (list ++ added)))
+          (append_assoc list added more)
           ∙ ap (take (length (list ++ added) - length list)) (drop_at list (added ++ more) (length list) refl)
           ∙ take_at added more (length (list ++ added) - length list) here)) are;
     }
@@ -164,7 +164,8 @@ module _ {table : Table} (machine : IsMachine table) {before list : List Rule} {
       ≤ count_by (leads_before (length table) (n + 1)) (rules_from 0 table)
   size_then =
       let here = length-filter (leads_to next) (rules_from 0 table) in
-      let both = counts_add (leads_to next) (leads_before (length table) n) (leads_before (length table) (n + 1))
+      let both = counts_add (leads_to next) (leads_before (length table) n)
+      (leads_before (length table) (n + 1))
       (λ r. rw place.1 (here_or_before (length table) n (goes_to r.entry) _ refl place.0))
       (rules_from 0 table) in
       omega (arith, here, both, now.size)

@@ -55,8 +55,7 @@ below-node table node rest (suc h) =
 
 pub empty_below : (table : Table) (h : ℕ) → grown_below table [] h ≡ 0
 empty_below table zero = refl
-empty_below table (suc h) =
-    omega (arith, empty_below table h, ap length (grown-empty table h))
+empty_below table (suc h) = omega (arith, empty_below table h, ap length (grown-empty table h))
 
 below_entered : (table : Table) (node : Node) (rest : List Node) (comb : List (List Node)) (h : ℕ)
     → length comb < h → comb_below table ((node ∷ rest) ∷ comb) h ≡ suc
@@ -78,21 +77,13 @@ matches_entered table node rest comb i apart (inl both) = elim (cases_lt (length
       elim ((one-append (λ m. Matches m start) (grown table (before table node) (i - suc (length comb)))
       (grown table rest (suc (i - suc (length comb))))).0 split) [
         | inl here ↦ inl (omega (arith, less), here)
-        | inr later ↦ inr (inl (
-          both.0,
-          subst (λ nodes. MatchesOne nodes start)
-              (ap (grown table rest) (sym n)) later,
-        ))
+        | inr later ↦ inr (inl (both.0, subst (λ j. MatchesOne (grown table rest j) start) (sym n) later))
       ]
   | inr more ↦
       let n : i - length comb ≡ zero = omega (arith, more) in
       elim (subst (λ nodes. MatchesOne nodes start) (ap (grown table (node ∷ rest)) n) both.1) [
         | inl here ↦ absurd (apart here)
-        | inr later ↦ inr (inl (
-          both.0,
-          subst (λ nodes. MatchesOne nodes start)
-              (ap (grown table rest) (sym n)) later,
-        ))
+        | inr later ↦ inr (inl (both.0, subst (λ j. MatchesOne (grown table rest j) start) (sym n) later))
       ]
 ]
 
@@ -104,9 +95,6 @@ before_part table node rest i part n one =
     (one_more (λ other. other ≡ node) (λ other. OneOf (λ o. o ≡ n) (before table other))
     (λ other same. subst (λ m. OneOf (λ o. o ≡ n) (before table m)) (sym same) one) (level table i)
     (part node (inl refl)))
-
-rest_part : (node : Node) (rest whole : List Node) → IsPart (node ∷ rest) whole → IsPart rest whole
-rest_part node rest whole part n one = part n (inr one)
 
 -- a level that has a node
 has_node : (table : Table) (node : Node) (rest : List Node) (i : ℕ) → IsPart (node ∷ rest) (level table i)
@@ -129,7 +117,7 @@ walk_enters {table} {node} {rest} {comb} {levels = levels} walked apart = record
   ];
   parts = (
     before_part table node rest (length comb) walked.parts.0,
-    (rest_part node rest (level table (length comb)) walked.parts.0, walked.parts.1),
+    ((λ n one. walked.parts.0 n (inr one)), walked.parts.1),
   );
   matches = λ i one. matches_entered table node rest comb i apart (walked.matches i one);
 }
@@ -143,8 +131,7 @@ no_matches table comb i (inl both) =
 pub walk_leaves : {table : Table} {comb : List (List Node)} {nodes levels : ℕ}
     → IsWalked table ([] ∷ comb) nodes levels → IsWalked table comb nodes levels
 walk_leaves {table} {comb} walked = record {
-  counted = λ h deep.
-      omega (arith, walked.counted h deep, empty_below table (h - length comb));
+  counted = λ h deep. omega (arith, walked.counted h deep, empty_below table (h - length comb));
   reached = walked.reached;
   parts = walked.parts.1;
   matches = λ i one. no_matches table comb i (walked.matches i one);
@@ -178,21 +165,12 @@ module _ {table : Table} {node : Node} {rest : List Node} {comb : List (List Nod
 pub walk_refused : {table : Table} {node : Node} {rest : List Node} {comb : List (List Node)}
     {nodes levels most_nodes most_levels : ℕ} → IsWalked table ((node ∷ rest) ∷ comb) nodes levels
     → Refused node (length comb) nodes most_nodes most_levels → EndsNowhere table most_levels most_nodes
-walk_refused walked (too_deep deep) = record {
-  nowhere = λ h k within.
-      let more = goes_deeper walked within.ends in
-      let most = within.within_levels in
-      omega arith;
-}
-walk_refused walked (too_many many) = record {
-  nowhere = λ h k within.
-      let more = goes_further walked within.ends in
-      let most = within.within_nodes in
-      omega arith;
-}
-walk_refused walked (matched here) = record {
-  nowhere = λ h k within. never_clear walked within.ends here within.clear;
-}
+walk_refused walked (too_deep deep) =
+    record { nowhere = λ h k tree. omega (arith, tree.within_levels, goes_deeper walked tree.ends) }
+walk_refused walked (too_many many) =
+    record { nowhere = λ h k tree. omega (arith, tree.within_nodes, goes_further walked tree.ends) }
+walk_refused walked (matched here) =
+    record { nowhere = λ h k tree. never_clear walked tree.ends here tree.clear }
 
 -- the walk's start and its end
 

@@ -1,6 +1,6 @@
 use Rattle.std.proofs.Common.{arith, refl}
 use Rattle.bb_sim.specs.declared.runner.Moved.TheVariants.{Halted, Stepped}
-use Rattle.bb_decide.proofs.Counted.{cut_at_step, few_steps}
+use Rattle.bb_decide.proofs.Counted.{cut_at_step, few_steps, has_moved}
 use Rattle.bb_decide.proofs.Endings.{ends_into_Z, ends_where_stopped, step_goes_on, step_is_cut, stopped_on}
 use Rattle.bb_decide.proofs.Halting.{in_no_state, not_in_Z}
 use Rattle.bb_decide.proofs.ending.step_on.Goals as goal
@@ -9,9 +9,7 @@ pub count_run-requires-in_default-moved : goal.count_run-requires-in_default-mov
 count_run-requires-in_default-moved g c =
     let few = few_steps c.args.machine.now c.args.limits.now c.advance.new.self
     (g.T.Tape.view c.advance.new.tape) _ c.in-Ok.ensures.reaches in
-    let most = c.show_accepted.ensures.accepted.steps in
-    let room = c.requires.room in
-    omega (arith, few, most, room)
+    omega (arith, few, c.show_accepted.ensures.accepted.steps, c.requires.room)
 
 pub returns-in_default-moved : goal.returns-in_default-moved
 returns-in_default-moved g c =
@@ -32,29 +30,15 @@ returns-in_default g c =
 pub returns-in_default-state : goal.returns-in_default-state
 returns-in_default-state g c =
     let call = c.in-Ok.ensures in
-    let reaches = rw c.in-Stepped.is at call.reaches in
-    let moves = rw c.in-Stepped.is at call.moves in
     let halts = in_no_state _ _ c.state.ensures c.in_default-state.not-Some in
-    step_goes_on c.advance.ensures.limit Halted
-    (ends_into_Z call.stands c.count_run-in_default-state.ensures halts reaches.0 moves.0)
+    step_goes_on c.advance.ensures.limit Halted (ends_into_Z call.stands c.count_run-in_default-state.ensures
+    halts (rw c.in-Stepped.is at call.reaches).0 (rw c.in-Stepped.is at call.moves).0)
 
 pub returns : goal.returns
 returns g c =
     let call = c.in-Ok.ensures in
-    let reaches = rw c.in-Stepped.is at call.reaches in
-    let moves = rw c.in-Stepped.is at call.moves in
-    let few = reaches.0.within_steps in
+    let step = has_moved c.requires.stands call.stands _ _ _ c.in-Stepped.is call.reaches call.moves
+    (not_in_Z c.in-Some.ensures) in
     let most = c.show_accepted.ensures.accepted.steps in
-    let room = c.requires.room in
-    step_goes_on c.advance.ensures.limit Stepped (
-      record {
-        view_before = _;
-        stood = c.requires.stands;
-        stands = call.stands;
-        next = moves.0;
-        running = not_in_Z c.in-Some.ensures;
-      },
-      reaches.0,
-      refl,
-      omega (arith, few, most, room),
-    )
+    step_goes_on c.advance.ensures.limit Stepped
+    (step.0, step.1, refl, omega (arith, step.1.within_steps, most, c.requires.room))

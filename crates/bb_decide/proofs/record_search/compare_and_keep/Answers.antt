@@ -1,7 +1,6 @@
-use Rattle.std.proofs.Common.{◌≡◌, ℕ, ◌*◌, ◌<◌, ◌≤◌, ℤ, pos, ◌*ℤ◌, ◌≤ℤ◌, ap, inl, inr, arith, refl, w64}
+use Rattle.std.proofs.Common.{◌≡◌, pos, ap, inl, inr, arith, refl, w64}
 use Rattle.std.proofs.Common.{rules}
 use Rattle.std.proofs.Common.{◌∙◌, FitsSigned}
-use Rattle.std.specs.Prelude.{◌<ℤ◌}
 use Rattle.std.proofs.lemmas.Int.{ints, to_z-of_z}
 use Rattle.bb_sim.specs.Runner.{position_of}
 use Rattle.bb_cert.specs.records.Follow.{number_of, top_of}
@@ -33,13 +32,6 @@ returns-then-agrees g c = record {
   cut = tt;
 }
 
--- numbers, compared by how far from 0 their positions are
-less_twice : (m n : ℕ) (p q : ℤ) → pos m ≡ p → pos n ≡ q → m < 2 * n → p <ℤ (pos 2 *ℤ q)
-less_twice m n p q a b h = omega (arith, ints, a, b, h)
-
-at_least_twice : (m n : ℕ) (p q : ℤ) → pos m ≡ p → pos n ≡ q → 2 * n ≤ m → (pos 2 *ℤ q) ≤ℤ p
-at_least_twice m n p q a b h = omega (arith, ints, a, b, h)
-
 -- the numbers of the record and of the kept one are how far out they are
 as_far : (g : given.Over) (c : After-unsigned_abs-2 g)
     → (pos c.unsigned_abs.result ≡ top_of c.args.records.now c.args.runner)
@@ -59,7 +51,7 @@ returns-then-unsigned_abs g c =
     let far = as_far g (goal.at.returns-then-unsigned_abs g c).After-unsigned_abs-2 in record {
       compared = (
         λ both. let yes = c.agrees.ensures.agree.1 both in let no = c.if-agrees.false in cc,
-        inr (less_twice _ _ _ _ far.0 far.1 c.if-unsigned_abs.true, refl, c.agrees.ensures.saved),
+        inr (omega (arith, ints, far, c.if-unsigned_abs.true), refl, c.agrees.ensures.saved),
       );
       numbers = tt;
       side = refl;
@@ -74,11 +66,7 @@ returns g c =
     let far = as_far g (goal.at.returns g c).After-unsigned_abs-2 in record {
       compared = (
         λ both. let yes = c.agrees.ensures.agree.1 both in let no = c.if-agrees.false in cc,
-        inl (
-          at_least_twice _ _ _ _ far.0 far.1 c.if-unsigned_abs.false,
-          c.keep_record.ensures,
-          c.in-Ok.ensures.ok,
-        ),
+        inl (omega (arith, ints, far, c.if-unsigned_abs.false), c.keep_record.ensures, c.in-Ok.ensures.ok),
       );
       numbers = tt;
       side = search rules;

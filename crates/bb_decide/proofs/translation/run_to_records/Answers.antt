@@ -43,8 +43,7 @@ taken_in : (g : given.Over) (c : After-widened_side g)
 taken_in g c =
     takes_in c.loop-moved.invariant.search.searched (rw c.in-Stepped.is at c.in-Ok.ensures.goes_on).0
     c.cells-cells.ensures _ c.widened_side.ensures (search rules) c.position.ensures c.pass.ensures
-    (search rules)
-    c.position-in-loop-moved.ensures c.pass-in-loop-moved.ensures
+    (search rules) c.position-in-loop-moved.ensures c.pass-in-loop-moved.ensures
 
 -- a step that widens nothing makes no record
 pub loop-moved-preserved-in_default-widened_side : goal.loop-moved-preserved-in_default-widened_side
@@ -83,8 +82,7 @@ returns-in-Some-2 g c =
     let step = rw c.in-Stepped.is at c.in-Ok.ensures.goes_on in
     let call = c.in_ok-verdict.ensures in
     let tells = tells_pair (taken_in g (goal.at.returns-in-Some-2 g c).After-widened_side) _ _ _ _ _
-    c.in-Some.is _
-    (rw c.in-Some-2.is at call.looks) in
+    c.in-Some.is _ (rw c.in-Some-2.is at call.looks) in
     seeks_and_finds (lent_on c.step_on.ensures.limit call.right_limit call.left_limit
     (lent_uncounted call.uncounted (lent_uncounted step.2 here.lent)))
     (is_found here.search step.0 step.1 (tells, rw c.in-Some-2.is at call.numbers, c.count_run.ensures))
@@ -97,8 +95,7 @@ loop-moved-preserved g c =
     record {
       search = goes_on here.search step.0 step.1
           (looks_at_one (taken_in g (goal.at.loop-moved-preserved g c).After-widened_side) _ _ _ _ _
-          c.in-Some.is
-          (rw c.in-None.is at call.looks));
+          c.in-Some.is (rw c.in-None.is at call.looks));
       lent = lent_on c.step_on.ensures.limit call.right_limit call.left_limit
           (lent_uncounted call.uncounted (lent_uncounted step.2 here.lent));
     }

@@ -6,11 +6,13 @@ use Rattle.bb_decide.specs.Fingerprint.{fingerprint}
 use Rattle.bb_decide.proofs.Benches.{lent_at_first, lent_on, lent_uncounted}
 use Rattle.bb_decide.proofs.Counted.{cut_after_step, cut_at_step, few_steps, has_moved, taken_over}
 use Rattle.bb_decide.proofs.Cycles.{no_cycle_at_end}
-use Rattle.bb_decide.proofs.Endings.{ends_into_Z, ends_where_stopped, watches_and_finds, watches_to_end, watches_to_stop}
-use Rattle.bb_decide.proofs.Endings.{watches_until_cut}
+use Rattle.bb_decide.proofs.Endings.{ends_into_Z, ends_where_stopped, watches_and_finds, watches_to_end}
+use Rattle.bb_decide.proofs.Endings.{watches_to_stop, watches_until_cut}
 use Rattle.bb_decide.proofs.Translations.{IsTakenIn, goes_on, is_found, is_ready, looks_at_none, looks_at_one}
 use Rattle.bb_decide.proofs.Translations.{none_at_end, searching_at_first, takes_in, tells_pair}
 use Rattle.bb_sim.specs.Runner.{steps_of}
+use Rattle.bb_sim.specs.Span.{Inside}
+use Rattle.bb_decide.specs.inside.Step.{HasMoved}
 use Rattle.bb_decide.proofs.Halting.{in_no_state, is_none, not_in_Z}
 use Rattle.bb_decide.proofs.Watched.{not_stopped_at_end, not_stopped_at_record}
 use Rattle.bb_decide.proofs.Watched.{print_known}
@@ -33,9 +35,7 @@ count_run-requires-in_default-moved g c =
     let few = few_steps c.args.machine.now c.args.limits.now c.advance.new.self
     (g.T.Tape.view c.advance.new.tape) _ c.in-Ok.ensures.reaches in
     let same = ap (λ (m : Meter). m.steps) c.loop-moved.invariant.lent.meter in
-    let most = c.show_accepted.ensures.accepted.steps in
-    let room = c.requires.room in
-    omega (arith, few, same, most, room)
+    omega (arith, few, same, c.show_accepted.ensures.accepted.steps, c.requires.room)
 
 -- no memory for a step
 pub returns-in_default : goal.returns-in_default
@@ -98,23 +98,25 @@ pub rewritten-requires-clause-old : goal.rewritten-requires-clause-old
 rewritten-requires-clause-old g c =
     rw c.read_inside-old.ensures ((g.met.T.Tape.sound c.loop-moved.bench.run).symbols _)
 
+-- the step that was made
+step_made : (g : given.Over) (c : After-rewritten g)
+    → HasMoved c.args.machine.now c.loop-moved.runner c.advance.new.self (g.T.Tape.view c.advance.new.tape)
+    × Inside c.args.machine.now c.args.limits.now (steps_of c.advance.new.self)
+step_made g c =
+    let made = c.in-Ok.ensures in
+    has_moved c.loop-moved.invariant.search.stands made.stands _ _ _ c.in-Stepped.is made.reaches made.moves
+    (not_in_Z c.in-Some.ensures)
+
 -- the fingerprint is that of the tape after the step
 print : (g : given.Over) (c : After-rewritten g) → c.rewritten.result
     ≡ fingerprint (g.K.Keys.key_of c.args.keys.now) (g.T.Tape.view c.advance.new.tape).content
-print g c =
-    let here = c.loop-moved.invariant in
-    let call = c.in-Ok.ensures in
-    let step = has_moved here.search.stands call.stands _ _ _ c.in-Stepped.is call.reaches call.moves
-    (not_in_Z c.in-Some.ensures) in
-    print_known here.watched step.0 (search rules) c.position-position.ensures c.read_inside-old.ensures
-    c.read_inside-new.ensures c.rewritten.ensures
+print g c = print_known c.loop-moved.invariant.watched (step_made g c).0 (search rules)
+    c.position-position.ensures c.read_inside-old.ensures c.read_inside-new.ensures c.rewritten.ensures
 
 pub returns-then-are_as_kept : goal.returns-then-are_as_kept
 returns-then-are_as_kept g c =
     let here = c.loop-moved.invariant in
-    let made = c.in-Ok.ensures in
-    let step = has_moved here.search.stands made.stands _ _ _ c.in-Stepped.is made.reaches made.moves
-    (not_in_Z c.in-Some.ensures) in
+    let step = step_made g (goal.at.returns-then-are_as_kept g c).After-rewritten in
     watches_to_stop (lent_on c.advance.ensures.limit refl refl here.lent) _
     (stopped here.watched step.0 step.1 refl (print g (goal.at.returns-then-are_as_kept g c).After-rewritten)
     here.search.none (c.are_as_kept.ensures.0 c.if-are_as_kept.true))
@@ -130,18 +132,15 @@ taken_in g c =
     let made = c.in-Ok.ensures in
     let step = has_moved here.search.stands made.stands _ _ _ c.in-Stepped.is made.reaches made.moves
     (not_in_Z c.in-Some.ensures) in
-    takes_in here.search.searched step.0
-    c.cells-cells.ensures _ c.widened_side.ensures (search rules) c.position.ensures c.pass.ensures
-    (search rules)
-    c.position-in-loop-moved.ensures c.pass-in-loop-moved.ensures
+    takes_in here.search.searched step.0 c.cells-cells.ensures _ c.widened_side.ensures (search rules)
+    c.position.ensures c.pass.ensures (search rules) c.position-in-loop-moved.ensures
+    c.pass-in-loop-moved.ensures
 
 -- a step that widens nothing makes no record
 pub loop-moved-preserved-in_default-widened_side : goal.loop-moved-preserved-in_default-widened_side
 loop-moved-preserved-in_default-widened_side g c =
     let here = c.loop-moved.invariant in
-    let made = c.in-Ok.ensures in
-    let step = has_moved here.search.stands made.stands _ _ _ c.in-Stepped.is made.reaches made.moves
-    (not_in_Z c.in-Some.ensures) in
+    let step = step_made g (goal.at.loop-moved-preserved-in_default-widened_side g c).After-rewritten in
     let taken = taken_in g (goal.at.loop-moved-preserved-in_default-widened_side g c).After-widened_side in
     record {
       search = goes_on here.search step.0 step.1
@@ -155,63 +154,49 @@ loop-moved-preserved-in_default-widened_side g c =
 -- else the record that it makes is looked at
 pub look_on-requires-clause-ready : goal.look_on-requires-clause-ready
 look_on-requires-clause-ready g c =
-    is_ready (taken_in g (goal.at.look_on-requires-clause-ready g c).After-widened_side) _ c.in-Some-widened_side.is
-    (g.met.T.Tape.sound c.advance.new.tape)
+    let taken = taken_in g (goal.at.look_on-requires-clause-ready g c).After-widened_side in
+    is_ready taken _ c.in-Some-widened_side.is (g.met.T.Tape.sound c.advance.new.tape)
 
 pub look_on-requires-clause-room : goal.look_on-requires-clause-room
 look_on-requires-clause-room g c =
     let few = (rw c.in-Stepped.is at c.in-Ok.ensures.reaches).0.within_steps in
     let same = ap (λ (m : Meter). m.steps) c.loop-moved.invariant.lent.meter in
-    let most = c.show_accepted.ensures.accepted.steps in
-    let room = c.requires.room in
-    omega (arith, few, same, most, room)
+    omega (arith, few, same, c.show_accepted.ensures.accepted.steps, c.requires.room)
 
 -- no memory to keep it
 pub returns-in_err-verdict : goal.returns-in_err-verdict
 returns-in_err-verdict g c =
     let here = c.loop-moved.invariant in
-    let made = c.in-Ok.ensures in
-    let step = has_moved here.search.stands made.stands _ _ _ c.in-Stepped.is made.reaches made.moves
-    (not_in_Z c.in-Some.ensures) in
+    let step = step_made g (goal.at.returns-in_err-verdict g c).After-rewritten in
     let call = c.in_err-verdict.ensures in
     let fault = err_from_is_err_and c.from_residual.result c.from_residual.ensures.1 in
     rw fault.1 (watches_until_cut (lent_on c.advance.ensures.limit c.look_on.ensures.right_limit
-    c.look_on.ensures.left_limit here.lent)
-    (cut_after_step step.0.stands step.1 call.cut) call.memory)
+    c.look_on.ensures.left_limit here.lent) (cut_after_step step.0.stands step.1 call.cut) call.memory)
 
 pub returns-in-Some-2 : goal.returns-in-Some-2
 returns-in-Some-2 g c =
     let here = c.loop-moved.invariant in
-    let made = c.in-Ok.ensures in
-    let step = has_moved here.search.stands made.stands _ _ _ c.in-Stepped.is made.reaches made.moves
-    (not_in_Z c.in-Some.ensures) in
+    let step = step_made g (goal.at.returns-in-Some-2 g c).After-rewritten in
     let call = c.in_ok-verdict.ensures in
     let tells = tells_pair (taken_in g (goal.at.returns-in-Some-2 g c).After-widened_side) _ _ _ _ _
-    c.in-Some-widened_side.is _
-    (rw c.in-Some-2.is at call.looks) in
+    c.in-Some-widened_side.is _ (rw c.in-Some-2.is at call.looks) in
     watches_and_finds (lent_on c.advance.ensures.limit call.right_limit call.left_limit
     (lent_uncounted call.uncounted here.lent))
     (not_stopped_at_record here.watched step.0 step.1 refl
     (print g (goal.at.returns-in-Some-2 g c).After-rewritten)
     (λ same. both_ways _ c.if-are_as_kept.false (c.are_as_kept.ensures.1 same)) tells)
-    (is_found here.search step.0 step.1 (
-      tells,
-      rw c.in-Some-2.is at call.numbers,
-      c.count_run-in-Some-2.ensures,
-    ))
+    (is_found here.search step.0 step.1
+    (tells, rw c.in-Some-2.is at call.numbers, c.count_run-in-Some-2.ensures))
 
 pub loop-moved-preserved : goal.loop-moved-preserved
 loop-moved-preserved g c =
     let here = c.loop-moved.invariant in
-    let made = c.in-Ok.ensures in
-    let step = has_moved here.search.stands made.stands _ _ _ c.in-Stepped.is made.reaches made.moves
-    (not_in_Z c.in-Some.ensures) in
+    let step = step_made g (goal.at.loop-moved-preserved g c).After-rewritten in
     let call = c.in_ok-verdict.ensures in
     record {
       search = goes_on here.search step.0 step.1
           (looks_at_one (taken_in g (goal.at.loop-moved-preserved g c).After-widened_side) _ _ _ _ _
-          c.in-Some-widened_side.is
-          (rw c.in-None.is at call.looks));
+          c.in-Some-widened_side.is (rw c.in-None.is at call.looks));
       watched = watched_on here.watched step.0 step.1 refl
           (print g (goal.at.loop-moved-preserved g c).After-rewritten)
           (λ same. both_ways _ c.if-are_as_kept.false (c.are_as_kept.ensures.1 same)) c.keep_in_turn.ensures;

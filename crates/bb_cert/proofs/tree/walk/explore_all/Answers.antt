@@ -42,7 +42,8 @@ bounds-deref-halting g c = subst (λ starts. c.states-halting.result < length st
 
 pub bounds-deref-halting-2 : goal.bounds-deref-halting-2
 bounds-deref-halting-2 g c = subst (λ starts. c.states-halting.result + 1 < length starts)
-    (sym c.deref-2.ensures.0) (start_within (c.gather.ensures.rules.in_order R) c.states-halting.ensures.value)
+    (sym c.deref-2.ensures.0)
+    (start_within (c.gather.ensures.rules.in_order R) c.states-halting.ensures.value)
 
 pub bounds-deref-index : goal.bounds-deref-index
 bounds-deref-index g c = rule_within (root_here g c)
