@@ -21,12 +21,9 @@ pub replies_fit : (Reply : List ℕ → List ℕ → Type 0) (most : List ℕ �
 unfolding room
 replies_fit Reply most short [] bytes are = omega (arith, ap length are)
 replies_fit Reply most short (line ∷ lines) bytes are =
-    let one = short line are.0 are.2 in
-    let others = replies_fit Reply most short lines are.1 are.3 in
     let ended = length-append are.0 (10 ∷ []) in
     let parts = length-append (are.0 ++ 10 ∷ []) are.1 in
-    let same = ap length are.4 in
-    omega arith
+    omega (arith, short line are.0 are.2, replies_fit Reply most short lines are.1 are.3, ap length are.4)
 
 -- replies of at most 6 bytes
 pub room_of_words : (lines : List (List ℕ)) → room (λ line. 6) lines ≡ 7 * length lines
@@ -61,12 +58,10 @@ total-split : (p : ℕ → Bool) (xs : List ℕ) → total (slice_split p xs) �
 unfolding total
 total-split p [] = omega arith
 total-split p (x ∷ xs) =
-    let rest = total-split p xs in
-    let first = total-onto_first x (slice_split p xs) in
     elim (p x) as
     (λ b. total (cond b ([] ∷ slice_split p xs) (onto_first x (slice_split p xs))) ≤ length (x ∷ xs)) [
-      | true ↦ omega (arith, rest)
-      | false ↦ omega (arith, rest, first)
+      | true ↦ omega (arith, total-split p xs)
+      | false ↦ omega (arith, total-split p xs, total-onto_first x (slice_split p xs))
     ]
 
 -- the first few of the parts, and the next
@@ -83,16 +78,12 @@ unfolding pieces complete unfinished lines
 total-lines bytes =
     let parts = slice_split (λ b. b == 10) bytes in
     let split = total-split (λ b. b == 10) bytes in
-    let kept = total-take parts (length parts - 1) in
     let piece = slice_index_or parts (length parts - 1) [] in
     let both = total-append (take (length parts - 1) parts) (unless_empty piece) in
-    let last = total-unless_empty piece in
-    omega (arith, split, kept, both, last)
+    omega (arith, split, total-take parts (length parts - 1), both, total-unless_empty piece)
 
 -- the room for replies that are so much longer, by the bytes of the list
 pub room_in_list : (bytes : List ℕ)
     → room (λ line. length line + 97) (lines bytes) ≤ length bytes + 98 * length (lines bytes)
 room_in_list bytes =
-    let room = room_of_longer (lines bytes) in
-    let few = total-lines bytes in
-    omega (arith, room, few)
+    omega (arith, room_of_longer (lines bytes), total-lines bytes)

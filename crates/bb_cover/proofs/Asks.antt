@@ -63,9 +63,8 @@ length-entries_with false states write =
 entry_right : (is_root : Bool) (states write place : ℕ) → place < states
     → get_or (entries_with is_root states write) place Undefined ≡ Go write dir.R (State place)
 entry_right is_root states write place low =
-    let long = length-entries_to write dir.R states in
     get_or_append_left (entries_to write dir.R states) (cond is_root [] (entries_to write dir.L states))
-    Undefined place (omega (arith, long, low))
+    Undefined place (omega (arith, length-entries_to write dir.R states, low))
     ∙ entry_to write dir.R states place low
 
 entry_left : (is_root : Bool) (states write place : ℕ) → states ≤ place → place < width is_root states
@@ -117,9 +116,8 @@ module _ (is_root : Bool) (states symbols index : ℕ)
   pub some_width : 0 < width is_root states
   some_width = elim (cases_eq (width is_root states) 0) [
     | inl none ↦
-        let long = length-entries_of is_root states symbols in
         let zero_long : symbols * width is_root states ≡ symbols * 0 = ap (λ n. symbols * n) none in
-        absurd (omega (arith, inside, long, zero_long))
+        absurd (omega (arith, inside, length-entries_of is_root states symbols, zero_long))
     | inr some ↦ omega (arith, some)
   ]
 
@@ -127,11 +125,9 @@ module _ (is_root : Bool) (states symbols index : ℕ)
   few_writes = elim (cases_lt (index / width is_root states) symbols) [
     | inl less ↦ less
     | inr more ↦
-        let long = length-entries_of is_root states symbols in
         let w = width is_root states in
-        let some = some_width in
         let fits : w * symbols ≤ w * (index / w) = mul-le-mul_left w more in
-        absurd (omega (arith, inside, long, fits, some))
+        absurd (omega (arith, inside, length-entries_of is_root states symbols, fits, some_width))
   ]
 
   split : get_or (entries_of is_root states symbols) index Undefined
@@ -139,10 +135,9 @@ module _ (is_root : Bool) (states symbols index : ℕ)
       Undefined
   split =
       let w = width is_root states in
-      let some = some_width in
-      let parts : index ≡ index / w * w + index % w = omega (arith, some) in
+      let parts : index ≡ index / w * w + index % w = omega (arith, some_width) in
       ap (λ n. get_or (entries_of is_root states symbols) n Undefined) parts
-      ∙ entry_at is_root states symbols (index / w) (index % w) few_writes (omega (arith, some))
+      ∙ entry_at is_root states symbols (index / w) (index % w) few_writes (omega (arith, some_width))
 
   pub by_index_right : index % width is_root states < states
       → Go (index / width is_root states) dir.R (State (index % width is_root states))
@@ -155,17 +150,14 @@ module _ (is_root : Bool) (states symbols index : ℕ)
       → Go (index / width is_root states) dir.L (State (index % width is_root states - states))
       ≡ get_or (entries_of is_root states symbols) index Undefined
   by_index_left high =
-      let some = some_width in
       sym (split
       ∙ entry_left is_root states (index / width is_root states) (index % width is_root states) high
-      (omega (arith, some)))
+      (omega (arith, some_width)))
 
   pub few_places : index % width is_root states < states + states
   few_places =
-      let some = some_width in
-      let low : index % width is_root states < width is_root states = omega (arith, some) in
-      let wide = width_between is_root states in
-      omega (arith, low, wide.1)
+      let low : index % width is_root states < width is_root states = omega (arith, some_width) in
+      omega (arith, low, (width_between is_root states).1)
 
   pub leads_on : LeadsOn (get_or (entries_of is_root states symbols) index Undefined)
   leads_on = elim (cases_lt (index % width is_root states) states) [
@@ -176,17 +168,13 @@ module _ (is_root : Bool) (states symbols index : ℕ)
 pub some_entries : (is_root : Bool) (states symbols : ℕ) → 0 < states → 0 < symbols
     → 0 < length (entries_of is_root states symbols)
 some_entries is_root states symbols some some_too =
-    let long = length-entries_of is_root states symbols in
-    let wide = width_between is_root states in
     let one : width is_root states * 1 ≤ width is_root states * symbols =
     mul-le-mul_left (width is_root states) (omega (arith, some_too)) in
-    omega (arith, long, wide.0, one, some)
+    omega (arith, length-entries_of is_root states symbols, (width_between is_root states).0, one, some)
 
 pub few_entries : (is_root : Bool) (states symbols : ℕ) → states ≤ 25 → symbols ≤ 10
     → length (entries_of is_root states symbols) ≤ 500
 few_entries is_root states symbols few few_too =
-    let long = length-entries_of is_root states symbols in
-    let wide = width_between is_root states in
     let fits : symbols * width is_root states ≤ symbols * 50 =
-    mul-le-mul_left symbols (omega (arith, wide.1, few)) in
-    omega (arith, long, fits, few_too)
+    mul-le-mul_left symbols (omega (arith, (width_between is_root states).1, few)) in
+    omega (arith, length-entries_of is_root states symbols, fits, few_too)

@@ -1,8 +1,7 @@
 -- Where a runner has halted.
-use Rattle.std.proofs.Common.{◌≡◌, ◌≢◌, ℕ, ◌+◌, ◌<◌, ◌≤◌, None, inl, inr, refl, ap, sym, subst, ◌∙◌, arith}
+use Rattle.std.proofs.Common.{◌≡◌, ◌≢◌, ℕ, ◌+◌, ◌<◌, ◌≤◌, None, inl, inr, ap, sym, subst, ◌∙◌, arith}
 use Rattle.std.proofs.lemmas.Bool.{cases_eq}
-use Rattle.bb_machine.specs.declared.entry.Entry.{Entry}
-use Rattle.bb_machine.specs.declared.entry.Entry.TheVariants.{Undefined, Go}
+use Rattle.bb_machine.specs.declared.entry.Entry.TheVariants.{Undefined}
 use Rattle.bb_machine.specs.declared.entry.Next.TheVariants as next
 use Rattle.bb_machine.specs.Entry.{IsNextOf}
 use Rattle.bb_machine.specs.Limits.{Bounds}
@@ -17,14 +16,11 @@ use Rattle.bb_sim.specs.Runner.{Stands, position_of, state_of, steps_of}
 use Rattle.bb_sim.specs.Span.{Inside, span}
 use Rattle.bb_sim.proofs.Facts.{halt_is_unique, span_grows}
 use Rattle.laws_of_verdicts.specs.Gap.{HaltsOnGap}
+use Rattle.laws_of_verdicts.proofs.Facts.{undefined_here}
 use Rattle.bb_cover.specs.declared.gap.Gap.{Gap}
 use Rattle.bb_cover.specs.declared.halt.Halted.{Halted}
 use Rattle.bb_cover.specs.Gaps.{HaltsOn, IsGapOf}
 use Rattle.bb_cover.specs.Halts.{EndsSo}
-
-no_step : (entry : Entry) (c : Configuration) → followed entry c ≡ None → entry ≡ Undefined
-no_step Undefined c e = refl
-no_step (Go write dir to) c e = absurd cc
 
 pub gap_of_halt : (table : Table) (runner : Runner) (view : TapeView) → Stands table runner view
     → HaltsAt table (steps_of runner) → (gap : Gap) → state_of runner ≡ next.State gap.state
@@ -34,8 +30,6 @@ unfolding configuration.next
 gap_of_halt table runner view stands halts gap in_state at_symbol =
     let here : Configuration =
     record { state = state_of runner; head = position_of runner; tape = view.content } in
-    let one = stands.at in
-    let two = halts.exists in
     let same : halts.last ≡ here = cc in
     let entry : entry_at table (state_of runner) (cell view.content (position_of runner))
     ≡ entry_of table gap.state gap.symbol =
@@ -44,7 +38,7 @@ gap_of_halt table runner view stands halts gap in_state at_symbol =
     let none : followed (entry_at table (state_of runner) (cell view.content (position_of runner))) here
     ≡ None =
     ap (configuration.next table) (sym same) ∙ halts.no_next in
-    let is_gap : entry_of table gap.state gap.symbol ≡ Undefined = sym entry ∙ no_step _ here none in (
+    let is_gap : entry_of table gap.state gap.symbol ≡ Undefined = sym entry ∙ undefined_here _ here none in (
       record {
         last = here;
         exists = stands.at;
@@ -69,9 +63,8 @@ pub needs_more_cells : (table : Table) (bounds : Bounds) (n steps : ℕ) → (Ha
 needs_more_cells table bounds n steps on low wide halts inside = elim (cases_eq n steps) [
   | inl same ↦ on (subst (HaltsAt table) (sym same) halts)
   | inr apart ↦
-      let grows = span_grows table (n + 1) steps (omega (arith, low, apart)) in
       let narrow = inside.within_cells in
-      absurd (omega (arith, grows, narrow, wide))
+      absurd (omega (arith, span_grows table (n + 1) steps (omega (arith, low, apart)), narrow, wide))
 ]
 
 -- it halts here

@@ -8,16 +8,15 @@ use Rattle.bb_sim.specs.Configuration.{Configuration}
 use Rattle.bb_sim.specs.Run.{HaltsAt}
 use Rattle.bb_sim.specs.Span.{Inside, span}
 use Rattle.bb_cert.proofs.Facts.{answer_is_unique}
-use Rattle.bb_machine.specs.declared.entry.Next.TheVariants.{State}
 use Rattle.bb_tape.specs.Content.{cell}
 use Rattle.bb_cert.specs.declared.checker.answer.Answer.{Answer}
 use Rattle.bb_cert.specs.declared.checker.answer.Answer.TheVariants as answer
 use Rattle.bb_cert.specs.declared.verdict.Verdict.{Verdict}
-use Rattle.bb_cert.specs.declared.verdict.Verdict.TheVariants.{Halt, Cycler, Translated, Backward, Undecided}
+use Rattle.bb_cert.specs.declared.verdict.Verdict.TheVariants.{Halt, Undecided}
 use Rattle.bb_cert.specs.claims.Claim.{Claim}
 use Rattle.bb_cert.specs.checker.Answer.{Applies, IsAnswer, IsUndecided, Rule, answer_by, is_fine, rank}
 use Rattle.bb_cert.specs.checker.Answer.{undecided, too_much_named, out_of_order, too_much_needed}
-use Rattle.bb_cert.specs.checker.Answer.{claim_holds, all_else}
+use Rattle.bb_cert.specs.checker.Answer.{claim_holds}
 use Rattle.laws_of_verdicts.specs.Gap.{HaltsOnGap, HasOtherGap}
 use Rattle.bb_cover.specs.declared.gap.Gap.{Gap}
 use Rattle.bb_cover.specs.declared.halt.Halted.{Halted}
@@ -40,8 +39,7 @@ halt_is_ok table bounds steps score halted ends same = record {
   first too_much_named applies = let few = ends.inside.within_steps in absurd (omega (arith, few, applies))
   first out_of_order applies = absurd applies
   first too_much_needed applies = let few = ends.inside.within_cells in absurd (omega (arith, few, applies))
-  first claim_holds applies = omega arith
-  first all_else applies = omega arith
+  first other applies = omega arith
 
 -- what the answer `ok` says of a halt
 pub record OkHalt (table : Table) (bounds : Bounds) (steps score : ℕ) : Type 0 where
@@ -56,17 +54,13 @@ by_rule : (table : Table) (bounds : Bounds) (steps score : ℕ) (rule : Rule) �
     → Applies table bounds (Halt steps score) rule
     → ((other : Rule) → Applies table bounds (Halt steps score) other → rank rule ≤ rank other)
     → OkHalt table bounds steps score
-by_rule table bounds steps score undecided is applies first = cc
-by_rule table bounds steps score too_much_named is applies first = cc
-by_rule table bounds steps score out_of_order is applies first = cc
-by_rule table bounds steps score too_much_needed is applies first = cc
 by_rule table bounds steps score claim_holds is applies first = record {
   claim = applies;
   few_steps = not_more steps bounds.steps (λ more. let low = first too_much_named more in omega (arith, low));
   few_cells = not_more (span table steps) bounds.cells
       (λ more. let low = first too_much_needed more in omega (arith, low));
 }
-by_rule table bounds steps score all_else is applies first = cc
+by_rule table bounds steps score rule is applies first = cc
 
 pub ok_halt : (table : Table) (bounds : Bounds) (steps score : ℕ)
     → IsAnswer table bounds (Halt steps score) answer.Ok → OkHalt table bounds steps score
@@ -94,19 +88,13 @@ fine_claim bounds table verdict fine = by fine.is_answer.rule fine.is_answer.app
   where
     nothing : (verdict : Verdict) → IsUndecided verdict → Claim table verdict
     nothing (Undecided why) is = tt
-    nothing (Halt steps score) is = absurd is
-    nothing (Cycler first second) is = absurd is
-    nothing (Translated side first second extent) is = absurd is
-    nothing (Backward levels nodes) is = absurd is
+    nothing verdict is = absurd is
 
     by : (rule : Rule) → Applies table bounds verdict rule → is_fine (answer_by rule) ≡ true
         → Claim table verdict
     by undecided applies e = nothing verdict applies
-    by too_much_named applies e = cc
-    by out_of_order applies e = cc
-    by too_much_needed applies e = cc
     by claim_holds applies e = applies
-    by all_else applies e = cc
+    by rule applies e = cc
 
 -- no two answers to a verdict are fine and not
 pub fine_or_not : (bounds : Bounds) (table : Table) (verdict : Verdict) → IsFineClaim bounds table verdict
@@ -122,13 +110,8 @@ fine_or_not bounds table verdict fine given is not =
 pub one_gap : (table : Table) (n q s i j : ℕ) → HaltsOnGap table n q s → HaltsOnGap table n i j
     → (q ≡ i) × (s ≡ j)
 one_gap table n q s i j gap gap_too =
-    let one = gap.exists in
-    let two = gap_too.exists in
     let same : gap.last ≡ gap_too.last = cc in
-    let a = gap.in_state in
-    let b = gap_too.in_state in
-    let c = ap (λ (x : Configuration). x.state) same in
-    let states : State q ≡ State i = sym a ∙ c ∙ b in
+    let states = sym gap.in_state ∙ ap (λ (x : Configuration). x.state) same ∙ gap_too.in_state in
     (cc, sym gap.at_symbol ∙ ap (λ (x : Configuration). cell x.tape x.head) same ∙ gap_too.at_symbol)
 
 pub to_fill : (table : Table) (steps score : ℕ) (on found : Option Gap) → HaltsOn table steps on

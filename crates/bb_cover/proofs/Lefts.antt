@@ -71,17 +71,13 @@ left_of-next frame n is =
     (sym (add-one frame.next)))
 
 length-append_right : {X : Type 0} (xs ys : List X) → xs ++ ys ≡ [] → length ys ≡ 0
-length-append_right xs ys none =
-    let all : length (xs ++ ys) ≡ 0 = ap length none in
-    let parts = length-append xs ys in
-    omega (arith, all, parts)
+length-append_right xs ys none = omega (arith, ap length none, length-append xs ys)
 
 pub left_nothing : (n : ℕ) (frames : List Frame) → AreFrames n frames → left frames ≡ [] → frames ≡ []
 left_nothing n [] are none = refl
 left_nothing n (f ∷ frames) are none =
-    let zero_long = length-append_right (left frames) (left_of f) none in
     let more = ap length (left_of-next f n are.0) in
-    absurd (omega (arith, zero_long, more))
+    absurd (omega (arith, length-append_right (left frames) (left_of f) none, more))
 
 -- the next machine has one `---` less than the frame's
 next_gaps : (frame : Frame) (n : ℕ) → IsFrame n frame → gaps_of (next_of frame) + 1 ≡ gaps_of frame.machine
@@ -108,13 +104,12 @@ first_left frames d stack some =
     let parts = split_last frames d some in
     let is = frame_at zero frames (length frames - 1) d stack (omega (arith, some)) in
     let is_too : IsFrame (length frames - 1) last = subst (λ k. IsFrame k last) (omega arith) is in
-    let gaps = next_gaps last (length frames - 1) is_too in
     let room = is_too.room in
     record {
       frame_is = is_too;
       front = frames-front zero front last (subst (AreFrames zero) parts stack);
       long = length-take-le (length frames - 1) frames (omega arith);
-      room = omega (arith, gaps, room, some);
+      room = omega (arith, next_gaps last (length frames - 1) is_too, room, some);
       is = ap left parts ∙ left-push front last
           ∙ ap (λ l. l ++ left front) (left_of-next last (length frames - 1) is_too);
     }
@@ -147,11 +142,10 @@ passes_within frames d stack some fits new is = by (get_or frames (length frames
       ∙ set_at front (get_or frames (length frames - 1) d) [] turned (length frames - 1) long in
       let frame_is = first.frame_is in
       let room = first.room in
-      let many = ap length now ∙ length-append front (turned ∷ []) in
       record {
         first = next_of last;
         left_was = first.is ∙ sym (ap (λ l. next_of last ∷ l) (ap left now ∙ left-push front turned));
-        room = omega (arith, room, many, long, some);
+        room = omega (arith, room, ap length now ∙ length-append front (turned ∷ []), long, some);
         stack = subst IsStack (sym now) (frames-push zero front turned first.front (record {
           machine = frame_is.machine;
           gap = frame_is.gap;
@@ -169,9 +163,7 @@ pub passes_last : (frames : List Frame) (d : Frame) → IsStack frames → 0 < l
 passes_last frames d stack some ends new is =
     let last = get_or frames (length frames - 1) d in
     let first = first_left frames d stack some in
-    let long = first.long in
     let room = first.room in
-    let many = ap length is in
     record {
       first = next_of last;
       left_was = first.is
@@ -179,7 +171,7 @@ passes_last frames d stack some ends new is =
           ++ left (take (length frames - 1) frames)))
           (drop_all (last.next + 1) (entries last.asked) ends)
           ∙ sym (ap (λ l. next_of last ∷ left l) is);
-      room = omega (arith, room, many, long, some);
+      room = omega (arith, room, ap length is, first.long, some);
       stack = subst IsStack (sym is) first.front;
     }
 
@@ -204,21 +196,15 @@ pub new_frame : (table : Table) → IsMachine table → (is_root : Bool) (asked 
     → IsAsking table is_root asked → IsGapOf table gap → gaps_of table + n ≤ MAX_FRAMES
     → IsFrame n (record { machine = table; gap = gap; asked = asked; next = 0 })
 new_frame table machine is_root asked gap n asks is room =
-    let states = asks.states in
-    let symbols = asks.symbols in
     let some = asks.uses.first.some_state in
-    let some_too = asks.uses.first.some_symbol in
     let few = machine.states in
-    let few_too = machine.symbols in
-    let below = is.below in
-    let inside = is.inside in
     record {
       machine = machine;
       gap = is;
-      few = omega (arith, states, few);
-      few_symbols = omega (arith, symbols, few_too);
-      some = some_entries asked.is_root asked.states asked.symbols (omega (arith, states, some, below))
-          (omega (arith, symbols, some_too, inside));
+      few = omega (arith, asks.states, few);
+      few_symbols = omega (arith, asks.symbols, machine.symbols);
+      some = some_entries asked.is_root asked.states asked.symbols (omega (arith, asks.states, some))
+          (omega (arith, asks.symbols, asks.uses.first.some_symbol, is.inside));
       room = room;
     }
 
@@ -266,11 +252,9 @@ read_frame frames i stack inside a is =
 
 pub few_left : (n : ℕ) (frame : Frame) → IsFrame n frame → frame.next < 1000
 few_left n frame is =
-    let some = is.some in
     let few = is.few in
     let few_too = is.few_symbols in
-    let most = few_entries frame.asked.is_root frame.asked.states frame.asked.symbols few few_too in
-    omega (arith, some, most)
+    omega (arith, is.some, few_entries frame.asked.is_root frame.asked.states frame.asked.symbols few few_too)
 
 -- what is left, from the last frame on
 pub head_of : (frames : List Frame) (i : ℕ) → i ≡ length frames - 1 → IsStack frames → 0 < length frames
@@ -282,11 +266,7 @@ head_of frames i at stack some a is =
     subst (λ f. IsFirst (next_of f) (left frames)) (sym one) (_, first.is)
 
 pub first_is_one : (a b : Table) (tables : List Table) → IsFirst a tables → IsFirst b tables → a ≡ b
-first_is_one a b tables one two =
-    let first = one.1 in
-    let second = two.1 in
-    let both : a ∷ one.0 ≡ b ∷ two.0 = sym first ∙ second in
-    cc
+first_is_one a b tables one two = cc (one.1, two.1)
 
 -- with fewer frames before it
 pub as_first : (n : ℕ) (frame : Frame) → IsFrame n frame → IsFrame 0 frame

@@ -5,7 +5,6 @@ use Rattle.std.specs.Prelude.{IsTrue, is_some}
 use Rattle.bb_machine.specs.Limits.{Bounds}
 use Rattle.bb_machine.specs.Machine.{Table, symbols_of}
 use Rattle.bb_cert.specs.declared.verdict.Verdict.{Verdict}
-use Rattle.bb_cert.specs.declared.verdict.Verdict.TheVariants.{Halt}
 use Rattle.bb_cert.specs.declared.verdict.reader.Line.TheVariants.{Claim, Refusal}
 use Rattle.bb_cert.specs.verdict.Line.{IsLineOf}
 use Rattle.bb_cert.proofs.Facts.{line_unique}
@@ -28,8 +27,7 @@ use Rattle.bb_cover.proofs.Judging.{one_gap}
 pub never_both : (bytes : List ℕ) (table : Table) (verdict : Verdict) (column : ℕ)
     → IsLineOf (Claim table verdict) bytes → IsLineOf (Refusal column) bytes → ⊥
 never_both bytes table verdict column one two =
-    let same = line_unique (Claim table verdict) (Refusal column) bytes one two in
-    cc
+    cc (line_unique (Claim table verdict) (Refusal column) bytes one two)
 
 pub one_line : (bytes : List ℕ) (a b : VerdictLine) → IsLineOf (Claim a.table a.verdict) bytes
     → IsLineOf (Claim b.table b.verdict) bytes → a ≡ b
@@ -41,8 +39,7 @@ one_line bytes a b one two = same a.table b.table a.verdict b.verdict
     same t u v x e =
         let tables : t ≡ u = cc in
         let verdicts : v ≡ x = cc in
-        ap (λ (y : Table). let l : VerdictLine = record { table = y; verdict = v } in l) tables
-        ∙ ap (λ (y : Verdict). let l : VerdictLine = record { table = u; verdict = y } in l) verdicts
+        λ i. record { table = tables i; verdict = verdicts i }
 
 -- which machines a line leads to
 
@@ -57,27 +54,19 @@ fills_once : (table : Table) (q s : ℕ) (a b : List Table) → FillsGapBy table
 fills_once table q s a b one two =
     let first = one.uses.least two.states two.symbols two.uses.first in
     let second = two.uses.least one.states one.symbols one.uses.first in
-    let states : one.states ≡ two.states =
-    let f = first.0 in let g = second.0 in omega (arith, f, g) in
-    let symbols : one.symbols ≡ two.symbols =
-    let f = first.1 in let g = second.1 in omega (arith, f, g) in
+    let states : one.states ≡ two.states = omega (arith, first.0, second.0) in
+    let symbols : one.symbols ≡ two.symbols = omega (arith, first.1, second.1) in
     let root = same_test one.is_root two.is_root (IsEmpty table) one.root two.root in
     one.machines
-    ∙ ap (λ r. map (with_entry table q s) (entries_of r (min (length table) (one.states + 1))
-    (min (symbols_of table) (one.symbols + 1)))) root
-    ∙ ap (λ n. map (with_entry table q s) (entries_of two.is_root (min (length table) (n + 1))
-    (min (symbols_of table) (one.symbols + 1)))) states
-    ∙ ap (λ n. map (with_entry table q s) (entries_of two.is_root (min (length table) (two.states + 1))
-    (min (symbols_of table) (n + 1)))) symbols
+    ∙ (λ i. map (with_entry table q s) (entries_of (root i) (min (length table) (states i + 1))
+    (min (symbols_of table) (symbols i + 1))))
     ∙ sym two.machines
 
 -- a machine halts on one gap, whoever says so
 one_of_gaps : (line : VerdictLine) (q s i j : ℕ) → HaltsOnOneOf line q s → HaltsOnOneOf line i j
     → (q ≡ i) × (s ≡ j)
 one_of_gaps line q s i j one two =
-    let a = one.says in
-    let b = two.says in
-    let both : Halt one.steps one.score ≡ Halt two.steps two.score = sym a ∙ b in
+    let both = sym one.says ∙ two.says in
     let same : one.steps ≡ two.steps = cc in
     one_gap line.table two.steps q s i j (subst (λ n. HaltsOnGap line.table n q s) same one.gap) two.gap
 

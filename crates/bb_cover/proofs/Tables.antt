@@ -5,23 +5,18 @@ use Rattle.std.proofs.lemmas.Bool.{cases_eq, cases_lt}
 use Rattle.std.proofs.lemmas.List.{ext_get_or, length-set, get_or-set_same, get_or-set_other}
 use Rattle.std.proofs.lemmas.List.{get_or-replicate}
 use Rattle.std.proofs.lemmas.List.{get_or_past, length-replicate, take_more}
-use Rattle.std.proofs.lemmas.List.Elements.{All-from_recursion}
 use Rattle.bb_machine.specs.declared.entry.Dir.TheVariants as dir
 use Rattle.bb_machine.specs.declared.entry.Entry.{Entry}
 use Rattle.bb_machine.specs.declared.entry.Next.{Next}
 use Rattle.bb_machine.specs.declared.entry.Next.TheVariants.{Halt}
 use Rattle.bb_machine.specs.declared.entry.Entry.TheVariants.{Undefined, Go}
-use Rattle.bb_machine.specs.Machine.{Table, IsGroup, IsMachine, entry_of, symbols_of}
+use Rattle.bb_machine.specs.Machine.{Table, IsMachine, entry_of, symbols_of}
 use Rattle.laws_of_verdicts.specs.Closed.{all_gaps, with_entry}
 use Rattle.laws_of_verdicts.specs.NormalForm.{IsEmpty}
-use Rattle.laws_of_verdicts.proofs.Facts.{all_gaps-none, gaps, gaps-with_entry, length-with_entry}
+use Rattle.laws_of_verdicts.proofs.Facts.{all_gaps-none, gaps, gaps-with_entry, groups_long}
+use Rattle.laws_of_verdicts.proofs.Facts.{length-with_entry}
 use Rattle.bb_cover.specs.declared.gap.Gap.{Gap}
 use Rattle.bb_cover.specs.Gaps.{IsGapOf, gap_in, gaps_in, gaps_of}
-
-pub group_long : (table : Table) → IsMachine table → (q : ℕ) → q < length table
-    → length (get_or table q []) ≡ symbols_of table
-group_long table machine q h =
-    (All-from_recursion (IsGroup (length table) (symbols_of table)) table machine.groups q [] h).full
 
 -- the groups of a machine with one entry more
 group_long-with_entry : (table : Table) → IsMachine table → (q s : ℕ) (e : Entry) (i : ℕ) → i < length table
@@ -30,9 +25,9 @@ group_long-with_entry table machine q s e i h = elim (cases_eq i q) [
   | inl same ↦
       ap (λ x. length (get_or (with_entry table q s e) x [])) same
       ∙ ap length (get_or-set_same table q (set (get_or table q []) s e) [] (omega (arith, h, same)))
-      ∙ length-set (get_or table q []) s e ∙ group_long table machine q (omega (arith, h, same))
+      ∙ length-set (get_or table q []) s e ∙ groups_long table machine q (omega (arith, h, same))
   | inr apart ↦ ap length (get_or-set_other table q i (set (get_or table q []) s e) [] apart)
-      ∙ group_long table machine i h
+      ∙ groups_long table machine i h
 ]
 
 -- the machine that has just these entries
@@ -45,11 +40,10 @@ same_table child table machine machine_too q s e states symbols same =
     let long = length-with_entry table q s e in
     ext_get_or [] child (with_entry table q s e) (states ∙ sym long) (λ i h.
     let below : i < length table = omega (arith, h, states) in
-    let wide = group_long child machine i h in
     let wide_too = group_long-with_entry table machine_too q s e i below in
     ext_get_or Undefined (get_or child i []) (get_or (with_entry table q s e) i [])
-    (omega (arith, wide, wide_too, symbols)) (λ j inside.
-    same i below j (omega (arith, inside, wide, symbols))))
+    (omega (arith, groups_long child machine i h, wide_too, symbols)) (λ j inside.
+    same i below j (omega (arith, inside, groups_long child machine i h, symbols))))
 
 -- the machine that has only gaps
 pub all_empty : (table : Table) → IsMachine table
@@ -60,7 +54,7 @@ all_empty table machine none =
     let k = symbols_of table in
     let long : length (all_gaps n k) ≡ n = length-replicate n (replicate k Undefined) in
     ext_get_or [] table (all_gaps n k) (sym long) (λ i h.
-    let wide = group_long table machine i h in
+    let wide = groups_long table machine i h in
     let group : get_or (all_gaps n k) i [] ≡ replicate k Undefined =
     get_or-replicate n i (replicate k Undefined) [] h in
     let wide_too : length (replicate k Undefined) ≡ k = length-replicate k Undefined in
@@ -86,9 +80,7 @@ pub outside : (table : Table) → IsMachine table → (q s : ℕ)
     → (q < length table → symbols_of table ≤ s) → entry_of table q s ≡ Undefined
 outside table machine q s out = elim (cases_lt q (length table)) [
   | inl below ↦
-      let wide = group_long table machine q below in
-      let far = out below in
-      get_or_past (get_or table q []) s Undefined (omega (arith, wide, far))
+      get_or_past _ s Undefined (omega (arith, groups_long table machine q below, out below))
   | inr above ↦ ap (λ g. get_or g s Undefined) (get_or_past table q [] above)
 ]
 
@@ -119,26 +111,21 @@ gaps_of-append (g ∷ gs) hs = let rest = gaps_of-append gs hs in omega (arith, 
 pub gaps_of_more : (gs : Table) (i : ℕ) → i < length gs
     → gaps_of (take (i + 1) gs) ≡ gaps_of (take i gs) + gaps_in (get_or gs i [])
 gaps_of_more gs i inside =
-    let last = gaps_of-append (take i gs) (get_or gs i [] ∷ []) in
-    ap gaps_of (take_more gs i [] inside) ∙ omega (arith, last)
+    ap gaps_of (take_more gs i [] inside) ∙ omega (arith, gaps_of-append (take i gs) (get_or gs i [] ∷ []))
 
 -- at most as many as there are entries
 few_gaps : (n : ℕ) (gs : Table) → ((q : ℕ) → q < length gs → length (get_or gs q []) ≤ n)
     → gaps_of gs ≤ length gs * n
 few_gaps n [] wide = omega arith
 few_gaps n (g ∷ gs) wide =
-    let first = wide 0 (omega arith) in
-    let here = gaps_in_few g in
     let rest = few_gaps n gs (λ q h. wide (suc q) (omega (arith, h))) in
-    omega (arith, first, here, rest)
+    omega (arith, wide 0 (omega arith), gaps_in_few g, rest)
 
 pub machine_few_gaps : (table : Table) → IsMachine table → gaps_of table ≤ 250
 machine_few_gaps table machine =
     let few = few_gaps 10 table (λ q h.
-    let wide = group_long table machine q h in
-    let most = machine.symbols in omega (arith, wide, most)) in
-    let states = machine.states in
-    omega (arith, few, states)
+    let most = machine.symbols in omega (arith, groups_long table machine q h, most)) in
+    omega (arith, few, machine.states)
 
 -- the laws' count is the same
 
@@ -147,28 +134,17 @@ same_in [] = omega arith
 same_in (Undefined ∷ es) = let rest = same_in es in omega (arith, rest)
 same_in (Go write dir to ∷ es) = let rest = same_in es in omega (arith, rest)
 
-same_on : (g : List Entry) (gs : Table) → gaps (g ∷ gs) ≡ gaps (g ∷ []) + gaps gs
-same_on g gs = omega arith
-
 pub same_gaps : (gs : Table) → gaps_of gs ≡ gaps gs
 same_gaps [] = refl
-same_gaps (g ∷ gs) =
-    let first = same_in g in
-    let rest = same_gaps gs in
-    let both = same_on g gs in
-    omega (arith, first, rest, both)
+same_gaps (g ∷ gs) = omega (arith, same_in g, same_gaps gs)
 
 -- one `---` less
 pub filled_gaps : (table : Table) → IsMachine table → (q s write : ℕ) (dir : _) (to : Next)
     → q < length table → s < symbols_of table → entry_of table q s ≡ Undefined
     → gaps_of (with_entry table q s (Go write dir to)) + 1 ≡ gaps_of table
 filled_gaps table machine q s write dir to below inside gap =
-    let less = gaps-with_entry table machine q s write dir to below inside gap in
-    let one = same_gaps (with_entry table q s (Go write dir to)) in
-    let two = same_gaps table in
-    omega (arith, less, one, two)
+    simp same_gaps (omega (arith, gaps-with_entry table machine q s write dir to below inside gap))
 
 pub some_gaps : (table : Table) → IsMachine table → (gap : Gap) → IsGapOf table gap → 0 < gaps_of table
 some_gaps table machine gap is =
-    let less = filled_gaps table machine gap.state gap.symbol 0 dir.R Halt is.below is.inside is.is_gap in
-    omega (arith, less)
+    omega (arith, filled_gaps table machine gap.state gap.symbol 0 dir.R Halt is.below is.inside is.is_gap)

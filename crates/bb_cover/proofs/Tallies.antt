@@ -1,9 +1,10 @@
 -- How many lines of each kind there are, with one line more.
-use Rattle.std.proofs.Common.{◌≡◌, ℕ, ◌+◌, Bool, true, false, cond, List, [], ◌∷◌, ◌++◌, length, refl, ap}
+use Rattle.std.proofs.Common.{◌≡◌, ℕ, ◌+◌, Bool, true, false, cond, List, [], ◌∷◌, ◌++◌, length, ap}
 use Rattle.std.proofs.Common.{sym, ◌∙◌, arith, length-append}
 use Rattle.std.specs.Prelude.{count_by}
 use Rattle.std.proofs.lemmas.List.Sums.{sum_by-append}
 use Rattle.laws_of_verdicts.specs.Closed.{VerdictLine}
+use Rattle.std.proofs.Common.{rules}
 use Rattle.bb_cover.specs.declared.counts.Counts.{Counts}
 use Rattle.bb_cover.specs.Counts.{AreCounts, counted, is_backward, is_cycler, is_halt, is_translated}
 use Rattle.bb_cover.specs.Counts.{is_undecided}
@@ -14,9 +15,7 @@ more_saturated n = omega arith
 
 count_more : (p : VerdictLine → Bool) (lines : List VerdictLine) (line : VerdictLine)
     → count_by p (lines ++ line ∷ []) ≡ count_by p lines + cond (p line) 1 0
-count_more p lines line =
-    let parts = sum_by-append (λ x. cond (p x) 1 0) lines (line ∷ []) in
-    omega (arith, parts)
+count_more p lines line = omega (arith, sum_by-append (λ x. cond (p x) 1 0) lines (line ∷ []))
 
 count_if : (b : Bool) (n : ℕ) → more_if b (saturated n) ≡ saturated (n + cond b 1 0)
 count_if true n = more_saturated n
@@ -30,15 +29,7 @@ kind_more p lines line old is =
     ∙ ap saturated (sym (count_more p lines line))
 
 pub none_counted : AreCounts [] no_counts
-none_counted = record {
-  all = refl;
-  halt = refl;
-  cycler = refl;
-  translated = refl;
-  backward = refl;
-  undecided = refl;
-  wide = refl;
-}
+none_counted = search rules
 
 pub one_counted : (lines : List VerdictLine) (line : VerdictLine) (old new : Counts) → AreCounts lines old
     → new ≡ counted old line → AreCounts (lines ++ line ∷ []) new

@@ -1,7 +1,7 @@
 -- What the lines of a list come to, from what each line did.
 use Rattle.std.proofs.Common.{◌≡◌, ℕ, zero, suc, ◌+◌, ◌<◌, List, [], ◌∷◌, ◌++◌}
-use Rattle.std.proofs.Common.{Option, Some, None, length, replicate, inl, inr, refl, ap, sym, subst, ◌∙◌}
-use Rattle.std.proofs.Common.{arith}
+use Rattle.std.proofs.Common.{Option, Some, None, length, replicate, inl, inr, refl, ap, ap₂, sym, subst, ◌∙◌}
+use Rattle.std.proofs.Common.{arith, ◌↔◌}
 use Rattle.std.proofs.Common.{append_assoc}
 use Rattle.std.specs.Prelude.{Contains}
 use Rattle.std.specs.List.{FoldsTo}
@@ -44,16 +44,14 @@ true_push : (bounds : Bounds) (bytes : List (List ℕ)) (lines : List VerdictLin
     (l : VerdictLine) → AreTrueLines bounds bytes lines → IsTrueLine bounds b l
     → AreTrueLines bounds (bytes ++ b ∷ []) (lines ++ l ∷ [])
 true_push bounds [] [] b l are is = (is, tt)
-true_push bounds [] (x ∷ lines) b l are is = absurd are
-true_push bounds (x ∷ bytes) [] b l are is = absurd are
 true_push bounds (x ∷ bytes) (y ∷ lines) b l are is = (are.0, true_push bounds bytes lines b l are.1 is)
+true_push bounds bytes lines b l are is = absurd are
 
 true_length : (bounds : Bounds) (bytes : List (List ℕ)) (lines : List VerdictLine)
     → AreTrueLines bounds bytes lines → length lines ≡ length bytes
 true_length bounds [] [] are = refl
-true_length bounds [] (x ∷ lines) are = absurd are
-true_length bounds (x ∷ bytes) [] are = absurd are
 true_length bounds (x ∷ bytes) (y ∷ lines) are = ap suc (true_length bounds bytes lines are.1)
+true_length bounds bytes lines are = absurd are
 
 record IsTrueOf (bounds : Bounds) (line : VerdictLine) : Type 0 where
   machine : IsMachine line.table
@@ -145,10 +143,9 @@ begun_size lines more size n k begins walk =
     let walk_too : IsWalk (all_gaps n k ∷ []) (begins.first ∷ (begins.later ++ more)) =
     subst (λ l. IsWalk (all_gaps n k ∷ []) (l ++ more)) begins.whole walk in
     let is = walk_too.0 in
-    let some = begins.machine.some_state in
     let long : length begins.first.table ≡ size.states =
     ap length begins.root ∙ length-replicate size.states (replicate size.symbols Undefined) in
-    same_size size.states size.symbols n k (omega (arith, some, long)) (sym begins.root ∙ is)
+    same_size size.states size.symbols n k (omega (arith, long)) (sym begins.root ∙ is)
 
 -- how far a walk has come that hasn't stopped
 pub record Going (bounds : Bounds) (past : List (List ℕ)) (course : Course) : Type 0 where
@@ -186,28 +183,19 @@ module _ (bounds : Bounds) (past : List (List ℕ)) (bytes : List ℕ) (old new 
       let line = visited.line in
       let goes = goes_on line visited.gap visited.goes.more visited.goes.rest visited.to_fill
       visited.goes.fills tail in
-      let root = empty_is line.table visited.is_true.is_line.0 asked.0 in
-      let all : (going.lines ++ line ∷ []) ++ tail ≡ line ∷ tail =
-      ap (λ l. (l ++ line ∷ []) ++ tail) left.0 in
-      let here = all_gaps (length line.table) (symbols_of line.table) in (
-        λ walk. subst (IsWalk (here ∷ [])) (sym all)
-            (subst (λ t. IsWalk (t ∷ []) (line ∷ tail)) root
-            (subst (λ r. IsWalk (line.table ∷ r) (line ∷ tail)) asked.1 (goes.0 walk))),
-        λ walk. goes.1 (subst (λ r. IsWalk (line.table ∷ r) (line ∷ tail)) (sym asked.1)
-            (subst (λ t. IsWalk (t ∷ []) (line ∷ tail)) (sym root)
-            (subst (IsWalk (here ∷ [])) all walk))),
-      )
+      let root = ap₂ ◌∷◌ (empty_is line.table visited.is_true.is_line.0 asked.0) asked.1 in
+      subst (λ ts. IsWalk (visited.goes.more ++ visited.goes.rest) tail
+      ↔ IsWalk ts ((going.lines ++ line ∷ []) ++ tail)) root
+      (subst (λ l. IsWalk (visited.goes.more ++ visited.goes.rest) tail
+      ↔ IsWalk (line.table ∷ visited.goes.rest) ((l ++ line ∷ []) ++ tail)) (sym left.0) goes)
   visited_left visited (Some size) walk asked left = λ tail.
       let line = visited.line in
       let goes = goes_on line visited.gap visited.goes.more visited.goes.rest visited.to_fill
       visited.goes.fills tail in
       let before = left (line ∷ tail) in
-      let all = append_assoc going.lines (line ∷ []) tail in
-      let root = all_gaps size.states size.symbols in (
-        λ now. subst (IsWalk (root ∷ [])) (sym all)
-            (before.0 (subst (λ t. IsWalk t (line ∷ tail)) (sym asked) (goes.0 now))),
-        λ now. goes.1 (subst (λ t. IsWalk t (line ∷ tail)) asked
-            (before.1 (subst (IsWalk (root ∷ [])) all now))),
+      rw append_assoc (
+        λ now. before.0 (subst (λ t. IsWalk t (line ∷ tail)) (sym asked) (goes.0 now)),
+        λ now. goes.1 (subst (λ t. IsWalk t (line ∷ tail)) asked (before.1 now)),
       )
 
   visited_begun : (visited : Visited bounds old bytes new) (size : Option Size) (walk : List Table)
@@ -438,18 +426,15 @@ module _ (bounds : Bounds) (all : List (List ℕ)) (course : Course) where
 
   decides_of : (n k : ℕ) (lines : List VerdictLine) → closed.Covers lines n k → DecidesSize lines n k
   decides_of n k lines covers machine is states symbols =
-      covers_decide lines machine is
-      (subst (λ j. closed.Covers lines (length machine) j) (sym symbols)
-      (subst (λ i. closed.Covers lines i k) (sym states) covers))
+      covers_decide lines machine is (rw (states, symbols) covers)
 
   size_of : (n k n' k' : ℕ) (going : Going bounds all course)
       → course.size ≡ Some (record { states = n; symbols = k }) → IsWholeWalk bounds all n' k'
       → Covers n k ≡ Covers n' k'
   size_of n k n' k' going size whole =
-      let here : Size = record { states = n; symbols = k } in
-      let walk = walk_going n' k' going whole in
-      let same = begun_size going.lines [] here n' k' (going.begun here size) walk in
-      ap (λ i. Covers i k) same.0 ∙ ap (Covers n') same.1
+      let same = begun_size going.lines [] (record { states = n; symbols = k }) n' k' (going.begun _ size)
+      (walk_going n' k' going whole) in
+      ap₂ Covers same.0 same.1
 
   -- what is found is so
 
@@ -467,35 +452,26 @@ module _ (bounds : Bounds) (all : List (List ℕ)) (course : Course) where
         counted = going.counted;
       }
 
-  clash : (stop : Stop) → course.stop ≡ Some stop → course.stop ≡ None → ⊥
-  clash stop some none = let both : Some stop ≡ None = sym some ∙ none in cc
-
-  one_stop : (a b : Stop) → course.stop ≡ Some a → course.stop ≡ Some b → a ≡ b
-  one_stop a b one two = let both : Some a ≡ Some b = sym one ∙ two in cc
-
-  stopped_so : (other stop : Stop) → course.stop ≡ Some other → Ended bounds all course.counts other
-      → course.stop ≡ Some stop → StopsAt bounds all course.counts stop
-  stopped_so other stop is ended by =
-      stops_at stop (subst (Ended bounds all course.counts) (one_stop other stop is by) ended)
-
   found_so : (stop : Option Stop) → course.stop ≡ stop → HasCome stop bounds all course → (found : Found)
       → IsFoundBy course found → IsFound bounds all course.counts found
   found_so None is come (Covers n k) by = found_covers n k come by.1 by.2
-  found_so (Some stop) is come (Covers n k) by = absurd (clash stop is by.0)
-  found_so None is come (Stops stop) (inl by) = absurd (clash stop by is)
+  found_so (Some stop) is come (Covers n k) by = absurd (cc by.0)
+  found_so None is come (Stops stop) (inl by) = absurd cc
   found_so None is come (Stops stop) (inr ends) = ends_at stop ends come
-  found_so (Some other) is come (Stops stop) (inl by) = stopped_so other stop is come by
-  found_so (Some other) is come (Stops stop) (inr ends) = absurd (clash other is ends.not_stopped)
+  found_so (Some other) is come (Stops stop) (inl by) =
+      let same : other ≡ stop = cc in
+      stops_at stop (subst (Ended bounds all course.counts) same come)
+  found_so (Some other) is come (Stops stop) (inr ends) = absurd cc
 
   exactly : (stop : Option Stop) → course.stop ≡ stop → HasCome stop bounds all course → (found : Found)
       → IsFoundBy course found → (n k : ℕ) → IsWholeWalk bounds all n k → found ≡ Covers n k
   exactly None is come (Covers i j) by n k whole = size_of i j n k come by.1 whole
-  exactly (Some stop) is come (Covers i j) by n k whole = absurd (clash stop is by.0)
-  exactly None is come (Stops stop) (inl by) n k whole = absurd (clash stop by is)
+  exactly (Some stop) is come (Covers i j) by n k whole = absurd (cc by.0)
+  exactly None is come (Stops stop) (inl by) n k whole = absurd cc
   exactly None is come (Stops stop) (inr ends) n k whole =
       absurd (no_whole_yet stop ends come n k whole course.size refl)
   exactly (Some other) is come (Stops stop) (inl by) n k whole = absurd (no_whole other come n k whole)
-  exactly (Some other) is come (Stops stop) (inr ends) n k whole = absurd (clash other is ends.not_stopped)
+  exactly (Some other) is come (Stops stop) (inr ends) n k whole = absurd cc
 
 -- a run that begins with nothing visited
 module _ {D : Type 0} (bounds : D → Bounds) (course : D → Course) where

@@ -1,6 +1,6 @@
 -- Why the first bytes of a line, one more than the buffer of a verdict line has, decide what it does: a law
 -- that the engine asks for. It is a proof; it stands here, since a trait's law may cite nothing of `proofs/`.
-use Rattle.std.proofs.Common.{◌≡◌, ℕ, ◌+◌, ◌⊎◌, List, take, length, inl, inr, subst, arith, Option}
+use Rattle.std.proofs.Common.{ℕ, ◌+◌, List, take, length, inl, inr, subst, arith, Option}
 use Rattle.std.proofs.Common.{Some, None}
 use Rattle.std.proofs.lemmas.Bool.{cases_lt}
 use Rattle.std.proofs.lemmas.List.{take_all, length-take}
@@ -12,7 +12,7 @@ use Rattle.bb_cert.specs.verdict.Line.{IsLineOf}
 use Rattle.bb_cert.proofs.Facts.{length-line}
 use Rattle.bb_cover.specs.declared.found.Stop.{Stop}
 use Rattle.bb_cover.specs.declared.found.Why.{Why}
-use Rattle.bb_cover.specs.declared.found.Why.TheVariants.{Unread, NotNext, Refused, TooSoon, Beyond}
+use Rattle.bb_cover.specs.declared.found.Why.TheVariants.{Unread, NotNext, Refused}
 use Rattle.bb_cover.specs.declared.list.Course.{Course}
 use Rattle.bb_cover.specs.Course.{IsWrong, TookBy}
 
@@ -22,15 +22,16 @@ module _ (line : List ℕ) where
     kept : (said : Line) → IsLineOf said (take (LINE_BUFFER + 1) line) → ⊥
     whole : (said : Line) → IsLineOf said line → ⊥
 
-  all_or_too_long : (take (LINE_BUFFER + 1) line ≡ line) ⊎ IsTooLong
-  all_or_too_long = elim (cases_lt LINE_BUFFER (length line)) [
-    | inl long ↦ inr (record {
+  -- so what holds of the kept bytes holds of the line, if it does of a line that is none
+  of_kept : (P : List ℕ → Type 0) → P (take (LINE_BUFFER + 1) line) → (IsTooLong → P line) → P line
+  of_kept P holds by = elim (cases_lt LINE_BUFFER (length line)) [
+    | inl long ↦ by (record {
       kept = λ said of.
           let few = length-take (LINE_BUFFER + 1) line in
           let short = length-line said (take (LINE_BUFFER + 1) line) of in omega (arith, few, long, short);
       whole = λ said of. let short = length-line said line of in omega (arith, long, short);
     })
-    | inr fits ↦ inl (take_all (LINE_BUFFER + 1) line (omega (arith, fits)))
+    | inr fits ↦ subst P (take_all (LINE_BUFFER + 1) line (omega (arith, fits))) holds
   ]
 
   wrong_of_long : (bounds : Bounds) (old : Course) (why : Why) → IsTooLong
@@ -41,8 +42,7 @@ module _ (line : List ℕ) where
       absurd (long.kept (Claim wrong.0.table wrong.0.verdict) wrong.1)
   wrong_of_long bounds old (Refused given) long wrong =
       absurd (long.kept (Claim wrong.0.table wrong.0.verdict) wrong.1)
-  wrong_of_long bounds old TooSoon long wrong = wrong
-  wrong_of_long bounds old Beyond long wrong = wrong
+  wrong_of_long bounds old why long wrong = wrong
 
   took_of_long : (stop : Option Stop) (bounds : Bounds) (old new : Course) → IsTooLong
       → TookBy stop bounds old (take (LINE_BUFFER + 1) line) new → TookBy stop bounds old line new
@@ -59,7 +59,5 @@ module _ (line : List ℕ) where
 -- what the kept bytes of a line do, the line does
 pub took_of_kept : (bounds : Bounds) (line : List ℕ) (old new : Course)
     → TookBy old.stop bounds old (take (LINE_BUFFER + 1) line) new → TookBy old.stop bounds old line new
-took_of_kept bounds line old new took = elim (all_or_too_long line) [
-  | inl all ↦ subst (λ bytes. TookBy old.stop bounds old bytes new) all took
-  | inr long ↦ took_of_long line old.stop bounds old new long took
-]
+took_of_kept bounds line old new took = of_kept line (λ bytes. TookBy old.stop bounds old bytes new) took
+    (λ long. took_of_long line old.stop bounds old new long took)

@@ -1,6 +1,6 @@
 -- What more bytes do to the lines of an input.
 use Rattle.std.proofs.Common.{◌≡◌, ◌≢◌, ℕ, ◌-◌, Bool, true, false, cond, List, [], ◌∷◌, ◌++◌, length}
-use Rattle.std.proofs.Common.{append_assoc, sym, ◌∙◌, ap, refl, arith, length-append}
+use Rattle.std.proofs.Common.{append_assoc, sym, ◌∙◌, ap, ap₂, refl, arith, length-append}
 use Rattle.std.specs.Prelude.{◌==◌}
 use Rattle.std.specs.List.{slice_split, onto_first}
 use Rattle.std.proofs.Math.Seq.{take-append_seam, get_or-append_seam}
@@ -67,20 +67,20 @@ pieces-append bytes more first later is =
     let are = LinesAre-from_pieces bytes h.0 h.1 h.2 in
     rw (are.is_complete, are.is_unfinished) h.3
 
--- bytes without a newline are one piece, and with a newline behind them two
-pieces-none : (more : List ℕ) → HasNoNewline more → pieces more ≡ more ∷ []
+-- bytes without a newline are one piece, and with a newline behind them one more than what follows
+pub pieces-none : (more : List ℕ) → HasNoNewline more → pieces more ≡ more ∷ []
 unfolding pieces
 pieces-none [] none = refl
 pieces-none (byte ∷ more) none =
     let other : (byte == 10) ≡ false = ne_eqb byte 10 (All-head IsOther byte more none) in
     rw other (ap (onto_first byte) (pieces-none more (All-tail IsOther byte more none)))
 
-pieces-line : (more : List ℕ) → HasNoNewline more → pieces (more ++ 10 ∷ []) ≡ more ∷ [] ∷ []
+pub pieces-line : (line more : List ℕ) → HasNoNewline line → pieces (line ++ 10 ∷ more) ≡ line ∷ pieces more
 unfolding pieces
-pieces-line [] none = refl
-pieces-line (byte ∷ more) none =
-    let other : (byte == 10) ≡ false = ne_eqb byte 10 (All-head IsOther byte more none) in
-    rw other (ap (onto_first byte) (pieces-line more (All-tail IsOther byte more none)))
+pieces-line [] more none = refl
+pieces-line (byte ∷ line) more none =
+    let other : (byte == 10) ≡ false = ne_eqb byte 10 (All-head IsOther byte line none) in
+    rw other (ap (onto_first byte) (pieces-line line more (All-tail IsOther byte line none)))
 
 -- more bytes, none of them a newline
 pub LinesAre-more : (bytes more : List ℕ) → HasNoNewline more
@@ -91,15 +91,23 @@ LinesAre-more bytes more others = LinesAre-from_pieces (bytes ++ more) (complete
 -- a line comes to its end
 pub LinesAre-line : (bytes more : List ℕ) → HasNoNewline more
     → LinesAre (bytes ++ (more ++ 10 ∷ [])) (complete bytes ++ (unfinished bytes ++ more) ∷ []) []
+unfolding pieces
 LinesAre-line bytes more others = LinesAre-from_pieces (bytes ++ (more ++ 10 ∷ []))
     (complete bytes ++ (unfinished bytes ++ more) ∷ []) []
-    (pieces-append bytes (more ++ 10 ∷ []) more ([] ∷ []) (pieces-line more others)
+    (pieces-append bytes (more ++ 10 ∷ []) more ([] ∷ []) (pieces-line more [] others)
     ∙ sym (append_assoc (complete bytes) ((unfinished bytes ++ more) ∷ []) ([] ∷ [])))
 
 -- the lines are the complete ones and what stands after the last newline, unless that is empty
 pub lines-parts : (bytes : List ℕ) → lines bytes ≡ complete bytes ++ unless_empty (unfinished bytes)
 unfolding lines
 lines-parts bytes = refl
+
+-- and by the pieces
+pub lines-from_pieces : (bytes : List ℕ) (before : List (List ℕ)) (rest : List ℕ)
+    → pieces bytes ≡ before ++ rest ∷ [] → lines bytes ≡ before ++ unless_empty rest
+lines-from_pieces bytes before rest are =
+    let parts = LinesAre-from_pieces bytes before rest are in
+    lines-parts bytes ∙ ap₂ (λ b r. b ++ unless_empty r) parts.is_complete parts.is_unfinished
 
 -- before any byte there is no line
 pub LinesAre-none : LinesAre [] [] []

@@ -131,9 +131,7 @@ module _ {keep : ℕ} {past : List ℕ} {ended : List (List ℕ)} {kept : List �
     (taken : IsTaken keep past ended kept) where
   pub few_kept : length kept ≤ keep
   few_kept =
-      let same = ap length taken.is_kept in
-      let few = length-take keep (unfinished past) in
-      omega (arith, same, few)
+      omega (arith, ap length taken.is_kept, length-take keep (unfinished past))
 
   pub taken_lines : 0 < keep → prefixes keep (lines past) ≡ ended ++ unless_empty kept
   taken_lines some = prefixes-lines keep past some taken.is_kept

@@ -114,8 +114,7 @@ module _ {A : Type 0} {Reply : List ℕ → List ℕ → Type 0} {saw : A → Li
       prefix_after some = record {
         count = length lines + some.count;
         within =
-            let few = some.within in
-            rw is (omega (arith, few, length-append (lines ++ more) later, length-append lines more));
+            rw is (omega (arith, some.within, length-append (lines ++ more) later, length-append lines more));
         bytes = before.bytes ++ some.bytes;
         are_replies = count_replies some.count some.bytes some.within some.are_replies;
         prefix = AppendsPrefix-further before.sends some.bytes some.prefix;

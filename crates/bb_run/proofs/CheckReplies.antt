@@ -13,23 +13,14 @@ use Rattle.bb_run.specs.CheckKeptBytes.{long_line}
 use Rattle.bb_run.specs.CheckReply.{IsCheckReply}
 use Rattle.bb_run.specs.Laws.{CheckReplyIsUnique, LongLinesAreUnread}
 
-same_table : (s t : Table) (v w : Verdict) → Claim s v ≡ Claim t w → s ≡ t
-same_table s t v w e = cc
-
-same_verdict : (s t : Table) (v w : Verdict) → Claim s v ≡ Claim t w → v ≡ w
-same_verdict s t v w e = cc
-
-no_refusal : (t : Table) (v : Verdict) (column : ℕ) → Claim t v ≡ Refusal column → ⊥
-no_refusal t v column e = cc
-
 module _ (line : List ℕ) (s t : Table) (v w : Verdict) (first : IsLineOf (Claim s v) line)
     (second : IsLineOf (Claim t w) line) where
   -- one line claims one thing
   pub one_table : s ≡ t
-  one_table = same_table s t v w (line_unique (Claim s v) (Claim t w) line first second)
+  one_table = cc (line_unique (Claim s v) (Claim t w) line first second)
 
   pub one_verdict : v ≡ w
-  one_verdict = same_verdict s t v w (line_unique (Claim s v) (Claim t w) line first second)
+  one_verdict = cc (line_unique (Claim s v) (Claim t w) line first second)
 
   -- so it has no two answers
   pub one_answer : (bounds : Bounds) (a b : Answer) → IsAnswer s bounds v a → IsAnswer t bounds w b → a ≡ b
@@ -57,7 +48,7 @@ opened bounds line column of = inr (inl (record { column = column; of = of; is_r
 pub never_both : (line : List ℕ) (t : Table) (v : Verdict) (column : ℕ)
     → IsLineOf (Claim t v) line → IsLineOf (Refusal column) line → ⊥
 never_both line t v column claim refusal =
-    no_refusal t v column (line_unique (Claim t v) (Refusal column) line claim refusal)
+    cc (line_unique (Claim t v) (Refusal column) line claim refusal)
 
 pub check_reply_is_unique : CheckReplyIsUnique
 check_reply_is_unique bounds line a b (inl p) (inl q) =

@@ -145,12 +145,7 @@ module _ {D : Type 0} (bounds : D → Bounds) (summary : D → Summary) (cost : 
       none = record {
         clean = (λ e. tt, λ all. refl);
         oks = tt;
-        within = record {
-          steps = omega arith;
-          cells = omega arith;
-          levels = omega arith;
-          nodes = omega arith;
-        };
+        within = grind arith;
       }
 
       more : (past : List (List ℕ)) (d : D) (line : List ℕ) (e : D)

@@ -21,46 +21,33 @@ use Rattle.bb_run.specs.Reply.{IsReply}
 pub column_small : (line : List ℕ) (column : ℕ) → IsColumn line column → column ≤ LINE + 1
 column_small line column is =
     let begun = is.2.holds in
-    let short = text_short MAX_STATES MAX_SYMBOLS begun.0 begun.1 in
-    let whole = ap length begun.2.1 in
     let parts = length-append (take is.0 line) begun.2.0 in
     let taken = length-take-le is.0 line is.2.within in
-    omega (arith, is.1)
+    omega (arith, is.1, text_short MAX_STATES MAX_SYMBOLS begun.0 begun.1, ap length begun.2.1)
 
 -- `refused`, and a column of three digits
 pub refusal_short : (line : List ℕ) (column : ℕ) → IsColumn line column → length (refusal_text column) ≤ 11
 refusal_short line column is =
     let small = column_small line column is in
-    let digits = length-decimal-le 3 column (omega arith) (omega (arith, small)) (omega (arith, small)) in
     let whole = length-append (codes "refused ") (decimal column) in
-    omega arith
+    omega (arith, length-decimal-le 3 column (omega arith) (omega (arith, small)) (omega (arith, small)))
 
 -- a verdict has at most 97 bytes behind its machine
 pub reply_short : (bounds : Bounds) (plan : Plan) (line reply : List ℕ) → IsReply bounds plan line reply
     → length reply ≤ length line + 97
 reply_short bounds plan line reply (inl r) =
-    let words = length-verdict_text r.verdict r.is_reply.1 in
     let whole = length-append (text r.table) (verdict_text r.verdict) in
-    let same = ap length r.is_reply.2 in
-    let of = ap length r.of.is_text in
-    omega arith
+    omega (arith, length-verdict_text r.verdict r.is_reply.1, ap length r.is_reply.2, ap length r.of.is_text)
 reply_short bounds plan line reply (inr r) =
-    let short = refusal_short line r.column r.is_column in
-    let same = ap length r.is_reply in
-    omega arith
+    omega (arith, refusal_short line r.column r.is_column, ap length r.is_reply)
 
 word_short : (given : Answer) → length (answer_text given) ≤ 6
 word_short answer.Ok = omega arith
-word_short answer.Bad = omega arith
-word_short answer.Over = omega arith
-word_short answer.Open = omega arith
+word_short given = omega arith
 
 -- `unread` is the longest word
 pub check_reply_short : (bounds : Bounds) (line reply : List ℕ) → IsCheckReply bounds line reply
     → length reply ≤ 6
-check_reply_short bounds line reply (inl r) =
-    let short = word_short r.given in
-    let same = ap length r.is_reply in
-    omega arith
-check_reply_short bounds line reply (inr (inl r)) = let same = ap length r.is_reply in omega arith
-check_reply_short bounds line reply (inr (inr r)) = let same = ap length r.is_reply in omega arith
+check_reply_short bounds line reply (inl r) = omega (arith, word_short r.given, ap length r.is_reply)
+check_reply_short bounds line reply (inr (inl r)) = omega (arith, ap length r.is_reply)
+check_reply_short bounds line reply (inr (inr r)) = omega (arith, ap length r.is_reply)

@@ -1,5 +1,5 @@
 -- What a look at replies rests on: which replies have their form, and how many there are of each kind.
-use Rattle.std.proofs.Common.{◌≡◌, ◌≢◌, ℕ, ◌+◌, ◌*◌, ◌≤◌, cond, List, []}
+use Rattle.std.proofs.Common.{suc, ◌≡◌, ◌≢◌, ℕ, ◌+◌, ◌*◌, ◌≤◌, cond, List, []}
 use Rattle.std.proofs.Common.{◌∷◌, ◌++◌, length, refl, sym, ◌∙◌, ap, subst, inl, inr, arith, zero-mul}
 use Rattle.std.proofs.Common.{append_assoc, length-append}
 use Rattle.std.specs.Prelude.{◌==◌}
@@ -9,7 +9,6 @@ use Rattle.std.proofs.lemmas.List.Elements.{All-append}
 use Rattle.std.proofs.lemmas.List.Sums.{count_by-le-length, sum_by-append}
 use Rattle.bb_machine.specs.declared.entry.Entry.{Entry}
 use Rattle.bb_machine.specs.declared.entry.Entry.TheVariants.{Undefined, Go}
-use Rattle.bb_machine.specs.Entry.{entry_text}
 use Rattle.bb_machine.specs.declared.plan.Plan.{Plan}
 use Rattle.bb_machine.specs.Limits.{Bounds}
 use Rattle.bb_machine.specs.Machine.{Table, IsGroup, IsMachine, group_text, symbols_of, text}
@@ -19,7 +18,7 @@ use Rattle.bb_cert.specs.declared.verdict.reader.Line.TheVariants.{Claim, Refusa
 use Rattle.bb_cert.specs.declared.verdict.Verdict.{Verdict}
 use Rattle.bb_cert.specs.verdict.Line.{IsLineOf, verdict_text}
 use Rattle.bb_cert.proofs.Facts.{line_unique}
-use Rattle.bb_lines.specs.Lines.{AreReplies}
+use Rattle.bb_lines.specs.Lines.{AreReplies, HasNoNewline}
 use Rattle.bb_run.specs.declared.looking.KindCounts.{KindCounts}
 use Rattle.bb_run.specs.declared.looking.ReplyKind.{ReplyKind}
 use Rattle.bb_run.specs.declared.looking.ReplyKind.TheVariants as kind
@@ -27,44 +26,29 @@ use Rattle.bb_run.specs.Look.{AreOfKinds, CountsReplies, HasForm, HasNoReply, Is
 use Rattle.bb_run.specs.Look.{count_of}
 use Rattle.bb_run.specs.Look.{counts_of, kind_of, number_of, sum_of}
 use Rattle.bb_run.specs.Reply.{IsRefusal, IsReply}
-use Rattle.bb_run.specs.inside.Looking.{HasNoNewline, IsRefusedAt}
+use Rattle.bb_run.specs.inside.Looking.{IsRefusedAt}
 use Rattle.bb_run.proofs.Lengths.{column_small}
 use Rattle.bb_run.proofs.Newlines.{none_within, refusal_none, same_cut, verdict_none}
 
 -- ---- texts
 
-length-entry : (e : Entry) → length (entry_text e) ≡ 3
-length-entry Undefined = refl
-length-entry (Go write dir next) = refl
-
 length-group : (g : List Entry) → length (group_text g) ≡ 3 * length g
 length-group [] = refl
-length-group (e ∷ g) =
-    omega (arith, length-append (entry_text e) (group_text g), length-entry e, length-group g)
+length-group (Undefined ∷ g) = omega (arith, length-group g)
+length-group (Go write dir next ∷ g) = omega (arith, length-group g)
 
 length-tail : (n m : ℕ) (gs : Table) → AllByRecursion (IsGroup n m) gs
     → length (tail_text gs) ≡ length gs * (3 * m + 1)
 length-tail n m [] _ = sym (zero-mul (3 * m + 1))
 length-tail n m (g ∷ gs) p =
-    omega (
-      arith,
-      length-append (group_text g) (tail_text gs),
-      length-group g,
-      p.0.full,
-      length-tail n m gs p.1,
-    )
+    let both = length-append (group_text g) (tail_text gs) in
+    omega (arith, both, length-group g, p.0.full, length-tail n m gs p.1)
 
 -- how long a machine's text is, by its states and symbols
 pub length-text : (table : Table) → IsMachine table
     → length (text table) + 1 ≡ length table * (3 * symbols_of table + 1)
 length-text [] machine = omega (arith, machine.some_state)
-length-text (g ∷ gs) machine =
-    omega (
-      arith,
-      length-append (group_text g) (tail_text gs),
-      length-group g,
-      length-tail (length (g ∷ gs)) (length g) gs machine.groups.1,
-    )
+length-text (g ∷ gs) machine = omega (arith, length-tail (length (g ∷ gs)) (length g) (g ∷ gs) machine.groups)
 
 -- of two beginnings of one length there is one
 pub same_beginning : (a b x y : List ℕ) → a ++ x ≡ b ++ y → length a ≡ length b → a ≡ b
@@ -152,18 +136,15 @@ others_are line lines reply rest bytes none none_too is are =
 are_replies : (lines : List (List ℕ)) (kinds : List ReplyKind) (bytes : List ℕ)
     → AreOfKinds lines kinds bytes → AreReplies HasForm lines bytes
 are_replies [] [] bytes are = are
-are_replies [] (k ∷ kinds) bytes are = absurd are
-are_replies (line ∷ lines) [] bytes are = absurd are
 are_replies (line ∷ lines) (k ∷ kinds) bytes are =
     (are.0, are.1, (k, are.2), are_replies lines kinds are.1 are.3, are.4)
+are_replies lines kinds bytes are = absurd are
 
 pub as_many : (lines : List (List ℕ)) (kinds : List ReplyKind) (bytes : List ℕ)
     → AreOfKinds lines kinds bytes → length kinds ≡ length lines
 as_many [] [] bytes are = refl
-as_many [] (k ∷ kinds) bytes are = absurd are
-as_many (line ∷ lines) [] bytes are = absurd are
-as_many (line ∷ lines) (k ∷ kinds) bytes are =
-    let others = as_many lines kinds are.1 are.3 in omega arith
+as_many (line ∷ lines) (k ∷ kinds) bytes are = ap suc (as_many lines kinds are.1 are.3)
+as_many lines kinds bytes are = absurd are
 
 -- one reply more
 pub one_more : (lines : List (List ℕ)) (kinds : List ReplyKind) (bytes line reply : List ℕ) (k : ReplyKind)
@@ -171,8 +152,6 @@ pub one_more : (lines : List (List ℕ)) (kinds : List ReplyKind) (bytes line re
     → AreOfKinds (lines ++ line ∷ []) (kinds ++ k ∷ []) (bytes ++ (reply ++ 10 ∷ []))
 one_more [] [] bytes line reply k are is =
     (reply, [], is, refl, ap (λ b. b ++ (reply ++ 10 ∷ [])) are ∙ sym (append-nil (reply ++ 10 ∷ [])))
-one_more [] (other ∷ kinds) bytes line reply k are is = absurd are
-one_more (first ∷ lines) [] bytes line reply k are is = absurd are
 one_more (first ∷ lines) (other ∷ kinds) bytes line reply k are is = (
   are.0,
   are.1 ++ (reply ++ 10 ∷ []),
@@ -180,6 +159,7 @@ one_more (first ∷ lines) (other ∷ kinds) bytes line reply k are is = (
   one_more lines kinds are.1 line reply k are.3 is,
   ap (λ b. b ++ (reply ++ 10 ∷ [])) are.4 ∙ append_assoc (are.0 ++ 10 ∷ []) are.1 (reply ++ 10 ∷ []),
 )
+one_more lines kinds bytes line reply k are is = absurd are
 
 -- a reply is of one kind
 pub has_one_kind : (line reply : List ℕ) (a b : ReplyKind) → IsOfKind a line reply → IsOfKind b line reply
@@ -222,12 +202,7 @@ ones : (k : ReplyKind)
     + one k kind.UndecidedSteps + one k kind.UndecidedCells + one k kind.Refused ≡ 1
 unfolding one
 ones kind.Halt = refl
-ones kind.Cycler = refl
-ones kind.Translated = refl
-ones kind.Backward = refl
-ones kind.UndecidedSteps = refl
-ones kind.UndecidedCells = refl
-ones kind.Refused = refl
+ones k = refl
 
 count_first : (of_kind k : ReplyKind) (kinds : List ReplyKind)
     → count_of of_kind (k ∷ kinds) ≡ one k of_kind + count_of of_kind kinds
@@ -239,21 +214,19 @@ count_first of_kind k kinds =
 sum_is_length : (kinds : List ReplyKind) → sum_of (counts_of kinds) ≡ length kinds
 sum_is_length [] = refl
 sum_is_length (k ∷ kinds) =
-    let all = counts_of (k ∷ kinds) in
-    let others = counts_of kinds in
-    let halt : all.halt ≡ one k kind.Halt + others.halt = count_first kind.Halt k kinds in
-    let cycler : all.cycler ≡ one k kind.Cycler + others.cycler = count_first kind.Cycler k kinds in
-    let translated : all.translated ≡ one k kind.Translated + others.translated =
-    count_first kind.Translated k kinds in
-    let backward : all.backward ≡ one k kind.Backward + others.backward = count_first kind.Backward k kinds in
-    let steps : all.undecided_steps ≡ one k kind.UndecidedSteps + others.undecided_steps =
-    count_first kind.UndecidedSteps k kinds in
-    let cells : all.undecided_cells ≡ one k kind.UndecidedCells + others.undecided_cells =
-    count_first kind.UndecidedCells k kinds in
-    let refused : all.refused ≡ one k kind.Refused + others.refused = count_first kind.Refused k kinds in
-    let sum = ones k in
-    let is = sum_is_length kinds in
-    omega arith
+    let first = λ (of_kind : ReplyKind). count_first of_kind k kinds in
+    omega (
+      arith,
+      ones k,
+      sum_is_length kinds,
+      first kind.Halt,
+      first kind.Cycler,
+      first kind.Translated,
+      first kind.Backward,
+      first kind.UndecidedSteps,
+      first kind.UndecidedCells,
+      first kind.Refused,
+    )
 
 -- ---- ends
 

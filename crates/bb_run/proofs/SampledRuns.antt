@@ -47,17 +47,14 @@ pub size_grows : {from every m n a b : ℕ} → m ≤ n → IsSampleSize from ev
 size_grows {a} {b} h first then = elim (cases_lt b a) [
   | inl wrong ↦
       (let early = (first.are b).0 wrong in
-      let less = (then.are b).1 (omega (arith, early, h)) in
-      absurd (omega (arith, less)))
+      absurd (omega (arith, (then.are b).1 (omega (arith, early, h)))))
   | inr few ↦ few
 ]
 
 pub size_is_unique : {from every n a b : ℕ} → IsSampleSize from every n a → IsSampleSize from every n b
     → a ≡ b
 size_is_unique one other =
-    let up = size_grows (omega arith) one other in
-    let down = size_grows (omega arith) other one in
-    omega (arith, up, down)
+    omega (arith, size_grows (omega arith) one other, size_grows (omega arith) other one)
 
 -- how many of the printed steps are up to the last
 pub size_exists : (from every last : ℕ) → 0 < every → (count : ℕ) × IsSampleSize from every last count

@@ -73,19 +73,13 @@ module _ (one : TextsDiffer) {bounds : Bounds} {plan : Plan} {Counts : Table →
     steps = record { bound = tt; reached = inl refl };
     cells = record { bound = tt; reached = inl refl };
     trees = tt;
-    within = record {
-      steps = omega arith;
-      most_cells = omega arith;
-      nodes = omega arith;
-      most_levels = omega arith;
-    };
+    within = grind arith;
   }
 
   module _ (lines : List (List ℕ)) (line : List ℕ) (old new : Summary) (cost : ℕ) where
     machine_summed : IsSummed bounds plan Steps Cells lines old → SawMachine Counts old line new cost
         → IsSummed bounds plan Steps Cells (lines ++ line ∷ []) new
     machine_summed before saw =
-        let w = before.within in
         let steps = ap (λ (m : Meter). m.steps) saw.peak in
         let cells = ap (λ (m : Meter). m.most_cells) saw.peak in record {
           clean = clean_more IsMachineLine lines before.clean
@@ -97,12 +91,7 @@ module _ (one : TextsDiffer) {bounds : Bounds} {plan : Plan} {Counts : Table →
           trees = all_more (λ other within h k tree.
               let few = within h k tree in
               (omega (arith, few.0, levels), omega (arith, few.1, nodes))) lines before.trees is_tree_within;
-          within = record {
-            steps = omega (arith, w.steps, limited.within.steps, steps);
-            most_cells = omega (arith, w.most_cells, limited.within.most_cells, cells);
-            nodes = omega (arith, w.nodes, limited.within.nodes, nodes);
-            most_levels = omega (arith, w.most_levels, limited.within.most_levels, levels);
-          };
+          within = grind (arith, before.within, limited.within, steps, cells, nodes, levels);
         }
       where
         limited : CountsWithin bounds plan saw.table saw.meter

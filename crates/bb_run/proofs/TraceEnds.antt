@@ -87,12 +87,10 @@ module _ (table : Table) (from every : ℕ) where
         → next ≡ here + left → IsLastInside table bounds last → IsSampleSize from every last total
         → Sends old new [] waiting (lines_text (sampled_lines table from every total))
     printed_all {bounds} {left} {n} {last} {total} end is is_last size =
-        let few = end.few in
-        let below = end.is_last.greatest last is_last.inside in
         let above = is_last.greatest n end.is_last.inside in
-        let same : n ≡ last = omega (arith, below, above) in
+        let same : n ≡ last = omega (arith, end.is_last.greatest last is_last.inside, above) in
         let here_size : IsSampleSize from every n printed.count =
-        printed_size n end.from_old (omega (arith, few, is)) in
+        printed_size n end.from_old (omega (arith, end.few, is)) in
         let last_size : IsSampleSize from every last printed.count =
         subst (λ m. IsSampleSize from every m printed.count) same here_size in
         subst (λ k. Sends old new [] waiting (lines_text (sampled_lines table from every k)))
@@ -105,13 +103,11 @@ module _ (table : Table) (from every : ℕ) where
         → Appends old new_then (lines_text (sampled_lines table from every printed.count))
         → StopsBefore table from every last old new_then
     printed_early {bounds} {left} {last} wanted is is_last appends =
-        let few = wanted.few in
-        let more = is_last.greatest (wanted.at + 1) wanted.next in
         record {
           at = wanted.at;
-          before = omega (arith, more);
+          before = omega (arith, is_last.greatest (wanted.at + 1) wanted.next);
           count = printed.count;
-          is_size = printed_size wanted.at wanted.from_old (omega (arith, few, is));
+          is_size = printed_size wanted.at wanted.from_old (omega (arith, wanted.few, is));
           appends = appends;
         }
 
@@ -129,9 +125,7 @@ module _ (table : Table) (from every : ℕ) where
             → count ≤ total
         few_printed most zero past = omega arith
         few_printed most (suc k) past =
-            let early = past k (omega arith) in
-            let less = (size.are k).1 (omega (arith, early, most)) in
-            omega (arith, less)
+            omega (arith, (size.are k).1 (omega (arith, past k (omega arith), most)))
 
     -- at the next step its line is sent
     module _ {at : ℕ} (is : at ≡ next) where
@@ -145,8 +139,7 @@ module _ (table : Table) (from every : ℕ) where
             count = printed.count + 1;
             next_is = omega (arith, next_is, is);
             past = λ k few.
-                let before = printed_later from every k printed.count (omega (arith, few)) in
-                omega (arith, before, next_is, is);
+                omega (arith, printed_later from every k printed.count (omega (arith, few)), next_is, is);
             sent = subst (λ bytes. Sends old new_then [] waiting_then bytes)
                 (lines-next printed.count at (is ∙ next_is)) (Sends-trans printed.sent line);
           }
@@ -158,8 +151,7 @@ module _ (table : Table) (from every : ℕ) where
       unfolding lines_of
       printed_begun_next {bounds} {last} {total} {new_then} inside is_last size begun =
           let next_is = printed.next_is in
-          let most = is_last.greatest at inside in
-          let less = (size.are printed.count).1 (omega (arith, next_is, is, most)) in
+          let less = (size.are printed.count).1 (omega (arith, next_is, is, is_last.greatest at inside)) in
           let longer : AppendsPrefix old new_then (lines_of (printed.count + 1)) =
           subst (λ bytes. AppendsPrefix old new_then bytes) (lines-next printed.count at (is ∙ next_is))
           (AppendsPrefix-further printed.sent _ begun) in

@@ -1,10 +1,13 @@
 -- What a trace comes to, by whether the line is a machine's text.
-use Rattle.std.proofs.Common.{◌≡◌, ℕ, zero, suc, ◌+◌, ◌*◌, ◌≤◌, ◌↔◌, IsTrue, Bool, false, List, [], ◌∷◌, ◌++◌}
+use Rattle.std.proofs.Common.{◌≡◌, ℕ, ◌+◌, ◌*◌, ◌≤◌, ◌↔◌, IsTrue, Bool, false, List, [], ◌∷◌, ◌++◌}
 use Rattle.std.proofs.Common.{sym, ◌∙◌, subst, ap, arith, length, refl, inl, inr, take, Option, Result}
 use Rattle.std.proofs.Common.{Ok, Err}
+use Rattle.std.proofs.Math.Path.{fun_ext}
+use Rattle.std.proofs.Common.{map}
+use Rattle.std.specs.List.{range_with_len}
 use Rattle.std.specs.Io.KnownBytes.{Appends}
 use Rattle.std.proofs.lemmas.List.{append-nil}
-use Rattle.std.proofs.lemmas.List.FromFn.{length-map-range_with_len, map-range_with_len_more}
+use Rattle.std.proofs.lemmas.List.FromFn.{length-map-range_with_len}
 use Rattle.std.proofs.lemmas.List.FromFn.{take-map-range_with_len}
 use Rattle.bb_machine.specs.Laws.{TextsDiffer}
 use Rattle.bb_machine.specs.Limits.{Bounds}
@@ -98,8 +101,7 @@ module _ {bounds : Bounds} {from every : ℕ} {line : List ℕ} {old new : Optio
     {lines : List (List ℕ)} (early : EndsEarly bounds from every line old new lines) where
   few_lines : early.stops.count ≤ early.run.count
   few_lines =
-      let before = early.stops.before in
-      size_grows (omega (arith, before)) early.stops.is_size early.run.is_size
+      size_grows (omega (arith, early.stops.before)) early.stops.is_size early.run.is_size
 
   long_lines : length lines ≡ early.run.count
   long_lines =
@@ -116,11 +118,9 @@ module _ {bounds : Bounds} {from every : ℕ} {line : List ℕ} {old new : Optio
 
   first_lines : AppendsFirstLines old new lines
   first_lines =
-      let few = few_lines in
-      let long = long_lines in
       record {
         count = early.stops.count;
-        within = omega (arith, few, long);
+        within = omega (arith, few_lines, long_lines);
         appends = begun_lines;
       }
 
@@ -132,14 +132,10 @@ sampled_ends old new r ends = ends
 
 -- from step 0 on each step is printed
 all_printed : (table : Table) (count : ℕ) → sampled_lines table 0 1 count ≡ step_lines table count
-all_printed table zero = refl
-all_printed table (suc n) =
-    let printed : ℕ → List ℕ = λ k. step_text table (0 + 1 * k) in
-    let next : suc n ≡ n + 1 = omega arith in
-    let here : printed n ≡ step_text table n = ap (step_text table) (omega arith) in
-    ap (sampled_lines table 0 1) next ∙ map-range_with_len_more printed 0 n n (omega arith)
-    ∙ ap (λ l. l ++ printed n ∷ []) (all_printed table n) ∙ ap (λ t. step_lines table n ++ t ∷ []) here
-    ∙ sym (map-range_with_len_more (step_text table) 0 n n (omega arith)) ∙ ap (step_lines table) (sym next)
+all_printed table count =
+    let same : (λ (k : ℕ). step_text table (0 + 1 * k)) ≡ step_text table =
+    fun_ext (λ k. ap (step_text table) (omega arith)) in
+    ap (λ printed. map printed (range_with_len 0 count)) same
 
 -- up to a step there is one more
 all_size : {last count : ℕ} → IsSampleSize 0 1 last count → count ≡ last + 1
@@ -169,13 +165,10 @@ all_trace (inr refused) = inr refused
 some_lines : {bounds : Bounds} {line : List ℕ} {old new : Option (List ℕ)} {lines : List (List ℕ)}
     → EndsEarly bounds 0 1 line old new lines → AppendsSomeLines old new lines
 some_lines early =
-    let before = early.stops.before in
-    let few = all_size early.stops.is_size in
     let all = all_size early.run.is_size in
-    let long = long_lines early in
     record {
       count = early.stops.count;
-      not_all = omega (arith, before, few, all, long);
+      not_all = omega (arith, early.stops.before, all_size early.stops.is_size, all, long_lines early);
       appends = begun_lines early;
     }
 

@@ -1,7 +1,7 @@
 -- Why the first bytes of a line, one more than the buffer of a verdict line has, decide the answer to it:
 -- laws that the engine asks for. They are proofs; they stand here, since a trait's law may cite nothing of
 -- `proofs/`.
-use Rattle.std.proofs.Common.{◌≡◌, ℕ, ◌+◌, ◌<◌, ◌⊎◌, List, take, length, inl, inr, subst, arith}
+use Rattle.std.proofs.Common.{◌≡◌, ℕ, ◌+◌, ◌<◌, List, take, length, inl, inr, subst, arith}
 use Rattle.std.proofs.lemmas.Bool.{cases_lt}
 use Rattle.std.proofs.lemmas.List.{take_all, length-take}
 use Rattle.bb_machine.specs.Limits.{Bounds}
@@ -24,15 +24,14 @@ module _ (line : List ℕ) where
     kept : (said : Line) → IsLineOf said (take (LINE_BUFFER + 1) line) → ⊥
     whole : (said : Line) → IsLineOf said line → ⊥
 
-  all_or_too_long : (take (LINE_BUFFER + 1) line ≡ line) ⊎ IsTooLong
-  all_or_too_long = elim (cases_lt LINE_BUFFER (length line)) [
-    | inl long ↦ inr (record {
-      kept =
-          let few = length-take (LINE_BUFFER + 1) line in
-          long_line (take (LINE_BUFFER + 1) line) (omega (arith, few, long));
+  -- so what holds of the kept bytes holds of the line, if it does of a line that is none
+  of_kept : (P : List ℕ → Type 0) → P (take (LINE_BUFFER + 1) line) → (IsTooLong → P line) → P line
+  of_kept P holds by = elim (cases_lt LINE_BUFFER (length line)) [
+    | inl long ↦ by (record {
+      kept = long_line (take (LINE_BUFFER + 1) line) (omega (arith, length-take (LINE_BUFFER + 1) line));
       whole = long_line line long;
     })
-    | inr fits ↦ inl (take_all (LINE_BUFFER + 1) line (omega (arith, fits)))
+    | inr fits ↦ subst P (take_all (LINE_BUFFER + 1) line (omega (arith, fits))) holds
   ]
 
   reply_of_long : (bounds : Bounds) (reply : List ℕ) → IsTooLong
@@ -61,15 +60,12 @@ check_reply_kept old new line reply same is = subst (λ (b : Bounds). IsCheckRep
 -- a reply to the kept bytes of a line is one to the line
 pub check_reply_of_kept : (bounds : Bounds) (line reply : List ℕ)
     → IsCheckReply bounds (take (LINE_BUFFER + 1) line) reply → IsCheckReply bounds line reply
-check_reply_of_kept bounds line reply is = elim (all_or_too_long line) [
-  | inl all ↦ subst (λ bytes. IsCheckReply bounds bytes reply) all is
-  | inr long ↦ reply_of_long line bounds reply long is
-]
+check_reply_of_kept bounds line reply is = of_kept line (λ bytes. IsCheckReply bounds bytes reply) is
+    (λ long. reply_of_long line bounds reply long is)
 
 -- what the kept bytes of a line do to the summary, the line does, and it costs the same
 pub check_saw_of_kept : (bounds : Bounds) (line : List ℕ) (old new : Summary) (cost : ℕ)
     → CheckSaw bounds old (take (LINE_BUFFER + 1) line) new cost → CheckSaw bounds old line new cost
-check_saw_of_kept bounds line old new cost saw = elim (all_or_too_long line) [
-  | inl all ↦ subst (λ bytes. CheckSaw bounds old bytes new cost) all saw
-  | inr long ↦ saw_of_long line bounds old new cost long saw
-]
+check_saw_of_kept bounds line old new cost saw =
+    of_kept line (λ bytes. CheckSaw bounds old bytes new cost) saw
+    (λ long. saw_of_long line bounds old new cost long saw)

@@ -12,57 +12,18 @@ use Rattle.bb_run.specs.declared.summary.Summary.{Summary}
 use Rattle.bb_run.specs.Reply.{IsReply}
 use Rattle.bb_run.specs.Seen.{SawBy}
 
-module _ (line : List ℕ) (kept : ℕ) (enough : PrefixIsEnough line kept) where
-  text_of_prefix : (table : Table) → IsTextOf table (take kept line) → IsTextOf table line
-  text_of_prefix table of =
-      record { machine = of.machine; is_text = (enough.same_text table of.machine).0 of.is_text }
+enough : (line : List ℕ) → PrefixIsEnough line (LINE + 1)
+enough line = prefix_enough line (LINE + 1) (omega arith)
 
-  no_machine_of_prefix : (IsMachineLine (take kept line) → ⊥) → IsMachineLine line → ⊥
-  no_machine_of_prefix never (table, of) = never (
-    table,
-    record {
-      machine = of.machine;
-      is_text = (enough.same_text table of.machine).1 of.is_text;
-    },
-  )
+text_of_prefix : (line : List ℕ) (table : Table) → IsTextOf table (take (LINE + 1) line) → IsTextOf table line
+text_of_prefix line table of =
+    record { machine = of.machine; is_text = ((enough line).same_text table of.machine).0 of.is_text }
 
-  reply_of_prefix : (bounds : Bounds) (plan : Plan) (reply : List ℕ)
-      → IsReply bounds plan (take kept line) reply → IsReply bounds plan line reply
-  reply_of_prefix bounds plan reply is = elim is [
-    | inl v ↦ inl (record {
-      table = v.table;
-      of = text_of_prefix v.table v.of;
-      verdict = v.verdict;
-      is_verdict = v.is_verdict;
-      is_reply = v.is_reply;
-    })
-    | inr r ↦ inr (record {
-      no_machine = no_machine_of_prefix r.no_machine;
-      column = r.column;
-      is_column = (enough.same_column r.column).0 r.is_column;
-      is_reply = r.is_reply;
-    })
-  ]
-
-  saw_of_prefix : (Counts : Table → Meter → Type 0) (old new : Summary) (cost : ℕ)
-      → SawBy Counts old (take kept line) new cost → SawBy Counts old line new cost
-  saw_of_prefix Counts old new cost is = elim is [
-    | inl m ↦ inl (record {
-      table = m.table;
-      of = text_of_prefix m.table m.of;
-      meter = m.meter;
-      counts = m.counts;
-      clean = m.clean;
-      peak = m.peak;
-      is_cost = m.is_cost;
-    })
-    | inr r ↦ inr (record {
-      no_machine = no_machine_of_prefix r.no_machine;
-      clean = r.clean;
-      peak = r.peak;
-      no_cost = r.no_cost;
-    })
-  ]
+no_machine_of_prefix : (line : List ℕ) → (IsMachineLine (take (LINE + 1) line) → ⊥) → IsMachineLine line → ⊥
+no_machine_of_prefix line never (table, of) = never (
+  table,
+  record { machine = of.machine; is_text = ((enough line).same_text table of.machine).1 of.is_text },
+)
 
 -- a reply stays one where limits and plan do
 pub reply_kept : (old new : Bounds) (old_plan new_plan : Plan) (line reply : List ℕ) → old ≡ new
@@ -74,11 +35,35 @@ reply_kept old new old_plan new_plan line reply bounds plan is =
 -- a reply to the kept bytes of a line is one to the line
 pub reply_of_kept : (bounds : Bounds) (plan : Plan) (line reply : List ℕ)
     → IsReply bounds plan (take (LINE + 1) line) reply → IsReply bounds plan line reply
-reply_of_kept bounds plan line reply is =
-    reply_of_prefix line (LINE + 1) (prefix_enough line (LINE + 1) (omega arith)) bounds plan reply is
+reply_of_kept bounds plan line reply (inl v) = inl (record {
+  table = v.table;
+  of = text_of_prefix line v.table v.of;
+  verdict = v.verdict;
+  is_verdict = v.is_verdict;
+  is_reply = v.is_reply;
+})
+reply_of_kept bounds plan line reply (inr r) = inr (record {
+  no_machine = no_machine_of_prefix line r.no_machine;
+  column = r.column;
+  is_column = ((enough line).same_column r.column).0 r.is_column;
+  is_reply = r.is_reply;
+})
 
 -- what the kept bytes of a line do to the summary, the line does, and it costs the same
 pub saw_of_kept : (Counts : Table → Meter → Type 0) (line : List ℕ) (old new : Summary) (cost : ℕ)
     → SawBy Counts old (take (LINE + 1) line) new cost → SawBy Counts old line new cost
-saw_of_kept Counts line old new cost saw =
-    saw_of_prefix line (LINE + 1) (prefix_enough line (LINE + 1) (omega arith)) Counts old new cost saw
+saw_of_kept Counts line old new cost (inl m) = inl (record {
+  table = m.table;
+  of = text_of_prefix line m.table m.of;
+  meter = m.meter;
+  counts = m.counts;
+  clean = m.clean;
+  peak = m.peak;
+  is_cost = m.is_cost;
+})
+saw_of_kept Counts line old new cost (inr r) = inr (record {
+  no_machine = no_machine_of_prefix line r.no_machine;
+  clean = r.clean;
+  peak = r.peak;
+  no_cost = r.no_cost;
+})

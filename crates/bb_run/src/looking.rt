@@ -1,12 +1,12 @@
 //! A look at the replies to the lines of a list: whether each has its form, and how many are of each kind.
 ghost use Rattle.std.specs.Prelude.{◌≡◌, ℕ, ◌+◌, ◌<◌, ◌^◌, [], ◌∷◌, ◌++◌, length, IfErr, IfOk, IsTrue};
 ghost use Rattle.std.specs.Prelude.{◌↔◌, IfSome, MatchOption, OnErr, OnOk};
-ghost use Rattle.bb_lines.specs.Lines.{AreReplies, lines};
+ghost use Rattle.bb_lines.specs.Lines.{AreReplies, HasNoNewline, lines};
 ghost use Rattle.bb_machine.specs.Column.{BeginsWith};
 ghost use Rattle.bb_machine.specs.Machine.{text};
 ghost use Rattle.bb_run.specs.Look.{CountsReplies, HasForm, IsFirstWithout, IsOfKind, SaysVerdict, counts_of};
 ghost use Rattle.bb_run.specs.Look.{kind_of};
-ghost use Rattle.bb_run.specs.inside.Looking.{HasNoNewline, IsRefusedAt};
+ghost use Rattle.bb_run.specs.inside.Looking.{IsRefusedAt};
 
 use crate::words::kind_of_words;
 use bb_cert::{LineContent, Verdict, Why, read_line_in_place};

@@ -22,9 +22,9 @@ use Rattle.bb_cert.specs.claims.Repeat.{Same}
 use Rattle.bb_cert.specs.records.Agree.{Agree, AgreeingRecords}
 use Rattle.bb_cert.specs.records.Record.{out, head_of, head_at, far, IsRecord}
 use Rattle.bb_cert.specs.verdict.Extent.{IsExtent, SaysExtent, TellsExtent}
-use Rattle.bb_decide.specs.Cycle.{IsCycle}
+use Rattle.bb_decide.specs.Cycle.{HasNoCycle, IsCycle, IsFirstCycle}
 use Rattle.bb_cert.proofs.Facts.{records_in_order}
-use Rattle.bb_decide.specs.Translation.{AgreesWithPartner, IsTranslation}
+use Rattle.bb_decide.specs.Translation.{AgreesWithPartner, IsFirstTranslation, IsTranslation}
 use Rattle.laws_of_verdicts.specs.Change.{Change, IsChanged, changed_next, turned_side}
 use Rattle.laws_of_verdicts.proofs.ChangedRuns.{AreImages, ImageOf, conf_image, image_is_one, image_of}
 use Rattle.laws_of_verdicts.proofs.ChangedRuns.{cell_at, next_image, no_image, placed, placed-add}
@@ -56,9 +56,8 @@ out-placed true R p = omega (arith, ints)
 head_of_image : (change : Change) (o p : Option Configuration) → AreImages change o p
     → head_of p ≡ placed change.mirrored (head_of o)
 head_of_image change None None images = sym (placed-zero change.mirrored)
-head_of_image change None (Some d) images = absurd images
-head_of_image change (Some c) None images = absurd images
 head_of_image change (Some c) (Some d) images = images.head
+head_of_image change o p images = absurd images
 
 counted_of_image : (change : Change) (to : Next) (p q : ℤ) → q ≡ placed change.mirrored p
     → counted_position (changed_next change to) q ≡ placed change.mirrored (counted_position to p)
@@ -68,10 +67,9 @@ counted_of_image change Halt p q e = sym (placed-zero change.mirrored)
 counted_in_image : (change : Change) (o p : Option Configuration) → AreImages change o p
     → counted_position_in p ≡ placed change.mirrored (counted_position_in o)
 counted_in_image change None None images = sym (placed-zero change.mirrored)
-counted_in_image change None (Some d) images = absurd images
-counted_in_image change (Some c) None images = absurd images
 counted_in_image change (Some c) (Some d) images = ap (λ s. counted_position s d.head) images.state
     ∙ counted_of_image change c.state c.head d.head images.head
+counted_in_image change o p images = absurd images
 
 -- the ends of a span change places where left and right are swapped
 
@@ -260,11 +258,10 @@ module _ (change : Change) (one two : Table) (n : ℕ) (images : AreImagesTo cha
 
   pub cycle_image : (bounds : Bounds) (a : ℕ) → IsCycle one bounds a n → IsCycle two bounds a n
   cycle_image bounds a cycle =
-      let below = cycle.partner.below in
       record {
         partner = cycle.partner;
         inside = inside_image bounds cycle.inside;
-        same = same_image a (omega (arith, below)) cycle.same;
+        same = same_image a (omega (arith, cycle.partner.below)) cycle.same;
       }
 
   pub translation_image : (bounds : Bounds) (side : Side) (a : ℕ) → IsTranslation one bounds side a n
@@ -283,6 +280,26 @@ module _ (change : Change) (one two : Table) (n : ℕ) (images : AreImagesTo cha
         };
         inside = inside_image bounds found.inside;
       }
+
+-- where each configuration is the image of the other machine's, and the other way round
+module _ (change undo : Change) (one two : Table) (there : (n : ℕ) → AreImagesTo change one two n)
+    (here : (n : ℕ) → AreImagesTo undo two one n) (bounds : Bounds) where
+  pub no_cycle_image : HasNoCycle one bounds → HasNoCycle two bounds
+  no_cycle_image none a t cycle = none a t (cycle_image undo two one t (here t) bounds a cycle)
+
+  pub first_cycle_image : (a t : ℕ) → IsFirstCycle one bounds a t → IsFirstCycle two bounds a t
+  first_cycle_image a t first = record {
+    cycle = cycle_image change one two t (there t) bounds a first.cycle;
+    first = λ b u other. first.first b u (cycle_image undo two one u (here u) bounds b other);
+  }
+
+  pub first_translation_image : (side : Side) (a b : ℕ) → IsFirstTranslation one bounds side a b
+      → IsFirstTranslation two bounds (turned_side change.mirrored side) a b
+  first_translation_image side a b first = record {
+    translation = translation_image change one two b (there b) bounds side a first.translation;
+    first = λ other c d found. first.first (turned_side undo.mirrored other) c d
+        (translation_image undo two one d (here d) bounds other c found);
+  }
 
 pub halts_image : (change : Change) (table changed : Table) → IsChanged change table changed → (n : ℕ)
     → HaltsAt table n → HaltsAt changed n

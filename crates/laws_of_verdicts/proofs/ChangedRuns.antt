@@ -16,6 +16,8 @@ use Rattle.bb_tape.proofs.Facts.{same_content, score-with_cell}
 use Rattle.bb_sim.specs.Configuration.{Configuration, start, beside, followed, entry_at, next}
 use Rattle.bb_sim.specs.Run.{after, conf}
 use Rattle.bb_sim.proofs.Facts.{led}
+use Rattle.bb_sim.proofs.Facts.{conf-start}
+use Rattle.bb_cert.proofs.Facts.{moves}
 use Rattle.laws_of_verdicts.specs.Change.{Change, IsChanged, Renaming, changed_entry, changed_next, turned}
 
 -- the change back
@@ -108,6 +110,19 @@ placed-beside false to p = refl
 placed-beside true dir.L p = omega (arith, ints)
 placed-beside true dir.R p = omega (arith, ints)
 
+-- runs
+
+-- what holds at the start, and with a configuration of the one after it, holds of all
+pub along : (table : Table) (P : Configuration → Type 0) → P start
+    → ((c d : Configuration) → next table c ≡ Some d → P c → P d) → (n : ℕ) (c : Configuration)
+    → conf table n ≡ Some c → P c
+along table P first on zero c e = let same : start ≡ c = cc (conf-start table) in subst P same first
+along table P first on (suc n) c e =
+    let moved = moves table n (record { here = c; exists = e }) in
+    let same : moved.then_here ≡ c = let a = moved.at_then in cc in
+    subst P same (on moved.before moved.then_here moved.is_next
+    (along table P first on n moved.before moved.at_before))
+
 -- images
 
 -- a configuration of the changed machine is the image of one of the machine's
@@ -184,12 +199,9 @@ module _ (change : Change) where
     scored : score (with_cell d.tape d.head (change.symbols.new write))
         ≡ score (with_cell c.tape c.head write)
     scored =
-        let one = score-with_cell c.tape c.head write in
         let two = score-with_cell d.tape d.head (change.symbols.new write) in
-        let same = image.scores in
         let was = ap (min 1) (cell_at c d image c.head d.head image.head) ∙ some_kept (cell c.tape c.head) in
-        let is = some_kept write in
-        omega (arith, one, two, same, was, is)
+        omega (arith, score-with_cell c.tape c.head write, two, image.scores, was, some_kept write)
 
 module _ (change : Change) (table changed : Table) (is : IsChanged change table changed) where
   entry_changed : (to : Next) (symbol : ℕ)
@@ -221,9 +233,8 @@ module _ (change : Change) (table changed : Table) (is : IsChanged change table 
   nexts_image : (o p : Option Configuration) → AreImages change o p
       → AreImages change (option_and_then (next table) o) (option_and_then (next changed) p)
   nexts_image None None images = tt
-  nexts_image None (Some d) images = absurd images
-  nexts_image (Some c) None images = absurd images
   nexts_image (Some c) (Some d) images = next_image c d images
+  nexts_image o p images = absurd images
 
   pub after_image : (c d : Configuration) → IsImage change c d → (n : ℕ)
       → AreImages change (after table c n) (after changed d n)

@@ -167,9 +167,8 @@ module _ (change : Change) where
 
   is_same-changed : (p q : Next) → is_same (changed_next change p) (changed_next change q) ≡ is_same p q
   is_same-changed (State p) (State q) = new_same change.states p q
-  is_same-changed (State p) Halt = refl
-  is_same-changed Halt (State q) = refl
   is_same-changed Halt Halt = refl
+  is_same-changed p q = refl
 
   leads-changed : (entry : Entry) (then : Next)
       → is_same (goes_to (changed_entry change entry)) (changed_next change then)

@@ -29,16 +29,17 @@ use Rattle.bb_cert.specs.tree.Tree.{IsAtHaltingEntry}
 use Rattle.bb_cert.specs.verdict.Extent.{TellsExtent}
 use Rattle.bb_cert.proofs.Facts.{matches_level, halts_from_level}
 use Rattle.bb_decide.specs.Backward.{HasNoTree}
-use Rattle.bb_decide.specs.Cycle.{HasNoCycle, IsFirstCycle}
-use Rattle.bb_decide.specs.Translation.{AgreesWithPartner, HasNoTranslation, IsFirstTranslation}
+use Rattle.bb_decide.specs.Translation.{AgreesWithPartner, HasNoTranslation}
 use Rattle.bb_decide.specs.Verdict.{IsVerdict, PassesAll}
-use Rattle.bb_decide.proofs.Facts.{cyclers_are_on, extent_is_told, is_first_agreement, is_first_cycle, is_tree}
+use Rattle.bb_decide.proofs.Facts.{cyclers_are_on, extent_is_told, is_first_agreement, is_first_cycle}
+use Rattle.bb_decide.proofs.Facts.{is_tree}
 use Rattle.bb_decide.proofs.Facts.{passes_all, translated_are_on, trees_are_on}
 use Rattle.laws_of_verdicts.specs.Change.{Change, ChangesKeepAnswers, ChangesKeepClaims}
 use Rattle.laws_of_verdicts.specs.Change.{ChangesKeepVerdicts, IsChanged, changed_entry, changed_next}
 use Rattle.laws_of_verdicts.specs.Change.{changed_verdict, turned_side}
 use Rattle.laws_of_verdicts.proofs.ChangedNotions.{AreImagesTo, partner_before}
-use Rattle.laws_of_verdicts.proofs.ChangedNotions.{cycle_image, halts_image, inside_image, pair_image}
+use Rattle.laws_of_verdicts.proofs.ChangedNotions.{first_cycle_image, first_translation_image, halts_image}
+use Rattle.laws_of_verdicts.proofs.ChangedNotions.{inside_image, no_cycle_image, pair_image}
 use Rattle.laws_of_verdicts.proofs.ChangedNotions.{same_image, says_image, score_image, span_image}
 use Rattle.laws_of_verdicts.proofs.ChangedNotions.{tells_image, translation_image}
 use Rattle.laws_of_verdicts.proofs.ChangedRuns.{IsImage, after_image, back, changed_back, cell_at, image_of}
@@ -52,12 +53,9 @@ side-twice true R = refl
 
 verdict-back : (change : Change) (verdict : Verdict)
     → changed_verdict (back change) (changed_verdict change verdict) ≡ verdict
-verdict-back change (Halt n ones) = refl
-verdict-back change (Cycler a b) = refl
 verdict-back change (Translated side a b extent) = ap (λ s. Translated s a b extent)
     (side-twice change.mirrored side)
-verdict-back change (Backward levels nodes) = refl
-verdict-back change (Undecided why) = refl
+verdict-back change verdict = refl
 
 empty_of_length : {X : Type 0} (xs : List X) → length xs ≡ 0 → xs ≡ []
 empty_of_length [] e = refl
@@ -79,14 +77,10 @@ module _ (change : Change) (table changed : Table) (machine : IsMachine table)
       → change.symbols.new s < length (get_or changed (change.states.new q) [])
   named_too q s h =
       let in_table = in_states table q s h in
-      let long = groups_long table machine q in_table in
-      let new_in_table = (is.states_named q).0 in_table in
-      let states = is.states in
       let long_too = groups_long changed machine_too (change.states.new q)
-      (omega (arith, states, new_in_table)) in
-      let new = (is.symbols_named s).0 (omega (arith, long, h)) in
-      let symbols = is.symbols in
-      omega (arith, long_too, new, symbols)
+      (omega (arith, is.states, (is.states_named q).0 in_table)) in
+      let new = (is.symbols_named s).0 (omega (arith, groups_long table machine q in_table, h)) in
+      omega (arith, long_too, new, is.symbols)
 
   at_halting_image : (c d : Configuration) → IsImage change c d → IsAtHaltingEntry table c
       → IsAtHaltingEntry changed d
@@ -189,31 +183,11 @@ module _ (change : Change) (table changed : Table) (machine : IsMachine table)
   )
   claim_image (Undecided why) claim = tt
 
-  first_cycle_image : (bounds : Bounds) (a t : ℕ) → IsFirstCycle table bounds a t
-      → IsFirstCycle changed bounds a t
-  first_cycle_image bounds a t first = record {
-    cycle = cycle_image change table changed t (there t) bounds a first.cycle;
-    first = λ b u other. first.first b u (cycle_image (back change) changed table u (here u) bounds b other);
-  }
-
-  first_translation_image : (bounds : Bounds) (side : Side) (a b : ℕ)
-      → IsFirstTranslation table bounds side a b
-      → IsFirstTranslation changed bounds (turned_side change.mirrored side) a b
-  first_translation_image bounds side a b first = record {
-    translation = translation_image change table changed b (there b) bounds side a first.translation;
-    first = λ other c d found. first.first (turned_side change.mirrored other) c d
-        (translation_image (back change) changed table d (here d) bounds other c found);
-  }
-
   no_halt_image : (bounds : Bounds) → HaltsNowhere table bounds → HaltsNowhere changed bounds
   no_halt_image bounds none n halts = none n (record {
     halts = halts_image (back change) changed table undone n halts.halts;
     inside = inside_image (back change) changed table n (here n) bounds halts.inside;
   })
-
-  no_cycle_image : (bounds : Bounds) → HasNoCycle table bounds → HasNoCycle changed bounds
-  no_cycle_image bounds none a t cycle =
-      none a t (cycle_image (back change) changed table t (here t) bounds a cycle)
 
   no_translation_image : (bounds : Bounds) → HasNoTranslation table bounds → HasNoTranslation changed bounds
   no_translation_image bounds none side a b found = none (turned_side change.mirrored side) a b
@@ -244,7 +218,7 @@ module _ (change : Change) (table changed : Table) (machine : IsMachine table)
     passes_image : (bounds : Bounds) (plan : Plan) → PassesAll table bounds plan
         → PassesAll changed bounds plan
     passes_image bounds plan passes = (
-      λ on. no_cycle_image bounds (passes.0 on),
+      λ on. no_cycle_image change (back change) table changed there here bounds (passes.0 on),
       λ on. no_translation_image bounds (passes.1 on),
       λ on. no_tree_image bounds (passes.2 on),
     )
@@ -255,19 +229,19 @@ module _ (change : Change) (table changed : Table) (machine : IsMachine table)
     verdict_image bounds plan (Cycler a b) given = (
       no_halt_image bounds given.0,
       cyclers_are_on plan given,
-      first_cycle_image bounds a b (is_first_cycle plan given),
+      first_cycle_image change (back change) table changed there here bounds a b (is_first_cycle plan given),
     )
     verdict_image bounds plan (Translated side a b extent) given =
         let first = is_first_agreement plan extent given in (
           no_halt_image bounds given.0,
-          λ on. no_cycle_image bounds (given.1 on),
+          λ on. no_cycle_image change (back change) table changed there here bounds (given.1 on),
           translated_are_on plan extent given,
-          first_translation_image bounds side a b first,
+          first_translation_image change (back change) table changed there here bounds side a b first,
           tells side a b extent first.translation.pair (extent_is_told plan extent given),
         )
     verdict_image bounds plan (Backward levels nodes) given = (
       no_halt_image bounds given.0,
-      λ on. no_cycle_image bounds (given.1 on),
+      λ on. no_cycle_image change (back change) table changed there here bounds (given.1 on),
       λ on. no_translation_image bounds (given.2 on),
       trees_are_on plan given,
       ends_within_image bounds.depth bounds.nodes levels nodes (is_tree plan given),

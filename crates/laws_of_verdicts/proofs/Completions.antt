@@ -11,7 +11,6 @@ use Rattle.bb_tape.specs.Content.{cell}
 use Rattle.bb_sim.specs.Configuration.{Configuration, followed, entry_at, next}
 use Rattle.bb_sim.specs.Run.{conf, Exists, HaltsAt, Never}
 use Rattle.bb_sim.proofs.Facts.{halt_is_last}
-use Rattle.bb_cert.specs.declared.verdict.Side.{Side}
 use Rattle.bb_cert.specs.declared.verdict.Verdict.{Verdict}
 use Rattle.bb_cert.specs.declared.verdict.Verdict.TheVariants.{Halt, Cycler, Translated}
 use Rattle.bb_cert.specs.declared.checker.answer.Answer.TheVariants.{Ok}
@@ -20,8 +19,6 @@ use Rattle.bb_cert.specs.checker.Answer.{too_much_named, out_of_order, too_much_
 use Rattle.bb_cert.specs.claims.Claim.{Claim}
 use Rattle.bb_cert.proofs.Facts.{steps_of_never, agreeing_records_never_halt, earlier, moves}
 use Rattle.bb_cert.proofs.Facts.{repeats_never_halt}
-use Rattle.bb_decide.specs.Cycle.{HasNoCycle, IsFirstCycle}
-use Rattle.bb_decide.specs.Translation.{IsFirstTranslation}
 use Rattle.bb_decide.specs.Verdict.{IsVerdict}
 use Rattle.bb_decide.proofs.Facts.{cyclers_are_on, extent_is_told, found_is_verdict, is_first_agreement}
 use Rattle.bb_decide.proofs.Facts.{is_first_cycle, is_halt_within, translated_are_on, verdicts_hold}
@@ -29,9 +26,10 @@ use Rattle.laws_of_verdicts.specs.Completion.{IsCompletion, IsInZ, MeetsNoGap, C
 use Rattle.laws_of_verdicts.specs.Completion.{CompletionsKeepClaims, CompletionsKeepVerdicts}
 use Rattle.laws_of_verdicts.specs.Completion.{CompletionsNeverHalt}
 use Rattle.laws_of_verdicts.specs.Change.{Change, Renaming, changed_next}
-use Rattle.laws_of_verdicts.proofs.ChangedNotions.{AreImagesTo, cycle_image, inside_image, pair_image}
+use Rattle.laws_of_verdicts.proofs.ChangedNotions.{AreImagesTo, first_cycle_image, first_translation_image, inside_image}
+use Rattle.laws_of_verdicts.proofs.ChangedNotions.{no_cycle_image, pair_image}
 use Rattle.laws_of_verdicts.proofs.ChangedNotions.{same_image, says_image, score_image, span_image}
-use Rattle.laws_of_verdicts.proofs.ChangedNotions.{tells_image, translation_image}
+use Rattle.laws_of_verdicts.proofs.ChangedNotions.{tells_image}
 use Rattle.laws_of_verdicts.proofs.ChangedRuns.{AreImages}
 
 -- nothing is changed
@@ -121,27 +119,6 @@ module _ (table filled : Table) (completion : IsCompletion table filled) where
         absurd (omega (arith, no_later));
   }
 
-  no_cycle_kept : Never table → (bounds : Bounds) → HasNoCycle table bounds → HasNoCycle filled bounds
-  no_cycle_kept never bounds none a t cycle =
-      none a t (cycle_image unchanged filled table t (back_always never t) bounds a cycle)
-
-  first_cycle_kept : Never table → (bounds : Bounds) (a t : ℕ) → IsFirstCycle table bounds a t
-      → IsFirstCycle filled bounds a t
-  first_cycle_kept never bounds a t is = record {
-    cycle = cycle_image unchanged table filled t (alike_always never t) bounds a is.cycle;
-    first = λ b u other. is.first b u
-        (cycle_image unchanged filled table u (back_always never u) bounds b other);
-  }
-
-  first_translation_kept : Never table → (bounds : Bounds) (side : Side) (a b : ℕ)
-      → IsFirstTranslation table bounds side a b → IsFirstTranslation filled bounds side a b
-  first_translation_kept never bounds side a b is = record {
-    translation =
-        translation_image unchanged table filled b (alike_always never b) bounds side a is.translation;
-    first = λ other c d found. is.first other c d
-        (translation_image unchanged filled table d (back_always never d) bounds other c found);
-  }
-
   claim_kept : (verdict : Verdict) → MeetsNoGap table verdict → Claim table verdict → Claim filled verdict
   claim_kept (Halt n ones) at claim =
       let alike = alike_to n (record { here = at.here; exists = at.exists }) in
@@ -151,10 +128,9 @@ module _ (table filled : Table) (completion : IsCompletion table filled) where
       let less = claim.0 in
       (less, same_image unchanged table filled b alike a (omega (arith, less)) claim.1)
   claim_kept (Translated side a b extent) at claim =
-      let in_order = claim.0.in_order in
       let alike = alike_to b (record { here = claim.0.agree.second; exists = claim.0.agree.at_second }) in (
         pair_image unchanged table filled b alike side a claim.0,
-        says_image unchanged table filled b alike side a extent (omega (arith, in_order)) claim.1,
+        says_image unchanged table filled b alike side a extent (omega (arith, claim.0.in_order)) claim.1,
       )
   claim_kept verdict at claim = absurd at
 
@@ -168,17 +144,21 @@ module _ (table filled : Table) (completion : IsCompletion table filled) where
   verdict_kept bounds plan (Cycler a b) at is =
       let claim = verdicts_hold table bounds plan (Cycler a b) is in
       let never = repeats_never_halt table a b claim.0 claim.1 in
-      found_is_verdict filled bounds plan (Cycler a b)
-      (cyclers_are_on plan is, first_cycle_kept never bounds a b (is_first_cycle plan is))
+      found_is_verdict filled bounds plan (Cycler a b) (
+        cyclers_are_on plan is,
+        first_cycle_image unchanged unchanged table filled (alike_always never)
+            (back_always never) bounds a b (is_first_cycle plan is),
+      )
   verdict_kept bounds plan (Translated side a b extent) at is =
       let claim = (verdicts_hold table bounds plan (Translated side a b extent) is).0 in
       let never = agreeing_records_never_halt table side a b claim in
-      let less = claim.in_order in
       found_is_verdict filled bounds plan (Translated side a b extent) (
-        λ on. no_cycle_kept never bounds (is.1 on),
+        λ on. no_cycle_image unchanged unchanged table filled (alike_always never) (back_always never) bounds
+            (is.1 on),
         translated_are_on plan extent is,
-        first_translation_kept never bounds side a b (is_first_agreement plan extent is),
-        tells_image unchanged table filled b (alike_always never b) side a extent (omega (arith, less))
+        first_translation_image unchanged unchanged table filled (alike_always never) (back_always never)
+            bounds side a b (is_first_agreement plan extent is),
+        tells_image unchanged table filled b (alike_always never b) side a extent (omega arith)
             (extent_is_told plan extent is),
       )
   verdict_kept bounds plan verdict at is = absurd at

@@ -1,7 +1,6 @@
 -- One change after another, and changes of machines with one entry more.
-use Rattle.std.proofs.Common.{◌≡◌, ◌≢◌, ◌↔◌, ℕ, ◌<◌, Bool, true, false, length, inl, inr}
+use Rattle.std.proofs.Common.{◌≡◌, ◌↔◌, ℕ, ◌<◌, Bool, true, false, length, inl, inr}
 use Rattle.std.proofs.Common.{refl, ap, ap₂, sym, ◌∙◌, arith}
-use Rattle.std.proofs.lemmas.Bool.{cases_eq}
 use Rattle.bb_machine.specs.declared.entry.Dir.{Dir}
 use Rattle.bb_machine.specs.declared.entry.Dir.TheVariants as dir
 use Rattle.bb_machine.specs.declared.entry.Entry.{Entry}
@@ -15,7 +14,7 @@ use Rattle.laws_of_verdicts.specs.Closed.{with_entry}
 use Rattle.laws_of_verdicts.specs.Gap.{HaltsOnGap, HasOtherGap}
 use Rattle.laws_of_verdicts.proofs.ChangedRuns.{back, changed_back, cell_at, conf_image, image_of}
 use Rattle.laws_of_verdicts.proofs.ChangedNotions.{halts_image}
-use Rattle.laws_of_verdicts.proofs.Fillings.{HasNoZ, entry-other, entry-same, length-with_entry}
+use Rattle.laws_of_verdicts.proofs.Fillings.{HasNoZ, entry-either, entry-other, entry-same, length-with_entry}
 use Rattle.laws_of_verdicts.proofs.Fillings.{symbols_of-with_entry}
 
 -- one change after another
@@ -88,12 +87,16 @@ filled_changed change table changed machine machine_too is q s entry below insid
   symbols = symbols_of-with_entry changed p t made ∙ is.symbols ∙ sym (symbols_of-with_entry table q s entry);
   states_named = λ i. rw (length-with_entry table q s entry) (is.states_named i);
   symbols_named = λ j. rw (symbols_of-with_entry table q s entry) (is.symbols_named j);
-  entries = λ i j. elim (cases_eq i q) [
-    | inl same ↦ elim (cases_eq j s) [
-      | inl same_too ↦ at_gap i j same same_too
-      | inr apart ↦ elsewhere i j (λ _. apart)
-    ]
-    | inr apart ↦ elsewhere i j (λ same. absurd (apart same))
+  entries = λ i j. elim (entry-either table machine q s entry below inside i j) [
+    | inl here ↦
+        ap₂ (λ x y. entry_of (with_entry changed p t made) (change.states.new x) (change.symbols.new y))
+        here.0 here.1
+        ∙ entry-same changed machine_too p t made below_too inside_too
+        ∙ ap (changed_entry change) (sym here.2)
+    | inr there ↦
+        entry-other changed p t (change.states.new i) (change.symbols.new j) made below_too
+        (λ same same_too. there.0 (one_name change.states i q same) (one_name change.symbols j s same_too))
+        ∙ is.entries i j ∙ ap (changed_entry change) (sym there.1)
   ];
 } where
   p : ℕ
@@ -111,30 +114,8 @@ filled_changed change table changed machine machine_too is q s entry below insid
   inside_too : change.symbols.new s < symbols_of changed
   inside_too = let h = (is.symbols_named s).0 inside in let e = is.symbols in omega (arith, h, e)
 
-  at_gap : (i j : ℕ) → i ≡ q → j ≡ s
-      → entry_of (with_entry changed (change.states.new q) (change.symbols.new s) (changed_entry change entry))
-      (change.states.new i) (change.symbols.new j)
-      ≡ changed_entry change (entry_of (with_entry table q s entry) i j)
-  at_gap i j same same_too =
-      ap₂ (λ x y. entry_of (with_entry changed (change.states.new q) (change.symbols.new s)
-      (changed_entry change entry)) (change.states.new x) (change.symbols.new y)) same same_too
-      ∙ entry-same changed machine_too (change.states.new q) (change.symbols.new s)
-      (changed_entry change entry) below_too inside_too
-      ∙ ap (changed_entry change) (sym (entry-same table machine q s entry below inside))
-      ∙ ap₂ (λ x y. changed_entry change (entry_of (with_entry table q s entry) x y)) (sym same) (sym same_too)
-
   one_name : (names : Renaming) (x y : ℕ) → names.new x ≡ names.new y → x ≡ y
   one_name names x y e = sym (names.old_of_new x) ∙ ap names.old e ∙ names.old_of_new y
-
-  elsewhere : (i j : ℕ) → (i ≡ q → j ≢ s)
-      → entry_of (with_entry changed (change.states.new q) (change.symbols.new s) (changed_entry change entry))
-      (change.states.new i) (change.symbols.new j)
-      ≡ changed_entry change (entry_of (with_entry table q s entry) i j)
-  elsewhere i j other =
-      entry-other changed (change.states.new q) (change.symbols.new s) (change.states.new i)
-      (change.symbols.new j) (changed_entry change entry) below_too
-      (λ same same_too. other (one_name change.states i q same) (one_name change.symbols j s same_too))
-      ∙ is.entries i j ∙ ap (changed_entry change) (sym (entry-other table q s i j entry below other))
 
 -- what a change keeps
 
@@ -166,22 +147,14 @@ other_gap_changed change table changed is q s gap =
       other_state = change.states.old gap.other_state;
       other_symbol = change.symbols.old gap.other_symbol;
       state_named =
-          let h = (undone.states_named gap.other_state).0 gap.state_named in
-          let e = is.states in
-          omega (arith, h, e);
+          omega (arith, (undone.states_named gap.other_state).0 gap.state_named, is.states);
       symbol_named =
-          let h = (undone.symbols_named gap.other_symbol).0 gap.symbol_named in
-          let e = is.symbols in
-          omega (arith, h, e);
+          omega (arith, (undone.symbols_named gap.other_symbol).0 gap.symbol_named, is.symbols);
       other = λ same same_too. gap.other
           (sym (change.states.new_of_old gap.other_state) ∙ ap change.states.new same)
           (sym (change.symbols.new_of_old gap.other_symbol) ∙ ap change.symbols.new same_too);
       gap = undone.entries gap.other_state gap.other_symbol ∙ ap (changed_entry (back change)) gap.gap;
     }
-
-changed_to_Z : (change : Change) (entry : Entry) (write : ℕ) (to : Dir) → entry ≡ Go write to Halt
-    → changed_entry change entry ≡ Go (change.symbols.new write) (turned change.mirrored to) Halt
-changed_to_Z change entry write to e = ap (changed_entry change) e
 
 -- the machine has no entry into Z where the changed one has none
 pub no_Z_before : (change : Change) (table changed : Table) → IsChanged change table changed → HasNoZ changed
@@ -189,5 +162,5 @@ pub no_Z_before : (change : Change) (table changed : Table) → IsChanged change
 no_Z_before change table changed is no_Z = record {
   none = λ q s write to e. no_Z.none (change.states.new q) (change.symbols.new s)
       (change.symbols.new write) (turned change.mirrored to)
-      (is.entries q s ∙ changed_to_Z change (entry_of table q s) write to e);
+      (is.entries q s ∙ ap (changed_entry change) e);
 }

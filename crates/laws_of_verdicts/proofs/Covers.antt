@@ -1,5 +1,5 @@
 -- Why a list that covers a size settles every machine of that size.
-use Rattle.std.proofs.Common.{◌≡◌, ◌≢◌, ℕ, zero, suc, ◌+◌, ◌<◌, ◌≤◌, List, length, inl, inr, refl, ap₂, sym}
+use Rattle.std.proofs.Common.{◌≡◌, ℕ, zero, suc, ◌+◌, ◌<◌, ◌≤◌, List, length, inl, inr, refl, ap₂, sym}
 use Rattle.std.proofs.Common.{subst, replicate, ◌∙◌, arith}
 use Rattle.std.specs.Prelude.{◌⊎◌}
 use Rattle.std.specs.List.{AllByRecursion}
@@ -14,7 +14,7 @@ use Rattle.bb_machine.specs.Machine.{Table, IsGroup, IsMachine, entry_of, symbol
 use Rattle.bb_machine.proofs.Facts.{entry_named}
 use Rattle.bb_sim.specs.Run.{IsScore, Never}
 use Rattle.bb_cert.specs.declared.verdict.Verdict.{Verdict}
-use Rattle.bb_cert.specs.declared.verdict.Verdict.TheVariants.{Halt, Cycler, Translated, Backward, Undecided}
+use Rattle.bb_cert.specs.declared.verdict.Verdict.TheVariants.{Halt, Undecided}
 use Rattle.bb_cert.specs.claims.Claim.{Claim, SaysNever}
 use Rattle.bb_cert.proofs.Facts.{claims_never_halt}
 use Rattle.laws_of_verdicts.specs.Change.{Change, IsChanged, changed_entry, turned}
@@ -28,7 +28,7 @@ use Rattle.laws_of_verdicts.proofs.ChangedRuns.{changed_back, conf_image, turned
 use Rattle.laws_of_verdicts.proofs.Completions.{completions_never_halt}
 use Rattle.laws_of_verdicts.proofs.Composed.{composed, filled_changed, gap_changed, is_composed}
 use Rattle.laws_of_verdicts.proofs.Composed.{never_changed, no_Z_before, other_gap_changed}
-use Rattle.laws_of_verdicts.proofs.Fillings.{HasNoZ, all_gaps-none, entry-other, entry-same, gaps}
+use Rattle.laws_of_verdicts.proofs.Fillings.{HasNoZ, all_gaps-none, entry-either, gaps}
 use Rattle.laws_of_verdicts.proofs.Fillings.{gaps-with_entry, length-with_entry, machine-with_entry}
 use Rattle.laws_of_verdicts.proofs.Fillings.{no_Z-with_entry, other_gap, some_gap, symbols_of-with_entry}
 use Rattle.laws_of_verdicts.proofs.GapHalts.{HaltsInTable, full_never_halts, halts_next, halts_on_gap}
@@ -48,21 +48,11 @@ still_completes : (table machine : Table) → IsMachine table → IsCompletion t
     (entry : Entry) → q < length table → s < symbols_of table → entry_of machine q s ≡ entry
     → IsCompletion (with_entry table q s entry) machine
 still_completes table machine is completes q s entry below inside e = record {
-  kept = λ i j some. elim (cases_eq i q) [
-    | inl same ↦ elim (cases_eq j s) [
-      | inl same_too ↦
-          ap₂ (entry_of machine) same same_too ∙ e ∙ sym (entry-same table is q s entry below inside)
-          ∙ ap₂ (entry_of (with_entry table q s entry)) (sym same) (sym same_too)
-      | inr apart ↦ elsewhere i j (λ _. apart) some
-    ]
-    | inr apart ↦ elsewhere i j (λ same. absurd (apart same)) some
+  kept = λ i j some. elim (entry-either table is q s entry below inside i j) [
+    | inl here ↦ ap₂ (entry_of machine) here.0 here.1 ∙ e ∙ sym here.2
+    | inr there ↦ completes.kept i j (λ gap. some (there.1 ∙ gap)) ∙ sym there.1
   ];
-} where
-  elsewhere : (i j : ℕ) → (i ≡ q → j ≢ s) → entry_of (with_entry table q s entry) i j ≢ Undefined
-      → entry_of machine i j ≡ entry_of (with_entry table q s entry) i j
-  elsewhere i j other some =
-      let same = entry-other table q s i j entry below other in
-      completes.kept i j (λ gap. some (same ∙ gap)) ∙ sym same
+}
 
 -- what is found out at a stage: the machine is settled, or completes a later one with one gap less
 abbrev Found : List VerdictLine → Table → Table → Type 0
@@ -112,15 +102,11 @@ module _ (lines : List VerdictLine) (closed : IsClosed lines) (machine : Table) 
 
     below : q < length table
     below =
-        let h = (is_changed.states_named there.state).0 there.below in
-        let e = is_changed.states in
-        omega (arith, h, e)
+        omega (arith, (is_changed.states_named there.state).0 there.below, is_changed.states)
 
     inside : s < symbols_of table
     inside =
-        let h = (is_changed.symbols_named there.symbol).0 there.inside in
-        let e = is_changed.symbols in
-        omega (arith, h, e)
+        omega (arith, (is_changed.symbols_named there.symbol).0 there.inside, is_changed.symbols)
 
     gap : HaltsOnGap table n q s
     gap = gap_changed change line.table table is_changed n there.state there.symbol there.gap
@@ -144,17 +130,13 @@ module _ (lines : List VerdictLine) (closed : IsClosed lines) (machine : Table) 
 
       named : (write < symbols_of table) × (t < length table)
       named =
-          let states = stage.states in
-          let symbols = stage.symbols in
           let h = below in
           let i = inside in
           let both : IsEntryOf (length machine) (symbols_of machine) (entry_of machine q s) =
-          entry_named _ _ machine q s is (omega (arith, h, states)) (omega (arith, i, symbols)) in
+          entry_named _ _ machine q s is (omega (arith, h, stage.states)) (omega (arith, i, stage.symbols)) in
           let named : (write < symbols_of machine) × (t < length machine) =
           subst (IsEntryOf (length machine) (symbols_of machine)) e both in
-          let w = named.0 in
-          let l = named.1 in
-          (omega (arith, w, symbols), omega (arith, l, states))
+          (omega (arith, named.0, stage.symbols), omega (arith, named.1, stage.states))
 
       filled_machine : IsMachine filled
       filled_machine = machine-with_entry table stage.is_machine q s (Go write dir (to.State t)) below named
@@ -189,13 +171,10 @@ module _ (lines : List VerdictLine) (closed : IsClosed lines) (machine : Table) 
           → HasMachine lines (with_entry line.table there.state there.symbol entry_there)
       listed_there other =
           let undone = changed_back change line.table table is_changed in
-          let w = (undone.symbols_named write).0 named.0 in
           let l = (undone.states_named t).0 named.1 in
-          let symbols = is_changed.symbols in
-          let states = is_changed.states in
           closed.goes_on line n ones there.state there.symbol (change.symbols.old write)
           (change.states.old t) (turned change.mirrored dir) stage.of_list.listed says there.gap other
-          (omega (arith, w, symbols)) (omega (arith, l, states))
+          (omega (arith, (undone.symbols_named write).0 named.0)) (omega (arith, l, is_changed.states))
 
       later : HasOtherGap table q s → Stage lines machine filled
       later other =
@@ -221,15 +200,12 @@ module _ (lines : List VerdictLine) (closed : IsClosed lines) (machine : Table) 
       goes_on = elim (cases_eq (gaps filled) 0) [
         | inl none ↦ inl (found (Go write dir (to.State t)) e (completions_never_halt filled machine completes
             (full_never_halts filled filled_machine no_Z none)))
-        | inr more ↦
-            let left : 0 < gaps filled = omega (arith, more) in
-            let other = other_gap table stage.is_machine q s write dir (to.State t) below inside
-            (some_gap filled filled_machine left) in
-            inr (
-              filled,
-              gaps-with_entry table stage.is_machine q s write dir (to.State t) below inside gap.gap,
-              later other,
-            )
+        | inr more ↦ inr (
+          filled,
+          gaps-with_entry table stage.is_machine q s write dir (to.State t) below inside gap.gap,
+          later (other_gap table stage.is_machine q s write dir (to.State t) below inside
+              (some_gap filled filled_machine (omega (arith, more)))),
+        )
       ]
 
     by_entry : (entry : Entry) → entry_of machine q s ≡ entry → Found lines machine table
@@ -244,12 +220,8 @@ module _ (lines : List VerdictLine) (closed : IsClosed lines) (machine : Table) 
       let there = halts_on_gap line.table line_machine (no_Z_before change line.table table is_changed
       stage.no_Z) n (claim (Halt n ones) e).0 in
       by_entry n ones e there _ refl
-  by_verdict (Cycler a b) e = inl (settled (Cycler a b) e (never_halts (Cycler a b) e tt))
-  by_verdict (Translated side a b extent) e =
-      inl (settled (Translated side a b extent) e (never_halts (Translated side a b extent) e tt))
-  by_verdict (Backward levels nodes) e =
-      inl (settled (Backward levels nodes) e (never_halts (Backward levels nodes) e tt))
   by_verdict (Undecided why) e = inl (settled (Undecided why) e tt)
+  by_verdict verdict e = inl (settled verdict e (never_halts verdict e tt))
 
 walk : (lines : List VerdictLine) → IsClosed lines → (machine : Table) → IsMachine machine → (count : ℕ)
     (table : Table) → gaps table ≡ count → Stage lines machine table → IsSettled lines machine
@@ -279,9 +251,10 @@ first_stage : (lines : List VerdictLine) (machine : Table) → IsMachine machine
     → HasMachine lines (all_gaps (length machine) (symbols_of machine))
     → Stage lines machine (all_gaps (length machine) (symbols_of machine))
 first_stage lines machine is has =
-    let states : length (all_gaps (length machine) (symbols_of machine)) ≡ length machine =
-    length-replicate (length machine) (replicate (symbols_of machine) Undefined) in
-    let symbols = symbols_of_gaps (length machine) (symbols_of machine) is.some_state in
+    let n = length machine in
+    let k = symbols_of machine in
+    let states : length (all_gaps n k) ≡ n = length-replicate n (replicate k Undefined) in
+    let symbols = symbols_of_gaps n k is.some_state in
     record {
       of_list = has;
       is_machine = record {
@@ -289,29 +262,21 @@ first_stage lines machine is has =
         states = rw states is.states;
         two_symbols = rw symbols is.two_symbols;
         symbols = rw symbols is.symbols;
-        groups = rw (states, symbols) (all_of_replicate (IsGroup (length machine) (symbols_of machine))
-            (length machine) (replicate (symbols_of machine) Undefined) (record {
-              full = length-replicate (symbols_of machine) Undefined;
-              entries = all_of_replicate (IsEntryOf (length machine) (symbols_of machine))
-                  (symbols_of machine) Undefined tt;
-            }));
+        groups = rw (states, symbols) (all_of_replicate (IsGroup n k) n (replicate k Undefined) (record {
+          full = length-replicate k Undefined;
+          entries = all_of_replicate (IsEntryOf n k) k Undefined tt;
+        }));
       };
       states = states;
       symbols = symbols;
-      completes = record {
-        kept = λ q s some. absurd (some (all_gaps-none (length machine) (symbols_of machine) q s));
-      };
-      no_Z = record {
-        none = λ q s write dir e.
-            let none = all_gaps-none (length machine) (symbols_of machine) q s in
-            cc (e, none);
-      };
+      completes = record { kept = λ q s some. absurd (some (all_gaps-none n k q s)) };
+      no_Z = record { none = λ q s write dir e. let none = all_gaps-none n k q s in cc (e, none) };
     }
 
 pub covers_settle : CoversSettle
-covers_settle lines machine is covers = walk lines covers.closed machine is
-    (gaps (all_gaps (length machine) (symbols_of machine))) (all_gaps (length machine) (symbols_of machine)) refl
-    (first_stage lines machine is covers.has_root)
+covers_settle lines machine is covers =
+    let root = all_gaps (length machine) (symbols_of machine) in
+    walk lines covers.closed machine is (gaps root) root refl (first_stage lines machine is covers.has_root)
 
 -- for short
 
@@ -335,17 +300,13 @@ module _ (lines : List VerdictLine) (machine : Table) (is : IsSettled lines mach
       → HaltsSoon lines machine ⊎ (Never machine ⊎ IsLeftOpen lines machine)
   from_gap n ones s e Undefined does = inl (halts_soon n ones e n ones does (omega arith) (omega arith))
   from_gap n ones s e (Go write dir to.Halt) does =
-      let counted = does.counted in
       inl (halts_soon n ones e (n + 1) does.new_score (does.halts, does.scores) (omega arith)
-      (omega (arith, counted)))
+      (omega (arith, does.counted)))
   from_gap n ones s e (Go write dir (to.State t)) does = inr (inl does)
 
   outcome : (verdict : Verdict) → is.line.verdict ≡ verdict → Settles is.changed verdict machine
       → HaltsSoon lines machine ⊎ (Never machine ⊎ IsLeftOpen lines machine)
   outcome (Halt n ones) e settles = from_gap n ones settles.symbol e _ settles.does
-  outcome (Cycler a b) e settles = inr (inl settles)
-  outcome (Translated side a b extent) e settles = inr (inl settles)
-  outcome (Backward levels nodes) e settles = inr (inl settles)
   outcome (Undecided why) e settles = inr (inr (record {
     line = is.line;
     listed = is.listed;
@@ -356,6 +317,7 @@ module _ (lines : List VerdictLine) (machine : Table) (is : IsSettled lines mach
     is_changed = is.is_changed;
     completes = is.completes;
   }))
+  outcome verdict e settles = inr (inl settles)
 
 pub covers_decide : CoversDecide
 covers_decide lines machine is covers =

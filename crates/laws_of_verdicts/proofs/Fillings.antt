@@ -1,10 +1,12 @@
 -- What one entry more makes of a table, and of how many `---` it has.
 use Rattle.std.proofs.Common.{◌≡◌, ◌≢◌, ℕ, zero, suc, ◌+◌, ◌<◌, List, [], ◌∷◌, length, get_or, set, inl, inr}
-use Rattle.std.proofs.Common.{replicate, refl, ap, sym, ◌∙◌, arith}
+use Rattle.std.proofs.Common.{replicate, refl, ap, ap₂, sym, ◌∙◌, arith}
+use Rattle.std.specs.Prelude.{◌⊎◌}
 use Rattle.std.specs.List.{AllByRecursion}
 use Rattle.std.proofs.lemmas.Bool.{cases_eq}
 use Rattle.std.proofs.lemmas.List.{length-set, get_or-set_same, get_or-set_other}
 use Rattle.std.proofs.lemmas.List.Elements.{All-from_recursion}
+use Rattle.bb_machine.specs.declared.entry.Dir.TheVariants.{L}
 use Rattle.bb_machine.specs.declared.entry.Entry.{Entry}
 use Rattle.bb_machine.specs.declared.entry.Entry.TheVariants.{Undefined, Go}
 use Rattle.bb_machine.specs.declared.entry.Next.{Next}
@@ -44,6 +46,24 @@ entry-other table q s i j e below other = elim (cases_eq i q) [
   | inr apart ↦ ap (λ g. get_or g j Undefined) (get_or-set_other table q i _ [] apart)
 ]
 
+-- an entry of the filled table is the one that fills it, or that of the table
+pub entry-either : (table : Table) → IsMachine table → (q s : ℕ) (e : Entry) → q < length table
+    → s < symbols_of table → (i j : ℕ)
+    → ((i ≡ q) × (j ≡ s) × (entry_of (with_entry table q s e) i j ≡ e))
+    ⊎ ((i ≡ q → j ≢ s) × (entry_of (with_entry table q s e) i j ≡ entry_of table i j))
+entry-either table machine q s e below inside i j = elim (cases_eq i q) [
+  | inl same ↦ elim (cases_eq j s) [
+    | inl same_too ↦ inl (
+      same,
+      same_too,
+      ap₂ (entry_of (with_entry table q s e)) same same_too
+          ∙ entry-same table machine q s e below inside,
+    )
+    | inr apart ↦ inr (λ _. apart, entry-other table q s i j e below (λ _. apart))
+  ]
+  | inr apart ↦ inr (λ at. absurd (apart at), entry-other table q s i j e below (λ at. absurd (apart at)))
+]
+
 all-set : {X : Type 0} (P : X → Type 0) (xs : List X) (i : ℕ) (y : X) → P y → AllByRecursion P xs
     → AllByRecursion P (set xs i y)
 all-set P [] i y here all = all
@@ -79,19 +99,9 @@ pub record HasNoZ (table : Table) : Type 0 where
 pub no_Z-with_entry : (table : Table) → IsMachine table → (q s write to : ℕ) (dir : _) → q < length table
     → s < symbols_of table → HasNoZ table → HasNoZ (with_entry table q s (Go write dir (State to)))
 no_Z-with_entry table machine q s write to dir below inside no_Z = record {
-  none = λ i j w d e. elim (cases_eq i q) [
-    | inl same ↦ elim (cases_eq j s) [
-      | inl same_too ↦
-          let here = entry-same table machine q s (Go write dir (State to)) below inside in
-          let there : entry_of (with_entry table q s (Go write dir (State to))) q s ≡ Go w d Halt =
-          ap (λ x. entry_of (with_entry table q s (Go write dir (State to))) x s) (sym same)
-          ∙ ap (entry_of (with_entry table q s (Go write dir (State to))) i) (sym same_too) ∙ e in
-          cc (here, there)
-      | inr apart ↦ no_Z.none i j w d (sym (entry-other table q s i j (Go write dir (State to)) below
-          (λ _. apart)) ∙ e)
-    ]
-    | inr apart ↦ no_Z.none i j w d (sym (entry-other table q s i j (Go write dir (State to)) below
-        (λ same. absurd (apart same))) ∙ e)
+  none = λ i j w d e. elim (entry-either table machine q s (Go write dir (State to)) below inside i j) [
+    | inl here ↦ let filled = here.2 in cc (filled, e)
+    | inr there ↦ no_Z.none i j w d (sym there.1 ∙ e)
   ];
 }
 
@@ -116,18 +126,15 @@ gaps_in-set (x ∷ es) zero e inside gap fills =
     let was : gap_in x ≡ 1 = ap gap_in gap in
     omega (arith, was, fills)
 gaps_in-set (x ∷ es) (suc s) e inside gap fills =
-    let rest = gaps_in-set es s e (omega (arith, inside)) gap fills in
-    omega (arith, rest)
+    omega (arith, gaps_in-set es s e (omega (arith, inside)) gap fills)
 
 gaps-set : (gs : Table) (q s : ℕ) (e : Entry) → q < length gs → s < length (get_or gs q [])
     → entry_of gs q s ≡ Undefined → gap_in e ≡ 0 → suc (gaps (with_entry gs q s e)) ≡ gaps gs
 gaps-set [] q s e below inside gap fills = absurd (omega arith)
 gaps-set (g ∷ gs) zero s e below inside gap fills =
-    let group = gaps_in-set g s e inside gap fills in
-    omega (arith, group)
+    omega (arith, gaps_in-set g s e inside gap fills)
 gaps-set (g ∷ gs) (suc q) s e below inside gap fills =
-    let rest = gaps-set gs q s e (omega (arith, below)) inside gap fills in
-    omega (arith, rest)
+    omega (arith, gaps-set gs q s e (omega (arith, below)) inside gap fills)
 
 pub gaps-with_entry : (table : Table) → IsMachine table → (q s write : ℕ) (dir : _) (to : Next)
     → q < length table → s < symbols_of table → entry_of table q s ≡ Undefined
@@ -142,19 +149,15 @@ record Gap (es : List Entry) : Type 0 where
   inside : symbol < length es
   gap : get_or es symbol Undefined ≡ Undefined
 
-record GapOf (table : Table) : Type 0 where
-  state : ℕ
-  symbol : ℕ
-  below : state < length table
-  inside : symbol < length (get_or table state [])
-  gap : entry_of table state symbol ≡ Undefined
-
-pub record SomeGap (table : Table) : Type 0 where
+pub record SomeGapWithin (symbols : ℕ) (table : Table) : Type 0 where
   pub state : ℕ
   pub symbol : ℕ
   pub below : state < length table
-  pub inside : symbol < symbols_of table
+  pub inside : symbol < symbols
   pub gap : entry_of table state symbol ≡ Undefined
+
+abbrev pub SomeGap : Table → Type 0
+SomeGap table = SomeGapWithin (symbols_of table) table
 
 some_gap_in : (es : List Entry) → 0 < gaps_in es → Gap es
 some_gap_in [] some = absurd (omega arith)
@@ -163,11 +166,12 @@ some_gap_in (Go write dir to ∷ es) some =
     let rest = some_gap_in es (omega (arith, some)) in
     record { symbol = suc rest.symbol; inside = let h = rest.inside in omega (arith, h); gap = rest.gap }
 
-some_gap_of : (table : Table) → 0 < gaps table → GapOf table
-some_gap_of [] some = absurd (omega arith)
-some_gap_of (g ∷ gs) some = elim (cases_eq (gaps_in g) 0) [
+some_gap_of : (n : ℕ) (table : Table) → ((i : ℕ) → i < length table → length (get_or table i []) ≡ n)
+    → 0 < gaps table → SomeGapWithin n table
+some_gap_of n [] long some = absurd (omega arith)
+some_gap_of n (g ∷ gs) long some = elim (cases_eq (gaps_in g) 0) [
   | inl none ↦
-      let rest = some_gap_of gs (omega (arith, some, none)) in
+      let rest = some_gap_of n gs (λ i h. long (suc i) (omega (arith, h))) (omega (arith, some, none)) in
       record {
         state = suc rest.state;
         symbol = rest.symbol;
@@ -177,60 +181,40 @@ some_gap_of (g ∷ gs) some = elim (cases_eq (gaps_in g) 0) [
       }
   | inr more ↦
       let here = some_gap_in g (omega (arith, more)) in
-      record { state = 0; symbol = here.symbol; below = omega arith; inside = here.inside; gap = here.gap }
+      let inside = here.inside in
+      record {
+        state = 0;
+        symbol = here.symbol;
+        below = omega arith;
+        inside = omega (arith, inside, long 0 (omega arith));
+        gap = here.gap;
+      }
 ]
 
 pub some_gap : (table : Table) → IsMachine table → 0 < gaps table → SomeGap table
-some_gap table machine some =
-    let there = some_gap_of table some in
-    let long = groups_long table machine there.state there.below in
-    record {
-      state = there.state;
-      symbol = there.symbol;
-      below = there.below;
-      inside = let h = there.inside in omega (arith, long, h);
-      gap = there.gap;
-    }
-
-no_gap_in : (es : List Entry) (s : ℕ) → gaps_in es ≡ 0 → s < length es → get_or es s Undefined ≢ Undefined
-no_gap_in [] s none inside gap = absurd (omega arith)
-no_gap_in (x ∷ es) zero none inside gap =
-    let was : gap_in x ≡ 1 = ap gap_in gap in
-    omega (arith, was, none)
-no_gap_in (x ∷ es) (suc s) none inside gap =
-    no_gap_in es s (omega (arith, none)) (omega (arith, inside)) gap
-
-no_gap_of : (gs : Table) (q s : ℕ) → gaps gs ≡ 0 → q < length gs → s < length (get_or gs q [])
-    → entry_of gs q s ≢ Undefined
-no_gap_of [] q s none below inside gap = absurd (omega arith)
-no_gap_of (g ∷ gs) zero s none below inside gap = no_gap_in g s (omega (arith, none)) inside gap
-no_gap_of (g ∷ gs) (suc q) s none below inside gap =
-    no_gap_of gs q s (omega (arith, none)) (omega (arith, below)) inside gap
+some_gap table machine some = some_gap_of (symbols_of table) table (groups_long table machine) some
 
 pub no_gap : (table : Table) → IsMachine table → (q s : ℕ) → gaps table ≡ 0 → q < length table
     → s < symbols_of table → entry_of table q s ≢ Undefined
 no_gap table machine q s none below inside gap =
-    let long = groups_long table machine q below in
-    no_gap_of table q s none below (omega (arith, long, inside)) gap
+    omega (arith, none, gaps-with_entry table machine q s 0 L Halt below inside gap)
 
 -- a `---` that is left where one is filled is another one
 pub other_gap : (table : Table) → IsMachine table → (q s write : ℕ) (dir : _) (to : Next) → q < length table
     → s < symbols_of table → SomeGap (with_entry table q s (Go write dir to)) → HasOtherGap table q s
 other_gap table machine q s write dir to below inside some =
-    let other : some.state ≡ q → some.symbol ≢ s = λ same same_too.
-    let here = entry-same table machine q s (Go write dir to) below inside in
-    let there : entry_of (with_entry table q s (Go write dir to)) q s ≡ Undefined =
-    ap (λ x. entry_of (with_entry table q s (Go write dir to)) x s) (sym same)
-    ∙ ap (entry_of (with_entry table q s (Go write dir to)) some.state) (sym same_too) ∙ some.gap in
-    cc (here, there) in
-    record {
-      other_state = some.state;
-      other_symbol = some.symbol;
-      state_named = rw (← length-with_entry table q s (Go write dir to)) some.below;
-      symbol_named = rw (← symbols_of-with_entry table q s (Go write dir to)) some.inside;
-      other = other;
-      gap = sym (entry-other table q s some.state some.symbol (Go write dir to) below other) ∙ some.gap;
-    }
+    let gap = some.gap in
+    elim (entry-either table machine q s (Go write dir to) below inside some.state some.symbol) [
+      | inl here ↦ let filled = here.2 in absurd (cc (filled, gap))
+      | inr there ↦ record {
+        other_state = some.state;
+        other_symbol = some.symbol;
+        state_named = rw (← length-with_entry table q s (Go write dir to)) some.below;
+        symbol_named = rw (← symbols_of-with_entry table q s (Go write dir to)) some.inside;
+        other = there.0;
+        gap = sym there.1 ∙ gap;
+      }
+    ]
 
 -- all `---`
 

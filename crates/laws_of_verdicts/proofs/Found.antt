@@ -9,9 +9,8 @@ use Rattle.bb_sim.specs.Span.{span}
 use Rattle.bb_sim.proofs.Facts.{span_grows}
 use Rattle.bb_cert.specs.declared.checker.answer.Answer.TheVariants.{Ok}
 use Rattle.bb_cert.specs.declared.verdict.Verdict.{Verdict}
-use Rattle.bb_cert.specs.declared.verdict.Verdict.TheVariants.{Halt, Cycler, Translated, Backward, Undecided}
-use Rattle.bb_cert.specs.checker.Answer.{Applies, IsAnswer, Rule, all_else, answer_by, claim_holds}
-use Rattle.bb_cert.specs.checker.Answer.{out_of_order, too_much_named, too_much_needed, undecided}
+use Rattle.bb_cert.specs.declared.verdict.Verdict.TheVariants.{Halt, Cycler, Undecided}
+use Rattle.bb_cert.specs.checker.Answer.{Applies, IsAnswer, Rule, answer_by, claim_holds}
 use Rattle.bb_cert.specs.claims.Claim.{Claim}
 use Rattle.bb_cert.specs.claims.Repeat.{Same}
 use Rattle.bb_cert.proofs.Facts.{repeats_keep_distance, repeats_never_halt}
@@ -25,12 +24,8 @@ claim_of_ok : (table : Table) (bounds : Bounds) (verdict : Verdict) → IsAnswer
     → Claim table verdict
 claim_of_ok table bounds verdict is = by_rule is.rule is.is is.applies where
   by_rule : (rule : Rule) → Ok ≡ answer_by rule → Applies table bounds verdict rule → Claim table verdict
-  by_rule undecided e applies = absurd cc
-  by_rule too_much_named e applies = absurd cc
-  by_rule out_of_order e applies = absurd cc
-  by_rule too_much_needed e applies = absurd cc
   by_rule claim_holds e applies = applies
-  by_rule all_else e applies = absurd cc
+  by_rule rule e applies = absurd cc
 
 -- a power of two that is not below a number, but below its double
 record IsPowerFor (m : ℕ) : Type 0 where
@@ -50,14 +45,13 @@ power_for zero = record {
 }
 power_for (suc k) =
     let before = power_for k in
-    let above = before.not_below in
     let small = before.small in
     elim (cases_lt before.power (k + 2)) [
       | inl less ↦ record {
         power = 2 * before.power;
         exponent = suc before.exponent;
         is_power = let e = before.is_power in omega (arith, e);
-        not_below = omega (arith, above);
+        not_below = omega (arith, before.not_below);
         small = omega (arith, less);
       }
       | inr enough ↦ record {
@@ -121,12 +115,7 @@ cyclers_are_found table checked bounds plan a b verdict answer on steps cells is
           → IsVerdict table bounds plan verdict → IsCyclerBy (3 * b) verdict
       by_verdict never reach (Halt n ones) is = absurd (never.never n is.0.halts)
       by_verdict never reach (Cycler first second) is =
-          let early = reach.early in
-          let first_one = is.2.first reach.first reach.second reach.cycle in
-          omega (arith, early, first_one)
-      by_verdict never reach (Translated side first second extent) is =
-          absurd (is.1 on reach.first reach.second reach.cycle)
-      by_verdict never reach (Backward levels nodes) is =
-          absurd (is.1 on reach.first reach.second reach.cycle)
+          omega (arith, reach.early, is.2.first reach.first reach.second reach.cycle)
       by_verdict never reach (Undecided why) is =
           absurd ((passes_all plan why is).0 on reach.first reach.second reach.cycle)
+      by_verdict never reach verdict is = absurd (is.1 on reach.first reach.second reach.cycle)

@@ -1,5 +1,5 @@
 -- What a machine that halts on a `---` does once that is filled.
-use Rattle.std.proofs.Common.{◌≡◌, ℕ, zero, suc, ◌<◌, length, Some, None}
+use Rattle.std.proofs.Common.{◌≡◌, ℕ, ◌<◌, length, Some, None}
 use Rattle.std.proofs.Common.{refl, ap, sym, subst, ◌∙◌}
 use Rattle.bb_machine.specs.declared.entry.Entry.{Entry}
 use Rattle.bb_machine.specs.declared.entry.Entry.TheVariants.{Undefined, Go}
@@ -8,14 +8,14 @@ use Rattle.bb_machine.specs.Entry.{IsNextOf}
 use Rattle.bb_machine.specs.Machine.{Table, IsMachine, entry_of, symbols_of}
 use Rattle.bb_tape.specs.Content.{cell, score}
 use Rattle.bb_tape.proofs.Facts.{score-with_cell}
-use Rattle.bb_sim.specs.Configuration.{Configuration, start, followed, entry_at, next}
+use Rattle.bb_sim.specs.Configuration.{Configuration, followed, entry_at, next}
 use Rattle.bb_sim.specs.Run.{conf, HaltsAt, IsScore, Never}
-use Rattle.bb_sim.proofs.Facts.{conf-next, conf-start, led, run_named}
-use Rattle.bb_cert.proofs.Facts.{moves}
+use Rattle.bb_sim.proofs.Facts.{conf-next, led, run_named}
 use Rattle.bb_cert.specs.declared.verdict.Verdict.TheVariants as verdict
 use Rattle.bb_cert.specs.claims.Claim.{Claim}
 use Rattle.laws_of_verdicts.specs.Completion.{IsCompletion}
 use Rattle.laws_of_verdicts.specs.Gap.{FilledGapsHaltNext, GapsKeepHalts, HaltsNext, HaltsOnGap}
+use Rattle.laws_of_verdicts.proofs.ChangedRuns.{along}
 use Rattle.laws_of_verdicts.proofs.Completions.{conf_kept}
 use Rattle.laws_of_verdicts.proofs.Fillings.{HasNoZ, gaps, no_gap}
 
@@ -35,22 +35,11 @@ followed_in table q s (Go write dir Halt) c d no_Z e leads = absurd (no_Z.none q
 
 pub stays_in : (table : Table) → HasNoZ table → (n : ℕ) (c : Configuration) → conf table n ≡ Some c → IsIn c
 unfolding next
-stays_in table no_Z zero c e =
-    let first = conf-start table in
-    let same : start ≡ c = cc in
-    record { state = 0; is = ap (λ x. x.state) (sym same) }
-stays_in table no_Z (suc n) c e =
-    let moved = moves table n (record { here = c; exists = e }) in
-    let before = stays_in table no_Z n moved.before moved.at_before in
-    let entry : entry_at table moved.before.state (cell moved.before.tape moved.before.head)
-    ≡ entry_of table before.state (cell moved.before.tape moved.before.head) =
-    ap (λ x. entry_at table x (cell moved.before.tape moved.before.head)) before.is in
-    let leads : followed (entry_of table before.state (cell moved.before.tape moved.before.head)) moved.before
-    ≡ Some moved.then_here = ap (λ x. followed x moved.before) (sym entry) ∙ moved.is_next in
-    let there = followed_in table before.state (cell moved.before.tape moved.before.head) _ moved.before
-    moved.then_here no_Z refl leads in
-    let same : moved.then_here ≡ c = let a = moved.at_then in cc in
-    subst IsIn same there
+stays_in table no_Z = along table IsIn (record { state = 0; is = refl }) (λ c d leads before.
+    let symbol = cell c.tape c.head in
+    let entry : entry_at table c.state symbol ≡ entry_of table before.state symbol =
+    ap (λ x. entry_at table x symbol) before.is in
+    followed_in table before.state symbol _ c d no_Z refl (ap (λ x. followed x c) (sym entry) ∙ leads))
 
 -- where it halts: on a `---` of its table
 pub record HaltsInTable (table : Table) (n : ℕ) : Type 0 where
@@ -60,7 +49,7 @@ pub record HaltsInTable (table : Table) (n : ℕ) : Type 0 where
   pub below : state < length table
   pub inside : symbol < symbols_of table
 
-undefined_here : (entry : Entry) (c : Configuration) → followed entry c ≡ None → entry ≡ Undefined
+pub undefined_here : (entry : Entry) (c : Configuration) → followed entry c ≡ None → entry ≡ Undefined
 undefined_here Undefined c e = refl
 undefined_here (Go write dir to) c e = absurd cc
 
@@ -109,8 +98,6 @@ module _ (table machine : Table) (completion : IsCompletion table machine) (n q 
 
   scored : (ones : ℕ) → IsScore table n ones → ones ≡ score gap.last.tape
   scored ones counts =
-      let one = counts.exists in
-      let two = gap.exists in
       let same : counts.here ≡ gap.last = cc in
       counts.counted ∙ ap (λ x. score x.tape) same
 

@@ -18,8 +18,6 @@ use Rattle.laws_of_verdicts.specs.LaterSteps.{CyclersComeAgain, MovesOut, Transl
 
 same_on : (table : Table) (a b c : ℕ) → Same table a b → Same table b c → Same table a c
 same_on table a b c one two =
-    let x = one.at_second in
-    let y = two.at_first in
     let e : one.here ≡ two.here = cc in
     record { here = two.here; at_first = one.at_first ∙ ap Some e; at_second = two.at_second }
 
@@ -50,10 +48,9 @@ moves_again : AgreeingRecordsGoOn → (table : Table) (side : Side) (a b n : ℕ
     → Claim table (Translated side a b (Some extent)) → a ≤ n
     → MovesOut table side n (n + (b - a)) extent.shift
 moves_again go_on table side a b n extent claim late =
-    let in_order = claim.0.in_order in
     let alike = go_on table side a b claim.0 (n - a) in
     let first : a + (n - a) ≡ n = omega (arith, late) in
-    let second : b + (n - a) ≡ n + (b - a) = omega (arith, late, in_order) in
+    let second : b + (n - a) ≡ n + (b - a) = omega (arith, late, claim.0.in_order) in
     record {
       first = alike.first;
       second = alike.second;

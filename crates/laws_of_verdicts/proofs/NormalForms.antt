@@ -1,5 +1,5 @@
 -- Why a list in tree normal form is closed: states and symbols that a machine doesn't use can be swapped.
-use Rattle.std.proofs.Common.{◌≡◌, ◌≢◌, ◌↔◌, ℕ, zero, suc, ◌<◌, min, Bool, true, false, cond, nat_eq, List}
+use Rattle.std.proofs.Common.{◌≡◌, ◌≢◌, ◌↔◌, ℕ, ◌<◌, min, Bool, true, false, cond, nat_eq, List}
 use Rattle.std.proofs.Common.{Some, length, ℤ, inl, inr, refl, ap, ap₂, sym, subst, ◌∙◌, arith}
 use Rattle.std.specs.Prelude.{◌⊎◌}
 use Rattle.std.proofs.lemmas.Bool.Decides.{nat_tests}
@@ -15,13 +15,13 @@ use Rattle.bb_tape.specs.Content.{cell, with_cell}
 use Rattle.bb_tape.proofs.Facts.{by_position, cell-blank, cell-with_cell-other, cell-with_cell-same}
 use Rattle.bb_sim.specs.Configuration.{Configuration, start, followed, entry_at, next}
 use Rattle.bb_sim.specs.Run.{conf}
-use Rattle.bb_sim.proofs.Facts.{conf-start, led, run_named}
-use Rattle.bb_cert.proofs.Facts.{moves}
+use Rattle.bb_sim.proofs.Facts.{led, run_named}
 use Rattle.laws_of_verdicts.specs.Change.{Change, IsChanged, Renaming, changed_entry, changed_next, turned}
 use Rattle.laws_of_verdicts.specs.Closed.{HasMachine, VerdictLine, all_gaps, with_entry}
 use Rattle.laws_of_verdicts.specs.Gap.{HaltsOnGap}
 use Rattle.laws_of_verdicts.specs.NormalForm.{Asks, IsEmpty, Lists, NormalFormCovers}
 use Rattle.laws_of_verdicts.specs.NormalForm.{UsesFirst}
+use Rattle.laws_of_verdicts.proofs.ChangedRuns.{along}
 use Rattle.laws_of_verdicts.proofs.Completions.{unchanged}
 use Rattle.laws_of_verdicts.proofs.Composed.{filled_changed}
 
@@ -51,32 +51,20 @@ module _ (table : Table) (states symbols : ℕ) (uses : UsesFirst table states s
         state = named.1;
         cells = λ p. by_position p c.head _
             (λ at. let here = cell-with_cell-same c.tape c.head write in
-            let there = ap (cell (with_cell c.tape c.head write)) at in
-            let small = named.0 in omega (arith, here, there, small))
+            let small = named.0 in omega (arith, here, ap (cell (with_cell c.tape c.head write)) at, small))
             (λ apart. let other = cell-with_cell-other c.tape c.head write p apart in
             let small = within.cells p in omega (arith, other, small));
       })
 
   run_within : (n : ℕ) (c : Configuration) → conf table n ≡ Some c → IsWithin states symbols c
   unfolding next
-  run_within zero c e =
-      let first = conf-start table in
-      let same : start ≡ c = cc in
-      subst (IsWithin states symbols) same start_within
-  run_within (suc n) c e =
-      let moved = moves table n (record { here = c; exists = e }) in
-      let before = run_within n moved.before moved.at_before in
-      let there = followed_within moved.before moved.then_here _
-      (entry_within moved.before.state (cell moved.before.tape moved.before.head)) before moved.is_next in
-      let same : moved.then_here ≡ c = let a = moved.at_then in cc in
-      subst (IsWithin states symbols) same there
+  run_within = along table (IsWithin states symbols) start_within (λ c d leads before.
+      followed_within c d _ (entry_within c.state (cell c.tape c.head)) before leads)
 
   gap_within : (n q s : ℕ) → HaltsOnGap table n q s → (q < states) × (s < symbols)
   gap_within n q s gap =
       let within = run_within n gap.last gap.exists in
-      let small = within.cells gap.last.head in
-      let at = gap.at_symbol in
-      (subst (IsNextOf states) gap.in_state within.state, omega (arith, small, at))
+      (subst (IsNextOf states) gap.in_state within.state, omega (arith, within.cells gap.last.head))
 
 -- two names swapped
 
@@ -88,9 +76,6 @@ swapped-twice a b x = grind (arith, nat_tests)
 
 swapped-first : (a b : ℕ) → swapped a b a ≡ b
 swapped-first a b = grind (arith, nat_tests)
-
-swapped-second : (a b : ℕ) → swapped a b b ≡ a
-swapped-second a b = grind (arith, nat_tests)
 
 swapped-below : (a b m x : ℕ) → a < m → b < m → x < m → swapped a b x < m
 swapped-below a b m x below below_too less = grind (arith, nat_tests)
@@ -223,9 +208,7 @@ gap_named : (table : Table) → IsMachine table → (n q s : ℕ) → HaltsOnGap
     → (q < length table) × (s < symbols_of table)
 gap_named table machine n q s gap =
     let named = run_named table machine n gap.last gap.exists in
-    let small = named.symbols gap.last.head in
-    let at = gap.at_symbol in
-    (subst (IsNextOf (length table)) gap.in_state named.state, omega (arith, small, at))
+    (subst (IsNextOf (length table)) gap.in_state named.state, omega (arith, named.symbols gap.last.head))
 
 module _ (lines : List VerdictLine) (table : Table) (machine : IsMachine table) (n q s : ℕ)
     (gap : HaltsOnGap table n q s) (goes : Asks table q s (Lists lines)) (write t : ℕ)

@@ -26,10 +26,7 @@ module _ {X : Type 0} (f : X → ℕ) where
 
 pub length-sum : {X : Type 0} (xs : List X) → length xs ≡ sum_by (λ x. 1) xs
 length-sum [] = refl
-length-sum (x ∷ xs) =
-    let more = sum_by-cons (λ y. 1) x xs in
-    let rest = length-sum xs in
-    omega (arith, more, rest)
+length-sum (x ∷ xs) = omega (arith, sum_by-cons (λ y. 1) x xs, length-sum xs)
 
 -- the sum over so many numbers from k on
 abbrev pub sum_from : ℕ → ℕ → (ℕ → ℕ) → ℕ
@@ -79,14 +76,10 @@ sum_at_none y c k (suc n) below = ap₂ ◌+◌ (at-other k y c (λ e. omega (ar
 sum_at : (y c k n : ℕ) → k ≤ y → y < k + n → sum_from k n (at y c) ≡ c
 sum_at y c k zero low high = absurd (omega (arith, low, high))
 sum_at y c k (suc n) low high = elim (cases_order k y) [
-  | inl e ↦
-      (let here = at-same k y c e in
-      let rest = sum_at_none y c (k + 1) n (omega (arith, e)) in
-      omega (arith, here, rest))
+  | inl e ↦ omega (arith, at-same k y c e, sum_at_none y c (k + 1) n (omega (arith, e)))
   | inr (inl less) ↦
       (let here = at-other k y c (λ e. omega (arith, less, e)) in
-      let rest = sum_at y c (k + 1) n (omega (arith, less)) (omega (arith, high)) in
-      omega (arith, here, rest))
+      omega (arith, here, sum_at y c (k + 1) n (omega (arith, less)) (omega (arith, high))))
   | inr (inr more) ↦ absurd (omega (arith, low, more))
 ]
 
@@ -103,8 +96,7 @@ sum_from-renamed new old old_of_new new_of_old n named f =
     (λ y low high. sum_at (old y) (f y) 0 n (omega arith) (back y (omega (arith, high)))) where
       back : (y : ℕ) → y < n → old y < 0 + n
       back y less =
-          let there = (named (old y)).1 (let same = new_of_old y in omega (arith, less, same)) in
-          omega (arith, there)
+          omega (arith, (named (old y)).1 (let same = new_of_old y in omega (arith, less, same)))
 
       turned : (x y : ℕ) → at (old y) (f y) x ≡ at (new x) (f (new x)) y
       turned x y = by_test (nat_eq y (new x)) (Decides-eqb y (new x)) where

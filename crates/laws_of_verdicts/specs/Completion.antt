@@ -16,8 +16,8 @@ use Rattle.bb_cert.specs.claims.Claim.{Claim}
 use Rattle.bb_decide.specs.Verdict.{IsVerdict}
 
 -- the second machine has each entry of the first one that isn't `---`; each `---` may be filled, in any way.
--- It may have more states and symbols too: outside its table a machine's entry counts as `---`, and a run that
--- keeps to the first one's entries comes to nothing of what was added
+-- It may have more states and symbols too: outside its table a machine's entry counts as `---`, and a run
+-- that keeps to the first one's entries comes to nothing of what was added
 pub record IsCompletion (table filled : Table) : Type 0 where
   pub kept : (state symbol : ℕ) → entry_of table state symbol ≢ Undefined
       → entry_of filled state symbol ≡ entry_of table state symbol

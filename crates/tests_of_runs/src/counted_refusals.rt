@@ -1,8 +1,8 @@
 //! How many steps are counted where a call is refused memory: all that were made.
 //!
-//! The machine writes a 1 in each of its six steps, the last into Z. Its configurations 1, 2 and 4 are kept for
-//! the search for cycles. Its first record on the right comes at step 1, its first two on the left at steps 3
-//! and 4; each is kept.
+//! The machine writes a 1 in each of its six steps, the last into Z. Its configurations 1, 2 and 4 are kept
+//! for the search for cycles. Its first record on the right comes at step 1, its first two on the left at
+//! steps 3 and 4; each is kept.
 
 use crate::failed_allocations::refusing_bench;
 use crate::support::counting_tape::NEVER;

@@ -256,8 +256,8 @@ fn checking_is_refused(rt: &(impl Abort + AllocGlobal), before: [u64; 2]) -> boo
     refused
 }
 
-/// The first two claims write a 1 4 times each, the tree has 4 nodes, and of each pair the first configuration
-/// is kept.
+/// The first two claims write a 1 4 times each, the tree has 4 nodes, and of each pair the first
+/// configuration is kept.
 #[test]
 fn checking_ends_at_each_refusal(rt: HostRuntime) {
     let while_running = (0..MOST).position(|k| !checking_is_refused(&rt, [k, NEVER]));

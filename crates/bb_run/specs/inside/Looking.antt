@@ -1,6 +1,5 @@
 -- What the functions that look at replies tell one another.
-use Rattle.std.specs.Prelude.{◌≡◌, ◌≢◌, ℕ, List}
-use Rattle.std.specs.List.{All}
+use Rattle.std.specs.Prelude.{◌≡◌, ℕ, List}
 use Rattle.bb_machine.specs.Column.{IsColumn}
 use Rattle.bb_machine.specs.Machine.{IsMachineLine}
 use Rattle.bb_cert.specs.declared.verdict.Verdict.{Verdict}
@@ -8,10 +7,6 @@ use Rattle.bb_cert.specs.verdict.Line.{verdict_text}
 use Rattle.bb_cert.specs.verdict.Verdict.{HasNumbers}
 use Rattle.bb_run.specs.declared.looking.ReplyKind.{ReplyKind}
 use Rattle.bb_run.specs.Look.{kind_of}
-
--- none of the bytes is a newline
-abbrev pub HasNoNewline : List ℕ → Type 0
-HasNoNewline bytes = All (λ byte. byte ≢ 10) bytes
 
 -- the line is no machine's text, and this is its column
 pub record IsRefusedAt (line : List ℕ) (column : ℕ) : Type 0 where

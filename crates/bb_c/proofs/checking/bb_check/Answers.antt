@@ -9,9 +9,8 @@ pub returns-in-Ok-answers-clause-enough : goal.returns-in-Ok-answers-clause-enou
 returns-in-Ok-answers-clause-enough c = λ enough.
     let fit = replies_fit _ (λ line. 6) (check_reply_short _) (lines c.args.list.now) _
     c.in-Ok-answers.ensures.replies in
-    let room = room_of_words (lines c.args.list.now) in
     let same : length c.as_slice.result.now ≡ length c.in-Ok-answers.replies.items = search rules in
-    c.give.ensures.enough (omega (arith, enough, fit, room, same))
+    c.give.ensures.enough (omega (arith, enough, fit, room_of_words (lines c.args.list.now), same))
 
 pub returns-in-Ok-answers-clause-replies : goal.returns-in-Ok-answers-clause-replies
 returns-in-Ok-answers-clause-replies c = λ is.

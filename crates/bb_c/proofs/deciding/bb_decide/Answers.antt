@@ -9,9 +9,8 @@ pub returns-in-Ok-verdicts-clause-enough : goal.returns-in-Ok-verdicts-clause-en
 returns-in-Ok-verdicts-clause-enough c = λ enough.
     let fit = replies_fit _ (λ line. length line + 97) (reply_short _ _) (lines c.args.list.now) _
     c.in-Ok-verdicts.ensures.replies in
-    let room = room_in_list c.args.list.now in
     let same : length c.as_slice.result.now ≡ length c.in-Ok-verdicts.replies.items = search rules in
-    c.give.ensures.enough (omega (arith, enough, fit, room, same))
+    c.give.ensures.enough (omega (arith, enough, fit, room_in_list c.args.list.now, same))
 
 pub returns-in-Ok-verdicts-clause-replies : goal.returns-in-Ok-verdicts-clause-replies
 returns-in-Ok-verdicts-clause-replies c = λ is.

@@ -61,7 +61,5 @@ returns-in-NoCells-clause-ends g c halts inside =
     let on = rw c.in-NoCells.is at c.in_ok-advance.ensures.answers in
     let few = ap (λ (b : Bounds). b.steps) c.with_steps-limits.ensures in
     let cells = ap (λ (b : Bounds). b.cells) c.with_steps-limits.ensures in
-    let low = c.loop-runner.invariant.steps in
-    let wide = on.2 in
     needs_more_cells c.args.machine.now c.args.limits.now (steps_of c.loop-runner.runner) c.args.steps on.0
-    (omega (arith, low, few)) (omega (arith, wide, cells)) halts inside
+    (omega (arith, c.loop-runner.invariant.steps, few)) (omega (arith, on.2, cells)) halts inside

@@ -8,10 +8,8 @@ pub loop-state-preserved : goal.loop-state-preserved
 loop-state-preserved c =
     let here = c.loop-state.invariant in
     let more = gaps_of_more c.args.machine.now c.loop-state.state (omega arith) in
-    let this = c.count_gaps_in-count.ensures.count in
     let few = c.count_gaps_in-count.ensures.few in
-    let was = here.count in
-    record { count = omega (arith, more, this, was); few = let f = here.few in omega (arith, few, f) }
+    record { count = omega (arith, more, here.count); few = let f = here.few in omega (arith, few, f) }
 
 pub returns : goal.returns
 returns c = c.loop-state.invariant.count

@@ -9,19 +9,15 @@ last c = grind (arith, common_steps)
 
 pub overflow_add-next : goal.overflow_add-next
 overflow_add-next c =
-    let at = last c in
-    let some = c.requires.some in
     let frame = read_frame c.args.frames.now.items (c.len-last.result - 1) c.requires.stack
-    (omega (arith, at, some)) c.index.result.now c.index.ensures in
-    let few = few_left (c.len-last.result - 1) c.index.result.now frame in
-    omega (arith, few)
+    (omega (arith, last c, c.requires.some)) c.index.result.now c.index.ensures in
+    omega (arith, few_left (c.len-last.result - 1) c.index.result.now frame)
 
 pub count-requires : goal.count-requires
 count-requires c =
     let at = last (goal.at.count-requires c).After-index in
-    let some = c.requires.some in
     (read_frame c.args.frames.now.items (c.len-last.result - 1) c.requires.stack
-    (omega (arith, at, some)) c.index-2.result.now c.index-2.ensures).few
+    (omega (arith, at, c.requires.some)) c.index-2.result.now c.index-2.ensures).few
 
 pub returns-then-next-count-clause-next : goal.returns-then-next-count-clause-next
 returns-then-next-count-clause-next c =

@@ -66,13 +66,12 @@ loop-runner-preserved g c =
     let here = c.loop-runner.invariant in
     let call = c.in-Ok-Whole.ensures in
     let ran = rw c.in-Ok-Whole.field-0-is at call.ran in
-    let further = ran.1 in
     record {
       stands = call.stands;
       limit = call.limit ∙ here.limit;
       inside = ran.0;
       unmarked = search rules;
       printed =
-          printed_next _ _ _ here.printed ran.1 (omega (arith, further))
+          printed_next _ _ _ here.printed ran.1 (omega (arith, ran.1))
           c.in_ok-add_step-in-Ok-Whole.ensures.sent;
     }

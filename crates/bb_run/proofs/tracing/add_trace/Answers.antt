@@ -7,8 +7,7 @@ use Rattle.bb_run.proofs.tracing.add_trace.Goals as goal
 
 pub returns-in-Ok-clause-ends : goal.returns-in-Ok-clause-ends
 returns-in-Ok-clause-ends g c =
-    let least = c.show_accepted.ensures.accepted.some_cell in
-    let some : 0 < c.args.limits.now.cells = omega (arith, least) in
+    let some : 0 < c.args.limits.now.cells = omega (arith, c.show_accepted.ensures.accepted.some_cell) in
     let last = c.last_step_exists.ensures c.in-Ok.machine c.args.limits.now some in
     let of : IsTextOf c.in-Ok.machine c.args.line.now =
     record { machine = c.in-Ok.ensures.found.0; is_text = c.in-Ok.ensures.found.1 } in

@@ -58,10 +58,7 @@ returns-in-NoCells g c =
 pub returns : goal.returns
 returns g c =
     let here = c.loop.invariant in
-    let made = here.made in
-    let all = c.loop-test.false in
-    let no_more = c.loop.auto.counter-end in
     went _ here.stands (cc) (
       inside_here _ _ _ _ here.stands (g.met.T.Tape.sound c.loop.tape) here.limit here.within,
-      omega (arith, made, all, no_more),
+      omega (arith, here.made, c.loop-test.false, c.loop.auto.counter-end),
     )

@@ -18,17 +18,13 @@ pub overflow_cast-write : goal.overflow_cast-write
 overflow_cast-write c =
     let a = c.args.self.now in
     rw c.width-width.ensures (
-    let few = few_writes a.is_root a.states a.symbols c.args.index c.requires.index in
-    let small = c.requires.symbols in
-    omega (arith, few, small))
+    omega (arith, few_writes a.is_root a.states a.symbols c.args.index c.requires.index, c.requires.symbols))
 
 pub overflow_cast-place : goal.overflow_cast-place
 overflow_cast-place c =
     let a = c.args.self.now in
     rw c.width-width.ensures (
-    let few = few_places a.is_root a.states a.symbols c.args.index c.requires.index in
-    let small = c.requires.states in
-    omega (arith, few, small))
+    omega (arith, few_places a.is_root a.states a.symbols c.args.index c.requires.index, c.requires.states))
 
 pub returns-then-place-self : goal.returns-then-place-self
 returns-then-place-self c =

@@ -7,7 +7,6 @@ use Rattle.bb_cover.proofs.walk.Walk.begin.Goals as goal
 
 pub go_on-requires-clause-room : goal.go_on-requires-clause-room
 go_on-requires-clause-room c =
-    let few = machine_few_gaps c.args.machine.now c.show_machine.ensures.machine in
     let none = ap (λ (frames : List Frame). length frames) (left_nothing 0 c.self.inside.frames.items
     c.self.invariant.0 (c.self.view_is ∙ c.requires.done)) in
-    omega (arith, few, none)
+    omega (arith, machine_few_gaps c.args.machine.now c.show_machine.ensures.machine, none)

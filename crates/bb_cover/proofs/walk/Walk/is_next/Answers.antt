@@ -14,9 +14,8 @@ last c = grind (arith, common_steps)
 
 top_frame : (c : After-index-top) → IsFrame (c.len.result - 1) c.index-top.result.now
 top_frame c =
-    let at = last c in
     let more = some c in
-    read_frame c.self.inside.frames.items (c.len.result - 1) c.self.invariant.0 (omega (arith, at, more))
+    read_frame c.self.inside.frames.items (c.len.result - 1) c.self.invariant.0 (omega (arith, last c, more))
     c.index-top.result.now c.index-top.ensures
 
 pub entry-requires-clause-states : goal.entry-requires-clause-states

@@ -9,9 +9,8 @@ use Rattle.bb_run.proofs.tally.Tally.reply.Goals as goal
 pub unwrap-requires : goal.unwrap-requires
 unwrap-requires c =
     let short = text_short MAX_STATES MAX_SYMBOLS c.args.self.now.machine c.requires.of.machine in
-    let of = ap length c.requires.of.is_text in
     let empty = ap length c.requires.empty in
-    c.try_extend_from_slice.ensures.variant.1 (omega (arith, short, of, empty))
+    c.try_extend_from_slice.ensures.variant.1 (omega (arith, short, ap length c.requires.of.is_text, empty))
 
 pub verdict_into-requires : goal.verdict_into-requires
 verdict_into-requires c =
