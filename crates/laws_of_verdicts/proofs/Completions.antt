@@ -26,7 +26,8 @@ use Rattle.laws_of_verdicts.specs.Completion.{IsCompletion, IsInZ, MeetsNoGap, C
 use Rattle.laws_of_verdicts.specs.Completion.{CompletionsKeepClaims, CompletionsKeepVerdicts}
 use Rattle.laws_of_verdicts.specs.Completion.{CompletionsNeverHalt}
 use Rattle.laws_of_verdicts.specs.Change.{Change, Renaming, changed_next}
-use Rattle.laws_of_verdicts.proofs.ChangedNotions.{AreImagesTo, first_cycle_image, first_translation_image, inside_image}
+use Rattle.laws_of_verdicts.proofs.ChangedNotions.{AreImagesTo, first_cycle_image}
+use Rattle.laws_of_verdicts.proofs.ChangedNotions.{first_translation_image, inside_image}
 use Rattle.laws_of_verdicts.proofs.ChangedNotions.{no_cycle_image, pair_image}
 use Rattle.laws_of_verdicts.proofs.ChangedNotions.{same_image, says_image, score_image, span_image}
 use Rattle.laws_of_verdicts.proofs.ChangedNotions.{tells_image}
