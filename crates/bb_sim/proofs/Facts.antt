@@ -1,5 +1,4 @@
 -- What the proofs of other crates may cite of runs.
-pub use Rattle.bb_sim.proofs.LawLemmas.{last_step_exists}
 pub use Rattle.bb_sim.proofs.Outcomes.{halt_is_last, span_grows, span-start, halts_last, next_inside}
 pub use Rattle.bb_sim.proofs.Outcomes.{fits_at_halt, wide_at_end, inside_here, halted_end, no_halt_inside}
 pub use Rattle.bb_sim.proofs.RunLaws.{earlier_is_inside, halt_is_unique, last_step_is_unique}
@@ -12,5 +11,5 @@ pub use Rattle.bb_sim.proofs.Steps.{led, conf-start, conf-next, counted_head-at}
 pub use Rattle.bb_sim.proofs.Counting.{counts_start, counts_next}
 pub use Rattle.bb_sim.proofs.Endings.{halts_in_Z}
 pub use Rattle.bb_sim.proofs.FewCells.{few_cells_repeat_before, running_below}
-pub use Rattle.bb_sim.proofs.RunningOn.{RunsOn, conf-suc, runs_on}
+pub use Rattle.bb_sim.proofs.RunningOn.{conf-suc, runs_on}
 pub use Rattle.bb_sim.proofs.NamedRuns.{IsNamed, next_named, run_named}

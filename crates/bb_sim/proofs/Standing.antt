@@ -115,15 +115,9 @@ module _ (runner : Runner) (view : TapeView) (p : ℤ) (sound : IsSound view) (l
       by_lt_z (high_of runner) p (λ over. omega (arith, ints)) (λ to. absurd (outside (at, to)))
 
 -- the ends of a window that has grown by one cell
-pub low_grows : (low p : ℤ) → p <ℤ low → p ≡ int_min low p
-low_grows low p below = omega (arith, ints, clamps)
-
 pub high_stays : (low p : ℤ) (cells : ℕ) → 0 < cells → p <ℤ low → low ≤ℤ (p +ℤ pos 1)
     → (p +ℤ pos (cells + 1)) -ℤ pos 1 ≡ int_max ((low +ℤ pos cells) -ℤ pos 1) p
 high_stays low p cells some below near = omega (arith, ints, clamps)
-
-pub low_stays : (low p : ℤ) (cells : ℕ) → p ≡ ((low +ℤ pos cells) -ℤ pos 1) +ℤ pos 1 → low ≡ int_min low p
-low_stays low p cells next = omega (arith, ints, clamps)
 
 pub high_grows : (low p : ℤ) (cells : ℕ) → p ≡ ((low +ℤ pos cells) -ℤ pos 1) +ℤ pos 1
     → (low +ℤ pos (cells + 1)) -ℤ pos 1 ≡ int_max ((low +ℤ pos cells) -ℤ pos 1) p

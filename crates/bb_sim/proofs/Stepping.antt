@@ -1,6 +1,6 @@
 -- A runner's step, from what it stands on to what it stands on next.
 use Rattle.std.proofs.Common.{◌≡◌, ◌≢◌, ℕ, ◌+◌, ◌<◌, ◌≤◌, ℤ, ◌+ℤ◌, ◌≤ℤ◌, pos, Some, length, refl, ap, sym}
-use Rattle.std.proofs.Common.{◌∙◌, arith, Bool, IsTrue, Ok, Err}
+use Rattle.std.proofs.Common.{◌∙◌, arith, rules, Bool, IsTrue, Ok, Err}
 use Rattle.bb_tape.specs.declared.tape.Memory.{Memory}
 use Rattle.std.specs.Int.{int_min, int_max}
 use Rattle.std.proofs.lemmas.Int.{ints, clamps}
@@ -73,42 +73,21 @@ module _ (table : Table) (old : Runner) (view : TapeView) (stands : Stands table
 pub nothing : {runner : Runner} {view : TapeView} {meter : Meter} → Stays runner runner view view meter meter
 nothing = record { runner = refl; view = refl; meter = refl }
 
--- a call that changes nothing, and one that is refused
+-- a call that answers, and one that is refused
 module _ {grows : Bool} {table : Table} {bounds : Bounds} {old : Runner} {view : TapeView}
     {meter : Meter} where
-  pub stayed : (answer : Moved) → Answers table bounds old.steps answer
-      → Moves table old old view view meter meter answer → Reaches table bounds old view answer
-      → Stands table old view → Advances grows table bounds old old view view meter meter (Ok answer)
-  stayed answer answers moves reaches stands = record {
-    answers = answers;
-    moves = moves;
-    reaches = reaches;
-    stands = stands;
-    limit = refl;
-    memory = tt;
-    wanted = tt;
-    uncounted = tt;
-    unmade = tt;
-    window = tt;
-  }
+  pub answered : {new : Runner} {view_new : TapeView} {meter_new : Meter} (answer : Moved)
+      → Answers table bounds old.steps answer → Moves table old new view view_new meter meter_new answer
+      → Reaches table bounds new view_new answer → Stands table new view_new → view_new.limit ≡ view.limit
+      → Advances grows table bounds old new view view_new meter meter_new (Ok answer)
+  answered answer answers moves reaches stands limit = search rules
 
   pub refused : {new : Runner} {view_new : TapeView} {meter_new : Meter} {fault : Memory}
       → Answers table bounds old.steps moved.Stepped → view_new.limit ≡ view.limit
       → IsTrue grows → meter_new ≡ meter → steps_of new ≡ steps_of old
       → cells_between (low_of new) (high_of new) ≡ span table (steps_of old + 1)
       → Advances grows table bounds old new view view_new meter meter_new (Err fault)
-  refused wanted limit memory uncounted unmade window = record {
-    answers = tt;
-    moves = tt;
-    reaches = tt;
-    stands = tt;
-    limit = limit;
-    memory = memory;
-    wanted = wanted;
-    uncounted = uncounted;
-    unmade = unmade;
-    window = window;
-  }
+  refused wanted limit memory uncounted unmade window = search rules
 
 module _ {table : Table} {old : Runner} {view : TapeView} {write : ℕ} {dir : Dir} {next : Next}
     (stands : Stands table old view)
@@ -119,20 +98,19 @@ module _ {table : Table} {old : Runner} {view : TapeView} {write : ℕ} {dir : D
   pub moves_on : HaltsAt table old.steps → ⊥
   moves_on = goes_on table old.steps _ stands.at write dir next (sym here)
 
-  pub next-counted_head : counted_head table (old.steps + 1) ≡ counted_position next (beside dir old.position)
+  -- the position that the step's end counts for
+  abbrev pub counts_for : ℤ
+  counts_for = counted_position next (beside dir old.position)
+
+  pub next-counted_head : counted_head table (old.steps + 1) ≡ counts_for
   next-counted_head =
       counted_head-at table
       (old.steps + 1) _ (conf-next table old.steps _ stands.at write dir next (sym here))
 
   pub next-span : span table (old.steps + 1)
-      ≡ cells_between (int_min view.low (counted_position next (beside dir old.position)))
-      (int_max view.high (counted_position next (beside dir old.position)))
+      ≡ cells_between (int_min view.low counts_for) (int_max view.high counts_for)
   next-span = span-next table old.steps
       ∙ rw (next-counted_head, stands.window_low ∙ stands.low, stands.window_high ∙ stands.high) refl
-
-  -- the position that the step's end counts for
-  abbrev pub counts_for : ℤ
-  counts_for = counted_position next (beside dir old.position)
 
   -- a window that has taken that position in has the cells of the span up to the next step
   pub widened_span : (low high : ℤ) → low ≡ int_min (low_of old) counts_for
@@ -157,19 +135,13 @@ module _ {table : Table} {old : Runner} {view : TapeView} {write : ℕ} {dir : D
       let at = conf-next table old.steps _ stands.at write dir next (sym here) in
       record {
         at = rw (is.steps, is.state, is.head, content) at;
-        low = rw (is.steps, least-next, next-counted_head) (is.low
-            ∙ ap (λ l. int_min l counts_for) stands.low);
-        high = rw (is.steps, greatest-next, next-counted_head) (is.high
-            ∙ ap (λ h. int_max h counts_for) stands.high);
-        window_low = ap (λ (s : TapeView). s.low) is.tape ∙ ap (λ l. int_min l counts_for) stands.window_low
-            ∙ sym is.low;
-        window_high = ap (λ (s : TapeView). s.high) is.tape
-            ∙ ap (λ h. int_max h counts_for) stands.window_high ∙ sym is.high;
+        low = rw (is.steps, least-next, next-counted_head, ← stands.low) is.low;
+        high = rw (is.steps, greatest-next, next-counted_head, ← stands.high) is.high;
+        window_low = rw (is.tape, is.low, stands.window_low);
+        window_high = rw (is.tape, is.high, stands.window_high);
         state_named = rw is.state named.1;
-        symbols_named =
-            λ p.
-            rw content
-            (symbols_stay view.content old.position write (symbols_of table) named.0 stands.symbols_named p);
+        symbols_named = rw content
+            (symbols_stay view.content old.position write (symbols_of table) named.0 stands.symbols_named);
       }
 
   pub wanted : (bounds : Bounds) → old.steps ≢ bounds.steps → view.limit ≡ bounds.cells
@@ -192,21 +164,11 @@ module _ {table : Table} {old : Runner} {view : TapeView} {write : ℕ} {dir : D
       let beside_is : IsBeside view_new (beside dir old.position) =
       beside_visited view (visited view counts_for) view_new counts_for old.position _ write refl is.tape
       near.near in
-      record {
-        answers = answers;
-        moves = (is.steps, counts ∙ ap (stepped meter_old) cells);
-        reaches = (
-          rw is.steps (next_inside table bounds old.steps inside answers.0 answers.1 answers.2),
-          rw is.head beside_is,
-        );
-        stands = stands_next new view_new named is;
-        limit = ap (λ (s : TapeView). s.limit) is.tape;
-        memory = tt;
-        wanted = tt;
-        uncounted = tt;
-        unmade = tt;
-        window = tt;
-      }
+      answered moved.Stepped answers (is.steps, counts ∙ ap (stepped meter_old) cells) (
+        rw is.steps (next_inside table bounds old.steps inside answers.0 answers.1 answers.2),
+        rw is.head beside_is,
+      )
+      (stands_next new view_new named is) (ap (λ (s : TapeView). s.limit) is.tape)
 
 -- a step into Z, which leaves the window as it is
 pub into_Z : (table : Table) (old : Runner) (view : TapeView) (write : ℕ) (dir : Dir) (next : Next)

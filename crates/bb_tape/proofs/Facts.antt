@@ -3,7 +3,7 @@
 use Rattle.std.proofs.Common.{◌≡◌, ℤ, ◌≤ℤ◌, arith}
 use Rattle.std.proofs.lemmas.Int.{ints, clamps}
 use Rattle.bb_tape.specs.TapeView.{TapeView, visited}
-pub use Rattle.bb_tape.proofs.Content.{cell-blank, cell-with_cell, cell-with_cell-same, cell-with_cell-other}
+pub use Rattle.bb_tape.proofs.Content.{cell-blank, cell-with_cell-same, cell-with_cell-other}
 pub use Rattle.bb_tape.proofs.Content.{same_content, by_position, put_back, score-blank, score-with_cell}
 pub use Rattle.bb_tape.proofs.TapeViews.{cell-written-same, written_back, same_ends}
 pub use Rattle.bb_tape.proofs.Rings.{abs_is}
