@@ -1,6 +1,7 @@
 -- What is known of a line whose entries and bars were looked at one after another.
 use Rattle.std.proofs.Common.{ap, ◌≡◌, ℕ, ◌+◌, ◌-◌, ◌*◌, ◌<◌, ◌≤◌, List, [], ◌∷◌, ◌++◌, length}
-use Rattle.std.proofs.Common.{take, drop, get_or, refl, sym, ◌∙◌, ◌≢◌, ◌⊎◌, inl, inr, append_assoc, add-zero, zero-mul, arith}
+use Rattle.std.proofs.Common.{take, drop, get_or, sym, ◌∙◌, ◌≢◌, ◌⊎◌, inl, inr, append_assoc, add-zero, arith}
+use Rattle.std.proofs.Common.{zero-mul}
 use Rattle.std.proofs.lemmas.List.{append-nil, length-append, take-append-drop, take_rest}
 use Rattle.std.proofs.lemmas.List.{get_or-append-add, get_or_append_left, get_or-drop, take_more}
 use Rattle.std.proofs.lemmas.List.Elements.{All-from_recursion}
@@ -20,8 +21,11 @@ use Rattle.bb_machine.proofs.Texts.{tail_text}
 use Rattle.bb_machine.proofs.Lengths.{length-group_text, text-push}
 use Rattle.bb_machine.proofs.Filled.{bar_stands, entry_stands, group_read, table_groups}
 
--- what comes after some bytes begins with others
-begins_with : (bytes part : List ℕ) (n : ℕ) → BeginsWith (take (length bytes - n) (drop n bytes)) part
+-- what comes after the first n bytes begins with others
+abbrev StandsAt : List ℕ → ℕ → List ℕ → Type 0
+StandsAt bytes n part = BeginsWith (take (length bytes - n) (drop n bytes)) part
+
+begins_with : (bytes part : List ℕ) (n : ℕ) → StandsAt bytes n part
     → take (n + length part) bytes ≡ take n bytes ++ part
 begins_with bytes part n begins =
     let is : drop n bytes ≡ part ++ begins.0 = sym (take_rest bytes n) ∙ begins.1 in
@@ -36,36 +40,27 @@ pub record IsGroupSoFar (states symbols n : ℕ) (bytes : List ℕ) (g : List En
 
 pub group_grows : (states symbols n : ℕ) (bytes : List ℕ) (g : List Entry) (e : Entry)
     → IsGroupSoFar states symbols n bytes g → IsEntryOf states symbols e
-    → BeginsWith (take (length bytes - 3 * n) (drop (3 * n) bytes)) (entry_text e)
-    → IsGroupSoFar states symbols (n + 1) bytes (g ++ e ∷ [])
+    → StandsAt bytes (3 * n) (entry_text e) → IsGroupSoFar states symbols (n + 1) bytes (g ++ e ∷ [])
 group_grows states symbols n bytes g e so_far named begins =
     let three : 3 * n + length (entry_text e) ≡ 3 * (n + 1) = omega (arith, entry_length e) in
-    let more : take (3 * (n + 1)) bytes ≡ take (3 * n) bytes ++ entry_text e =
-    rw three at (begins_with bytes (entry_text e) (3 * n) begins) in
+    let more = rw three at (begins_with bytes (entry_text e) (3 * n) begins) in
     record {
       count = omega (arith, length-append g (e ∷ []), so_far.count);
       entries = every-push (IsEntryOf states symbols) g e so_far.entries named;
-      reads = flat_map-append entry_text g (e ∷ [])
-          ∙ (ap (λ z. group_text g ++ z) (append-nil (entry_text e))
-          ∙ (ap (λ z. z ++ entry_text e) so_far.reads ∙ sym more));
+      reads = rw (flat_map-append entry_text g (e ∷ []), append-nil (entry_text e), so_far.reads) (sym more);
     }
 
 pub group_whole : (states symbols : ℕ) (bytes : List ℕ) (g : List Entry)
     → IsGroupSoFar states symbols symbols bytes g → IsGroup states symbols g × BeginsWith bytes (group_text g)
 group_whole states symbols bytes g so_far = (
   record { full = so_far.count; entries = so_far.entries },
-  (
-    drop (3 * symbols) bytes,
-    sym (take-append-drop (3 * symbols) bytes)
-        ∙ ap (λ z. z ++ drop (3 * symbols) bytes) (sym so_far.reads),
-  ),
+  (drop (3 * symbols) bytes, rw so_far.reads (sym (take-append-drop (3 * symbols) bytes))),
 )
 
 -- an entry of a group, where it stands
 pub entry_there : (states symbols i : ℕ) (bytes : List ℕ) (g : List Entry) → IsGroup states symbols g
     → BeginsWith bytes (group_text g) → i < symbols
-    → (e : Entry) × IsEntryOf states symbols e
-    × BeginsWith (take (length bytes - 3 * i) (drop (3 * i) bytes)) (entry_text e)
+    → (e : Entry) × IsEntryOf states symbols e × StandsAt bytes (3 * i) (entry_text e)
 entry_there states symbols i bytes g group begins below =
     let inside : i < length g = omega (arith, group.full) in (
       get_or g i Undefined,
@@ -79,14 +74,9 @@ pub record IsTableSoFar (states symbols n : ℕ) (line : List ℕ) (gs : List (L
   pub groups : AllByRecursion (IsGroup states symbols) gs
   pub reads : text gs ≡ take (n * (3 * symbols + 1) - 1) line
 
-pub no_groups : (states symbols : ℕ) (line : List ℕ) → IsTableSoFar states symbols 0 line []
-no_groups states symbols line =
-    let none : 0 * (3 * symbols + 1) - 1 ≡ 0 = omega arith in
-    record { count = refl; groups = tt; reads = ap (λ n. take n line) (sym none) }
-
 -- the bytes before a place and a group that begins there
 group_after : (states symbols n : ℕ) (line : List ℕ) (g : List Entry) → IsGroup states symbols g
-    → BeginsWith (take (length line - n * (3 * symbols + 1)) (drop (n * (3 * symbols + 1)) line)) (group_text g)
+    → StandsAt line (n * (3 * symbols + 1)) (group_text g)
     → take ((n + 1) * (3 * symbols + 1) - 1) line ≡ take (n * (3 * symbols + 1)) line ++ group_text g
 group_after states symbols n line g group begins =
     let at : ℕ = n * (3 * symbols + 1) in
@@ -96,8 +86,7 @@ group_after states symbols n line g group begins =
 
 pub groups_grow : (states symbols n : ℕ) (line : List ℕ) (gs : List (List Entry)) (g : List Entry)
     → IsTableSoFar states symbols n line gs → IsGroup states symbols g
-    → BeginsWith (take (length line - n * (3 * symbols + 1)) (drop (n * (3 * symbols + 1)) line)) (group_text g)
-    → n * (3 * symbols + 1) ≤ length line
+    → StandsAt line (n * (3 * symbols + 1)) (group_text g) → n * (3 * symbols + 1) ≤ length line
     → (0 < n → get_or line (n * (3 * symbols + 1) - 1) 0 ≡ 95)
     → IsTableSoFar states symbols (n + 1) line (gs ++ g ∷ [])
 groups_grow states symbols n line gs g so_far group begins inside bar =
@@ -110,10 +99,8 @@ groups_grow states symbols n line gs g so_far group begins inside bar =
     reads_on : (hs : List (List Entry)) → length hs ≡ n → text hs ≡ take (n * (3 * symbols + 1) - 1) line
         → text (hs ++ g ∷ []) ≡ take ((n + 1) * (3 * symbols + 1) - 1) line
     reads_on [] none is =
-        let at : n * (3 * symbols + 1) ≡ 0 = ap (λ m. m * (3 * symbols + 1)) (sym none) ∙ zero-mul (3 * symbols + 1) in
-        let whole = group_after states symbols n line g group begins in
-        append-nil (group_text g)
-        ∙ sym (whole ∙ ap (λ m. take m line ++ group_text g) at)
+        let at = ap (λ m. m * (3 * symbols + 1)) (sym none) ∙ zero-mul (3 * symbols + 1) in
+        append-nil (group_text g) ∙ sym (rw at at (group_after states symbols n line g group begins))
     reads_on (h ∷ hs) some is =
         let at : ℕ = n * (3 * symbols + 1) in
         let later : 0 < n = omega (arith, some) in
@@ -151,7 +138,7 @@ module _ (states symbols : ℕ) (line : List ℕ) (gs : List (List Entry)) (tabl
     (is : text gs ≡ line) (q : ℕ) (below : q < states) where
   -- a group of a table, where it stands
   pub group_there : (g : List Entry) × IsGroup states symbols g
-      × BeginsWith (take (length line - q * (3 * symbols + 1)) (drop (q * (3 * symbols + 1)) line)) (group_text g)
+      × StandsAt line (q * (3 * symbols + 1)) (group_text g)
   group_there = (
     get_or gs q [],
     All-from_recursion (IsGroup states symbols) gs (table_groups gs states symbols table) q []
@@ -192,14 +179,13 @@ module _ (line : List ℕ) where
   inside_group (g ∷ gs) machine is n below =
       let begins = entry_stands g line n below (tail_text gs, sym is) in
       let e : Entry = get_or g n Undefined in
-      let named : IsEntryOf (length (g ∷ gs)) (length g) e =
-      All-from_recursion (IsEntryOf (length (g ∷ gs)) (length g)) g machine.groups.0.entries n Undefined below in
-      let plain : IsEntryOf MAX_STATES MAX_SYMBOLS e =
-      entry_weaker (length (g ∷ gs)) MAX_STATES (length g) MAX_SYMBOLS machine.states machine.symbols e named in
+      let s : ℕ = length (g ∷ gs) in
+      let named = All-from_recursion (IsEntryOf s (length g)) g machine.groups.0.entries n Undefined below in
+      let plain = entry_weaker s MAX_STATES (length g) MAX_SYMBOLS machine.states machine.symbols e named in
       let first : get_or line (3 * n) 0 ≡ get_or (entry_text e) 0 0 =
-      ap (λ i. get_or line i 0) (sym (add-zero (3 * n)))
-      ∙ sym (get_or-drop (3 * n) line 0 0)
-      ∙ (ap (λ z. get_or z 0 0) begins.1 ∙ get_or_append_left (entry_text e) begins.0 0 0 (omega (arith, entry_length e))) in
+      ap (λ i. get_or line i 0) (sym (add-zero (3 * n))) ∙ sym (get_or-drop (3 * n) line 0 0)
+      ∙ ap (λ z. get_or z 0 0) begins.1
+      ∙ get_or_append_left (entry_text e) begins.0 0 0 (omega (arith, entry_length e)) in
       let long : 3 * length g ≤ length line =
       omega (arith, ap length is, length-append (group_text g) (tail_text gs), length-group_text g) in
       (omega (arith, long, below), λ bar. first_byte e plain (sym first ∙ bar))

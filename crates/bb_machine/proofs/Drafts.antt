@@ -1,6 +1,6 @@
 -- What a draft counts, after each of its changes.
 use Rattle.std.proofs.Common.{◌≡◌, ℕ, ◌+◌, ◌<◌, ◌≤◌, ◌↔◌, List, [], ◌∷◌, ◌++◌, length, max, refl, sym, ◌∙◌}
-use Rattle.std.proofs.Common.{ap, subst, append_assoc, arith}
+use Rattle.std.proofs.Common.{subst, append_assoc, arith}
 use Rattle.std.proofs.lemmas.List.{append-nil, length-append}
 use Rattle.std.proofs.lemmas.List.Concat.{flat_map-append}
 use Rattle.std.specs.List.{AllByRecursion, flat_map}
@@ -12,25 +12,15 @@ use Rattle.bb_machine.specs.Machine.{IsGroup}
 use Rattle.bb_machine.specs.inside.Draft.{Begun, begun_entries, symbols_limit, IsBegunWithin, IsDraft}
 use Rattle.bb_machine.specs.inside.Draft.{IsWhole}
 use Rattle.bb_machine.specs.inside.Draft.{IsWholeWithin}
-use Rattle.bb_machine.proofs.Groups.{every-append, every-prefix, every-at, every-weaker}
+use Rattle.bb_machine.proofs.Groups.{every-append, every-push, every-prefix, every-at}
 use Rattle.bb_machine.proofs.Viable.{begun_push, begun_close}
 
--- what holds of each entry of each group holds of all entries, one after another
-every-joined : (P : Entry → Type 0) (gs : List (List Entry)) → AllByRecursion (λ g. AllByRecursion P g) gs
-    → AllByRecursion P (flat_map (λ g. g) gs)
-every-joined P [] _ = tt
-every-joined P (g ∷ gs) p = every-append P g (flat_map (λ g. g) gs) p.0 (every-joined P gs p.1)
-
+-- what each group's entries name, all entries name
 group_entries : (s k : ℕ) (gs : List (List Entry)) → AllByRecursion (IsGroup s k) gs
     → AllByRecursion (IsEntryOf s k) (flat_map (λ g. g) gs)
-group_entries s k gs p =
-    every-joined (IsEntryOf s k) gs
-    (every-weaker (IsGroup s k) (λ g. AllByRecursion (IsEntryOf s k) g) (λ g q. q.entries) gs p)
-
-joined_last : (gs : List (List Entry)) (last : List Entry)
-    → flat_map (λ g. g) (gs ++ last ∷ []) ≡ flat_map (λ g. g) gs ++ last
-joined_last gs last = flat_map-append (λ (g : List Entry). g) gs (last ∷ [])
-    ∙ ap (λ z. flat_map (λ g. g) gs ++ z) (append-nil last)
+group_entries s k [] _ = tt
+group_entries s k (g ∷ gs) p =
+    every-append (IsEntryOf s k) g (flat_map (λ g. g) gs) p.0.entries (group_entries s k gs p.1)
 
 pub draft_push : (d : Draft) (b : Begun) (e : Entry) (symbols k : ℕ) → IsDraft d b
     → d.filled < d.symbols → IsEntryOf MAX_STATES d.symbols e
@@ -48,31 +38,20 @@ draft_push d b e symbols k draft room is names k_is =
       states_is = draft.states_is;
       symbols_is = draft.symbols_is;
       filled_is = omega (arith, length-append b.group (e ∷ []), draft.filled_is);
-      named = λ m. (there m, back m);
+      named = λ m. rw (← append_assoc (flat_map (λ g. g) b.groups) b.group (e ∷ [])) (there m, back m);
     }
   where
-    joined : flat_map (λ g. g) b.groups ++ (b.group ++ e ∷ []) ≡ begun_entries b ++ e ∷ []
-    joined = sym (append_assoc (flat_map (λ g. g) b.groups) b.group (e ∷ []))
-
-    there : (m : ℕ)
-        → AllByRecursion (IsEntryOf MAX_STATES m) (flat_map (λ g. g) b.groups ++ (b.group ++ e ∷ []))
-        → k ≤ m
+    there : (m : ℕ) → AllByRecursion (IsEntryOf MAX_STATES m) (begun_entries b ++ e ∷ []) → k ≤ m
     there m all =
-        let split : AllByRecursion (IsEntryOf MAX_STATES m) (begun_entries b ++ e ∷ []) =
-        subst (λ z. AllByRecursion (IsEntryOf MAX_STATES m) z) joined all in
-        let before : d.named_symbols ≤ m =
-        (draft.named m).0 (every-prefix (IsEntryOf MAX_STATES m) (begun_entries b) (e ∷ []) split) in
-        let last : symbols ≤ m =
-        (names m).0 (every-at (IsEntryOf MAX_STATES m) (begun_entries b) e [] split) in
+        let before =
+        (draft.named m).0 (every-prefix (IsEntryOf MAX_STATES m) (begun_entries b) (e ∷ []) all) in
+        let last = (names m).0 (every-at (IsEntryOf MAX_STATES m) (begun_entries b) e [] all) in
         omega arith
 
-    back : (m : ℕ) → k ≤ m
-        → AllByRecursion (IsEntryOf MAX_STATES m) (flat_map (λ g. g) b.groups ++ (b.group ++ e ∷ []))
+    back : (m : ℕ) → k ≤ m → AllByRecursion (IsEntryOf MAX_STATES m) (begun_entries b ++ e ∷ [])
     back m few =
-        let before = (draft.named m).1 (omega arith) in
-        let last = (names m).1 (omega arith) in
-        subst (λ z. AllByRecursion (IsEntryOf MAX_STATES m) z) (sym joined)
-        (every-append (IsEntryOf MAX_STATES m) (begun_entries b) (e ∷ []) before (last, tt))
+        every-push (IsEntryOf MAX_STATES m) (begun_entries b) e ((draft.named m).1 (omega arith))
+        ((names m).1 (omega arith))
 
 closed_symbols : (gs : List (List Entry)) (last : List Entry) → IsWholeWithin MAX_STATES gs last
     → symbols_limit MAX_SYMBOLS (gs ++ last ∷ []) ≡ length last
@@ -88,13 +67,17 @@ pub draft_close : (d : Draft) (b : Begun) → IsDraft d b → IsWhole b → d.st
     }) (record { groups = b.groups ++ b.group ∷ []; group = [] })
 draft_close d b draft whole room =
     record {
-      begun = begun_close MAX_STATES MAX_SYMBOLS b draft.begun (omega (arith, draft.states_is)) whole;
+      begun = begun_close MAX_STATES MAX_SYMBOLS b.groups b.group draft.begun
+          (omega (arith, draft.states_is)) whole;
       states_is = omega (arith, length-append b.groups (b.group ∷ []), draft.states_is);
       symbols_is = closed_symbols b.groups b.group whole ∙ draft.filled_is;
       filled_is = refl;
       named = λ m.
-          rw (append-nil (flat_map (λ g. g) (b.groups ++ b.group ∷ [])), joined_last b.groups b.group)
-          (draft.named m);
+          rw (
+            append-nil (flat_map (λ g. g) (b.groups ++ b.group ∷ [])),
+            flat_map-append (λ (g : List Entry). g) b.groups (b.group ∷ []),
+            append-nil b.group,
+          ) (draft.named m);
     }
 
 later_on : (gs : List (List Entry)) (last : List Entry) → 0 < length gs → IsWholeWithin MAX_STATES gs last

@@ -1,6 +1,6 @@
 -- Where bytes are no entry's text.
-use Rattle.std.proofs.Common.{◌≡◌, ◌≢◌, ℕ, ◌+◌, ◌<◌, ◌≤◌, List, [], ◌∷◌, ◌++◌, length, take, drop, get_or, refl}
-use Rattle.std.proofs.Common.{sym, ◌∙◌, ap, arith}
+use Rattle.std.proofs.Common.{◌≡◌, ◌≢◌, ℕ, ◌+◌, ◌<◌, ◌≤◌, List, [], ◌∷◌, ◌++◌, length, take, drop, get_or}
+use Rattle.std.proofs.Common.{refl, sym, ◌∙◌, ap, arith}
 use Rattle.std.proofs.lemmas.List.{get_or-take, length-take-le}
 use Rattle.std.proofs.lemmas.List.Prefix.{front_reads}
 use Rattle.bb_machine.specs.declared.entry.Dir.{Dir}
@@ -11,7 +11,7 @@ use Rattle.bb_machine.specs.declared.entry.Entry.{Entry}
 use Rattle.bb_machine.specs.declared.entry.Entry.TheVariants.{Undefined, Go}
 use Rattle.bb_machine.specs.Entry.{dir_letter, next_letter, entry_text, IsNextOf, IsEntryOf}
 use Rattle.bb_machine.specs.Column.{BeginsWith}
-use Rattle.bb_machine.specs.inside.Draft.{IsEntryStop}
+use Rattle.bb_machine.specs.inside.Draft.{BeginsEntry, IsEntryStop}
 
 -- a prefix of a list has its elements
 reads : (whole bytes : List ℕ) (n i : ℕ) → BeginsWith whole (take (n + 1) bytes) → n < length bytes → i ≤ n
@@ -69,47 +69,43 @@ letters_of bytes states symbols no_dash (Go w d n) named begins =
     }
 
 module _ (s k : ℕ) (bytes : List ℕ) where
+  -- an entry's text has the first bytes, and the next one
+  abbrev Goes : Entry → ℕ → Type 0
+  Goes e n = (i : ℕ) → i ≤ n → get_or (entry_text e) i 0 ≡ get_or bytes i 0
+
+  -- the first bytes begin an entry, and with the next one neither `---` nor another
+  stop_at : (n : ℕ) → n ≤ length bytes → n < 3 → BeginsEntry s k (take n bytes) → (Goes Undefined n → ⊥)
+      → ((w : ℕ) (d : Dir) (x : Next) → w < k → IsNextOf s x → Goes (Go w d x) n → ⊥)
+      → IsEntryStop s k bytes n
+  stop_at n within part holds dashes letters =
+      record {
+        within = within;
+        part = part;
+        holds = holds;
+        longest = λ inside more. next more.0 more.1 (λ i low.
+            reads (entry_text more.0) bytes n i more.2 inside low);
+      }
+    where
+      next : (e : Entry) → IsEntryOf s k e → Goes e n → ⊥
+      next Undefined _ same = dashes same
+      next (Go w d x) is same = letters w d x is.0 is.1 same
+
   -- neither `-` nor a symbol
   pub stop_first : get_or bytes 0 0 ≢ 45 → ((w : ℕ) → w < k → 48 + w ≢ get_or bytes 0 0)
       → IsEntryStop s k bytes 0
   stop_first no_dash no_digit =
-      record {
-        within = omega arith;
-        part = omega arith;
-        holds = (Undefined, tt, (entry_text Undefined, refl));
-        longest = λ inside more. next more.0 more.1 more.2 inside;
-      }
-    where
-      next : (e : Entry) → IsEntryOf s k e → BeginsWith (entry_text e) (take (0 + 1) bytes)
-          → 0 < length bytes → ⊥
-      next Undefined is begins inside =
-          no_dash (sym (reads (entry_text Undefined) bytes 0 0 begins inside (omega arith)))
-      next (Go w d n) is begins inside =
-          no_digit w is.0 (reads (entry_text (Go w d n)) bytes 0 0 begins inside (omega arith))
+      stop_at 0 (omega arith) (omega arith) (Undefined, tt, (entry_text Undefined, refl))
+      (λ same. no_dash (sym (same 0 (omega arith))))
+      (λ w d x below _ same. no_digit w below (same 0 (omega arith)))
 
   -- a `-` with no other after it
   pub stop_dash : get_or bytes 0 0 ≡ 45 → get_or bytes 1 0 ≢ 45 → IsEntryStop s k bytes 1
   stop_dash dash no_dash =
       let prefix = one bytes (λ none. omega arith) in
-      record {
-        within = prefix.1;
-        part = omega arith;
-        holds = (
-          Undefined,
-          tt,
-          (45 ∷ 45 ∷ [], ap (λ x. x ++ 45 ∷ 45 ∷ []) (sym (prefix.0 ∙ ap (λ x. x ∷ []) dash))),
-        );
-        longest = λ inside more. next more.0 more.1 more.2 inside;
-      }
-    where
-      next : (e : Entry) → IsEntryOf s k e → BeginsWith (entry_text e) (take (1 + 1) bytes)
-          → 1 < length bytes → ⊥
-      next Undefined is begins inside =
-          no_dash (sym (reads (entry_text Undefined) bytes 1 1 begins inside (omega arith)))
-      next (Go w d n) is begins inside =
-          let first : 48 + w ≡ get_or bytes 0 0 =
-          reads (entry_text (Go w d n)) bytes 1 0 begins inside (omega arith) in
-          omega arith
+      let is : take 1 bytes ≡ 45 ∷ [] = cc in
+      stop_at 1 prefix.1 (omega arith) (Undefined, tt, (45 ∷ 45 ∷ [], ap (λ x. x ++ 45 ∷ 45 ∷ []) (sym is)))
+      (λ same. no_dash (sym (same 1 (omega arith))))
+      (λ w d x _ _ same. omega (arith, dash, same 0 (omega arith)))
 
   -- two `-` with no third
   pub stop_dashes : get_or bytes 0 0 ≡ 45 → get_or bytes 1 0 ≡ 45 → get_or bytes 2 0 ≢ 45
@@ -117,70 +113,32 @@ module _ (s k : ℕ) (bytes : List ℕ) where
   stop_dashes dash dashes no_dash =
       let prefix = two bytes (λ none. omega arith) in
       let is : take 2 bytes ≡ 45 ∷ 45 ∷ [] = cc in
-      record {
-        within = prefix.1;
-        part = omega arith;
-        holds = (Undefined, tt, (45 ∷ [], ap (λ x. x ++ 45 ∷ []) (sym is)));
-        longest = λ inside more. next more.0 more.1 more.2 inside;
-      }
-    where
-      next : (e : Entry) → IsEntryOf s k e → BeginsWith (entry_text e) (take (2 + 1) bytes)
-          → 2 < length bytes → ⊥
-      next Undefined is begins inside =
-          no_dash (sym (reads (entry_text Undefined) bytes 2 2 begins inside (omega arith)))
-      next (Go w d n) is begins inside =
-          let first : 48 + w ≡ get_or bytes 0 0 =
-          reads (entry_text (Go w d n)) bytes 2 0 begins inside (omega arith) in
-          omega arith
+      stop_at 2 prefix.1 (omega arith) (Undefined, tt, (45 ∷ [], ap (λ x. x ++ 45 ∷ []) (sym is)))
+      (λ same. no_dash (sym (same 2 (omega arith))))
+      (λ w d x _ _ same. omega (arith, dash, same 0 (omega arith)))
 
   -- a symbol with no direction
   pub stop_second : (w : ℕ) → w < k → 48 + w ≡ get_or bytes 0 0
       → ((d : Dir) → dir_letter d ≢ get_or bytes 1 0) → IsEntryStop s k bytes 1
   stop_second w below digit no_dir =
       let prefix = one bytes (λ none. omega arith) in
-      record {
-        within = prefix.1;
-        part = omega arith;
-        holds = (
-          Go w L Halt,
-          (below, tt),
-          (76 ∷ 90 ∷ [], ap (λ x. x ++ 76 ∷ 90 ∷ []) (sym (prefix.0 ∙ ap (λ x. x ∷ []) (sym digit)))),
-        );
-        longest = λ inside more. next more.0 more.1 more.2 inside;
-      }
-    where
-      next : (e : Entry) → IsEntryOf s k e → BeginsWith (entry_text e) (take (1 + 1) bytes)
-          → 1 < length bytes → ⊥
-      next Undefined is begins inside =
-          let first : 45 ≡ get_or bytes 0 0 =
-          reads (entry_text Undefined) bytes 1 0 begins inside (omega arith) in
-          omega arith
-      next (Go v d n) is begins inside =
-          no_dir d (reads (entry_text (Go v d n)) bytes 1 1 begins inside (omega arith))
+      let is : take 1 bytes ≡ (48 + w) ∷ [] = cc in
+      stop_at 1 prefix.1 (omega arith)
+      (Go w L Halt, (below, tt), (76 ∷ 90 ∷ [], ap (λ x. x ++ 76 ∷ 90 ∷ []) (sym is)))
+      (λ same. omega (arith, digit, same 0 (omega arith)))
+      (λ v d x _ _ same. no_dir d (same 1 (omega arith)))
 
   -- a symbol and a direction with no state
   pub stop_third : (w : ℕ) (d : Dir) → w < k → 48 + w ≡ get_or bytes 0 0 → dir_letter d ≡ get_or bytes 1 0
       → ((n : Next) → IsNextOf s n → next_letter n ≢ get_or bytes 2 0) → IsEntryStop s k bytes 2
   stop_third w d below digit dir no_next =
-      let some : get_or bytes 1 0 ≢ 0 = λ none. dir_some d (dir ∙ none) in
-      let prefix = two bytes some in
+      let prefix = two bytes (λ none. dir_some d (dir ∙ none)) in
       let is : take 2 bytes ≡ (48 + w) ∷ dir_letter d ∷ [] = cc in
-      record {
-        within = prefix.1;
-        part = omega arith;
-        holds = (Go w d Halt, (below, tt), (90 ∷ [], ap (λ x. x ++ 90 ∷ []) (sym is)));
-        longest = λ inside more. next more.0 more.1 more.2 inside;
-      }
+      stop_at 2 prefix.1 (omega arith)
+      (Go w d Halt, (below, tt), (90 ∷ [], ap (λ x. x ++ 90 ∷ []) (sym is)))
+      (λ same. omega (arith, digit, same 0 (omega arith)))
+      (λ v a x _ next same. no_next x next (same 2 (omega arith)))
     where
       dir_some : (a : Dir) → dir_letter a ≡ 0 → ⊥
       dir_some L none = omega arith
       dir_some R none = omega arith
-
-      next : (e : Entry) → IsEntryOf s k e → BeginsWith (entry_text e) (take (2 + 1) bytes)
-          → 2 < length bytes → ⊥
-      next Undefined is begins inside =
-          let first : 45 ≡ get_or bytes 0 0 =
-          reads (entry_text Undefined) bytes 2 0 begins inside (omega arith) in
-          omega arith
-      next (Go v a n) is begins inside =
-          no_next n is.1 (reads (entry_text (Go v a n)) bytes 2 2 begins inside (omega arith))

@@ -1,8 +1,8 @@
 -- Where entries stand in a text, and in the slots that are filled from it.
 use Rattle.std.proofs.Common.{ap, ◌≡◌, ℕ, zero, suc, ◌+◌, ◌-◌, ◌*◌, ◌<◌, ◌≤◌, List, [], ◌∷◌, ◌++◌, length}
 use Rattle.std.proofs.Common.{take, drop, get_or, set, refl, sym, ◌∙◌, append_assoc, zero-mul, arith}
-use Rattle.std.proofs.lemmas.List.{length-append, drop-drop, take_rest, length-map, map-set, take_more, get_or-append-add}
-use Rattle.std.proofs.lemmas.List.{get_or-drop}
+use Rattle.std.proofs.lemmas.List.{length-append, drop-drop, take_rest, length-map, map-set, take_more}
+use Rattle.std.proofs.lemmas.List.{get_or-append-add, get_or-drop}
 use Rattle.std.proofs.lemmas.List.Elements.{All-from_recursion}
 use Rattle.std.proofs.Math.Seq.{drop-append-add}
 use Rattle.std.proofs.Math.Nat.{mul-le-mul}
@@ -91,13 +91,9 @@ pub row_grows : (ps : List Slot) (row symbols symbol : ℕ) (p : Slot) (g : List
     → take (symbol + 1) (drop (row * STRIDE) (entries_in (set ps (row * STRIDE + symbol) p)))
     ≡ take (symbol + 1) g
 row_grows ps row symbols symbol p g all below few inside long is so_far =
-    let count : length (entries_in ps) ≡ SLOTS = length-map ps entry_in ∙ all in
-    let room : row * STRIDE + symbol < length (entries_in ps) = omega arith in
-    let entries : entries_in (set ps (row * STRIDE + symbol) p)
-    ≡ set (entries_in ps) (row * STRIDE + symbol) (entry_in p) =
-    map-set entry_in ps (row * STRIDE + symbol) p in
+    let room : row * STRIDE + symbol < length (entries_in ps) = omega (arith, length-map ps entry_in) in
     rw (
-      entries,
+      map-set entry_in ps (row * STRIDE + symbol) p,
       row-more (row * STRIDE) symbol (entries_in ps) (entry_in p) room,
       so_far,
       is,
@@ -107,10 +103,10 @@ row_grows ps row symbols symbol p g all below few inside long is so_far =
 pub rows_stay : (ps : List Slot) (row symbols symbol : ℕ) (p : Slot) → symbols ≤ MAX_SYMBOLS
     → table_in row symbols (set ps (row * STRIDE + symbol) p) ≡ table_in row symbols ps
 rows_stay ps row symbols symbol p few =
-    let entries : entries_in (set ps (row * STRIDE + symbol) p)
-    ≡ set (entries_in ps) (row * STRIDE + symbol) (entry_in p) =
-    map-set entry_in ps (row * STRIDE + symbol) p in
-    rw (entries, rows-set STRIDE row symbols (entries_in ps) symbol (entry_in p) (omega arith)) refl
+    rw (
+      map-set entry_in ps (row * STRIDE + symbol) p,
+      rows-set STRIDE row symbols (entries_in ps) symbol (entry_in p) (omega arith),
+    )
 
 -- one more row of a table
 pub table_grows : (old new : List Slot) (row symbols : ℕ) (gs : List (List Entry)) → row < length gs
@@ -125,35 +121,22 @@ module _ (gs : List (List Entry)) (states symbols : ℕ) (table : IsTable states
   pub table_groups : AllByRecursion (IsGroup states symbols) gs
   table_groups = rw (table.states_is, table.symbols_is) at table.machine.groups
 
-  pub table_few : (0 < states) × (states ≤ MAX_STATES) × (symbols ≤ MAX_SYMBOLS)
-  table_few = (
-    omega (arith, table.machine.some_state, table.states_is),
-    omega (arith, table.machine.states, table.states_is),
-    omega (arith, table.machine.symbols, table.symbols_is),
-  )
-
   pub table_group : (q : ℕ) → q < states → IsGroup MAX_STATES symbols (get_or gs q [])
   table_group q below =
-      let group : IsGroup states symbols (get_or gs q []) =
-      All-from_recursion (IsGroup states symbols) gs table_groups q [] (omega (arith, table.states_is)) in
+      let group = All-from_recursion (IsGroup states symbols) gs table_groups q []
+      (omega (arith, table.states_is)) in
       record {
         full = group.full;
-        entries =
-            entries_weaker states MAX_STATES symbols symbols table_few.1 (omega arith)
-            (get_or gs q []) group.entries;
+        entries = entries_weaker states MAX_STATES symbols symbols
+            (omega (arith, table.machine.states, table.states_is)) (omega arith) _ group.entries;
       }
-
-  pub table_stands : (q : ℕ) → q < states → BeginsWith (drop (q * (3 * symbols + 1)) (text gs))
-      (group_text (get_or gs q []))
-  table_stands q below = group_stands states symbols gs q (omega (arith, table.states_is)) table_groups
 
   -- a group begins inside the text
   pub table_inside : (q : ℕ) → q < states → q * (3 * symbols + 1) ≤ length (text gs)
   table_inside q below =
-      let long = length-text states symbols gs (omega (arith, table.states_is, table_few.0)) table_groups in
       let fits : (q + 1) * (3 * symbols + 1) ≤ length gs * (3 * symbols + 1) =
       mul-le-mul (omega (arith, table.states_is)) (omega arith) in
-      omega (arith, fits, long)
+      omega (arith, fits, length-text states symbols gs table.machine.some_state table_groups)
 
 -- an entry begins inside the text
 pub entry_inside : (g : List Entry) (bytes : List ℕ) (symbols i : ℕ) → IsGroup MAX_STATES symbols g
@@ -168,8 +151,7 @@ pub entry_read : (g : List Entry) (bytes : List ℕ) (symbols i : ℕ) → IsGro
     × BeginsWith (take (length bytes - 3 * i) (drop (3 * i) bytes)) (entry_text (get_or g i Undefined))
 entry_read g bytes symbols i group few below begins =
     let inside : i < length g = omega (arith, group.full) in
-    let named : IsEntryOf MAX_STATES symbols (get_or g i Undefined) =
-    All-from_recursion (IsEntryOf MAX_STATES symbols) g group.entries i Undefined inside in (
+    let named = All-from_recursion (IsEntryOf MAX_STATES symbols) g group.entries i Undefined inside in (
       entry_weaker MAX_STATES MAX_STATES symbols MAX_SYMBOLS (omega arith) few (get_or g i Undefined) named,
       rw (take_rest bytes (3 * i)) (entry_stands g bytes i inside begins),
     )
@@ -182,5 +164,7 @@ pub group_read : (gs : List (List Entry)) (line : List ℕ) (states symbols q : 
     (group_text (get_or gs q []))
 group_read gs line states symbols q table is below = (
   table_group gs states symbols table q below,
-  rw (take_rest line (q * (3 * symbols + 1)), ← is) (table_stands gs states symbols table q below),
+  rw (take_rest line (q * (3 * symbols + 1)), ← is)
+      (group_stands states symbols gs q (omega (arith, table.states_is))
+      (table_groups gs states symbols table)),
 )

@@ -1,5 +1,5 @@
 -- Why the laws hold.
-use Rattle.std.proofs.Common.{◌≡◌, ℕ, ◌<◌, ◌≤◌, List, [], ◌∷◌, ◌++◌, length, take, refl, sym, ◌∙◌, ap, subst}
+use Rattle.std.proofs.Common.{◌≡◌, ℕ, ◌<◌, ◌≤◌, List, [], ◌∷◌, length, take, refl, sym, ◌∙◌, ap, subst}
 use Rattle.std.proofs.Common.{inl, inr, arith}
 use Rattle.std.proofs.lemmas.List.{append-nil, length-take, take_all, take-take}
 use Rattle.std.proofs.lemmas.Bool.{cases_lt}
@@ -20,13 +20,10 @@ use Rattle.bb_machine.proofs.Stops.{whole_text_by}
 pub longest_unique : (P : List ℕ → Type 0) (line : List ℕ) (a b : ℕ) → IsLongestPrefix P line a
     → IsLongestPrefix P line b → a ≡ b
 longest_unique P line a b p q =
-    let below : a ≤ b = q.longest a p.within p.holds in
-    let above : b ≤ a = p.longest b q.within q.holds in
-    omega arith
+    omega (arith, q.longest a p.within p.holds, p.longest b q.within q.holds)
 
 pub column_unique : (line : List ℕ) (a b : ℕ) → IsColumn line a → IsColumn line b → a ≡ b
-column_unique line a b p q =
-    let same : p.0 ≡ q.0 = longest_unique IsViable line p.0 q.0 p.2 q.2 in omega (arith, p.1, q.1)
+column_unique line a b p q = omega (arith, longest_unique IsViable line p.0 q.0 p.2 q.2, p.1, q.1)
 
 module _ (line : List ℕ) (kept : ℕ) (many : LINE < kept) where
   short_text : (gs : List (List Entry)) → IsMachine gs → (bytes : List ℕ) → text gs ≡ bytes
@@ -56,14 +53,11 @@ module _ (line : List ℕ) (kept : ℕ) (many : LINE < kept) where
       record {
         within = omega (arith, prefix.within, length-take kept line);
         holds = subst IsViable (take-take n kept line (omega arith)) prefix.holds;
-        longest = longest;
+        longest = λ m fits viable.
+            let bound : m ≤ LINE = viable_bounded line m fits viable in
+            prefix.longest m (omega (arith, length-take kept line))
+            (subst IsViable (sym (take-take m kept line (omega arith))) viable);
       }
-    where
-      longest : (m : ℕ) → m ≤ length line → IsViable (take m line) → m ≤ n
-      longest m fits viable =
-          let bound : m ≤ LINE = viable_bounded line m fits viable in
-          prefix.longest m (omega (arith, length-take kept line))
-          (subst IsViable (sym (take-take m kept line (omega arith))) viable)
 
   to_kept : (n : ℕ) → IsLongestPrefix IsViable line n → IsLongestPrefix IsViable (take kept line) n
   to_kept n prefix =
@@ -72,9 +66,9 @@ module _ (line : List ℕ) (kept : ℕ) (many : LINE < kept) where
         within = omega (arith, prefix.within, length-take kept line);
         holds = subst IsViable (sym (take-take n kept line (omega arith))) prefix.holds;
         longest = λ m fits viable.
-            let inside : m ≤ length line = omega (arith, length-take kept line) in
             let low : m ≤ kept = omega (arith, length-take kept line) in
-            prefix.longest m inside (subst IsViable (take-take m kept line low) viable);
+            prefix.longest m (omega (arith, length-take kept line))
+            (subst IsViable (take-take m kept line low) viable);
       }
 
   pub prefix_enough : PrefixIsEnough line kept
@@ -97,16 +91,12 @@ table_of-before_last g (h ∷ gs) = ap (λ z. g ∷ z) (table_of-before_last h g
 text_unique_of : (b : Begun) (gs hs : List (List Entry)) → table_of b ≡ hs → IsMachine gs → IsMachine hs
     → text gs ≡ text hs → gs ≡ hs
 text_unique_of b gs hs is p q same =
-    let plain : AllByRecursion ArePlain (table_of b) =
-    subst (λ z. AllByRecursion ArePlain z) (sym is)
-    (machine_plain MAX_STATES MAX_SYMBOLS (omega arith) (omega arith) hs q) in
-    let plain_gs : AllByRecursion ArePlain gs =
-    machine_plain MAX_STATES MAX_SYMBOLS (omega arith) (omega arith) gs p in
-    let text_is : text gs ≡ begun_text b ++ [] =
-    same ∙ (ap text (sym is) ∙ (text-table_of b ∙ sym (append-nil (begun_text b)))) in
+    let plain_of = machine_plain MAX_STATES MAX_SYMBOLS (omega arith) (omega arith) in
+    let plain : AllByRecursion ArePlain (table_of b) = rw is (plain_of hs q) in
     let on : GoesOn b gs [] =
     text_peel b gs [] (every-prefix ArePlain b.groups (b.group ∷ []) plain)
-    (every-at ArePlain b.groups b.group [] plain) plain_gs p.some_state text_is in
+    (every-at ArePlain b.groups b.group [] plain) (plain_of gs p) p.some_state
+    (same ∙ (ap text (sym is) ∙ (text-table_of b ∙ sym (append-nil (begun_text b))))) in
     whole_text_by b gs on.entries on.rest on.is on.text_is ∙ is
 
 -- different machines have different texts

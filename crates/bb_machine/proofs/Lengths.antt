@@ -32,22 +32,15 @@ length-tail_text n m (g ∷ gs) p =
 pub length-text : (n m : ℕ) (gs : List (List Entry)) → 0 < length gs → AllByRecursion (IsGroup n m) gs
     → length (text gs) + 1 ≡ length gs * (3 * m + 1)
 length-text n m [] some _ = absurd (omega arith)
-length-text n m (g ∷ gs) _ p =
-    omega (
-      arith,
-      length-append (group_text g) (tail_text gs),
-      length-group_text g,
-      p.0.full,
-      length-tail_text n m gs p.1,
-    )
+length-text n m (g ∷ gs) _ p = omega (arith, length-tail_text n m (g ∷ gs) p)
 
 -- no text is longer than that of the greatest machines
 pub text_short : (s k : ℕ) (gs : List (List Entry)) → IsMachineWithin s k gs
     → length (text gs) ≤ s * (3 * k + 1) - 1
 text_short s k gs machine =
     let is = length-text (length gs) (symbols_of gs) gs machine.some_state machine.groups in
-    let fewer : 3 * symbols_of gs + 1 ≤ 3 * k + 1 = omega (arith, machine.symbols) in
-    let most : length gs * (3 * symbols_of gs + 1) ≤ s * (3 * k + 1) = mul-le-mul machine.states fewer in
+    let most : length gs * (3 * symbols_of gs + 1) ≤ s * (3 * k + 1) =
+    mul-le-mul machine.states (omega (arith, machine.symbols)) in
     omega arith
 
 -- a table's first groups have a text that is no longer than the whole text
@@ -86,8 +79,7 @@ length-text-take n gs = rw take-append-drop at (length-text-prefix (take n gs) (
 length-group_of : (s k : ℕ) (gs : List (List Entry)) (n : ℕ) → IsMachineWithin s k gs → n < length gs
     → length (group_text (get_or gs n [])) ≡ 3 * symbols_of gs
 length-group_of s k gs n machine below =
-    let group : IsGroup (length gs) (symbols_of gs) (get_or gs n []) =
-    All-from_recursion (IsGroup (length gs) (symbols_of gs)) gs machine.groups n [] below in
+    let group = All-from_recursion (IsGroup (length gs) (symbols_of gs)) gs machine.groups n [] below in
     length-group_text (get_or gs n []) ∙ ap (λ z. 3 * z) group.full
 
 -- where the text of a whole table has room, that of its first groups and one more has

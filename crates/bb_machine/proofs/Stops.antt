@@ -1,8 +1,9 @@
 -- Where no machine's text goes on.
-use Rattle.std.proofs.Common.{◌≡◌, ◌≢◌, ℕ, ◌+◌, ◌<◌, ◌≤◌, List, [], ◌∷◌, ◌++◌, length, take, drop, get_or}
-use Rattle.std.proofs.Common.{refl, sym, ◌∙◌, ap, subst, inl, inr, append_assoc, add-one, arith}
-use Rattle.std.proofs.lemmas.List.{append-nil, length-append, take-append-drop, take-take, length-take-le}
+use Rattle.std.proofs.Common.{◌≡◌, ◌≢◌, ℕ, ◌+◌, ◌-◌, ◌<◌, ◌≤◌, List, [], ◌∷◌, ◌++◌, length, take, drop}
+use Rattle.std.proofs.Common.{get_or, refl, sym, ◌∙◌, ap, subst, inl, inr, append_assoc, add-one, arith}
+use Rattle.std.proofs.lemmas.List.{append-nil, length-append, length-take-le}
 use Rattle.std.proofs.lemmas.Bool.{cases_lt}
+use Rattle.std.proofs.Math.Seq.{take-add}
 use Rattle.std.specs.List.{AllByRecursion}
 use Rattle.bb_machine.specs.declared.entry.Entry.{Entry}
 use Rattle.bb_machine.specs.declared.entry.Entry.TheVariants.{Undefined, Go}
@@ -90,9 +91,7 @@ module _ (s k : ℕ) (few_states : s ≤ 25) (few_symbols : k ≤ 10) (b : Begun
 
   symbols_left : (more : List ℕ) (on : GoesOn b gs more) → symbols_of gs ≤ symbols_limit k b.groups
   symbols_left more on =
-      subst (λ x. symbols_of x ≤ symbols_limit k b.groups) (sym on.is)
-      (symbols_within k b.groups (b.group ++ on.entries) on.rest
-      (subst (λ x. symbols_of x ≤ k) on.is machine.symbols))
+      rw on.is (symbols_within k b.groups (b.group ++ on.entries) on.rest (rw on.is at machine.symbols))
 
   -- before a `_` the group is whole, and there is room for another
   pub bar_follows : (ys : List ℕ) → text gs ≡ begun_text b ++ 95 ∷ ys
@@ -100,21 +99,16 @@ module _ (s k : ℕ) (few_states : s ≤ 25) (few_symbols : k ≤ 10) (b : Begun
   bar_follows ys eq =
       let on = goes_on (95 ∷ ys) eq in
       let bar = bar_peel on.entries on.rest ys on.plain on.text_is in
+      let rest : List (List Entry) = bar.next ∷ bar.others in
       let group_is : b.group ++ on.entries ≡ b.group = ap (λ x. b.group ++ x) bar.at_end
       ∙ append-nil b.group in
-      let is : gs ≡ b.groups ++ b.group ∷ bar.next ∷ bar.others = on.is
+      let whole : List (List Entry) = b.groups ++ b.group ∷ rest in
+      let is : gs ≡ whole = on.is
       ∙ (ap (λ x. b.groups ++ x ∷ on.rest) group_is ∙ ap (λ x. b.groups ++ b.group ∷ x) bar.is) in
-      let group : IsGroup (length gs) (symbols_of gs) b.group =
-      subst (λ x. IsGroup (length gs) (symbols_of gs) x) group_is (last_group (95 ∷ ys) on) in
-      let count : length gs ≡ length b.groups + length (b.group ∷ bar.next ∷ bar.others) = ap length is
-      ∙ length-append b.groups (b.group ∷ bar.next ∷ bar.others) in
-      let two : 2 ≤ symbols_of (b.groups ++ b.group ∷ bar.next ∷ bar.others) =
-      subst (λ x. 2 ≤ symbols_of x) is machine.two_symbols in
-      let group_there : IsGroup (length gs) (symbols_of
-      (b.groups ++ b.group ∷ bar.next ∷ bar.others)) b.group =
-      subst (λ x. IsGroup (length gs) (symbols_of x) b.group) is group in (
-        omega (arith, machine.states),
-        whole_by s (length gs) b.groups b.group (bar.next ∷ bar.others) machine.states two group_there,
+      let here = subst (λ x. IsMachineWithin s k x) is machine in (
+        omega (arith, here.states, length-append b.groups (b.group ∷ rest)),
+        whole_by s (length whole) b.groups b.group rest here.states here.two_symbols
+            (every-at (IsGroup (length whole) (symbols_of whole)) b.groups b.group rest here.groups),
       )
 
   -- after a full group only a `_` can follow
@@ -124,8 +118,8 @@ module _ (s k : ℕ) (few_states : s ≤ 25) (few_symbols : k ≤ 10) (b : Begun
       let on = goes_on (x ∷ ys) eq in
       let group = last_group (x ∷ ys) on in
       let left = symbols_left (x ∷ ys) on in
-      let none : length on.entries ≡ 0 = omega (arith, length-append b.group on.entries, group.full) in
-      bar_after on.entries on.rest x ys none on.text_is
+      bar_after on.entries on.rest x ys (omega (arith, length-append b.group on.entries, group.full))
+      on.text_is
 
   -- what follows, other than a `_`, is an entry of few symbols
   pub entry_follows : (x : ℕ) (ys : List ℕ) → x ≢ 95 → text gs ≡ begun_text b ++ x ∷ ys
@@ -133,10 +127,7 @@ module _ (s k : ℕ) (few_states : s ≤ 25) (few_symbols : k ≤ 10) (b : Begun
   entry_follows x ys no_bar eq =
       let on = goes_on (x ∷ ys) eq in
       let by = entry_after on.entries on.rest x ys no_bar on.text_is in
-      let group = last_group (x ∷ ys) on in
-      let entries : AllByRecursion (IsEntryOf (length gs) (symbols_of gs)) (b.group ++ by.entry ∷ by.others) =
-      subst (λ z. AllByRecursion (IsEntryOf (length gs) (symbols_of gs)) (b.group ++ z)) by.is
-      group.entries in
+      let entries = rw by.is at (last_group (x ∷ ys) on).entries in
       let entry = every-at (IsEntryOf (length gs) (symbols_of gs)) b.group by.entry by.others entries in (
         by.entry,
         entry_weaker (length gs) s (symbols_of gs) (symbols_limit k b.groups) machine.states
@@ -156,111 +147,79 @@ stop_by : (s k : ℕ) (before bytes : List ℕ) (n : ℕ) → n ≤ length bytes
     → (n < length bytes → IsViableWithin s k (before ++ take (n + 1) bytes) → ⊥)
     → IsStopWithin s k before bytes n
 stop_by s k before bytes n within holds further =
-    record { within = within; holds = holds; longest = longest }
+    record {
+      within = within;
+      holds = holds;
+      longest = λ m fits v.
+          elim (cases_lt n m) [
+            | inl above ↦ absurd (further (omega arith) (shorter m above v))
+            | inr below ↦ below
+          ];
+    }
   where
     shorter : (m : ℕ) → n < m → IsViableWithin s k (before ++ take m bytes)
         → IsViableWithin s k (before ++ take (n + 1) bytes)
     shorter m above v =
-        let parts : take m bytes ≡ take (n + 1) bytes ++ drop (n + 1) (take m bytes) =
-        sym (ap (λ x. x ++ drop (n + 1) (take m bytes)) (sym (take-take (n + 1) m bytes (omega arith)))
-        ∙ take-append-drop (n + 1) (take m bytes)) in
-        let is : before ++ take m bytes ≡ (before ++ take (n + 1) bytes) ++ drop (n + 1) (take m bytes) =
-        ap (λ x. before ++ x) parts
-        ∙ sym (append_assoc before (take (n + 1) bytes) (drop (n + 1) (take m bytes))) in
-        viable_prefix s k (before ++ take (n + 1) bytes) (drop (n + 1) (take m bytes))
-        (subst (λ x. IsViableWithin s k x) is v)
-
-    longest : (m : ℕ) → m ≤ length bytes → IsViableWithin s k (before ++ take m bytes) → m ≤ n
-    longest m fits v =
-        elim (cases_lt n m) [
-          | inl above ↦ absurd (further (omega arith) (shorter m above v))
-          | inr below ↦
-              below
-        ]
+        let e : (n + 1) + (m - (n + 1)) ≡ m = omega arith in
+        let parts : take m bytes ≡ take (n + 1) bytes ++ take (m - (n + 1)) (drop (n + 1) bytes) =
+        ap (λ j. take j bytes) (sym e) ∙ take-add (n + 1) (m - (n + 1)) bytes in
+        viable_prefix s k (before ++ take (n + 1) bytes) _ (rw (parts, ← append_assoc) at v)
 
 module _ (s k : ℕ) (few_states : s ≤ 25) (few_symbols : k ≤ 10) (b : Begun)
     (begun : IsBegunWithin s k b) where
   viable_here : IsViableWithin s k (begun_text b ++ [])
   viable_here = rw (append-nil (begun_text b)) (viable_begun s k b begun)
 
-  bar_stop_on : (x : ℕ) (ys : List ℕ) → x ≡ 95
-      → (length b.groups + 1 < s → IsWholeWithin s b.groups b.group → ⊥)
-      → IsStopWithin s k (begun_text b) (x ∷ ys) 0
-  bar_stop_on x ys is refused =
-      stop_by s k (begun_text b) (x ∷ ys) 0 (omega arith) viable_here
-      (λ _ v. bar (v.0) (v.1) v.2.0 (v.2.1 ∙ append_assoc (begun_text b) (x ∷ []) v.2.0))
-    where
-      bar : (gs : List (List Entry)) → IsMachineWithin s k gs → (rest : List ℕ)
-          → text gs ≡ begun_text b ++ x ∷ rest → ⊥
-      bar gs machine rest eq =
-          let follows =
-          bar_follows s k few_states few_symbols b begun gs machine rest
-          (eq ∙ ap (λ z. begun_text b ++ z ∷ rest) is) in
-          refused follows.0 follows.1
-
-  full_stop_on : (x : ℕ) (ys : List ℕ) → x ≢ 95 → length b.group ≡ symbols_limit k b.groups
-      → IsStopWithin s k (begun_text b) (x ∷ ys) 0
-  full_stop_on x ys no_bar full =
-      stop_by s k (begun_text b) (x ∷ ys) 0 (omega arith) viable_here
-      (λ _ v.
-      no_bar (full_follows s k few_states few_symbols b begun v.0 v.1 x v.2.0 full
-      (v.2.1 ∙ append_assoc (begun_text b) (x ∷ []) v.2.0)))
-
   viable_entry : (e : Entry) (prefix : List ℕ) → length b.group < symbols_limit k b.groups
       → IsEntryOf s (symbols_limit k b.groups) e → BeginsWith (entry_text e) prefix
       → IsViableWithin s k (begun_text b ++ prefix)
   viable_entry e prefix room is begins =
-      let longer =
-      viable_begun s k (record {
-        groups = b.groups;
-        group = b.group ++ e ∷ [];
-      }) (begun_push s k b begun e room is) in
-      let text_is : begun_text (record { groups = b.groups; group = b.group ++ e ∷ [] })
-      ≡ (begun_text b ++ prefix) ++ begins.0 = begun_text-push b e
-      ∙ (ap (λ x. begun_text b ++ x) begins.1 ∙ sym (append_assoc (begun_text b) prefix begins.0)) in
-      viable_prefix s k (begun_text b ++ prefix) begins.0 (subst (λ x. IsViableWithin s k x) text_is longer)
-
-  entry_stop_on : (x : ℕ) (ys : List ℕ) (n : ℕ) → x ≢ 95 → length b.group < symbols_limit k b.groups
-      → IsEntryStop s (symbols_limit k b.groups) (x ∷ ys) n → IsStopWithin s k (begun_text b) (x ∷ ys) n
-  entry_stop_on x ys n no_bar room stop =
-      stop_by s k (begun_text b) (x ∷ ys) n stop.within
-      (viable_entry stop.holds.0 (take n (x ∷ ys)) room stop.holds.1 stop.holds.2)
-      further
-    where
-      further : n < length (x ∷ ys) → IsViableWithin s k (begun_text b ++ take (n + 1) (x ∷ ys)) → ⊥
-      further inside v =
-          let prefix_is : take (n + 1) (x ∷ ys) ≡ x ∷ take n ys = rw add-one refl in
-          let eq : text v.0 ≡ begun_text b ++ x ∷ (take n ys ++ v.2.0) = v.2.1
-          ∙ (append_assoc (begun_text b) (take (n + 1) (x ∷ ys)) v.2.0
-          ∙ ap (λ z. begun_text b ++ (z ++ v.2.0)) prefix_is) in
-          let follows =
-          entry_follows s k few_states few_symbols b begun v.0 v.1 x (take n ys ++ v.2.0) no_bar eq in
-          let short : length (take (n + 1) (x ∷ ys)) ≤ length (entry_text follows.0) =
-          omega (arith, length-take-le (n + 1) (x ∷ ys), entry_length follows.0, stop.part) in
-          let same : entry_text follows.0 ++ follows.2.0 ≡ take (n + 1) (x ∷ ys) ++ v.2.0 =
-          sym (ap (λ z. z ++ v.2.0) prefix_is ∙ follows.2.1) in
-          stop.longest inside (
-            follows.0,
-            follows.1,
-            begins_by (entry_text follows.0) follows.2.0 (take (n + 1) (x ∷ ys)) v.2.0 same short,
-          )
+      let longer = viable_begun s k _ (begun_push s k b begun e room is) in
+      viable_prefix s k (begun_text b ++ prefix) begins.0
+      (subst (λ x. IsViableWithin s k x) (begun_text-push b e
+      ∙ (ap (λ x. begun_text b ++ x) begins.1 ∙ sym (append_assoc (begun_text b) prefix begins.0))) longer)
 
   -- the bytes ahead begin with a `_` for which it is too early, or for which there is no room
   pub bar_stop : (bytes : List ℕ) → 0 < length bytes → get_or bytes 0 0 ≡ 95
       → (length b.groups + 1 < s → IsWholeWithin s b.groups b.group → ⊥)
       → IsStopWithin s k (begun_text b) bytes 0
   bar_stop [] some _ _ = absurd (omega arith)
-  bar_stop (x ∷ ys) _ is refused = bar_stop_on x ys is refused
+  bar_stop (x ∷ ys) _ is refused =
+      stop_by s k (begun_text b) (x ∷ ys) 0 (omega arith) viable_here
+      (λ _ v.
+      let follows = bar_follows s k few_states few_symbols b begun v.0 v.1 v.2.0 (v.2.1
+      ∙ (append_assoc (begun_text b) (x ∷ []) v.2.0 ∙ ap (λ z. begun_text b ++ z ∷ v.2.0) is)) in
+      refused follows.0 follows.1)
 
   -- the bytes ahead begin with an entry for which the group has no room
   pub full_stop : (bytes : List ℕ) → 0 < length bytes → get_or bytes 0 0 ≢ 95
       → length b.group ≡ symbols_limit k b.groups → IsStopWithin s k (begun_text b) bytes 0
   full_stop [] some _ _ = absurd (omega arith)
-  full_stop (x ∷ ys) _ no_bar full = full_stop_on x ys no_bar full
+  full_stop (x ∷ ys) _ no_bar full =
+      stop_by s k (begun_text b) (x ∷ ys) 0 (omega arith) viable_here
+      (λ _ v.
+      no_bar (full_follows s k few_states few_symbols b begun v.0 v.1 x v.2.0 full
+      (v.2.1 ∙ append_assoc (begun_text b) (x ∷ []) v.2.0)))
 
   -- the bytes ahead are no entry
   pub entry_stop : (bytes : List ℕ) (n : ℕ) → 0 < length bytes → get_or bytes 0 0 ≢ 95
       → length b.group < symbols_limit k b.groups → IsEntryStop s (symbols_limit k b.groups) bytes n
       → IsStopWithin s k (begun_text b) bytes n
   entry_stop [] n some _ _ _ = absurd (omega arith)
-  entry_stop (x ∷ ys) n _ no_bar room stop = entry_stop_on x ys n no_bar room stop
+  entry_stop (x ∷ ys) n _ no_bar room stop =
+      stop_by s k (begun_text b) (x ∷ ys) n stop.within
+      (viable_entry stop.holds.0 (take n (x ∷ ys)) room stop.holds.1 stop.holds.2)
+      (λ inside v.
+      let prefix_is : take (n + 1) (x ∷ ys) ≡ x ∷ take n ys = rw add-one refl in
+      let follows =
+      entry_follows s k few_states few_symbols b begun v.0 v.1 x (take n ys ++ v.2.0) no_bar (v.2.1
+      ∙ (append_assoc (begun_text b) (take (n + 1) (x ∷ ys)) v.2.0
+      ∙ ap (λ z. begun_text b ++ (z ++ v.2.0)) prefix_is)) in
+      let short : length (take (n + 1) (x ∷ ys)) ≤ length (entry_text follows.0) =
+      omega (arith, length-take-le (n + 1) (x ∷ ys), entry_length follows.0, stop.part) in
+      stop.longest inside (
+        follows.0,
+        follows.1,
+        begins_by (entry_text follows.0) follows.2.0 (take (n + 1) (x ∷ ys)) v.2.0
+            (sym (ap (λ z. z ++ v.2.0) prefix_is ∙ follows.2.1)) short,
+      ))

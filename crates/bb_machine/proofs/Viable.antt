@@ -1,5 +1,5 @@
 -- What was read can be completed to a machine's text, and where it can't be.
-use Rattle.std.proofs.Common.{◌≡◌, ℕ, ◌+◌, ◌-◌, ◌<◌, ◌≤◌, List, [], ◌∷◌, ◌++◌, length, replicate, refl, ◌∙◌}
+use Rattle.std.proofs.Common.{◌≡◌, ℕ, ◌+◌, ◌-◌, ◌<◌, List, [], ◌∷◌, ◌++◌, length, replicate, refl, ◌∙◌}
 use Rattle.std.proofs.Common.{append_assoc, arith}
 use Rattle.std.proofs.lemmas.List.{append-nil, length-append, length-replicate}
 use Rattle.std.proofs.lemmas.List.Concat.{flat_map-append}
@@ -26,26 +26,25 @@ module _ (s k : ℕ) (b : Begun) (begun : IsBegunWithin s k b) where
       let blank : List Entry = replicate m Undefined in
       let rest : List (List Entry) = replicate (s - (length b.groups + 1)) blank in
       let gs : List (List Entry) = b.groups ++ (b.group ++ missing) ∷ rest in
-      let room : length b.groups < s = begun.room in
-      let fits : length b.group ≤ m = begun.fits in
-      let group_length : length (b.group ++ missing) ≡ m =
-      omega (arith, length-append b.group missing, length-replicate (m - length b.group) Undefined) in
-      let count : length gs ≡ s =
-      omega (
+      let group_length : length (b.group ++ missing) ≡ m = omega (
         arith,
+        begun.fits,
+        length-append b.group missing,
+        length-replicate (m - length b.group) Undefined,
+      ) in
+      let count : length gs ≡ s = omega (
+        arith,
+        begun.room,
         length-append b.groups ((b.group ++ missing) ∷ rest),
         length-replicate (s - (length b.groups + 1)) blank,
       ) in
-      let blanks : IsGroup s m blank =
-      record {
+      let blanks : IsGroup s m blank = record {
         full = length-replicate m Undefined;
         entries = every-replicate (IsEntryOf s m) m Undefined tt;
       } in
-      let last : IsGroup s m (b.group ++ missing) =
-      record {
+      let last : IsGroup s m (b.group ++ missing) = record {
         full = group_length;
-        entries =
-            every-append (IsEntryOf s m) b.group missing begun.entries
+        entries = every-append (IsEntryOf s m) b.group missing begun.entries
             (every-replicate (IsEntryOf s m) (m - length b.group) Undefined tt);
       } in
       let all : AllByRecursion (IsGroup s m) gs =
@@ -75,10 +74,11 @@ pub begun_text-push : (b : Begun) (e : Entry)
 begun_text-push b e =
     rw (flat_map-append entry_text b.group (e ∷ []), append-nil (entry_text e)) (simp append_assoc)
 
-begun_close_on : (s k : ℕ) (cs : List (List Entry)) (g : List Entry)
+-- after a `_`
+pub begun_close : (s k : ℕ) (cs : List (List Entry)) (g : List Entry)
     → IsBegunWithin s k (record { groups = cs; group = g }) → length cs + 1 < s → IsWholeWithin s cs g
     → IsBegunWithin s k (record { groups = cs ++ g ∷ []; group = [] })
-begun_close_on s k [] g begun room whole =
+begun_close s k [] g begun room whole =
     record {
       room = room;
       two_symbols = whole.0;
@@ -87,7 +87,7 @@ begun_close_on s k [] g begun room whole =
       fits = omega arith;
       entries = tt;
     }
-begun_close_on s k (c ∷ cs) g begun room whole =
+begun_close s k (c ∷ cs) g begun room whole =
     record {
       room = omega (arith, length-append cs (g ∷ []));
       two_symbols = begun.two_symbols;
@@ -97,9 +97,3 @@ begun_close_on s k (c ∷ cs) g begun room whole =
       fits = omega arith;
       entries = tt;
     }
-
--- after a `_`
-pub begun_close : (s k : ℕ) (b : Begun) → IsBegunWithin s k b → length b.groups + 1 < s
-    → IsWholeWithin s b.groups b.group
-    → IsBegunWithin s k (record { groups = b.groups ++ b.group ∷ []; group = [] })
-begun_close s k b begun room whole = begun_close_on s k b.groups b.group begun room whole

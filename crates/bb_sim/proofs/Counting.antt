@@ -7,7 +7,7 @@ use Rattle.bb_sim.specs.declared.meter.Meter.{Meter}
 use Rattle.bb_sim.specs.declared.runner.Runner.{Runner}
 use Rattle.bb_sim.specs.declared.runner.Moved.{Moved}
 use Rattle.bb_sim.specs.declared.runner.Moved.TheVariants.{Stepped}
-use Rattle.bb_sim.specs.Span.{span, Inside}
+use Rattle.bb_sim.specs.Span.{span}
 use Rattle.bb_sim.specs.Meter.{stepped, CountsTo}
 use Rattle.bb_sim.specs.Runner.{Moves, Reaches, Stands, steps_of}
 use Rattle.bb_sim.proofs.Outcomes.{counted-start, counted-next, span_grows}
@@ -31,27 +31,17 @@ pub record RunsWithin (table : Table) (bounds : Bounds) (runner : Runner) (view 
   pub steps : steps_of runner ≤ bounds.steps
   pub counts : CountsTo table (steps_of runner) first meter
 
--- it has made a step
-pub record HasStepped (table : Table) (bounds : Bounds) (old new : Runner) (view : TapeView)
-    (first meter : Meter) : Type 0 where
-  pub next : steps_of new ≡ steps_of old + 1
-  pub inside : Inside table bounds (steps_of new)
-  pub run : RunsWithin table bounds new view first meter
-
+-- and so it does after a step
 pub has_stepped : {table : Table} {bounds : Bounds} {old new : Runner} {view_old view_new : TapeView}
     {first meter_old : Meter} {moved : Moved} → RunsWithin table bounds old view_old first meter_old
     → Stands table new view_new → (meter : Meter) → Reaches table bounds new view_new moved
     → Moves table old new view_old view_new meter_old meter moved → moved ≡ Stepped
-    → HasStepped table bounds old new view_new first meter
+    → RunsWithin table bounds new view_new first meter
 has_stepped {table} {bounds} {old} {new} {view_old} {view_new} {first} run stands meter reaches moves is =
     let inside = (rw is at reaches).0 in
     let step = rw is at moves in
     record {
-      next = step.0;
-      inside = inside;
-      run = record {
-        stands = stands;
-        steps = inside.within_steps;
-        counts = rw step.0 (counts_next table (steps_of old) first run.counts step.1);
-      };
+      stands = stands;
+      steps = inside.within_steps;
+      counts = rw step.0 (counts_next table (steps_of old) first run.counts step.1);
     }

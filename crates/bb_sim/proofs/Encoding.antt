@@ -121,17 +121,12 @@ module _ (states symbols : ℕ) (low : ℤ) (cells : ℕ) where
     by_states Halt other is_one is_other = absurd (runs_a is_one)
     by_states (State q) Halt is_one is_other = absurd (runs_b is_other)
     by_states (State q) (State r) is_one is_other =
-        let code_a : code a
-        ≡ (q * cells + offset low a.head) * symbols ^ cells + digits symbols a.tape low cells =
-        ap (λ s. code_of s a.head a.tape) is_one in
-        let code_b : code b
-        ≡ (r * cells + offset low b.head) * symbols ^ cells + digits symbols b.tape low cells =
-        ap (λ s. code_of s b.head b.tape) is_other in
+        let codes = sym (ap (λ s. code_of s a.head a.tape) is_one) ∙ e
+        ∙ ap (λ s. code_of s b.head b.tape) is_other in
         let read_a = digits-below symbols a.tape low cells held_a.symbols_named in
         let read_b = digits-below symbols b.tape low cells held_b.symbols_named in
         let both = parts (q * cells + offset low a.head) (r * cells + offset low b.head) (symbols ^ cells)
-        (digits symbols a.tape low cells) (digits symbols b.tape low cells) read_a read_b
-        (sym code_a ∙ e ∙ code_b) in
+        (digits symbols a.tape low cells) (digits symbols b.tape low cells) read_a read_b codes in
         let places = parts q r cells (offset low a.head) (offset low b.head)
         (offset-below low a.head cells inside_a) (offset-below low b.head cells inside_b) both.0 in
         let states_same : a.state ≡ b.state = is_one ∙ ap State places.0 ∙ sym is_other in

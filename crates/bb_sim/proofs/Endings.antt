@@ -1,5 +1,5 @@
 -- What is known where a run ends, whichever way it does.
-use Rattle.std.proofs.Common.{◌≡◌, ℕ, Bool, Ok, refl, ◌∙◌, ap}
+use Rattle.std.proofs.Common.{◌≡◌, Bool, Ok, refl, ◌∙◌, ap}
 use Rattle.bb_machine.specs.declared.entry.Next.TheVariants.{Halt}
 use Rattle.bb_machine.specs.Limits.{Bounds}
 use Rattle.bb_machine.specs.Machine.{Table}
@@ -13,41 +13,25 @@ use Rattle.bb_sim.specs.declared.simulation.Outcome.{Outcome}
 use Rattle.bb_sim.specs.Outcome.{IsOutcome}
 use Rattle.bb_sim.specs.inside.Simulating.{Simulates}
 use Rattle.bb_sim.specs.Configuration.{Configuration, entry_at, followed, next}
-use Rattle.bb_sim.specs.Meter.{CountsRun, CountsTo, IsWithinRun}
+use Rattle.bb_sim.specs.Meter.{CountsTo}
 use Rattle.bb_sim.specs.Run.{HaltsAt}
 use Rattle.bb_sim.specs.Runner.{Moves, Reaches, Stands, Stays, position_of, state_of, steps_of}
 use Rattle.bb_sim.specs.Span.{IsLastInside}
-use Rattle.bb_sim.proofs.Counting.{HasStepped, RunsWithin}
-use Rattle.bb_sim.proofs.Outcomes.{halts_last}
+use Rattle.bb_sim.proofs.Counting.{RunsWithin}
 use Rattle.bb_sim.proofs.RunLaws.{count_is_within}
 
--- it ends at the last step inside, and was counted up to there
-pub record IsEnd (table : Table) (bounds : Bounds) (n : ℕ) (first meter : Meter) : Type 0 where
-  pub last : IsLastInside table bounds n
-  pub counted : CountsRun table bounds first meter
-  pub within : IsWithinRun bounds first meter
-
-ends_at : (table : Table) (bounds : Bounds) (n : ℕ) (first meter : Meter) → IsLastInside table bounds n
-    → CountsTo table n first meter → IsEnd table bounds n first meter
-ends_at table bounds n first meter last counts = record {
-  last = last;
-  counted = record { last = n; is_last = last; counts = counts };
-  within = count_is_within table bounds n first meter last.inside counts;
-}
-
--- where a call doesn't step
+-- where a call doesn't step, the run is at the last step inside, and was counted up to there
 module _ {table : Table} {bounds : Bounds} {old new : Runner} {view_old view_new : TapeView}
     {first meter_old : Meter} (run : RunsWithin table bounds old view_old first meter_old)
     (stands : Stands table new view_new) (meter : Meter) where
   ends_stays : IsLastInside table bounds (steps_of new)
-      → Stays old new view_old view_new meter_old meter → IsEnd table bounds (steps_of old) first meter
-  ends_stays last stays =
-      let same = ap steps_of stays.runner in
-      ends_at table bounds (steps_of old) first meter (rw same at last) (stays.meter ∙ run.counts)
+      → Stays old new view_old view_new meter_old meter
+      → IsLastInside table bounds (steps_of old) × CountsTo table (steps_of old) first meter
+  ends_stays last stays = let same = ap steps_of stays.runner in (rw same at last, stays.meter ∙ run.counts)
 
-  pub ends_stopped : (moved : Moved) → (moved ≡ Stepped → ⊥) → Reaches table bounds new view_new moved
+  ends_stopped : (moved : Moved) → (moved ≡ Stepped → ⊥) → Reaches table bounds new view_new moved
       → Moves table old new view_old view_new meter_old meter moved
-      → IsEnd table bounds (steps_of old) first meter
+      → IsLastInside table bounds (steps_of old) × CountsTo table (steps_of old) first meter
   ends_stopped Halted apart last stays = ends_stays last stays
   ends_stopped NoSteps apart last stays = ends_stays last stays
   ends_stopped NoCells apart last stays = ends_stays last stays
@@ -62,10 +46,10 @@ module _ {table : Table} {bounds : Bounds} {old new : Runner} {view_old view_new
   simulated moved apart reaches moves limit outcome =
       let end = ends_stopped moved apart reaches moves in
       record {
-        outcome = outcome end.last;
-        counted = end.counted;
+        outcome = outcome end.0;
+        counted = record { last = steps_of old; is_last = end.0; counts = end.1 };
         cut = tt;
-        within = end.within;
+        within = count_is_within table bounds (steps_of old) first meter end.0.inside end.1;
         limit = limit;
         memory = tt;
       }
@@ -78,20 +62,7 @@ halts_in_Z table runner run stands halts = record {
   last = _;
   exists = stands.at;
   no_next =
-      let c : Configuration = record {
-        state = state_of runner;
-        head = position_of runner;
-        tape =
-            run.content;
-      } in
+      let c : Configuration =
+      record { state = state_of runner; head = position_of runner; tape = run.content } in
       ap (λ s. followed (entry_at table s (cell c.tape c.head)) c) halts;
 }
-
--- where a step goes into Z
-pub ends_in_Z : {table : Table} {bounds : Bounds} {old new : Runner} {view : TapeView} {first meter : Meter}
-    → HasStepped table bounds old new view first meter → state_of new ≡ Halt
-    → IsEnd table bounds (steps_of new) first meter
-ends_in_Z {table} {bounds} {old} {new} {view} {first} {meter} step halts =
-    ends_at table bounds (steps_of new) first meter
-    (halts_last table bounds (steps_of new) step.inside (halts_in_Z table new view step.run.stands halts))
-    step.run.counts

@@ -1,6 +1,7 @@
 -- Why a run that stays in few cells meets one of its few configurations twice.
 use Rattle.std.proofs.Common.{◌≡◌, ◌≢◌, ℕ, zero, suc, ◌*◌, ◌^◌, ◌<◌, ◌≤◌, Option, Some, None, ℤ}
-use Rattle.std.proofs.Common.{length, refl, ap, sym, subst, ◌∙◌, add-one, arith}
+use Rattle.std.proofs.Common.{inl, inr, length, refl, ap, sym, subst, ◌∙◌, add-one, arith}
+use Rattle.std.proofs.lemmas.Bool.{cases_lt}
 use Rattle.std.proofs.lemmas.Int.{ints}
 use Rattle.bb_machine.specs.declared.entry.Dir.{Dir}
 use Rattle.bb_machine.specs.declared.entry.Entry.{Entry}
@@ -45,19 +46,10 @@ running_below table m n less end_there =
 -- a step before one that isn't in Z isn't, either
 pub running_before : (table : Table) (m n : ℕ) → m ≤ n → IsRunning table n → IsRunning table m
 running_before table m n few last =
-    let end_there : Exists table n = record { here = last.here; exists = last.exists } in
-    let there = earlier_exists table m n few end_there in
-    record {
-      here = there.here;
-      exists = there.exists;
-      runs = λ halted.
-          let end = ends_in_Z table m there.here there.exists halted n end_there in
-          let same : m ≡ n = omega (arith, few, end) in
-          let exists = there.exists in
-          let here = last.exists in
-          let one : there.here ≡ last.here = cc in
-          last.runs (sym (ap (λ (c : Configuration). c.state) one) ∙ halted);
-    }
+    elim (cases_lt m n) [
+      | inl less ↦ running_below table m n less (record { here = last.here; exists = last.exists })
+      | inr above ↦ let same : n ≡ m = omega (arith, few, above) in rw same at last
+    ]
 
 module _ (table : Table) (machine : IsMachine table) (n cells : ℕ) (low : ℤ)
     (in_window : (i : ℕ) → i ≤ n → (c : Configuration) → conf table i ≡ Some c → c.state ≢ Halt

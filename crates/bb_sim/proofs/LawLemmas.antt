@@ -1,6 +1,7 @@
 -- Within limits there is a last step: going up from the start, each step is inside or not.
-use Rattle.std.proofs.Common.{◌≡◌, ℕ, zero, suc, ◌<◌, ◌≤◌, ◌⊎◌, inl, inr, Option, Some, None, refl, subst}
+use Rattle.std.proofs.Common.{◌≡◌, ℕ, zero, suc, ◌<◌, ◌≤◌, ◌⊎◌, inl, inr, Option, Some, None, refl}
 use Rattle.std.proofs.Common.{arith}
+use Rattle.std.proofs.lemmas.Bool.{cases_lt}
 use Rattle.bb_machine.specs.Limits.{Bounds}
 use Rattle.bb_machine.specs.Machine.{Table}
 use Rattle.bb_sim.specs.Configuration.{Configuration}
@@ -25,19 +26,13 @@ module _ (table : Table) (bounds : Bounds) (some : 0 < bounds.cells) where
         within_cells = let one = span-start table in omega (arith, one, some);
       }
 
-  fits_or_not : (a b : ℕ) → (a ≤ b) ⊎ (b < a)
-  fits_or_not zero b = inl (omega arith)
-  fits_or_not (suc a) zero = inr (omega arith)
-  fits_or_not (suc a) (suc b) =
-      elim (fits_or_not a b) [ inl h ↦ inl (omega (arith, h)) | inr h ↦ inr (omega (arith, h)) ]
-
   -- a step is inside or not
   inside_or_not : (n : ℕ) → n ≤ bounds.steps → (here : Option Configuration) → conf table n ≡ here
       → Inside table bounds n ⊎ (Inside table bounds n → ⊥)
   inside_or_not n few None at = inr (λ inside. let exists = inside.exists in cc)
-  inside_or_not n few (Some c) at = elim (fits_or_not (span table n) bounds.cells) [
-    | inl fits ↦ inl (record { here = c; exists = at; within_steps = few; within_cells = fits })
-    | inr wide ↦ inr (λ inside. let fits = inside.within_cells in absurd (omega (arith, fits, wide)))
+  inside_or_not n few (Some c) at = elim (cases_lt bounds.cells (span table n)) [
+    | inl wide ↦ inr (λ inside. omega (arith, inside.within_cells, wide))
+    | inr fits ↦ inl (record { here = c; exists = at; within_steps = few; within_cells = fits })
   ]
 
   -- the last one up to one step more
@@ -48,12 +43,11 @@ module _ (table : Table) (bounds : Bounds) (some : 0 < bounds.cells) where
       (suc most, record { inside = inside; greatest = λ m h other. omega (arith, h) })
   last_next most n last (inr never) =
       (n, record { inside = last.inside; greatest = λ m h other. below m h other }) where
-        at_most : (m : ℕ) → m ≤ suc most → (m ≡ suc most → ⊥) → m ≤ most
-        at_most m h apart = omega (arith, h, apart)
-
         below : (m : ℕ) → m ≤ suc most → Inside table bounds m → m ≤ n
-        below m h other =
-            last.greatest m (at_most m h (λ e. never (subst (λ k. Inside table bounds k) e other))) other
+        below m h other = elim (cases_lt most m) [
+          | inl past ↦ let e : m ≡ suc most = omega (arith, h, past) in absurd (never (rw e at other))
+          | inr few ↦ last.greatest m few other
+        ]
 
   last_up_to : (most : ℕ) → most ≤ bounds.steps → (n : ℕ) × IsLastUpTo table bounds most n
   last_up_to zero h = (0, record { inside = start_inside; greatest = λ m few other. omega (arith, few) })

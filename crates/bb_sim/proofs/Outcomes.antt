@@ -1,7 +1,7 @@
 -- What the end of a run within limits says of all its steps.
 use Rattle.std.proofs.Common.{◌≡◌, ◌≢◌, ℕ, zero, suc, ◌+◌, ◌-◌, ◌<◌, ◌≤◌, max, Option, Some, None}
-use Rattle.std.proofs.Common.{option_and_then, ℤ, ◌≤ℤ◌, pos, refl, ap, sym, subst, ◌∙◌, add-one, arith}
-use Rattle.std.specs.Int.{int_min, int_max}
+use Rattle.std.proofs.Common.{option_and_then, inl, inr, ℤ, ◌≤ℤ◌, pos, refl, ap, subst, ◌∙◌, add-one, arith}
+use Rattle.std.proofs.lemmas.Bool.{cases_lt}
 use Rattle.std.proofs.lemmas.Int.{ints, clamps}
 use Rattle.bb_tape.specs.Content.{score}
 use Rattle.bb_tape.specs.TapeView.{TapeView, IsSound}
@@ -36,33 +36,29 @@ halt_next table n halts = ap (option_and_then (next table)) halts.exists ∙ hal
 -- a halt is at the last step that exists
 pub halt_is_last : (table : Table) (n m : ℕ) (c : Configuration) → HaltsAt table n
     → conf table m ≡ Some c → m ≤ n
-halt_is_last table n m c halts exists = no_more (λ beyond.
-    let none : conf table ((m - suc n) + suc n) ≡ None =
-    none_on table (suc n) (m - suc n) (halt_next table n halts) in
-    let same : (m - suc n) + suc n ≡ m = omega (arith, beyond) in
-    let at : conf table m ≡ None = subst (λ k. conf table k ≡ None) same none in
-    cc) where
-      no_more : (n < m → ⊥) → m ≤ n
-      no_more never = omega (arith, never)
+halt_is_last table n m c halts exists =
+    elim (cases_lt n m) [
+      | inl beyond ↦
+          let same : (m - suc n) + suc n ≡ m = omega (arith, beyond) in
+          let none = rw same at (none_on table (suc n) (m - suc n) (halt_next table n halts)) in
+          absurd cc
+      | inr few ↦ few
+    ]
 
 pub least_falls : (f : ℕ → ℤ) (n k : ℕ) → least f (k + n) ≤ℤ least f n
 least_falls f n zero = let e : zero + n ≡ n = omega arith in rw e (omega (arith, ints))
 least_falls f n (suc k) =
-    let before = least_falls f n k in
     let e : suc k + n ≡ suc (k + n) = omega arith in
-    let here : int_min (least f (k + n)) (f (suc (k + n))) ≤ℤ least f n = omega (arith, ints, clamps) in
-    subst (λ m. least f m ≤ℤ least f n) (sym e) here
+    rw e (omega (arith, ints, clamps, least_falls f n k))
 
 pub greatest_rises : (f : ℕ → ℤ) (n k : ℕ) → greatest f n ≤ℤ greatest f (k + n)
 greatest_rises f n zero = let e : zero + n ≡ n = omega arith in rw e (omega (arith, ints))
 greatest_rises f n (suc k) =
-    let before = greatest_rises f n k in
     let e : suc k + n ≡ suc (k + n) = omega arith in
-    let here : greatest f n ≤ℤ int_max (greatest f (k + n)) (f (suc (k + n))) = omega (arith, ints, clamps) in
-    subst (λ m. greatest f n ≤ℤ greatest f m) (sym e) here
+    rw e (omega (arith, ints, clamps, greatest_rises f n k))
 
 ends_in_order : (f : ℕ → ℤ) (n : ℕ) → least f n ≤ℤ greatest f n
-ends_in_order f n = let a = least_last f n in let b = greatest_last f n in omega (arith, ints)
+ends_in_order f n = omega (arith, ints, least_last f n, greatest_last f n)
 
 -- the span only grows
 pub span_grows : (table : Table) (m n : ℕ) → m ≤ n → span table m ≤ span table n
@@ -87,22 +83,15 @@ ends_halted : (table : Table) (n k : ℕ) → HaltsAt table n
 ends_halted table n zero halts = let e : zero + n ≡ n = omega arith in (rw e refl, rw e refl)
 ends_halted table n (suc k) halts =
     let before = ends_halted table n k halts in
-    let none : conf table (k + suc n) ≡ None = none_on table (suc n) k (halt_next table n halts) in
     let e : suc k + n ≡ suc (k + n) = omega arith in
     let d : k + suc n ≡ suc (k + n) = omega arith in
-    let here : counted_head table (suc (k + n)) ≡ pos 0 =
-    counted_head-none table (suc (k + n)) (subst (λ m. conf table m ≡ None) d none) in
-    let low = least_falls (counted_head table) 0 (k + n) in
-    let high = greatest_rises (counted_head table) 0 (k + n) in
-    let zeroth = counted_head-start table in
+    let here =
+    counted_head-none table (suc (k + n)) (rw d at (none_on table (suc n) k (halt_next table n halts))) in
     let same : (k + n) + 0 ≡ k + n = omega arith in
-    let low_here : least (counted_head table) (k + n) ≤ℤ pos 0 = rw (same, zeroth) at low in
-    let high_here : pos 0 ≤ℤ greatest (counted_head table) (k + n) = rw (same, zeroth) at high in
-    let kept_low : int_min (least (counted_head table) (k + n)) (counted_head table (suc (k + n)))
-    ≡ least (counted_head table) (k + n) = rw here (min-same _ _ low_here) in
-    let kept_high : int_max (greatest (counted_head table) (k + n)) (counted_head table (suc (k + n)))
-    ≡ greatest (counted_head table) (k + n) = rw here (max-same _ _ high_here) in
-    (rw e (kept_low ∙ before.0), rw e (kept_high ∙ before.1))
+    let zeroth = counted_head-start table in
+    let low = rw (same, zeroth) at (least_falls (counted_head table) 0 (k + n)) in
+    let high = rw (same, zeroth) at (greatest_rises (counted_head table) 0 (k + n)) in
+    (rw (e, here) (min-same _ _ low ∙ before.0), rw (e, here) (max-same _ _ high ∙ before.1))
 
 -- the span of a halt stays
 pub span_halted : (table : Table) (n m : ℕ) → HaltsAt table n → n ≤ m → span table m ≡ span table n
@@ -115,9 +104,6 @@ span_halted table n m halts h =
 pub span_fits : (table : Table) (runner : Runner) (view : TapeView) → Stands table runner view → IsSound view
     → span table runner.steps ≤ view.limit
 span_fits table runner view stands sound =
-    let a = sound.from_zero in
-    let b = sound.to_zero in
-    let d = sound.within in
     let n = cells_between-is view.low view.high (omega (arith, ints)) in
     let e : span table runner.steps ≡ cells_between view.low view.high =
     rw (stands.window_low ∙ stands.low, stands.window_high ∙ stands.high) refl in
@@ -157,8 +143,7 @@ module _ (table : Table) (bounds : Bounds) (n : ℕ) (inside : Inside table boun
   -- a run that ends here, at the last step inside, stays within the cells up to the limit of steps
   pub fits_at_halt : HaltsAt table n → span table bounds.steps ≤ bounds.cells
   fits_at_halt halts =
-      let same = span_halted table n bounds.steps halts inside.within_steps in
-      let fits = inside.within_cells in omega (arith, same, fits)
+      omega (arith, span_halted table n bounds.steps halts inside.within_steps, inside.within_cells)
 
   pub halts_last : HaltsAt table n → IsLastInside table bounds n
   halts_last halts =
@@ -167,23 +152,23 @@ module _ (table : Table) (bounds : Bounds) (n : ℕ) (inside : Inside table boun
   pub steps_last : n ≡ bounds.steps → IsLastInside table bounds n
   steps_last e = record { inside = inside; greatest = λ m other. omega (arith, e, other.within_steps) }
 
-  below : (m : ℕ) → bounds.cells < span table (n + 1) → span table m ≤ bounds.cells → m ≤ n
-  below m wide narrow = not_above (λ beyond. let grows = span_grows table (n + 1) m (omega (arith, beyond)) in
-      omega (arith, grows, wide, narrow)) where
-        not_above : (n < m → ⊥) → m ≤ n
-        not_above never = omega (arith, never)
-
   pub cells_last : bounds.cells < span table (n + 1) → IsLastInside table bounds n
-  cells_last wide = record { inside = inside; greatest = λ m other. below m wide other.within_cells }
+  cells_last wide = record {
+    inside = inside;
+    greatest = λ m other. elim (cases_lt n m) [
+      | inl beyond ↦
+          absurd (omega (arith, span_grows table (n + 1) m (omega (arith, beyond)), wide, other.within_cells))
+      | inr few ↦ few
+    ];
+  }
 
   -- where the last step inside is no halt, no step inside is
   pub no_halt_inside : IsLastInside table bounds n → (HaltsAt table n → ⊥) → (m : ℕ)
       → HaltsInside table bounds m → ⊥
   no_halt_inside last goes m halts =
-      let most = last.greatest m halts.inside in
       let least = halt_is_last table m n inside.here halts.halts inside.exists in
-      let same : m ≡ n = omega arith in
-      goes (subst (λ k. HaltsAt table k) same halts.halts)
+      let same : m ≡ n = omega (arith, last.greatest m halts.inside) in
+      goes (rw same at halts.halts)
 
   pub wide_at_end : bounds.cells < span table (n + 1) → n ≢ bounds.steps
       → bounds.cells < span table bounds.steps
@@ -199,10 +184,10 @@ counted-start meter table =
 -- one step more
 pub counted-next : (meter : Meter) (n a b : ℕ) → a ≤ b
     → stepped (counted meter n a) b ≡ counted meter (n + 1) b
-counted-next meter n a b h = both _ _ _ _ (omega arith) (omega arith) where
-  both : (i j k l : ℕ) → i ≡ j → k ≡ l
-      → record meter { steps = i; most_cells = k } ≡ record meter { steps = j; most_cells = l }
-  both i j k l e d = cc
+counted-next meter n a b h =
+    let steps : meter.steps + n + 1 ≡ meter.steps + (n + 1) = omega arith in
+    let cells : max (max meter.most_cells a) b ≡ max meter.most_cells b = omega arith in
+    cc
 
 module _ {table : Table} {runner : Runner} {view : TapeView} {bounds : Bounds}
     (stands : Stands table runner view) (inside : Inside table bounds runner.steps) where
@@ -210,8 +195,7 @@ module _ {table : Table} {runner : Runner} {view : TapeView} {bounds : Bounds}
   pub halted_end : HaltsAt table runner.steps → (n ones : ℕ) → n ≡ runner.steps → ones ≡ score view.content
       → HaltsInside table bounds n × IsScore table n ones
   halted_end halts n ones e counted_is =
-      let P : ℕ → Type 0 = λ k. HaltsInside table bounds k × IsScore table k ones in
-      subst P (sym e) (
+      rw e (
         record { halts = halts; inside = inside },
         record { here = _; exists = stands.at; counted = counted_is },
       )

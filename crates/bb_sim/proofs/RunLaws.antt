@@ -1,9 +1,7 @@
 -- Why the laws of runs hold.
 use Rattle.std.proofs.Common.{◌≡◌, ◌≢◌, ℕ, zero, suc, ◌+◌, ◌-◌, ◌≤◌, ◌⊎◌, inl, inr, max, Option, Some, None}
-use Rattle.std.proofs.Common.{ℤ, pos, negsuc, ◌<ℤ◌, ◌≤ℤ◌, refl, ap, sym, subst, ◌∙◌, arith}
-use Rattle.std.specs.Int.{int_min, int_max}
-use Rattle.std.proofs.lemmas.Bool.{cases_lt}
-use Rattle.std.proofs.lemmas.Int.{ints, clamps}
+use Rattle.std.proofs.Common.{ℤ, pos, ◌<ℤ◌, ◌≤ℤ◌, refl, ap, sym, subst, ◌∙◌, arith}
+use Rattle.std.proofs.lemmas.Int.{ints, clamps, by_lt_z}
 use Rattle.bb_machine.specs.declared.entry.Next.TheVariants.{State, Halt}
 use Rattle.bb_machine.specs.Machine.{Table}
 use Rattle.bb_tape.specs.Content.{score}
@@ -16,6 +14,7 @@ use Rattle.bb_sim.specs.Laws.{EarlierExists, HaltIsLast, HaltIsUnique, LastStepI
 use Rattle.bb_sim.specs.Laws.{OutcomeIsUnique, SpanGrows, EarlierIsInside, IsRunningAt, SpanIsReached}
 use Rattle.bb_sim.specs.Laws.{CountIsWithin}
 use Rattle.bb_sim.proofs.Positions.{least_last, greatest_last}
+use Rattle.bb_sim.proofs.Standing.{counted_running}
 use Rattle.bb_sim.proofs.Steps.{conf-start, counted_head-at}
 use Rattle.bb_sim.proofs.Outcomes.{none_on, halt_is_last, span_grows, least_falls, greatest_rises}
 use Rattle.bb_sim.proofs.Outcomes.{counted_head-none}
@@ -25,9 +24,8 @@ earlier_exists table m n few there = found (conf table m) refl where
   found : (at : Option Configuration) → conf table m ≡ at → Exists table m
   found (Some c) is = record { here = c; exists = is }
   found None is =
-      let none = none_on table m (n - m) is in
       let same : (n - m) + m ≡ n = omega (arith, few) in
-      let gone : conf table n ≡ None = subst (λ k. conf table k ≡ None) same none in
+      let gone = rw same at (none_on table m (n - m) is) in
       let exists = there.exists in
       cc
 
@@ -36,21 +34,19 @@ halt_is_last_one table n m halts there = halt_is_last table n m there.here halts
 
 pub halt_is_unique : HaltIsUnique
 halt_is_unique table a b first second =
-    let below = halt_is_last table b a first.last second first.exists in
-    let above = halt_is_last table a b second.last first second.exists in
-    omega arith
+    omega (
+      arith,
+      halt_is_last table b a first.last second first.exists,
+      halt_is_last table a b second.last first second.exists,
+    )
 
 pub last_step_is_unique : LastStepIsUnique
 last_step_is_unique table bounds a b first second =
-    let below = second.greatest a first.inside in
-    let above = first.greatest b second.inside in
-    omega arith
+    omega (arith, second.greatest a first.inside, first.greatest b second.inside)
 
 pub score_is_unique : ScoreIsUnique
 score_is_unique table n a b first second =
-    let there = first.exists in
-    let here = second.exists in
-    let same : first.here ≡ second.here = cc in
+    let same : first.here ≡ second.here = cc (first.exists, second.exists) in
     first.counted ∙ ap (λ (c : Configuration). score c.tape) same ∙ sym second.counted
 
 pub outcome_is_unique : OutcomeIsUnique
@@ -63,11 +59,9 @@ outcome_is_unique table bounds (Halted n ones) NoSteps first second = absurd (se
 outcome_is_unique table bounds (Halted n ones) NoCells first second = absurd (second.0 n first.0)
 outcome_is_unique table bounds NoSteps (Halted m twos) first second = absurd (first.0 m second.0)
 outcome_is_unique table bounds NoSteps NoSteps first second = refl
-outcome_is_unique table bounds NoSteps NoCells first second =
-    let a = first.1 in let b = second.1 in absurd (omega arith)
+outcome_is_unique table bounds NoSteps NoCells first second = absurd (omega (arith, first.1, second.1))
 outcome_is_unique table bounds NoCells (Halted m twos) first second = absurd (first.0 m second.0)
-outcome_is_unique table bounds NoCells NoSteps first second =
-    let a = first.1 in let b = second.1 in absurd (omega arith)
+outcome_is_unique table bounds NoCells NoSteps first second = absurd (omega (arith, first.1, second.1))
 outcome_is_unique table bounds NoCells NoCells first second = refl
 
 pub span_only_grows : SpanGrows
@@ -76,25 +70,20 @@ span_only_grows table m n few = span_grows table m n few
 pub earlier_is_inside : EarlierIsInside
 earlier_is_inside table bounds m n few inside =
     let there = earlier_exists table m n few (record { here = inside.here; exists = inside.exists }) in
-    let grows = span_grows table m n few in
-    let steps = inside.within_steps in
-    let cells = inside.within_cells in
     record {
       here = there.here;
       exists = there.exists;
-      within_steps = omega arith;
-      within_cells = omega arith;
+      within_steps = omega (arith, inside.within_steps);
+      within_cells = omega (arith, span_grows table m n few, inside.within_cells);
     }
 
 pub count_is_within : CountIsWithin
 count_is_within table bounds n old new inside counts =
-    let steps = inside.within_steps in
-    let cells = inside.within_cells in
     let made : new.steps ≡ old.steps + n = ap (λ (m : Meter). m.steps) counts in
     let seen : new.most_cells ≡ max old.most_cells (span table n) = ap (λ (m : Meter). m.most_cells) counts in
     record {
-      steps = omega arith;
-      most_cells = omega arith;
+      steps = omega (arith, inside.within_steps);
+      most_cells = omega (arith, inside.within_cells);
       nodes = ap (λ (m : Meter). m.nodes) counts;
       most_levels = ap (λ (m : Meter). m.most_levels) counts;
     }
@@ -102,12 +91,7 @@ count_is_within table bounds n old new inside counts =
 -- ---- the ends of a span are reached
 
 pub le_or_gt : (a b : ℤ) → (a ≤ℤ b) ⊎ (b <ℤ a)
-le_or_gt (pos a) (pos b) =
-    elim (cases_lt b a) [ inl h ↦ inr (omega (arith, ints, h)) | inr h ↦ inl (omega (arith, ints, h)) ]
-le_or_gt (pos a) (negsuc b) = inr (omega (arith, ints))
-le_or_gt (negsuc a) (pos b) = inl (omega (arith, ints))
-le_or_gt (negsuc a) (negsuc b) =
-    elim (cases_lt a b) [ inl h ↦ inr (omega (arith, ints, h)) | inr h ↦ inl (omega (arith, ints, h)) ]
+le_or_gt a b = by_lt_z b a (λ less. inr less) (λ least. inl least)
 
 -- a value of f up to n
 record IsReached (f : ℕ → ℤ) (n : ℕ) (value : ℤ) : Type 0 where
@@ -118,19 +102,19 @@ record IsReached (f : ℕ → ℤ) (n : ℕ) (value : ℤ) : Type 0 where
 least_reached : (f : ℕ → ℤ) (n : ℕ) → IsReached f n (least f n)
 least_reached f zero = record { step = 0; before = omega arith; is = refl }
 least_reached f (suc n) = let old = least_reached f n in elim (le_or_gt (least f n) (f (suc n))) [
-  | inl h ↦ let e : int_min (least f n) (f (suc n)) ≡ least f n = omega (arith, ints, clamps, h) in
-      record { step = old.step; before = let b = old.before in omega arith; is = old.is ∙ sym e }
-  | inr h ↦ let e : int_min (least f n) (f (suc n)) ≡ f (suc n) = omega (arith, ints, clamps, h) in
-      record { step = suc n; before = omega arith; is = sym e }
+  | inl h ↦
+      let is = old.is in
+      record { step = old.step; before = omega (arith, old.before); is = omega (arith, ints, clamps) }
+  | inr h ↦ record { step = suc n; before = omega arith; is = omega (arith, ints, clamps) }
 ]
 
 greatest_reached : (f : ℕ → ℤ) (n : ℕ) → IsReached f n (greatest f n)
 greatest_reached f zero = record { step = 0; before = omega arith; is = refl }
 greatest_reached f (suc n) = let old = greatest_reached f n in elim (le_or_gt (f (suc n)) (greatest f n)) [
-  | inl h ↦ let e : int_max (greatest f n) (f (suc n)) ≡ greatest f n = omega (arith, ints, clamps, h) in
-      record { step = old.step; before = let b = old.before in omega arith; is = old.is ∙ sym e }
-  | inr h ↦ let e : int_max (greatest f n) (f (suc n)) ≡ f (suc n) = omega (arith, ints, clamps, h) in
-      record { step = suc n; before = omega arith; is = sym e }
+  | inl h ↦
+      let is = old.is in
+      record { step = old.step; before = omega (arith, old.before); is = omega (arith, ints, clamps) }
+  | inr h ↦ record { step = suc n; before = omega arith; is = omega (arith, ints, clamps) }
 ]
 
 -- a value of f up to n is not below the least nor above the greatest
@@ -185,11 +169,7 @@ counted_runs table n = by_conf (conf table n) refl where
 running_counts : (table : Table) (m : ℕ) (position : ℤ) → IsRunningAt table m position
     → counted_head table m ≡ position
 running_counts table m position there = counted_head-at table m there.here there.exists
-    ∙ by_state there.here.state refl ∙ there.at where
-      by_state : (state : _) → there.here.state ≡ state
-          → counted_position there.here.state there.here.head ≡ there.here.head
-      by_state (State q) e = ap (λ s. counted_position s there.here.head) e
-      by_state Halt e = absurd (there.runs e)
+    ∙ counted_running there.here.state there.here.head there.runs ∙ there.at
 
 pub span_is_reached : SpanIsReached
 span_is_reached table n =
@@ -198,20 +178,14 @@ span_is_reached table n =
     let high = greatest_reached f n in
     let low_there = counted_runs table low.step in
     let high_there = counted_runs table high.step in
-    let low_before = low.before in
-    let high_before = high.before in
-    let low_first = low_there.before in
-    let high_first = high_there.before in
     record {
       low_step = low_there.step;
-      low_before = omega arith;
+      low_before = omega (arith, low.before, low_there.before);
       low = subst (λ p. IsRunningAt table low_there.step p) low.is low_there.runs;
       high_step = high_there.step;
-      high_before = omega arith;
+      high_before = omega (arith, high.before, high_there.before);
       high = subst (λ p. IsRunningAt table high_there.step p) high.is high_there.runs;
       between = λ m position few there.
           let at = running_counts table m position there in
-          let above = least_bounds f m n few in
-          let below = greatest_bounds f m n few in
-          (subst (λ p. least f n ≤ℤ p) at above, subst (λ p. p ≤ℤ greatest f n) at below);
+          (rw at at (least_bounds f m n few), rw at at (greatest_bounds f m n few));
     }

@@ -2,7 +2,7 @@
 use Rattle.std.proofs.Common.{◌≡◌, ◌≢◌, ℕ, ◌+◌, ◌<◌, ◌≤◌, ℤ, pos, negsuc, neg_ℤ, ◌+ℤ◌, ◌-ℤ◌, ◌<ℤ◌, ◌≤ℤ◌, w64}
 use Rattle.std.proofs.Common.{of_z, refl, ap, sym, ◌∙◌, arith}
 use Rattle.std.specs.Int.{int_min, int_max}
-use Rattle.std.proofs.lemmas.Int.{ints, clamps}
+use Rattle.std.proofs.lemmas.Int.{ints, clamps, by_lt_z}
 use Rattle.bb_machine.specs.declared.entry.Dir.{Dir}
 use Rattle.bb_machine.specs.declared.entry.Dir.TheVariants.{L, R}
 use Rattle.bb_machine.specs.declared.entry.Next.{Next}
@@ -11,7 +11,7 @@ use Rattle.bb_machine.specs.Machine.{Table, IsMachine}
 use Rattle.bb_tape.specs.declared.tape.TheConstants.{MAX_CELLS}
 use Rattle.bb_tape.specs.Content.{cell}
 use Rattle.bb_tape.specs.TapeView.{TapeView, fresh, visited, width, IsInside, IsBeside, IsSound}
-use Rattle.bb_tape.proofs.Facts.{cell-blank}
+use Rattle.bb_tape.proofs.Facts.{cell-blank, same_ends}
 use Rattle.bb_sim.specs.declared.runner.Runner.{Runner}
 use Rattle.bb_sim.specs.Configuration.{beside}
 use Rattle.bb_sim.specs.CellsBetween.{cells_between}
@@ -49,39 +49,27 @@ pub head_inside : (table : Table) (runner : Runner) (view : TapeView) → Stands
 head_inside table runner view stands running =
     let here : counted_head table runner.steps ≡ runner.position =
     counted_head-at table runner.steps _ stands.at ∙ counted_running runner.state runner.position running in
-    let below = least_last (counted_head table) runner.steps in
-    let above = greatest_last (counted_head table) runner.steps in
-    let low = stands.low in
-    let high = stands.high in
-    let window_low = stands.window_low in
-    let window_high = stands.window_high in
-    (omega (arith, ints), omega (arith, ints))
+    omega (
+      arith,
+      ints,
+      least_last (counted_head table) runner.steps,
+      greatest_last (counted_head table) runner.steps,
+    )
 
 -- the position beside one of the window is in it or next to it
 pub beside_inside : (view : TapeView) (p : ℤ) (dir : Dir) → IsInside view p → IsBeside view (beside dir p)
-beside_inside view p L inside =
-    (omega (arith, ints, inside.0, inside.1), omega (arith, ints, inside.0, inside.1))
-beside_inside view p R inside =
-    (omega (arith, ints, inside.0, inside.1), omega (arith, ints, inside.0, inside.1))
+beside_inside view p L inside = omega (arith, ints)
+beside_inside view p R inside = omega (arith, ints)
 
 -- a window's position is a small number
 pub small_position : (view : TapeView) (p : ℤ) → IsSound view → IsInside view p
     → (neg_ℤ (pos MAX_CELLS) ≤ℤ p) × (p ≤ℤ pos MAX_CELLS)
-small_position view p sound inside =
-    let a = sound.from_zero in
-    let b = sound.to_zero in
-    let d = sound.within in
-    let e = sound.limited in
-    let f = inside.0 in
-    let h = inside.1 in
-    (omega (arith, ints), omega (arith, ints))
+small_position view p sound inside = omega (arith, ints)
 
 -- a position of the window changes no end
 pub inside_stays : (view : TapeView) (p : ℤ) → IsInside view p → visited view p ≡ view
-inside_stays view p inside = same _ _ (min-same view.low p inside.0) (max-same view.high p inside.1) where
-  same : (low high : ℤ) → low ≡ view.low → high ≡ view.high
-      → record view { low = low; high = high } ≡ view
-  same low high l h = ap (λ (ends : ℤ × ℤ). record view { low = ends.0; high = ends.1 }) (cc (l, h))
+inside_stays view p inside =
+    same_ends view (min-same view.low p inside.0) (max-same view.high p inside.1)
 
 -- what a running machine's head and the position beside it are for a tape
 pub record Near (view : TapeView) (p : ℤ) (dir : Dir) : Type 0 where
@@ -103,50 +91,33 @@ near_head table runner view dir stands running sound =
 pub inside_fits : (view : TapeView) (p : ℤ) → IsSound view → IsInside view p
     → cells_between (int_min view.low p) (int_max view.high p) ≤ view.limit
 inside_fits view p sound inside =
-    let l = min-same view.low p inside.0 in
-    let h = max-same view.high p inside.1 in
-    let a = sound.from_zero in
-    let b = sound.to_zero in
-    let d = sound.within in
     let n = cells_between-is view.low view.high (omega (arith, ints)) in
-    rw (l, h) (omega (arith, ints))
+    rw (min-same view.low p inside.0, max-same view.high p inside.1) (omega (arith, ints))
 
 -- a window told by its low end and its number of cells, and a position in it or next to it
 module _ (runner : Runner) (view : TapeView) (p : ℤ) (sound : IsSound view) (low : view.low ≡ low_of runner)
     (high : view.high ≡ high_of runner) where
   -- with fewer cells than the limit there is room for one more
   pub room_left : runner.cells ≢ view.limit → width view <ℤ pos view.limit
-  room_left apart = let d = sound.within in omega (arith, ints, apart)
+  room_left apart = omega (arith, ints, apart)
 
   -- and so for a position next to it
   pub fits_next : runner.cells ≢ view.limit → IsBeside view p → cells_between (int_min view.low p)
       (int_max view.high p) ≤ view.limit
   fits_next apart near =
-      let a = sound.from_zero in
-      let b = sound.to_zero in
-      let d = room_left apart in
-      let near_low = near.0 in
-      let near_high = near.1 in
       let e = cells_between-is (int_min view.low p) (int_max view.high p) (omega (arith, ints, clamps)) in
-      omega (arith, ints, clamps, e)
+      omega (arith, ints, clamps, e, room_left apart)
 
   -- a position next to it that isn't below it is above it
   pub next_above : ((low_of runner ≤ℤ p) × (p ≤ℤ high_of runner) → ⊥) → IsBeside view p → low_of runner ≤ℤ p
       → p ≡ view.high +ℤ pos 1
-  next_above outside near at = let near_high = near.1 in not_inside (λ h. outside (at, h)) near_high where
-    not_inside : (p ≤ℤ high_of runner → ⊥) → p ≤ℤ (view.high +ℤ pos 1) → p ≡ view.high +ℤ pos 1
-    not_inside never most = grind (arith, ints, never)
+  next_above outside near at =
+      by_lt_z (high_of runner) p (λ over. omega (arith, ints)) (λ to. absurd (outside (at, to)))
 
 -- the ends of a window that has grown by one cell
-pub low_grows : (low p : ℤ) → p <ℤ low → p ≡ int_min low p
-low_grows low p below = omega (arith, ints, clamps)
-
 pub high_stays : (low p : ℤ) (cells : ℕ) → 0 < cells → p <ℤ low → low ≤ℤ (p +ℤ pos 1)
     → (p +ℤ pos (cells + 1)) -ℤ pos 1 ≡ int_max ((low +ℤ pos cells) -ℤ pos 1) p
 high_stays low p cells some below near = omega (arith, ints, clamps)
-
-pub low_stays : (low p : ℤ) (cells : ℕ) → p ≡ ((low +ℤ pos cells) -ℤ pos 1) +ℤ pos 1 → low ≡ int_min low p
-low_stays low p cells next = omega (arith, ints, clamps)
 
 pub high_grows : (low p : ℤ) (cells : ℕ) → p ≡ ((low +ℤ pos cells) -ℤ pos 1) +ℤ pos 1
     → (low +ℤ pos (cells + 1)) -ℤ pos 1 ≡ int_max ((low +ℤ pos cells) -ℤ pos 1) p

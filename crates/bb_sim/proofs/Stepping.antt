@@ -1,6 +1,6 @@
 -- A runner's step, from what it stands on to what it stands on next.
 use Rattle.std.proofs.Common.{◌≡◌, ◌≢◌, ℕ, ◌+◌, ◌<◌, ◌≤◌, ℤ, ◌+ℤ◌, ◌≤ℤ◌, pos, Some, length, refl, ap, sym}
-use Rattle.std.proofs.Common.{◌∙◌, arith, Bool, IsTrue, Ok, Err}
+use Rattle.std.proofs.Common.{◌∙◌, arith, rules, Bool, IsTrue, Ok, Err}
 use Rattle.bb_tape.specs.declared.tape.Memory.{Memory}
 use Rattle.std.specs.Int.{int_min, int_max}
 use Rattle.std.proofs.lemmas.Int.{ints, clamps}
@@ -31,7 +31,7 @@ use Rattle.bb_sim.specs.Meter.{stepped}
 use Rattle.bb_sim.specs.declared.meter.Meter.{Meter}
 use Rattle.bb_sim.specs.declared.runner.Moved.{Moved}
 use Rattle.bb_sim.specs.declared.runner.Moved.TheVariants as moved
-use Rattle.bb_sim.proofs.Positions.{least-next, greatest-next, min-same, max-same}
+use Rattle.bb_sim.proofs.Positions.{least-next, greatest-next}
 use Rattle.bb_sim.proofs.Steps.{counted_head-at, halts_here, conf-next, goes_on, span-next}
 use Rattle.bb_sim.proofs.Standing.{near_head, inside_fits, inside_stays}
 use Rattle.bb_sim.proofs.Outcomes.{inside_here, next_inside}
@@ -45,38 +45,25 @@ no_entry_in_Z table Halt symbol write dir next here = cc
 pub symbols_stay : (content : Content) (head : ℤ) (write symbols : ℕ) → write < symbols
     → ((p : ℤ) → cell content p < symbols) → (p : ℤ) → cell (with_cell content head write) p < symbols
 symbols_stay content head write symbols small all p =
-    let least : (x : ℕ) → x ≡ write → x < symbols = λ x e. omega (arith, e, small) in
     by_position p head _
-    (λ e. least _ (rw e (cell-with_cell-same content head write)))
-    (λ ne. let same = cell-with_cell-other content head write p ne in omega (arith, same, all p))
+    (λ e. rw (e, cell-with_cell-same content head write) small)
+    (λ ne. rw (cell-with_cell-other content head write p ne) (all p))
 
 -- a wider window has the positions of the old one
 pub inside_visited : (view wider : TapeView) (position p : ℤ) → wider ≡ visited view position
     → IsInside view p → IsInside wider p
-inside_visited view wider position p is inside =
-    let low : wider.low ≡ int_min view.low position = ap (λ (s : TapeView). s.low) is in
-    let high : wider.high ≡ int_max view.high position = ap (λ (s : TapeView). s.high) is in
-    (omega (arith, ints, clamps, low, inside.0), omega (arith, ints, clamps, high, inside.1))
+inside_visited view wider position p is inside = rw is (omega (arith, ints, clamps))
 
 -- a position beside the old window is beside the new one, whatever was written
 pub beside_visited : (view wider new : TapeView) (position at p : ℤ) (symbol : ℕ)
     → wider ≡ visited view position → new ≡ written wider at symbol → IsBeside view p → IsBeside new p
 beside_visited view wider new position at p symbol is written_is near =
-    let low : new.low ≡ int_min view.low position = ap (λ (s : TapeView). s.low) written_is
-    ∙ ap (λ (s : TapeView). s.low) is in
-    let high : new.high ≡ int_max view.high position = ap (λ (s : TapeView). s.high) written_is
-    ∙ ap (λ (s : TapeView). s.high) is in
-    (omega (arith, ints, clamps, low, near.0), omega (arith, ints, clamps, high, near.1))
+    rw (written_is, is) (omega (arith, ints, clamps))
 
 -- a runner's window is in order
 pub order : (table : Table) (runner : Runner) (view : TapeView) → Stands table runner view → IsSound view
     → low_of runner ≤ℤ high_of runner
-order table runner view stands sound =
-    let a = sound.from_zero in
-    let b = sound.to_zero in
-    let l = stands.window_low in
-    let h = stands.window_high in
-    omega (arith, ints)
+order table runner view stands sound = omega (arith, ints)
 
 module _ (table : Table) (old : Runner) (view : TapeView) (stands : Stands table old view) where
   pub halts_undefined : Undefined ≡ entry_at table old.state (cell view.content old.position)
@@ -86,42 +73,21 @@ module _ (table : Table) (old : Runner) (view : TapeView) (stands : Stands table
 pub nothing : {runner : Runner} {view : TapeView} {meter : Meter} → Stays runner runner view view meter meter
 nothing = record { runner = refl; view = refl; meter = refl }
 
--- a call that changes nothing, and one that is refused
+-- a call that answers, and one that is refused
 module _ {grows : Bool} {table : Table} {bounds : Bounds} {old : Runner} {view : TapeView}
     {meter : Meter} where
-  pub stayed : (answer : Moved) → Answers table bounds old.steps answer
-      → Moves table old old view view meter meter answer → Reaches table bounds old view answer
-      → Stands table old view → Advances grows table bounds old old view view meter meter (Ok answer)
-  stayed answer answers moves reaches stands = record {
-    answers = answers;
-    moves = moves;
-    reaches = reaches;
-    stands = stands;
-    limit = refl;
-    memory = tt;
-    wanted = tt;
-    uncounted = tt;
-    unmade = tt;
-    window = tt;
-  }
+  pub answered : {new : Runner} {view_new : TapeView} {meter_new : Meter} (answer : Moved)
+      → Answers table bounds old.steps answer → Moves table old new view view_new meter meter_new answer
+      → Reaches table bounds new view_new answer → Stands table new view_new → view_new.limit ≡ view.limit
+      → Advances grows table bounds old new view view_new meter meter_new (Ok answer)
+  answered answer answers moves reaches stands limit = search rules
 
   pub refused : {new : Runner} {view_new : TapeView} {meter_new : Meter} {fault : Memory}
       → Answers table bounds old.steps moved.Stepped → view_new.limit ≡ view.limit
       → IsTrue grows → meter_new ≡ meter → steps_of new ≡ steps_of old
       → cells_between (low_of new) (high_of new) ≡ span table (steps_of old + 1)
       → Advances grows table bounds old new view view_new meter meter_new (Err fault)
-  refused wanted limit memory uncounted unmade window = record {
-    answers = tt;
-    moves = tt;
-    reaches = tt;
-    stands = tt;
-    limit = limit;
-    memory = memory;
-    wanted = wanted;
-    uncounted = uncounted;
-    unmade = unmade;
-    window = window;
-  }
+  refused wanted limit memory uncounted unmade window = search rules
 
 module _ {table : Table} {old : Runner} {view : TapeView} {write : ℕ} {dir : Dir} {next : Next}
     (stands : Stands table old view)
@@ -132,28 +98,25 @@ module _ {table : Table} {old : Runner} {view : TapeView} {write : ℕ} {dir : D
   pub moves_on : HaltsAt table old.steps → ⊥
   moves_on = goes_on table old.steps _ stands.at write dir next (sym here)
 
-  pub next-counted_head : counted_head table (old.steps + 1) ≡ counted_position next (beside dir old.position)
+  -- the position that the step's end counts for
+  abbrev pub counts_for : ℤ
+  counts_for = counted_position next (beside dir old.position)
+
+  pub next-counted_head : counted_head table (old.steps + 1) ≡ counts_for
   next-counted_head =
       counted_head-at table
       (old.steps + 1) _ (conf-next table old.steps _ stands.at write dir next (sym here))
 
   pub next-span : span table (old.steps + 1)
-      ≡ cells_between (int_min view.low (counted_position next (beside dir old.position)))
-      (int_max view.high (counted_position next (beside dir old.position)))
+      ≡ cells_between (int_min view.low counts_for) (int_max view.high counts_for)
   next-span = span-next table old.steps
       ∙ rw (next-counted_head, stands.window_low ∙ stands.low, stands.window_high ∙ stands.high) refl
-
-  -- the position that the step's end counts for
-  abbrev pub counts_for : ℤ
-  counts_for = counted_position next (beside dir old.position)
 
   -- a window that has taken that position in has the cells of the span up to the next step
   pub widened_span : (low high : ℤ) → low ≡ int_min (low_of old) counts_for
       → high ≡ int_max (high_of old) counts_for → cells_between low high ≡ span table (old.steps + 1)
   widened_span low high is_low is_high =
-      ap (λ l. cells_between l high) (is_low ∙ ap (λ l. int_min l counts_for) (sym stands.window_low))
-      ∙ ap (cells_between (int_min view.low counts_for))
-      (is_high ∙ ap (λ h. int_max h counts_for) (sym stands.window_high)) ∙ sym next-span
+      rw (is_low, is_high, ← stands.window_high, ← stands.window_low) (sym next-span)
 
   -- a runner and its tape after the step
   pub record Stepped (new : Runner) (view_new : TapeView) : Type 0 where
@@ -172,29 +135,19 @@ module _ {table : Table} {old : Runner} {view : TapeView} {write : ℕ} {dir : D
       let at = conf-next table old.steps _ stands.at write dir next (sym here) in
       record {
         at = rw (is.steps, is.state, is.head, content) at;
-        low = rw (is.steps, least-next, next-counted_head) (is.low
-            ∙ ap (λ l. int_min l counts_for) stands.low);
-        high = rw (is.steps, greatest-next, next-counted_head) (is.high
-            ∙ ap (λ h. int_max h counts_for) stands.high);
-        window_low = ap (λ (s : TapeView). s.low) is.tape ∙ ap (λ l. int_min l counts_for) stands.window_low
-            ∙ sym is.low;
-        window_high = ap (λ (s : TapeView). s.high) is.tape
-            ∙ ap (λ h. int_max h counts_for) stands.window_high ∙ sym is.high;
+        low = rw (is.steps, least-next, next-counted_head, ← stands.low) is.low;
+        high = rw (is.steps, greatest-next, next-counted_head, ← stands.high) is.high;
+        window_low = rw (is.tape, is.low, stands.window_low);
+        window_high = rw (is.tape, is.high, stands.window_high);
         state_named = rw is.state named.1;
-        symbols_named =
-            λ p.
-            rw content
-            (symbols_stay view.content old.position write (symbols_of table) named.0 stands.symbols_named p);
+        symbols_named = rw content
+            (symbols_stay view.content old.position write (symbols_of table) named.0 stands.symbols_named);
       }
 
   pub wanted : (bounds : Bounds) → old.steps ≢ bounds.steps → view.limit ≡ bounds.cells
       → cells_between (int_min view.low counts_for) (int_max view.high counts_for) ≤ view.limit
       → Answers table bounds old.steps moved.Stepped
-  wanted bounds apart limit fits = (
-    moves_on,
-    apart,
-    omega (arith, next-span, fits, limit),
-  )
+  wanted bounds apart limit fits = (moves_on, apart, omega (arith, next-span, fits, limit))
 
   pub made : (bounds : Bounds) (new : Runner) (view_new : TapeView) (meter_old meter_new : Meter)
       → IsSound view → IsEntryOf (length table) (symbols_of table) (Go write dir next)
@@ -211,21 +164,11 @@ module _ {table : Table} {old : Runner} {view : TapeView} {write : ℕ} {dir : D
       let beside_is : IsBeside view_new (beside dir old.position) =
       beside_visited view (visited view counts_for) view_new counts_for old.position _ write refl is.tape
       near.near in
-      record {
-        answers = answers;
-        moves = (is.steps, counts ∙ ap (stepped meter_old) cells);
-        reaches = (
-          rw is.steps (next_inside table bounds old.steps inside answers.0 answers.1 answers.2),
-          rw is.head beside_is,
-        );
-        stands = stands_next new view_new named is;
-        limit = ap (λ (s : TapeView). s.limit) is.tape;
-        memory = tt;
-        wanted = tt;
-        uncounted = tt;
-        unmade = tt;
-        window = tt;
-      }
+      answered moved.Stepped answers (is.steps, counts ∙ ap (stepped meter_old) cells) (
+        rw is.steps (next_inside table bounds old.steps inside answers.0 answers.1 answers.2),
+        rw is.head beside_is,
+      )
+      (stands_next new view_new named is) (ap (λ (s : TapeView). s.limit) is.tape)
 
 -- a step into Z, which leaves the window as it is
 pub into_Z : (table : Table) (old : Runner) (view : TapeView) (write : ℕ) (dir : Dir) (next : Next)
@@ -237,14 +180,12 @@ pub into_Z : (table : Table) (old : Runner) (view : TapeView) (write : ℕ) (dir
 into_Z table old view write dir (State q) stands here sound nowhere new view_new steps is = absurd nowhere
 into_Z table old view write dir Halt stands here sound nowhere new view_new steps is =
     let zero : IsInside view (pos 0) = (sound.from_zero, sound.to_zero) in
-    let low : low_of old ≤ℤ pos 0 = rw (← stands.window_low) sound.from_zero in
-    let high : pos 0 ≤ℤ high_of old = rw (← stands.window_high) sound.to_zero in
     record {
       state = steps.state;
       head = steps.head;
       steps = steps.steps;
-      low = steps.low ∙ sym (min-same (low_of old) (pos 0) low);
-      high = steps.high ∙ sym (max-same (high_of old) (pos 0) high);
+      low = omega (arith, ints, clamps, steps.low, stands.window_low, zero.0);
+      high = omega (arith, ints, clamps, steps.high, stands.window_high, zero.1);
       tape = is ∙ ap (λ s. written s old.position write) (sym (inside_stays view (pos 0) zero));
     }
 
@@ -256,10 +197,9 @@ pub span_in_Z : (table : Table) (old : Runner) (view : TapeView) (write : ℕ) (
     → cells_between (low_of old) (high_of old) ≡ span table (steps_of old + 1)
 span_in_Z table old view write dir (State q) stands here sound nowhere = absurd nowhere
 span_in_Z table old view write dir Halt stands here sound nowhere =
-    let low : low_of old ≤ℤ pos 0 = rw (← stands.window_low) sound.from_zero in
-    let high : pos 0 ≤ℤ high_of old = rw (← stands.window_high) sound.to_zero in
-    widened_span stands here (low_of old) (high_of old) (sym (min-same (low_of old) (pos 0) low))
-    (sym (max-same (high_of old) (pos 0) high))
+    widened_span stands here (low_of old) (high_of old)
+    (omega (arith, ints, clamps, stands.window_low, sound.from_zero))
+    (omega (arith, ints, clamps, stands.window_high, sound.to_zero))
 
 pub fits_Z : (view : TapeView) (write : ℕ) (dir : Dir) (next : Next) (table : Table) (p : ℤ) → IsSound view
     → GoesNowhere table (Go write dir next)
@@ -297,49 +237,35 @@ cells_stay mid new next p steps = ap (λ l. cells_between l (high_of mid)) (sym 
     ∙ ap (cells_between (low_of new)) (sym steps.high)
 
 -- what a step says of the entry that it is made from
-pub record Goes (table : Table) (old : Runner) (view : TapeView) (write : ℕ) (offset : ℤ)
-    (state : ℕ) : Type 0 where
+pub record Goes (table : Table) (e : Entry) (step : Step) : Type 0 where
   pub dir : Dir
-  pub here : Go write dir (State state) ≡ entry_at table old.state (cell view.content old.position)
-  pub named : IsEntryOf (length table) (symbols_of table) (Go write dir (State state))
-  pub position : (p : ℤ) → p +ℤ offset ≡ beside dir p
+  pub here : Go step.write dir (State step.state) ≡ e
+  pub named : IsEntryOf (length table) (symbols_of table) (Go step.write dir (State step.state))
+  pub position : (p : ℤ) → p +ℤ step.offset ≡ beside dir p
 
 offset_is : (dir : Dir) (p : ℤ) → p +ℤ offset_of dir ≡ beside dir p
 offset_is L p = omega (arith, ints)
 offset_is R p = refl
 
-record GoesBy (e : Entry) (step : Step) : Type 0 where
-  pub dir : Dir
-  pub is : e ≡ Go step.write dir (State step.state)
-  pub position : (p : ℤ) → p +ℤ step.offset ≡ beside dir p
-
-goes_by : (e : Entry) (step : Step) → Some step ≡ step_of e → GoesBy e step
-goes_by Undefined step is = absurd cc
-goes_by (Go write dir (State state)) step is =
+goes_by : (table : Table) (e : Entry) (step : Step) → Some step ≡ step_of e
+    → IsEntryOf (length table) (symbols_of table) e → Goes table e step
+goes_by table Undefined step is named = absurd cc
+goes_by table (Go write dir (State state)) step is named =
     let same : step ≡ record { write = write; offset = offset_of dir; state = state } = cc in
-    rw same (record { dir = dir; is = refl; position = offset_is dir })
-goes_by (Go write dir Halt) step is = absurd cc
+    rw same (record { dir = dir; here = refl; named = named; position = offset_is dir })
+goes_by table (Go write dir Halt) step is named = absurd cc
 
-pub goes : (table : Table) (old : Runner) (view : TapeView) (q symbol : ℕ) (step : Step) → old.state ≡ State q
-    → symbol ≡ cell view.content old.position
-    → Some step ≡ step_of (entry_of table q symbol)
+pub goes : {table : Table} (old : Runner) (view : TapeView) {q symbol : ℕ} {step : Step} → old.state ≡ State q
+    → symbol ≡ cell view.content old.position → Some step ≡ step_of (entry_of table q symbol)
     → IsEntryOf (length table) (symbols_of table) (entry_of table q symbol)
-    → Goes table old view step.write step.offset step.state
-goes table old view q symbol step state read is named =
-    let by = goes_by (entry_of table q symbol) step is in
-    record {
-      dir = by.dir;
-      here = rw (state, ← read) (sym by.is);
-      named = rw by.is at named;
-      position = by.position;
-    }
+    → Goes table (entry_at table old.state (cell view.content old.position)) step
+goes {table} old view {q} {symbol} {step} state read is named =
+    rw (state, ← read) (goes_by table (entry_of table q symbol) step is named)
 
 -- and where it leads, once the position is known
 pub record Leads (table : Table) (old : Runner) (view : TapeView) (step : Step) (position : ℤ) : Type 0 where
-  pub dir : Dir
-  pub here : Go step.write dir (State step.state) ≡ entry_at table old.state (cell view.content old.position)
-  pub named : IsEntryOf (length table) (symbols_of table) (Go step.write dir (State step.state))
-  pub there : position ≡ beside dir old.position
+  pub goes : Goes table (entry_at table old.state (cell view.content old.position)) step
+  pub there : position ≡ beside goes.dir old.position
 
 pub leads : {table : Table} (old : Runner) (view : TapeView) {q symbol : ℕ} {step : Step} {position : ℤ}
     → old.state ≡ State q → symbol ≡ cell view.content old.position
@@ -347,10 +273,5 @@ pub leads : {table : Table} (old : Runner) (view : TapeView) {q symbol : ℕ} {s
     → IsEntryOf (length table) (symbols_of table) (entry_of table q symbol)
     → position ≡ old.position +ℤ step.offset → Leads table old view step position
 leads {table} old view {q} {symbol} {step} {position} state read is named moved =
-    let by = goes table old view q symbol step state read is named in
-    record {
-      dir = by.dir;
-      here = by.here;
-      named = by.named;
-      there = moved ∙ by.position old.position;
-    }
+    let by = goes old view state read is named in
+    record { goes = by; there = moved ∙ by.position old.position }

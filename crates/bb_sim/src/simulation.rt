@@ -22,8 +22,8 @@ pub enum Outcome {
 
 /// Runs a machine from its start until it halts or a limit is met.
 ///
-/// After an error nothing is said of what the tape holds; the next run resets it. The steps that were made are
-/// counted then too.
+/// After an error nothing is said of what the tape holds; the next run resets it. The steps that were made
+/// are counted then too.
 #[inline(never)]
 pub fn simulate<T: Tape>(
     machine: &Machine,

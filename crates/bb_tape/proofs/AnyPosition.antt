@@ -8,6 +8,7 @@ use mir.Val.{SFits}
 use Rattle.bb_tape.specs.TapeView.{TapeView, IsSound, visited, width}
 use Rattle.bb_tape.proofs.WiderWindows.{narrow_fits, min_is, max_is}
 use Rattle.bb_tape.proofs.Rings.{abs_is}
+use Rattle.bb_tape.proofs.TapeViews.{same_ends}
 
 -- the ends of a window that is widened to p
 pub record AreEnds (s : TapeView) (p lo hi : ℤ) : Type 0 where
@@ -56,12 +57,8 @@ module _ {s : TapeView} {p lo hi : ℤ} (ends : AreEnds s p lo hi) where
   room_high small = omega (arith, ints, clamps)
 
   pub reached : {t u : TapeView} → t ≡ visited s lo → u ≡ visited t hi → u ≡ visited s p
-  reached et eu = eu ∙ ap (λ t. visited t hi) et ∙ (λ i. record s { low = low i; high = high i }) where
-    low : int_min (int_min s.low lo) hi ≡ int_min s.low p
-    low = omega (arith, ints, clamps)
-
-    high : int_max (int_max s.high lo) hi ≡ int_max s.high p
-    high = omega (arith, ints, clamps)
+  reached et eu = eu ∙ ap (λ t. visited t hi) et
+      ∙ same_ends s (omega (arith, ints, clamps)) (omega (arith, ints, clamps))
 
   pub fits : (hi -ℤ lo) <ℤ pos s.limit → pos s.limit <ℤ width (visited s p) → ⊥
   fits small wide = omega (arith, ints, clamps)

@@ -70,18 +70,6 @@ with_cell-with_cell c p v w = same_content _ _ (λ q.
     (λ ne. cell-with_cell-other _ p w q ne ∙ cell-with_cell-other c p v q ne
     ∙ sym (cell-with_cell-other c p w q ne)))
 
--- writes at two positions may come in any order
-pub with_cell-apart : (c : Content) (p : ℤ) (v : ℕ) (q : ℤ) (w : ℕ) → q ≢ p
-    → with_cell (with_cell c p v) q w ≡ with_cell (with_cell c q w) p v
-with_cell-apart c p v q w apart = same_content _ _ (λ x.
-    by_position x q _
-    (λ e.
-    rw e (cell-with_cell-same _ q w ∙ sym (cell-with_cell-other _ p v q apart ∙ cell-with_cell-same c q w)))
-    (λ ne. cell-with_cell-other _ q w x ne ∙ by_position x p _
-    (λ e. rw e (cell-with_cell-same c p v ∙ sym (cell-with_cell-same _ p v)))
-    (λ other. cell-with_cell-other c p v x other
-    ∙ sym (cell-with_cell-other _ p v x other ∙ cell-with_cell-other c q w x ne))))
-
 -- to write what is there changes nothing
 pub with_cell-cell : (c : Content) (p : ℤ) → with_cell c p (cell c p) ≡ c
 with_cell-cell c p =

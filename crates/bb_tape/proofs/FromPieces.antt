@@ -9,16 +9,14 @@ use Rattle.std.specs.Int.{int_min, int_max}
 use Rattle.std.proofs.lemmas.Bool.{cases_lt}
 use Rattle.std.proofs.lemmas.Grind.{same_number_lists}
 use Rattle.std.proofs.lemmas.List.{get_or_past}
-use Rattle.std.proofs.lemmas.List.FromFn.{length-map-range_with_len, get_or-map-range_with_len}
 use Rattle.std.proofs.lemmas.List.Sums.{sum_by-append}
 use Rattle.std.specs.Prelude.{unsigned_abs}
 use Rattle.bb_tape.specs.declared.window.Window.{Window}
 use Rattle.bb_tape.specs.Content.{Content, cell, score}
-use Rattle.bb_tape.specs.RingIndex.{ring_index}
 use Rattle.bb_tape.specs.Ring.{ring_content, symbols}
 use Rattle.bb_tape.proofs.Content.{same_content}
 use Rattle.bb_tape.proofs.Rings.{cell-ring-inside, cell-ring-below, cell-ring-above, by_window, symbols_of}
-use Rattle.bb_tape.proofs.Rings.{length_of, abs_is}
+use Rattle.bb_tape.proofs.Rings.{length_of, abs_is, wide, length-symbols_of, symbols_of-at}
 use Rattle.bb_tape.proofs.Laying.{score-laid, count_next}
 use Rattle.bb_tape.proofs.Pieces.{length-symbols, get_or-symbols}
 use Rattle.bb_tape.proofs.Slices.{nonzero}
@@ -43,20 +41,11 @@ window_symbols : (cells : List ℕ) (w : Window)
     → symbols_of cells w ≡ symbols (ring_content cells w) w.low (length_of w)
 window_symbols cells w =
     same_number_lists
-    _ _ (length-map-range_with_len (λ k. get_or cells (ring_index w.limit (w.low +ℤ pos k)) 0) 0 (length_of w)
-    ∙ sym (length-symbols (ring_content cells w) w.low (length_of w))) (λ k h.
-    let within : k < length_of w =
-    omega (
-      arith,
-      h,
-      length-map-range_with_len (λ k. get_or cells (ring_index w.limit (w.low +ℤ pos k)) 0) 0 (length_of w),
-    ) in
-    let width : pos (unsigned_abs (w.high -ℤ w.low)) ≡ w.high -ℤ w.low =
-    abs_is (w.high -ℤ w.low) (omega (arith, ints)) in
-    get_or-map-range_with_len (λ j. get_or cells (ring_index w.limit (w.low +ℤ pos j)) 0) 0 (length_of w) k k
-    0 within (omega arith)
+    _ _ (length-symbols_of cells w ∙ sym (length-symbols (ring_content cells w) w.low (length_of w))) (λ k h.
+    let within : k < length_of w = omega (arith, h, length-symbols_of cells w) in
+    symbols_of-at cells w k within
     ∙ sym (get_or-symbols (ring_content cells w) w.low (length_of w) k within
-    ∙ cell-ring-inside cells w (w.low +ℤ pos k) (omega (arith, ints)) (omega (arith, ints, width, within))))
+    ∙ cell-ring-inside cells w (w.low +ℤ pos k) (omega (arith, ints)) (omega (arith, ints, wide w, within))))
 
 -- a window's symbols, in two pieces, tell the score
 pub score_in_pieces : (cells : List ℕ) (w : Window) (len : ℕ) (xs ys : List ℕ)
@@ -64,9 +53,7 @@ pub score_in_pieces : (cells : List ℕ) (w : Window) (len : ℕ) (xs ys : List 
     → count_by nonzero xs + count_by nonzero ys ≡ score (ring_content cells w)
 unfolding ring_content
 score_in_pieces cells w len xs ys el e =
-    let width : pos (unsigned_abs (w.high -ℤ w.low)) ≡ w.high -ℤ w.low =
-    abs_is (w.high -ℤ w.low) (omega (arith, ints)) in
-    let long : len ≡ length_of w = omega (arith, ints, width, el) in
+    let long : len ≡ length_of w = omega (arith, ints, wide w, el) in
     sym (count-append xs ys)
     ∙ ap (count_by nonzero) (e ∙ ap (symbols (ring_content cells w) w.low) long
     ∙ sym (window_symbols cells w)) ∙ sym (score-laid w.low (symbols_of cells w))
@@ -108,15 +95,13 @@ zero_outside cells w low high below above from next ef en eb ea zb za p outside 
     by_window w p
     (λ a b. elim outside [
       | inl under ↦
-          let k = unsigned_abs (p -ℤ w.low) in
-          let e : pos k ≡ p -ℤ w.low = abs_is (p -ℤ w.low) (omega (arith, ints)) in
-          let at : p ≡ from +ℤ pos k = omega (arith, ints, e, ef) in
-          ap (cell (ring_content cells w)) at ∙ zb k (omega (arith, ints, e, eb, under))
+          let e = abs_is (p -ℤ w.low) (omega (arith, ints)) in
+          let at : p ≡ from +ℤ pos (unsigned_abs (p -ℤ w.low)) = omega (arith, ints, e, ef) in
+          ap (cell (ring_content cells w)) at ∙ zb _ (omega (arith, ints, e, eb, under))
       | inr over ↦
-          let k = unsigned_abs (p -ℤ (high +ℤ pos 1)) in
-          let e : pos k ≡ p -ℤ (high +ℤ pos 1) = abs_is (p -ℤ (high +ℤ pos 1)) (omega (arith, ints, over)) in
-          let at : p ≡ next +ℤ pos k = omega (arith, ints, e, en) in
-          ap (cell (ring_content cells w)) at ∙ za k (omega (arith, ints, e, ea, over))
+          let e = abs_is (p -ℤ next) (omega (arith, ints, over, en)) in
+          let at : p ≡ next +ℤ pos (unsigned_abs (p -ℤ next)) = omega (arith, ints, e) in
+          ap (cell (ring_content cells w)) at ∙ za _ (omega (arith, ints, e, en, ea, over))
     ])
     (λ under. cell-ring-below cells w p under)
     (λ over. cell-ring-above cells w p over)
@@ -138,17 +123,6 @@ same_from_parts c d low high from len ef el alike zc zd = same_content c d (λ p
     let at : p ≡ from +ℤ pos k = omega (arith, ints, e, ef) in
     ap (cell c) at ∙ alike k (omega (arith, ints, e, el)) ∙ sym (ap (cell d) at))))
 
--- cells outside a part of the window, in either of its two stretches
-pub zero_below_part : (c : Content) (low high : ℤ) (w_low from : ℤ) (below : ℕ) → from ≡ w_low
-    → pos below ≡ low -ℤ w_low → ((p : ℤ) → (p <ℤ low) ⊎ (high <ℤ p) → cell c p ≡ 0) → (k : ℕ) → k < below
-    → cell c (from +ℤ pos k) ≡ 0
-zero_below_part c low high w_low from below ef eb z k h =
-    z (from +ℤ pos k) (inl (omega (arith, ints, ef, eb, h)))
-
-pub zero_above_part : (c : Content) (low high : ℤ) (next : ℤ) (above : ℕ) → next ≡ high +ℤ pos 1
-    → ((p : ℤ) → (p <ℤ low) ⊎ (high <ℤ p) → cell c p ≡ 0) → (k : ℕ) → k < above → cell c (next +ℤ pos k) ≡ 0
-zero_above_part c low high next above en z k h = z (next +ℤ pos k) (inr (omega (arith, ints, en)))
-
 -- two rings with the same cells are 0 wherever one of the two windows ends
 pub zero_unshared : (cells dells : List ℕ) (w v : Window) (low high : ℤ) → low ≡ int_max w.low v.low
     → high ≡ int_min w.high v.high → ring_content cells w ≡ ring_content dells v → (p : ℤ)
@@ -158,16 +132,8 @@ zero_unshared cells dells w v low high el eh e p outside =
     (λ a b.
     by_window w p
     (λ c d.
-    absurd (elim outside [
-      | inl under ↦ omega (arith, ints, clamps, under)
-      | inr over ↦
-          omega (arith, ints, clamps, over)
-    ]))
+    absurd (omega (arith, ints, clamps)))
     (λ under. sym (ap (λ x. cell x p) e) ∙ cell-ring-below cells w p under)
     (λ over. sym (ap (λ x. cell x p) e) ∙ cell-ring-above cells w p over))
     (λ under. cell-ring-below dells v p under)
     (λ over. cell-ring-above dells v p over)
-
-pub agrees_alike : (c d : Content) (from : ℤ) (len : ℕ) → c ≡ d → (k : ℕ) → k < len
-    → cell c (from +ℤ pos k) ≡ cell d (from +ℤ pos k)
-agrees_alike c d from len e k h = ap (λ x. cell x (from +ℤ pos k)) e

@@ -72,12 +72,12 @@ module _ (w : Window) (from : ℤ) (at : ℕ) (is : at ≡ ring_index w.limit fr
         (first : ℕ) (cut : first ≡ min len (w.limit - at)) where
       rest_fits : len - first ≤ w.limit
       rest_fits =
-          elim (at_each (len - 1) (omega arith)) [
-            | inl c ↦ omega (arith, c.0)
-            | inr c ↦
-                let g = within (len - 1) (omega arith) in
-                omega (arith, c.1, index_below w.low w.high w.limit w.valid (from +ℤ pos (len - 1)) g.0 g.1)
-          ]
+          let g = within (len - 1) (omega arith) in
+          omega (
+            arith,
+            at_each (len - 1) (omega arith),
+            index_below w.low w.high w.limit w.valid (from +ℤ pos (len - 1)) g.0 g.1,
+          )
 
       long_first : length (take first (drop at cells)) ≡ first
       long_first = length-take-le first (drop at cells) (omega (arith, length-drop at cells))
@@ -92,11 +92,8 @@ module _ (w : Window) (from : ℤ) (at : ℕ) (is : at ≡ ring_index w.limit fr
           get_or-append (take first (drop at cells)) (take (len - first) cells) 0 k
           (omega (arith, long_first))
           ∙ get_or-take first (drop at cells) k 0 lt ∙ get_or-drop at cells k 0
-          ∙ elim (at_each k h) [
-            | inl c ↦ ap (λ j. get_or cells j 0) (sym c.1)
-            | inr c ↦
-                absurd (omega (arith, c.0))
-          ]
+          ∙ (let e : at + k ≡ ring_index w.limit (from +ℤ pos k) = omega (arith, at_each k h) in
+          ap (λ j. get_or cells j 0) e)
 
       in_rest : (k : ℕ) → k < len → first ≤ k
           → get_or (take first (drop at cells) ++ take (len - first) cells) k 0
@@ -106,11 +103,8 @@ module _ (w : Window) (from : ℤ) (at : ℕ) (is : at ≡ ring_index w.limit fr
           (omega (arith, long_first))
           ∙ ap (λ n. get_or (take (len - first) cells) (k - n) 0) long_first
           ∙ get_or-take (len - first) cells (k - first) 0 (omega arith)
-          ∙ elim (at_each k h) [
-            | inl c ↦ absurd (omega (arith, c.0))
-            | inr c ↦ (let e : k - first ≡ ring_index w.limit (from +ℤ pos k) = omega (arith, c.0, c.1) in
-                ap (λ j. get_or cells j 0) e)
-          ]
+          ∙ (let e : k - first ≡ ring_index w.limit (from +ℤ pos k) = omega (arith, at_each k h) in
+          ap (λ j. get_or cells j 0) e)
 
       -- the cells up to the ring's end, and those from its beginning on
       pub pieces_are : take first (drop at cells) ++ take (len - first) cells
@@ -118,19 +112,17 @@ module _ (w : Window) (from : ℤ) (at : ℕ) (is : at ≡ ring_index w.limit fr
       pieces_are =
           same_number_lists _ _ (length-append (take first (drop at cells)) (take (len - first) cells)
           ∙ omega (arith, long_first, long_rest, length-symbols (ring_content cells w) from len)) (λ k h.
-          let lt : k < len =
-          omega (
+          let lt : k < len = omega (
             arith,
             h,
-            length-append (take first (drop at cells)) (take (len - first) cells),
             long_first,
             long_rest,
+            length-append (take first (drop at cells)) (take (len - first) cells),
           ) in
           let g = within k lt in
           elim (cases_lt k first) [
             | inl in' ↦ in_first k lt in'
-            | inr past ↦
-                in_rest k lt (omega (arith, past))
+            | inr past ↦ in_rest k lt (omega (arith, past))
           ]
           ∙ sym (get_or-symbols (ring_content cells w) from len k lt
           ∙ cell-ring-inside cells w (from +ℤ pos k) g.0 g.1))

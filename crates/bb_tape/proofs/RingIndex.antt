@@ -39,8 +39,7 @@ module _ (low high : ℤ) (limit : ℕ) (w : IsWindow low high limit)
   index_in = index_cases limit p (omega (arith, ints)) (omega (arith, ints))
 
   pub index_below : ring_index limit p < limit
-  index_below =
-      elim index_in [ inl c ↦ omega (arith, ints, c.0, c.1) | inr c ↦ omega (arith, ints, c.0, c.1) ]
+  index_below = omega (arith, ints, index_in)
 
   pub index_from_zero : pos 0 ≤ℤ p → unsigned_abs p ≡ ring_index limit p
   index_from_zero up =
@@ -60,13 +59,5 @@ module _ (low high : ℤ) (limit : ℕ) (w : IsWindow low high limit)
   -- no other cell of the window has its index
   pub index_apart : (q : ℤ) → low ≤ℤ q → q ≤ℤ high → q ≢ p → ring_index limit q ≢ ring_index limit p
   index_apart q qfrom qto other same =
-      elim index_in [
-        | inl c ↦ elim (index_cases limit q (omega (arith, ints)) (omega (arith, ints))) [
-          | inl d ↦ other (sym d.1 ∙ ap pos same ∙ c.1)
-          | inr d ↦ absurd (omega (arith, ints, same, c.1, d.1))
-        ]
-        | inr c ↦ elim (index_cases limit q (omega (arith, ints)) (omega (arith, ints))) [
-          | inl d ↦ absurd (omega (arith, ints, same, c.1, d.1))
-          | inr d ↦ other (omega (arith, ints, same, c.1, d.1))
-        ]
-      ]
+      let there = index_cases limit q (omega (arith, ints)) (omega (arith, ints)) in
+      other (omega (arith, ints, same, index_in, there))

@@ -62,57 +62,31 @@ ring_written cells w p v whole low high = same_content _ _ (λ q.
     (index_apart w.low w.high w.limit w.valid p low high q a b there)
     ∙ sym (cell-with_cell-other (ring_content cells w) p v q there ∙ cell-ring-inside cells w q a b)))
     (λ below.
-    let other : q ≢ p = λ e. omega (arith, ints, e) in
     cell-ring-below (set cells (ring_index w.limit p) v) w q below
-    ∙ sym (cell-with_cell-other (ring_content cells w) p v q other ∙ cell-ring-below cells w q below))
+    ∙ sym (cell-with_cell-other (ring_content cells w) p v q (λ e. omega (arith, ints, e))
+    ∙ cell-ring-below cells w q below))
     (λ above.
-    let other : q ≢ p = λ e. omega (arith, ints, e) in
     cell-ring-above (set cells (ring_index w.limit p) v) w q above
-    ∙ sym (cell-with_cell-other (ring_content cells w) p v q other ∙ cell-ring-above cells w q above)))
+    ∙ sym (cell-with_cell-other (ring_content cells w) p v q (λ e. omega (arith, ints, e))
+    ∙ cell-ring-above cells w q above)))
 
 -- a window that takes in the position next to it, below or above, where all but the window's cells is 0
 module _ (cells : List ℕ) (w v : Window) (p : ℤ) (clear : IsClear cells w) (limit : v.limit ≡ w.limit)
     (next : (p ≡ w.low -ℤ pos 1) ⊎ (p ≡ w.high +ℤ pos 1)) (low : v.low ≡ int_min w.low p)
     (high : v.high ≡ int_max w.high p) where
   still_from : (q : ℤ) → v.low ≤ℤ q → q ≢ p → w.low ≤ℤ q
-  still_from q a other =
-      by_lt_z q w.low
-      (λ lt. elim next [
-        | inl below ↦ absurd (let here : q ≡ p = omega (arith, ints, clamps, below) in other here)
-        | inr above ↦ absurd (omega (arith, ints, clamps, above, w.valid.from_zero, w.valid.to_zero))
-      ])
-      (λ ge. ge)
+  still_from q a other = by_lt_z q w.low (λ lt. absurd (other (omega (arith, ints, clamps)))) (λ ge. ge)
 
   still_to : (q : ℤ) → q ≤ℤ v.high → q ≢ p → q ≤ℤ w.high
-  still_to q b other =
-      by_lt_z w.high q
-      (λ lt. elim next [
-        | inl below ↦ absurd (omega (arith, ints, clamps, below, w.valid.from_zero, w.valid.to_zero))
-        | inr above ↦ absurd (let here : q ≡ p = omega (arith, ints, clamps, above) in other here)
-      ])
-      (λ ge. ge)
+  still_to q b other = by_lt_z w.high q (λ lt. absurd (other (omega (arith, ints, clamps)))) (λ ge. ge)
 
   -- the position has a 0
   clear_beside : get_or cells (ring_index v.limit p) 0 ≡ 0
   clear_beside =
       let pfrom : v.low ≤ℤ p = omega (arith, ints, clamps) in
       let pto : p ≤ℤ v.high = omega (arith, ints, clamps) in
-      elim (index_in v.low v.high v.limit v.valid p pfrom pto) [
-        | inl up ↦ elim next [
-          | inl below ↦ absurd (omega (arith, ints, up.0, below, w.valid.from_zero))
-          | inr above ↦
-              clear (ring_index v.limit p)
-              (omega (arith, ints, up.1, above))
-              (omega (arith, ints, clamps, up.1, above, limit, low, high, v.valid.within))
-        ]
-        | inr under ↦ elim next [
-          | inl below ↦
-              clear (ring_index v.limit p)
-              (omega (arith, ints, clamps, under.1, below, limit, low, high, v.valid.within))
-              (omega (arith, ints, under.1, below, limit))
-          | inr above ↦ absurd (omega (arith, ints, under.0, above, w.valid.to_zero))
-        ]
-      ]
+      let at = index_in v.low v.high v.limit v.valid p pfrom pto in
+      clear (ring_index v.limit p) (omega (arith, ints, clamps, at)) (omega (arith, ints, clamps, at))
 
   ring_wider : ring_content cells v ≡ ring_content cells w
   ring_wider = same_content _ _ (λ q.
@@ -169,8 +143,6 @@ pub wider_low : (a : RingTape) (v : Window) {p : ℤ} → SFits w64 p → p ≡ 
     }
     → IsWider a v p
 wider_low a v {p} fits next is =
-    let from = a.window.valid.from_zero in
-    let to = a.window.valid.to_zero in
     let same = to_z-of_z w64 p fits in
     wider a v p (inl next) (omega (arith, ints, clamps)) (omega (arith, ints, clamps)) is.limit
 
@@ -182,39 +154,39 @@ pub wider_high : (a : RingTape) (v : Window) {p : ℤ} → SFits w64 p → p ≡
     }
     → IsWider a v p
 wider_high a v {p} fits next is =
-    let from = a.window.valid.from_zero in
-    let to = a.window.valid.to_zero in
     let same = to_z-of_z w64 p fits in
     wider a v p (inr next) (omega (arith, ints, clamps)) (omega (arith, ints, clamps)) is.limit
 
 pub clear_written : (cells : List ℕ) (w : Window) (p : ℤ) (v : ℕ) → IsClear cells w → w.low ≤ℤ p → p ≤ℤ w.high
     → IsClear (set cells (ring_index w.limit p) v) w
 clear_written cells w p v clear from to k above below =
-    let other : k ≢ ring_index w.limit p = λ e. elim (index_in w.low w.high w.limit w.valid p from to) [
-      | inl up ↦ omega (arith, ints, up.1, e, above, to)
-      | inr under ↦ omega (arith, ints, under.1, e, below, from)
-    ] in
-    get_or-set_other cells (ring_index w.limit p) k v 0 other ∙ clear k above below
+    get_or-set_other cells (ring_index w.limit p) k v 0
+    (λ e. omega (arith, ints, e, index_in w.low w.high w.limit w.valid p from to)) ∙ clear k above below
 
 pub clear_zeroes : (cells : List ℕ) (w : Window) → ((k : ℕ) → k < w.limit → get_or cells k 0 ≡ 0)
     → IsClear cells w
-clear_zeroes cells w zeroes k above below =
-    let down = w.valid.from_zero in zeroes k (omega (arith, ints, below, down))
+clear_zeroes cells w zeroes k above below = zeroes k (omega (arith, ints))
+
+-- what holds up to the front, from the back on and between them, holds everywhere
+in_parts : (front back : ℕ) (P : ℕ → Type 0) → ((k : ℕ) → k < front → P k) → ((k : ℕ) → back ≤ k → P k)
+    → ((k : ℕ) → front ≤ k → k < back → P k) → (k : ℕ) → P k
+in_parts front back P low high between k =
+    elim (cases_lt k front) [
+      | inl lt ↦ low k lt
+      | inr ge ↦ elim (cases_lt k back) [
+        | inl lt ↦ between k (omega (arith, ge)) lt
+        | inr past ↦ high k (omega (arith, past))
+      ]
+    ]
 
 -- with the ends cleared, all is 0
 pub all_clear : (cells dells : List ℕ) (w : Window) (front back : ℕ) → IsClear cells w
     → pos front ≡ w.high +ℤ pos 1 → pos back ≡ w.low +ℤ pos w.limit
     → ((k : ℕ) → k < front → get_or dells k 0 ≡ 0) → ((k : ℕ) → back ≤ k → get_or dells k 0 ≡ 0)
     → ((k : ℕ) → front ≤ k → k < back → get_or dells k 0 ≡ get_or cells k 0) → (k : ℕ) → get_or dells k 0 ≡ 0
-all_clear cells dells w front back clear ef eb low high between k =
-    elim (cases_lt k front) [
-      | inl lt ↦ low k lt
-      | inr ge ↦ elim (cases_lt k back) [
-        | inl lt ↦ between k (omega (arith, ge)) lt
-            ∙ clear k (omega (arith, ints, ef, ge)) (omega (arith, ints, eb, lt))
-        | inr past ↦ high k (omega (arith, past))
-      ]
-    ]
+all_clear cells dells w front back clear ef eb low high between =
+    in_parts front back (λ k. get_or dells k 0 ≡ 0) low high
+    (λ k ge lt. between k ge lt ∙ clear k (omega (arith, ints, ef, ge)) (omega (arith, ints, eb, lt)))
 
 -- a list that is a ring at both its ends, which its window doesn't reach beyond, and 0 between them
 pub ring_copied : (cells dells : List ℕ) (w : Window) (front back : ℕ) → length cells ≡ length dells
@@ -223,12 +195,7 @@ pub ring_copied : (cells dells : List ℕ) (w : Window) (front back : ℕ) → l
     → ((k : ℕ) → back ≤ k → get_or cells k 0 ≡ get_or dells k 0)
     → ((k : ℕ) → front ≤ k → k < back → get_or cells k 0 ≡ 0) → cells ≡ dells
 ring_copied cells dells w front back long clear ef eb low high between =
-    same_number_lists cells dells long (λ k h.
-    elim (cases_lt k front) [
-      | inl lt ↦ low k lt
-      | inr ge ↦ elim (cases_lt k back) [
-        | inl lt ↦ between k (omega (arith, ge)) lt
-            ∙ sym (clear k (omega (arith, ints, ef, ge)) (omega (arith, ints, eb, lt)))
-        | inr past ↦ high k (omega (arith, past))
-      ]
-    ])
+    same_number_lists cells dells long (λ k _.
+    in_parts front back (λ j. get_or cells j 0 ≡ get_or dells j 0) low high
+    (λ j ge lt. between j ge lt
+    ∙ sym (clear j (omega (arith, ints, ef, ge)) (omega (arith, ints, eb, lt)))) k)

@@ -27,16 +27,12 @@ module _ (s : TapeView) (p : ℤ) (sound : IsSound s) where
 -- a window with a position above it taken in
 pub above_is : (s : TapeView) (p : ℤ) {low high : ℤ} {limit : ℕ} → low ≡ s.low → high ≡ p → limit ≡ s.limit
     → s.low ≤ℤ p → (IsInside s p → ⊥) → record s { low = low; high = high; limit = limit } ≡ visited s p
-above_is s p {low} {high} {limit} el eh em from outside =
-    λ i. record s { low = least i; high = most i; limit = em i } where
-      over : s.high ≤ℤ p
-      over = by_lt_z s.high p (λ over. omega (arith, ints)) (λ to. absurd (outside (from, to)))
-
-      least : low ≡ int_min s.low p
-      least = omega (arith, ints, clamps)
-
-      most : high ≡ int_max s.high p
-      most = omega (arith, ints, clamps, over)
+above_is s p {low} {high} el eh em from outside =
+    let over : s.high ≤ℤ p =
+    by_lt_z s.high p (λ over. omega (arith, ints)) (λ to. absurd (outside (from, to))) in
+    let least : low ≡ int_min s.low p = omega (arith, ints, clamps) in
+    let most : high ≡ int_max s.high p = omega (arith, ints, clamps) in
+    λ i. record s { low = least i; high = most i; limit = em i }
 
 -- a window that isn't full has room
 pub room_left : (w : Window) (b : Bool) → IsTrue b ↔ (pos w.limit ≡ (w.high -ℤ w.low) +ℤ pos 1) → b ≡ false

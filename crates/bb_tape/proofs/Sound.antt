@@ -1,5 +1,5 @@
 -- What keeps a tape sound.
-use Rattle.std.proofs.Common.{arith, ◌≡◌, ◌≢◌, ◌≤◌, ◌<◌, ℕ, ℤ, pos, ◌+ℤ◌, ◌≤ℤ◌, sym, ◌∙◌, subst}
+use Rattle.std.proofs.Common.{arith, ◌≡◌, ◌≢◌, ◌≤◌, ◌<◌, ℕ, ℤ, pos, ◌+ℤ◌, ◌≤ℤ◌, ◌∙◌}
 use Rattle.std.proofs.lemmas.Int.{ints, clamps}
 use Rattle.std.specs.Int.{int_min, int_max}
 use Rattle.bb_tape.specs.declared.window.Window.{Window}
@@ -36,8 +36,7 @@ symbols_written : (c : Content) (p : ℤ) (v : ℕ) → HasSymbols c → v ≤ M
     → HasSymbols (with_cell c p v)
 symbols_written c p v s small q =
     by_position q p _
-    (λ here. subst (λ x. cell (with_cell c p v) x ≤ MAX_SYMBOL) (sym here)
-    (omega (arith, cell-with_cell-same c p v)))
+    (λ here. rw here (omega (arith, cell-with_cell-same c p v)))
     (λ there. omega (arith, cell-with_cell-other c p v q there, s q))
 
 -- after a write in the window
@@ -46,8 +45,7 @@ pub sound_written : (c : Content) (w : Window) (p : ℤ) (v : ℕ) → IsSound (
 sound_written c w p v s low high small = sound_from (with_cell c p v) w
     (λ q ne.
     by_position q p _
-    (λ here. let low' : w.low ≤ℤ q = subst (λ x. w.low ≤ℤ x) (sym here) low in
-    let high' : q ≤ℤ w.high = subst (λ x. x ≤ℤ w.high) (sym here) high in (low', high'))
+    (λ here. rw here (low, high))
     (λ there. s.nothing_outside q (λ e. ne (cell-with_cell-other c p v q there ∙ e))))
     (symbols_written c p v s.symbols small)
 

@@ -34,10 +34,4 @@ module _ (low high low2 high2 lo hi : ℤ) (limit limit2 : ℕ) (w : IsWindow lo
   shared_high_fits = narrow_fits hi (omega (arith, ints, clamps)) (omega (arith, ints, clamps))
 
   pub shared_valid : IsWindow lo hi limit
-  shared_valid =
-      record {
-        from_zero = omega (arith, ints, clamps);
-        to_zero = omega (arith, ints, clamps);
-        within = omega (arith, ints, clamps);
-        limited = w.limited;
-      }
+  shared_valid = omega (arith, ints, clamps)

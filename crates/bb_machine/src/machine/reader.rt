@@ -1,7 +1,7 @@
 //! The reader of machine texts.
 ghost use Rattle.std.specs.Prelude.{◌≡◌, ◌≢◌, ◌+◌, ◌*◌, ◌≤◌, ◌<◌, ◌↔◌, List, [], ◌∷◌};
-ghost use Rattle.std.specs.Prelude.{◌++◌, ℕ, length, take, drop, IsTrue, IfOk, IfErr, IfSome, OnOk, OnErr, Some};
-ghost use Rattle.std.specs.Prelude.{MatchOption};
+ghost use Rattle.std.specs.Prelude.{◌++◌, ℕ, length, take, drop, IsTrue, IfOk, IfErr, IfSome, OnOk, OnErr};
+ghost use Rattle.std.specs.Prelude.{MatchOption, Some};
 
 use crate::entry::Entry;
 use crate::machine::{LINE, MAX_STATES, MAX_SYMBOLS, Machine, Refused, SLOTS, STRIDE, Slot};

@@ -8,12 +8,12 @@ returns c = (there, back)
         → (w : ℕ) × (w < c.args.symbols) × (48 + w ≡ c.args.byte)
     there is_so =
         let below : (c.args.byte + 208) % 256 < c.args.symbols = search rules in
-        let symbol : c.args.byte - 48 < c.args.symbols = omega (arith, below, c.requires, c.ranges.byte.fits) in
-        let is : 48 + (c.args.byte - 48) ≡ c.args.byte = omega (arith, below, c.requires, c.ranges.byte.fits) in
-        (c.args.byte - 48, symbol, is)
+        let fits = c.ranges.byte.fits in
+        (c.args.byte - 48, omega (arith, below, c.requires, fits), omega (arith, below, c.requires, fits))
 
     back : ((w : ℕ) × (w < c.args.symbols) × (48 + w ≡ c.args.byte))
         → IsTrue (nat_lt ((c.args.byte + 208) % 256) c.args.symbols)
     back digit =
-        let below : (c.args.byte + 208) % 256 < c.args.symbols = omega (arith, digit.1, digit.2, c.requires) in
+        let below : (c.args.byte + 208) % 256 < c.args.symbols =
+        omega (arith, digit.1, digit.2, c.requires) in
         search rules

@@ -12,7 +12,7 @@ loop-runner-preserved g c =
     let here = c.loop-runner.invariant in
     let call = c.in_ok-advance.ensures in
     record {
-      run = (has_stepped here.run call.stands _ call.reaches call.moves c.in-Stepped.is).run;
+      run = has_stepped here.run call.stands _ call.reaches call.moves c.in-Stepped.is;
       limit = call.limit ∙ here.limit;
     }
 

@@ -12,8 +12,11 @@ returns-then-has_letter c =
             λ is_so. let next = c.has_letter-then-has_letter.ensures.0 is_so in
                 letters_make c.args.bytes.now c.args.states c.args.symbols digit.0 dir.0 next.0
                 c.requires.room digit.1 next.1 digit.2 dir.1 next.2,
-            λ e. c.has_letter-then-has_letter.ensures.1
-                (letters_of c.args.bytes.now c.args.states c.args.symbols c.if-first-eq45.false e.0 e.1 e.2).next,
+            λ e. let letters =
+                letters_of c.args.bytes.now c.args.states c.args.symbols c.if-first-eq45.false e.0 e.1 e.2 in
+                c.has_letter-then-has_letter.ensures.1 letters.next,
           )
-      | else-is_digit w ↦ (let no : true ≡ _ = sym c.if-has_letter.true ∙ (w.value-is ∙ w.if-is_digit.false) in absurd (search rules))
+      | else-is_digit w ↦
+          (let no : true ≡ _ = sym c.if-has_letter.true ∙ (w.value-is ∙ w.if-is_digit.false) in
+          absurd (search rules))
     ]

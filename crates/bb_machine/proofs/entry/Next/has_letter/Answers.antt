@@ -11,10 +11,11 @@ returns-else-letter-eq90 c = (there, back)
         → (n : Next) × IsNextOf c.args.states n × (next_letter n ≡ c.args.letter)
     there is_so =
         let below : (c.args.letter + 191) % 256 < c.args.states = search rules in
-        let state : c.args.letter - 65 < c.args.states = omega (arith, below, c.requires, c.ranges.letter.fits) in
-        let is : 65 + (c.args.letter - 65) ≡ c.args.letter =
-        omega (arith, below, c.requires, c.ranges.letter.fits) in
-        (State (c.args.letter - 65), state, is)
+        let fits = c.ranges.letter.fits in (
+          State (c.args.letter - 65),
+          omega (arith, below, c.requires, fits),
+          omega (arith, below, c.requires, fits),
+        )
 
     at : (n : Next) → IsNextOf c.args.states n → next_letter n ≡ c.args.letter
         → (c.args.letter + 191) % 256 < c.args.states

@@ -10,10 +10,8 @@ slice_bounds-fill_row-count c =
 
 pub slice_bounds-fill_row-start : goal.slice_bounds-fill_row-start
 slice_bounds-fill_row-start c =
-    let of = c.requires in
-    let inside = table_inside of.0 c.args.states c.args.symbols of.1 c.loop-row.row c.loop-row-test.true in
     let fits : c.loop-row.row * (3 * c.args.symbols + 1) ≤ length c.args.line.now =
-    omega (arith, inside, ap length of.2) in
+    slice_bounds-fill_row-count c in
     search rules
 
 pub fill_row-requires-clause-group : goal.fill_row-requires-clause-group

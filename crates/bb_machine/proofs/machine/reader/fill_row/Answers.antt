@@ -11,9 +11,7 @@ slice_bounds-set_first-count c =
 
 pub slice_bounds-set_first-start : goal.slice_bounds-set_first-start
 slice_bounds-set_first-start c =
-    let g = c.requires.group in
-    let inside : 3 * c.loop-symbol.symbol ≤ length c.args.bytes.now =
-    entry_inside g.0 c.args.bytes.now c.args.symbols c.loop-symbol.symbol g.1 c.loop-symbol-test.true g.2 in
+    let inside : 3 * c.loop-symbol.symbol ≤ length c.args.bytes.now = slice_bounds-set_first-count c in
     search rules
 
 pub set_first-requires : goal.set_first-requires

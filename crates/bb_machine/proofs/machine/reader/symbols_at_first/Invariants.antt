@@ -5,4 +5,5 @@ use Rattle.bb_machine.proofs.machine.reader.symbols_at_first.Given as goal
 
 -- a machine whose text the line is has no fewer symbols
 abbrev pub invariant-loop-symbols : goal.invariant-loop-symbols
-invariant-loop-symbols l = (gs : List (List Entry)) → IsMachine gs → text gs ≡ l.line → l.symbols ≤ symbols_of gs
+invariant-loop-symbols l =
+    (gs : List (List Entry)) → IsMachine gs → text gs ≡ l.line → l.symbols ≤ symbols_of gs

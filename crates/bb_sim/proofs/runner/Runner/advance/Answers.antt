@@ -1,6 +1,8 @@
 use Rattle.std.proofs.Common.{◌≡◌, ◌≢◌, Ok, refl, ap, ◌∙◌, arith, rules, w64, w8, FitsSigned}
 use Rattle.std.proofs.lemmas.Int.{ints, to_z-of_z}
 use Rattle.bb_machine.specs.declared.entry.Next.TheVariants.{State, Halt}
+use Rattle.bb_tape.specs.Content.{cell}
+use Rattle.bb_sim.specs.Configuration.{entry_at}
 use Rattle.bb_sim.specs.declared.runner.Runner.{Runner}
 use Rattle.bb_sim.specs.declared.runner.Moved.TheVariants.{Stepped}
 use Rattle.bb_sim.specs.inside.Advancing.{Advances}
@@ -37,11 +39,11 @@ read_inside-symbol-requires g c =
 
 -- the entry that applies, and where it leads
 goes_here : (g : given.Over) (c : In-Some g)
-    → Goes c.args.machine.now c.args.self.now (g.T.Tape.view c.args.tape.now) c.in-Some.step.write
-    c.in-Some.step.offset c.in-Some.step.state
+    → Goes c.args.machine.now (entry_at c.args.machine.now c.args.self.now.state
+    (cell (g.T.Tape.view c.args.tape.now).content c.args.self.now.position)) c.in-Some.step
 goes_here g c =
     let fits : FitsSigned w64 c.args.self.now.position = search rules in
-    goes _ _ _ c.in-State.state c.read_inside-symbol.result c.in-Some.step c.in-State.is
+    goes c.args.self.now (g.T.Tape.view c.args.tape.now) c.in-State.is
     (simp to_z-of_z at c.read_inside-symbol.ensures) c.in-Some.ensures.value c.in-Some.ensures.named
 
 led_here : (g : given.Over) (c : After-moved_by-position g)
@@ -74,8 +76,8 @@ pub enter-requires-clause-near : goal.enter-requires-clause-near
 enter-requires-clause-near g c =
     let led = led_here g (goal.at.enter-requires-clause-near g c).After-moved_by-position in
     let result_fits : FitsSigned w64 c.moved_by-position.result = search rules in
-    let near = near_head _ c.args.self.now _ led.dir c.requires.stands (running c.requires.stands led.here)
-    (g.met.T.Tape.sound c.args.tape.now) in
+    let near = near_head _ c.args.self.now _ led.goes.dir c.requires.stands
+    (running c.requires.stands led.goes.here) (g.met.T.Tape.sound c.args.tape.now) in
     simp to_z-of_z (rw led.there near.near)
 
 pub returns-then-not-enter-clause-answers : goal.returns-then-not-enter-clause-answers
@@ -83,8 +85,8 @@ returns-then-not-enter-clause-answers g c =
     let led = led_here g (goal.at.returns-then-not-enter-clause-answers g c).After-moved_by-position in
     let result_fits : FitsSigned w64 c.moved_by-position.result = search rules in
     let full = rw led.there at (simp to_z-of_z at c.if-not-enter.ensures.0) in
-    let spans = next-span c.requires.stands led.here in (
-      moves_on c.requires.stands led.here,
+    let spans = next-span c.requires.stands led.goes.here in (
+      moves_on c.requires.stands led.goes.here,
       λ e. c.if-self-steps.false cc,
       omega (arith, spans, full, c.requires.limit),
     )
@@ -109,8 +111,8 @@ pub step_to-requires-clause-inside : goal.step_to-requires-clause-inside
 step_to-requires-clause-inside g c =
     let led = led_here g (goal.at.step_to-requires-clause-inside g c).After-moved_by-position in
     let result_fits : FitsSigned w64 c.moved_by-position.result = search rules in
-    let near = near_head _ c.args.self.now _ led.dir c.requires.stands (running c.requires.stands led.here)
-    (g.met.T.Tape.sound c.args.tape.now) in
+    let near = near_head _ c.args.self.now _ led.goes.dir c.requires.stands
+    (running c.requires.stands led.goes.here) (g.met.T.Tape.sound c.args.tape.now) in
     let wider : IsWidened c.args.self.now c.enter.new.self c.moved_by-position.result =
     simp to_z-of_z at c.if-not-enter.ensures.2 in
     rw wider.head (inside_visited (g.T.Tape.view c.args.tape.now) _ _ c.args.self.now.position
@@ -120,7 +122,7 @@ pub returns-in_default-step_to-clause-wanted : goal.returns-in_default-step_to-c
 returns-in_default-step_to-clause-wanted g c =
     let led = led_here g (goal.at.returns-in_default-step_to-clause-wanted g c).After-moved_by-position in
     let result_fits : FitsSigned w64 c.moved_by-position.result = search rules in
-    wanted c.requires.stands led.here c.args.limits.now (λ e. c.if-self-steps.false cc)
+    wanted c.requires.stands led.goes.here c.args.limits.now (λ e. c.if-self-steps.false cc)
     c.requires.limit (rw led.there at (simp to_z-of_z at c.if-not-enter.ensures.0))
 
 pub returns-in_default-step_to-clause-unmade : goal.returns-in_default-step_to-clause-unmade
@@ -137,7 +139,7 @@ returns-in_default-step_to-clause-window g c =
     let wider : IsWidened c.args.self.now c.enter.new.self c.moved_by-position.result =
     simp to_z-of_z at c.if-not-enter.ensures.2 in
     ap (λ r. cells_between (low_of r) (high_of r)) c.in_default-step_to.ensures.unmoved
-    ∙ widened_span c.requires.stands led.here _ _
+    ∙ widened_span c.requires.stands led.goes.here _ _
     (wider.low ∙ ap (int_min (low_of c.args.self.now)) led.there)
     (wider.high ∙ ap (int_max (high_of c.args.self.now)) led.there)
 
@@ -156,12 +158,12 @@ made_here g c =
     let steps : StepsTo c.enter.new.self c.step_to.new.self (State
     c.in-Some.step.state) c.moved_by-position.result = simp to_z-of_z at c.in-Ok.ensures.steps in
     let stepped_is =
-    into_state _ _ _ c.in-Some.step.write led.dir c.in-Some.step.state c.requires.stands led.here
+    into_state _ _ _ c.in-Some.step.write led.goes.dir c.in-Some.step.state c.requires.stands led.goes.here
     c.enter.new.self c.step_to.new.self (g.T.Tape.view c.enter.new.tape) (g.T.Tape.view c.step_to.new.tape)
     c.moved_by-position.result led.there wider visited_is steps c.in-Ok.ensures.written in
-    made c.requires.stands led.here c.args.limits.now c.step_to.new.self
+    made c.requires.stands led.goes.here c.args.limits.now c.step_to.new.self
     (g.T.Tape.view c.step_to.new.tape) c.args.meter.now c.step_to.new.meter
-    (g.met.T.Tape.sound c.args.tape.now) led.named c.requires.limit c.requires.steps
+    (g.met.T.Tape.sound c.args.tape.now) led.goes.named c.requires.limit c.requires.steps
     (λ e. c.if-self-steps.false cc) room stepped_is
     (c.in-Ok.ensures.counted
     ∙ ap (stepped c.args.meter.now) (cells_stay c.enter.new.self c.step_to.new.self _ _ steps))

@@ -1,4 +1,4 @@
-use Rattle.std.proofs.Common.{pos, ◌≡◌, sym, ap, ◌∙◌, arith, rules, w64, FitsSigned}
+use Rattle.std.proofs.Common.{pos, ◌≡◌, refl, sym, ap, ◌∙◌, arith, rules, w64, FitsSigned}
 use Rattle.std.proofs.lemmas.Int.{ints, to_z-of_z}
 use Rattle.bb_machine.specs.declared.entry.Entry.TheVariants.{Go}
 use Rattle.bb_sim.specs.Configuration.{beside}
@@ -9,20 +9,20 @@ use Rattle.bb_sim.specs.Runner.{high_of, low_of, steps_of}
 use Rattle.bb_sim.specs.inside.Widening.{StepsTo, GoesNowhere}
 use Rattle.bb_sim.proofs.Outcomes.{halts_last, steps_last}
 use Rattle.bb_sim.proofs.Standing.{near_head, head_inside}
-use Rattle.bb_sim.proofs.Stepping.{halts_undefined, running, moves_on, wanted, made, into_Z, fits_Z, stayed}
-use Rattle.bb_sim.proofs.Stepping.{refused, nothing, span_in_Z}
+use Rattle.bb_sim.proofs.Stepping.{halts_undefined, running, moves_on, wanted, made, into_Z, fits_Z}
+use Rattle.bb_sim.proofs.Stepping.{answered, refused, nothing, span_in_Z}
 use Rattle.bb_sim.proofs.Stepping.{cells_stay}
 use Rattle.bb_sim.proofs.runner.Runner.advance_to_halt.Goals as goal
 
 pub returns-in_default : goal.returns-in_default
 returns-in_default g c =
     let halts = halts_undefined _ _ _ c.requires.stands (rw c.in_default.is at c.requires.entry) in
-    stayed Halted halts nothing (halts_last _ _ _ c.show_inside.ensures halts) c.requires.stands
+    answered Halted halts nothing (halts_last _ _ _ c.show_inside.ensures halts) c.requires.stands refl
 
 pub returns-then-self-steps : goal.returns-then-self-steps
 returns-then-self-steps g c =
-    stayed NoSteps (moves_on c.requires.stands (rw c.in-Go.is at c.requires.entry), cc) nothing
-    (steps_last _ _ _ c.show_inside.ensures cc) c.requires.stands
+    answered NoSteps (moves_on c.requires.stands (rw c.in-Go.is at c.requires.entry), cc) nothing
+    (steps_last _ _ _ c.show_inside.ensures cc) c.requires.stands refl
 
 pub beside-position-requires : goal.beside-position-requires
 beside-position-requires g c =

@@ -1,23 +1,21 @@
-use Rattle.std.proofs.Common.{◌≡◌, ◌<ℤ◌, ◌≤ℤ◌, ◌+ℤ◌, pos, refl, sym, ◌∙◌, w64, FitsSigned, IsTrue, rules}
-use Rattle.std.proofs.lemmas.Int.{to_z-of_z}
+use Rattle.std.proofs.Common.{◌≡◌, ◌<ℤ◌, ◌≤ℤ◌, ◌+ℤ◌, pos, refl, sym, ◌∙◌, w64, FitsSigned, IsTrue, arith}
+use Rattle.std.proofs.Common.{rules}
+use Rattle.std.proofs.lemmas.Int.{ints, clamps, to_z-of_z}
 use Rattle.bb_tape.specs.TapeView.{IsInside}
 use Rattle.bb_sim.specs.Runner.{low_of, high_of}
 use Rattle.bb_sim.proofs.Positions.{min-same, max-same}
-use Rattle.bb_sim.proofs.Standing.{inside_fits, inside_stays, room_left, fits_next, next_above, low_grows}
-use Rattle.bb_sim.proofs.Standing.{high_stays, low_stays, high_grows}
+use Rattle.bb_sim.proofs.Standing.{inside_fits, inside_stays, room_left, fits_next, next_above}
+use Rattle.bb_sim.proofs.Standing.{high_stays, high_grows}
 use Rattle.bb_sim.proofs.runner.Runner.enter.Goals as goal
 
 pub returns-then-is_inside : goal.returns-then-is_inside
 returns-then-is_inside g c =
-    let runner = c.args.self.now in
     let view = g.T.Tape.view c.args.tape.now in
-    let sound = g.met.T.Tape.sound c.args.tape.now in
     let position_fits : FitsSigned w64 c.args.position = c.ranges.position in
-    let test = simp to_z-of_z at c.is_inside.ensures in
     let yes : IsTrue c.is_inside.result = search rules in
-    let inside = test.0 yes in
+    let inside = (simp to_z-of_z at c.is_inside.ensures).0 yes in
     let here : IsInside view c.args.position = (rw c.requires.low inside.0, rw c.requires.high inside.1) in (
-      inside_fits view c.args.position sound here,
+      inside_fits view c.args.position (g.met.T.Tape.sound c.args.tape.now) here,
       sym (inside_stays view c.args.position here),
       record {
         state = refl;
@@ -30,9 +28,8 @@ returns-then-is_inside g c =
 
 pub widen_high-requires-clause-room : goal.widen_high-requires-clause-room
 widen_high-requires-clause-room g c =
-    let runner = c.args.self.now in
-    let view = g.T.Tape.view c.args.tape.now in
-    room_left runner view c.args.position (g.met.T.Tape.sound c.args.tape.now) c.requires.low c.requires.high
+    room_left c.args.self.now (g.T.Tape.view c.args.tape.now) c.args.position
+    (g.met.T.Tape.sound c.args.tape.now) c.requires.low c.requires.high
     (λ e. c.if-self-cells.false (e ∙ c.requires.limit ∙ sym c.cells.ensures.value))
 
 pub returns-then-position-self : goal.returns-then-position-self
@@ -51,7 +48,7 @@ returns-then-position-self g c =
         state = refl;
         head = refl;
         steps = refl;
-        low = simp to_z-of_z (low_grows runner.low c.args.position below);
+        low = simp to_z-of_z (omega (arith, ints, clamps, below));
         high = simp to_z-of_z
             (high_stays runner.low c.args.position runner.cells runner.some_cell below near);
       },
@@ -78,7 +75,7 @@ returns g c =
         state = refl;
         head = refl;
         steps = refl;
-        low = low_stays runner.low c.args.position runner.cells above;
+        low = omega (arith, ints, clamps, above, runner.some_cell);
         high = high_grows runner.low c.args.position runner.cells above;
       },
     )

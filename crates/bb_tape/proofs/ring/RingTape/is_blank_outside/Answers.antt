@@ -1,8 +1,7 @@
-use Rattle.std.proofs.Common.{◌≡◌, pos, ◌+ℤ◌, ◌∙◌, arith, to_z, of_z, w64}
+use Rattle.std.proofs.Common.{◌≡◌, inl, inr, pos, ◌+ℤ◌, ◌∙◌, arith, to_z, of_z, w64}
 use Rattle.std.proofs.lemmas.Int.{ints, to_z-of_z}
-use Rattle.bb_tape.specs.Ring.{ring_content}
 use Rattle.bb_tape.proofs.WiderWindows.{low_fits, high_fits, narrow_fits}
-use Rattle.bb_tape.proofs.FromPieces.{zero_outside, zero_below_part, zero_above_part}
+use Rattle.bb_tape.proofs.FromPieces.{zero_outside}
 use Rattle.bb_tape.proofs.ring.RingTape.is_blank_outside.Goals as goal
 
 pub returns-then-is_blank : goal.returns-then-is_blank
@@ -19,10 +18,7 @@ returns-then-is_blank c =
       λ t. zero_outside a.cells.items a.window part.low part.high c.below.result c.above.result _ _ from_is
           next_is c.below.ensures c.above.ensures (c.is_blank.ensures.0 c.if-is_blank.true)
           (c.is_blank-then-is_blank.ensures.0 t),
-      λ z.
-          c.is_blank-then-is_blank.ensures.1
-          (zero_above_part (ring_content a.cells.items a.window) part.low part.high
-          _ c.above.result next_is z),
+      λ z. c.is_blank-then-is_blank.ensures.1 (λ k h. z _ (inr (omega (arith, ints, next_is)))),
     )
 
 pub returns-else-is_blank : goal.returns-else-is_blank
@@ -31,7 +27,5 @@ returns-else-is_blank c =
     let part = c.args.part in
     let from_is = to_z-of_z w64 _ (low_fits a.window.valid) in (
       λ t. cc,
-      λ z.
-          c.is_blank.ensures.1 (zero_below_part (ring_content a.cells.items a.window) part.low part.high
-          a.window.low _ c.below.result from_is c.below.ensures z),
+      λ z. c.is_blank.ensures.1 (λ k h. z _ (inl (omega (arith, ints, from_is, c.below.ensures, h)))),
     )

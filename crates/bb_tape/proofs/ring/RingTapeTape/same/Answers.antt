@@ -3,7 +3,7 @@ use Rattle.std.proofs.lemmas.Int.{to_z-of_z}
 use Rattle.bb_tape.specs.Content.{cell}
 use Rattle.bb_tape.specs.Ring.{ring_content}
 use Rattle.bb_tape.proofs.WiderWindows.{low_fits}
-use Rattle.bb_tape.proofs.FromPieces.{same_from_parts, zero_unshared, agrees_alike}
+use Rattle.bb_tape.proofs.FromPieces.{same_from_parts, zero_unshared}
 use Rattle.bb_tape.proofs.ring.RingTapeTape.same.Goals as goal
 use Rattle.bb_tape.proofs.ring.RingTapeTape.same.Goals.{then-agrees, else-agrees}
 
@@ -33,9 +33,7 @@ pub returns-else-is_blank_outside : goal.returns-else-is_blank_outside
 returns-else-is_blank_outside c =
     let a = c.args.self.now in
     let b = c.args.other.now in
-    let s = c.shared-shared.result in
-    let x = ring_content a.cells.items a.window in
-    let y = ring_content b.cells.items b.window in (
+    let s = c.shared-shared.result in (
       λ t. cc,
       λ e.
           elim c.if-agrees.branch [
@@ -45,7 +43,6 @@ returns-else-is_blank_outside c =
                 ∙ zero_unshared a.cells.items b.cells.items a.window b.window s.low s.high
                 c.shared-shared.ensures.low c.shared-shared.ensures.high e p outside)
             | else-agrees w ↦
-                (let alike : c.agrees.result ≡ true =
-                c.agrees.ensures.1 (agrees_alike x y _ c.width.result e) in cc)
+                (let alike : c.agrees.result ≡ true = c.agrees.ensures.1 (λ k _. rw e) in cc)
           ],
     )

@@ -3,11 +3,7 @@ use Rattle.bb_machine.specs.declared.machine.TheConstants.{MAX_STATES, MAX_SYMBO
 use Rattle.bb_machine.specs.inside.Draft.{symbols_limit}
 use Rattle.bb_machine.proofs.Stops.{bar_stop, full_stop, entry_stop}
 use Rattle.bb_machine.proofs.machine.reader.Draft.step.Goals as goal
-use Rattle.bb_machine.proofs.machine.reader.Draft.step.Goals.{}
-use Rattle.bb_machine.proofs.machine.reader.Draft.step.Goals.{}
 use Rattle.bb_machine.proofs.machine.reader.Draft.step.Goals.{then-self-ge-MAX_STATES-via-then-self-ge-MAX_STATES}
-use Rattle.bb_machine.proofs.machine.reader.Draft.step.Goals.{}
-use Rattle.bb_machine.proofs.machine.reader.Draft.step.Goals.{}
 use Rattle.bb_machine.proofs.machine.reader.Draft.step.Goals.{then-self-ge-MAX_STATES-via-else-self-ge-MAX_STATES+then-not-is_whole}
 
 pub returns-then-self-ge-MAX_STATES-clause-stop : goal.returns-then-self-ge-MAX_STATES-clause-stop
