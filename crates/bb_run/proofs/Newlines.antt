@@ -88,7 +88,7 @@ second_none b (Some extent) fits numbers = spaced_none (decimal b) (pair_text ex
 pub verdict_none : (verdict : Verdict) → HasNumbers verdict → HasNoNewline (verdict_text verdict)
 verdict_none (Halt steps score) fits =
     All-append IsOther (codes " halt ") (pair_text steps score) (search rules)
-        (pair_none steps score fits.0 fits.1)
+    (pair_none steps score fits.0 fits.1)
 verdict_none (Cycler first second) fits =
     All-append IsOther (codes " cycler ") (pair_text first second) (search rules)
     (pair_none first second fits.0 fits.1)
