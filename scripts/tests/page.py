@@ -157,7 +157,7 @@ def hold_document(held: Held, folder: str) -> None:
     """The page of docs/web.md decides its list, served with the files that are named there."""
     served = os.path.join(folder, "served")
     os.makedirs(served)
-    for name in ("bb.mjs", "limits.mjs", "memory.mjs"):
+    for name in ("bb.mjs", "limits.mjs", "memory.mjs", "newlines.mjs"):
         shutil.copy(os.path.join(TOP, "web", name), served)
     shutil.copy(MODULE, served)
     open(os.path.join(served, "favicon.ico"), "w").close()
