@@ -3,8 +3,9 @@ import { BYTES_KEPT } from "./lengths.mjs";
 import { countLines } from "./newlines.mjs";
 
 const NEWLINE = 10;
-// A read has so many bytes at first, then twice as many each time.
-const FIRST_READ_BYTES = 262_144;
+// A read has so many bytes at first, enough that each of four workers begins at once, then twice as many each
+// time.
+const FIRST_READ_BYTES = 2_097_152;
 const MOST_READ_BYTES = 4_194_304;
 const LEAST_BYTES = 64;
 const MOST_BYTES = 262_144;
@@ -13,7 +14,7 @@ export class Pieces {
   /** @param {Blob} blob @param {number} workers that share it */
   constructor(blob, workers) {
     this.blob = blob;
-    this.size = Math.max(LEAST_BYTES, Math.min(MOST_BYTES, Math.ceil(blob.size / (8 * workers))));
+    this.size = Math.max(LEAST_BYTES, Math.min(MOST_BYTES, Math.ceil(blob.size / (12 * workers))));
     this.offset = 0;
     this.wanted = FIRST_READ_BYTES;
     /**
