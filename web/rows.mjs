@@ -1,4 +1,10 @@
-/** The table of lines: only the rows that are seen stand in the page, so a list of millions scrolls. */
+/**
+ * The table of lines: only the rows that are seen stand in the page, so a list of millions scrolls.
+ *
+ * @typedef {import("./results.mjs").Results} Results
+ * @typedef {{element: HTMLElement, of: import("./worker.mjs").Part, line: number, isChosen: boolean}} Drawn a
+ *   row that stands in the page, and of which line of which part it is
+ */
 import { LONGEST_SHOWN } from "./lengths.mjs";
 import { made, part } from "./parts.mjs";
 import { shown } from "./machine.mjs";
@@ -15,9 +21,14 @@ export class Rows {
   /** @param {(row: number) => void} open what happens where a row is chosen */
   constructor(open) {
     this.open = open;
-    /** @type {import("./results.mjs").Results | null} */
+    /** @type {Results | null} */
     this.results = null;
     this.rows = new Uint32Array(0);
+    /**
+     * The rows that stand in the page, by their places.
+     * @type {Map<number, Drawn>}
+     */
+    this.drawn = new Map();
     this.top = 0;
     this.chosen = -1;
     this.phone = matchMedia(PHONE);
@@ -48,7 +59,7 @@ export class Rows {
   }
 
   /** Shows these rows of results. */
-  show(/** @type {import("./results.mjs").Results} */ results, /** @type {Uint32Array} */ rows) {
+  show(/** @type {Results} */ results, /** @type {Uint32Array} */ rows) {
     this.results = results;
     this.rows = rows;
     part("spacer").style.height = `${this.height}px`;
@@ -90,19 +101,38 @@ export class Rows {
     const box = part("shown");
     const at = this.isScaled ? this.box.scrollTop : this.top * this.pixels;
     box.style.transform = `translateY(${Math.max(0, at)}px)`;
-    const rows = [];
+    /** @type {Map<number, Drawn>} */
+    const drawn = new Map();
     for (let place = this.top; place < end; place += 1) {
-      rows.push(this.row(place));
+      drawn.set(place, this.drawnAt(place));
     }
-    box.replaceChildren(...rows);
+    this.drawn = drawn;
+    const rows = Array.from(drawn.values(), ({ element }) => element);
+    if (rows.length !== box.children.length || rows.some((row, k) => row !== box.children[k])) {
+      box.replaceChildren(...rows);
+    }
     const isDrawn = this.chosen >= this.top && this.chosen < end;
     isDrawn
       ? this.box.setAttribute("aria-activedescendant", `row-${this.chosen}`)
       : this.box.removeAttribute("aria-activedescendant");
   }
 
+  /**
+   * The row of a place: the one that stands there, where it is of the same line and chosen or not as before.
+   * @param {number} place @returns {Drawn}
+   */
+  drawnAt(place) {
+    const { part: of, line } = /** @type {Results} */ (this.results).place(this.rows[place]);
+    const isChosen = place === this.chosen;
+    const before = this.drawn.get(place);
+    if (before !== undefined && before.of === of && before.line === line && before.isChosen === isChosen) {
+      return before;
+    }
+    return { element: this.row(place), of, line, isChosen };
+  }
+
   row(/** @type {number} */ place) {
-    const results = /** @type {import("./results.mjs").Results} */ (this.results);
+    const results = /** @type {Results} */ (this.results);
     const { machine, verdict, answer, kind, number, given } = results.row(this.rows[place]);
     const cell = (/** @type {string} */ text, name = "") =>
       made("span", { role: "gridcell", class: name, title: text }, text);

@@ -11,7 +11,7 @@ import { makeReady } from "./workers.mjs";
 /** @typedef {import("./worker.mjs").Asked} Asked */
 
 const MOST_WORKERS = 8;
-const REFRESH_MILLISECONDS = 200;
+const REFRESH_MILLISECONDS = 250;
 // So often it is said how far a list is, to those who hear the page.
 const TELL_MILLISECONDS = 10_000;
 // A worker isn't begun for fewer bytes.
