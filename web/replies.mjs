@@ -153,14 +153,14 @@ export function readReply(bytes, machines) {
     if (bytes[at] !== LETTER_R) {
       const space = at + machines[k + 1] - machines[k] - 1;
       at = bytes[space] === SPACE ? space + 1 : behind(bytes, at, 1);
-      const kind = KIND_BY_LETTER[bytes[at]];
+      const kind = KIND_BY_LETTER[bytes[at]] ?? REFUSED;
       kinds[k] = kind;
       if (IS_NAMED[kind] === 1) {
         at = behind(bytes, at + WORDS[kind], NUMBERS[kind]);
         steps[k] = numberAt(bytes, at);
       }
     }
-    at = lineEnd(bytes, at) + 1;
+    at = Math.min(lineEnd(bytes, at) + 1, bytes.length);
     starts[k + 1] = at;
   }
   return { starts, kinds, steps };

@@ -27,7 +27,7 @@ const NEWLINE = 10;
 const BATCH_MILLISECONDS = 60;
 // The first batch has one line.
 const FIRST_BYTES = 1;
-// The next batch is so many times as long; so many times where one took fewer milliseconds than these.
+// How many times as long the next batch is: where one took a short time, and where it took less than this.
 const GROWTH = 2;
 const FAST_GROWTH = 8;
 const SHORT_MILLISECONDS = 4;
