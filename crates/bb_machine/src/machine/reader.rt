@@ -173,8 +173,9 @@ fn states_by_length(line: &[u8], symbols: usize) -> Option<usize>
         × (length line.now + 1 ≡ states * (3 * symbols + 1))) }
 {
     for states in 1..MAX_STATES + 1 {
-        if states * (3 * symbols + 1) == line.len() + 1 {
-            return Some(states);
+        let length = states * (3 * symbols + 1) - 1;
+        if length >= line.len() {
+            return (length == line.len()).then_some(states);
         }
     }
     None
