@@ -12,19 +12,15 @@
  *   ahead: import("./samples.mjs").Asked[]}} Picture `ahead` are the rows of views that may come next
  */
 import { Asker } from "./asker.mjs";
-import { forgetColours, paintAll, palette, sheetOf } from "./paint.mjs";
+import { forgetColours, palette } from "./colours.mjs";
+import { paintAll, sheetOf } from "./paint.mjs";
 import { part } from "./parts.mjs";
-import { areaOf, isSeen, kept, middleOf, moved, placeAt, wayTo } from "./places.mjs";
+import { LEGIBLE, areaOf, isSeen, kept, middleOf, moved, placeAt, strideOf, wayTo } from "./places.mjs";
 import { closeTo, isSame, zoomed } from "./scale.mjs";
 import { pictureWords, placeWords } from "./telling.mjs";
 
 // A picture is waited for so long before the next one is begun: what was traced for it is of use.
 const PATIENCE_MILLISECONDS = 1_500;
-// Where cells are at least so high, a step that is gone to is brought into view.
-const LEGIBLE = 6;
-// Keys point at the next cell where cells are seen by themselves, else so many pixels farther.
-const POINT_PIXELS = 10;
-const FAR_PIXELS = 120;
 
 export class Diagram {
   /** @param {(place: Place) => void} choose what happens where a step is chosen in the picture */
@@ -253,11 +249,7 @@ export class Diagram {
     if (scene === null || shown === null) {
       return;
     }
-    const { view } = scene;
-    const least = far ? FAR_PIXELS : POINT_PIXELS;
-    const isOne = view.wide >= LEGIBLE && view.high >= LEGIBLE && !far;
-    const cells = isOne ? 1 : Math.max(1, Math.round(least / view.wide)) * view.across;
-    const steps = isOne ? 1 : Math.max(1, Math.round(least / view.high)) * view.every;
+    const { cells, steps } = strideOf(scene.view, far);
     const from = this.place ?? (isSeen(scene, this.chosen) ? this.chosen : this.placeOfMiddle(scene));
     const step = Math.max(0, Math.min(shown.upto, from.step + down * steps));
     this.place = { position: from.position + right * cells, step };
@@ -299,10 +291,7 @@ export class Diagram {
     canvas.dataset.state = isNew ? "drawn" : "asked";
   }
 
-  /**
-   * The picture as a file.
-   * @returns {Promise<Blob | null>}
-   */
+  /** The picture as a file. @returns {Promise<Blob | null>} */
   async png() {
     return new Promise((done) => this.canvas.toBlob(done, "image/png"));
   }

@@ -10,12 +10,12 @@
  * @typedef {{x: number, y: number, width: number, height: number}} Area where the picture stands
  * @typedef {{x: number, y: number, wide: number, high: number}} Box
  */
+import { ink } from "./colours.mjs";
 import { shown } from "./machine.mjs";
 import { signed } from "./parts.mjs";
 import { FRAMED, symbolAt } from "./sample.mjs";
 import { cellsOf, stepsOf, ticks } from "./scale.mjs";
 
-const SYMBOLS = 10;
 const LABEL_PIXELS = 18;
 const LEAST_BAND = 4;
 const LEAST_HALO = 3;
@@ -27,40 +27,6 @@ const NUMBER_PIXELS = 9;
 const ARROW_PIXELS = 6;
 // A number on an axis has a mark as long, in the pixel where its row or column has its middle.
 const MARK_PIXELS = 4;
-
-/**
- * The colours that were asked for; the browser works out its style anew each time that it is asked.
- * @type {Map<string, string>}
- */
-const colours = new Map();
-
-/** Has colours be asked for again, since the style has others. */
-export function forgetColours() {
-  colours.clear();
-}
-
-/** A colour of the page's style, as a pen wants it. */
-function ink(/** @type {string} */ name) {
-  const known = colours.get(name);
-  if (known !== undefined) {
-    return known;
-  }
-  const text = getComputedStyle(document.documentElement).getPropertyValue(name).trim();
-  colours.set(name, text);
-  return text;
-}
-
-/** The same as red, green and blue. */
-function colour(/** @type {string} */ name) {
-  const text = ink(name);
-  return [1, 3, 5].map((at) => parseInt(text.slice(at, at + 2), 16));
-}
-
-/** The colours of the symbols, of what isn't visited yet, and of the head. */
-export function palette() {
-  const symbols = Array.from({ length: SYMBOLS }, (_, symbol) => colour(`--s${symbol}`));
-  return [...symbols, colour("--unvisited"), colour("--head")];
-}
 
 /** Where a step's row begins. */
 function rowAt(/** @type {Area} */ area, /** @type {View} */ view, /** @type {number} */ step) {

@@ -17,6 +17,11 @@ const LEFT = 78;
 const LEFT_NARROW = 58;
 const NARROW = 500;
 const MANY_STEPS = 1_000_000;
+// Cells at least so wide and high are seen by themselves.
+export const LEGIBLE = 6;
+// Keys point at the next cell where cells are seen by themselves, else so many pixels farther.
+const POINT_PIXELS = 10;
+const FAR_PIXELS = 120;
 // A view is moved so far beyond what was visited.
 const BEYOND = 4;
 
@@ -89,6 +94,15 @@ export function middleOf(scene, places) {
   const wanted = places.find((one) => one !== null && isSeen(scene, one));
   const center = { x: x + width / 2, y: y + height / 2 };
   return wanted ? pointOf(scene, wanted) : headNear(scene, center.y) ?? center;
+}
+
+/** By how many cells and steps keys move what they point at. */
+export function strideOf(/** @type {View} */ view, /** @type {boolean} */ far) {
+  const least = far ? FAR_PIXELS : POINT_PIXELS;
+  const isOne = view.wide >= LEGIBLE && view.high >= LEGIBLE && !far;
+  const cells = isOne ? 1 : Math.max(1, Math.round(least / view.wide)) * view.across;
+  const steps = isOne ? 1 : Math.max(1, Math.round(least / view.high)) * view.every;
+  return { cells, steps };
 }
 
 /** A view moved by so many pixels, by whole columns and rows. @returns {View} */
