@@ -1,4 +1,5 @@
 //! How far a list has come, as a line on a terminal.
+ghost use Rattle.std.specs.Prelude.{◌≡◌, ◌≤◌, ◌<◌, ◌*◌, ◌^◌, ◌/◌, min, IfSome, MatchOption};
 
 use arrayvec::ArrayString;
 use std::cell::Cell;
@@ -78,9 +79,7 @@ impl<'a> Progress<'a> {
 
     /// How many of a hundred bytes are of lines that were visited, where the list's bytes are known.
     fn percent(&self) -> Option<u64> {
-        let size = self.size?;
-        let hundredfold = self.visited.get().saturating_mul(100);
-        Some(hundredfold.checked_div(size)?.min(100))
+        percent_of(self.visited.get(), self.size?)
     }
 
     /// Takes the line away.
@@ -89,4 +88,14 @@ impl<'a> Progress<'a> {
             let _ = self.rt.eprint("\r\x1b[K");
         }
     }
+}
+
+/// How many of a hundred bytes were visited; none where there are no bytes, and 100 of a file that grew
+/// meanwhile.
+fn percent_of(visited: u64, size: u64) -> Option<u64>
+    ensures bounded { MatchOption result (size ≡ 0) (λ percent. percent ≤ 100) }
+    ensures exact { visited * 100 < 2 ^ 64
+        → IfSome result (λ percent. percent ≡ min (visited * 100 / size) 100) }
+{
+    Some(visited.saturating_mul(100).checked_div(size)?.min(100))
 }
