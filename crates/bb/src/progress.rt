@@ -66,7 +66,9 @@ impl<'a> Progress<'a> {
         })
     }
 
-    /// Takes in that so many bytes were read. A list is read on only once all whole lines are answered.
+    /// Takes in that so many bytes were read. A list is read on only once all whole lines are answered. It
+    /// isn't inlined, by which the watched run begins at a multiple of 64 bytes (docs/speed.md).
+    #[inline(never)]
     pub fn add_read(&self, count: usize) {
         self.answered.set(self.read.get());
         self.read.set(self.read.get().saturating_add(count as u64));
