@@ -290,8 +290,8 @@ fn refuses_limits(rt: HostRuntime) {
     ] {
         match stop(&rt, words) {
             Stop::Limits(fault) => {
-                let told = fault.to_string(rt.alloc()).expect(&rt, "memory");
-                assert_eq!(rt; told.as_str(), text);
+                let shown = fault.to_string(rt.alloc()).expect(&rt, "memory");
+                assert_eq!(rt; shown.as_str(), text);
             }
             other => panic!(rt; "{other:?}"),
         }
@@ -333,7 +333,7 @@ fn refuses_words(rt: HostRuntime) {
 
 #[test]
 fn tells_what_it_is_asked(rt: HostRuntime) {
-    for (words, told) in [
+    for (words, part) in [
         (["--help"].as_slice(), "| bb decide "),
         (["decide", "--help"].as_slice(), "halt STEPS SCORE"),
         (["check", "-h"].as_slice(), "| bb check "),
@@ -343,7 +343,7 @@ fn tells_what_it_is_asked(rt: HostRuntime) {
         (["--version"].as_slice(), "bb 0.2.0\n"),
     ] {
         let stop = stop(&rt, words);
-        assert!(rt; matches!(&stop, Stop::Help(text) if text.as_str().contains(told)));
+        assert!(rt; matches!(&stop, Stop::Help(text) if text.as_str().contains(part)));
         assert_eq!(rt; stop.status(), 0);
     }
 }

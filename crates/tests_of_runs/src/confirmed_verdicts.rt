@@ -77,7 +77,7 @@ fn expected(rt: &(impl Abort + AllocGlobal), verdicts: &[u8]) -> String {
 }
 
 /// Whether this is a verdict of the line, and no refusal.
-fn is_told(rt: &impl Abort, line: &str, verdict: &str) -> bool {
+fn is_verdict(rt: &impl Abort, line: &str, verdict: &str) -> bool {
     if verdict.starts_with("refused ") {
         return false;
     }
@@ -89,16 +89,16 @@ fn is_told(rt: &impl Abort, line: &str, verdict: &str) -> bool {
 fn are_verdicts(rt: &(impl Abort + AllocGlobal), verdicts: &[u8]) {
     let lines = str::from_utf8(LINES).expect(rt, "text").lines();
     let verdicts = str::from_utf8(verdicts).expect(rt, "text").lines();
-    let mut told = 0u8;
+    let mut given = 0u8;
     let mut refused = 0u8;
     for (line, verdict) in lines.zip(verdicts) {
-        if is_told(rt, line, verdict) {
-            told = told.saturating_add(1);
+        if is_verdict(rt, line, verdict) {
+            given = given.saturating_add(1);
         } else {
             refused = refused.saturating_add(1);
         }
     }
-    assert_eq!(rt; told, 21);
+    assert_eq!(rt; given, 21);
     assert_eq!(rt; refused, 4);
 }
 

@@ -98,7 +98,7 @@ static STEPS: [Counted; 12] = [
     ),
 ];
 
-/// Where a tree is told of, it has these nodes and levels.
+/// Where a tree is the verdict, it has these nodes and levels.
 fn assert_tree_is_counted(rt: &impl Abort, output: &[u8], peak: &Meter) {
     if output.ends_with(b" backward 2 4\n") {
         assert_eq!(rt; peak.nodes, 4);

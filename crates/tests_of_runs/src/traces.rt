@@ -69,7 +69,7 @@ fn traces_on_both_tapes(rt: HostRuntime) {
     }
 }
 
-/// A line, the limits of steps and cells, the first step that is told and every how many, the output, and
+/// A line, the limits of steps and cells, the first step that has a line and every how many, the output, and
 /// whether the summary is clean.
 type SampledRow = (&'static [u8], u64, u64, u64, u64, &'static [u8], bool);
 
