@@ -7,8 +7,9 @@ It looks at README.md, CHANGELOG.md, `docs/`, the manual page and the examples' 
 links and the words in backquotes, and tells by their form what they are: files, names of the crates, lemmas,
 clauses of contracts, edits, options, lines of the program. What isn't there is printed with document and
 line. It is also tried on a document in which one of each is broken. The README has at most so many words
-beside tables and code, each item of the decisions is short, and the version is one wherever it stands. It
-takes a second. The last line is `N passed, M failed`; the status is 1 where any failed.
+beside tables and code, each item of the decisions is short, and the version is one wherever it stands. In
+docs/layers.md each crate stands on what crates.txt says, and the crates of tests have all their modules. It
+takes some seconds. The last line is `N passed, M failed`; the status is 1 where any failed.
 """
 
 from __future__ import annotations
@@ -63,6 +64,9 @@ COMMANDS = ("bb", "./bb", "coq/", "scripts/", "budlarem", "./test")
 # The most words of the README beside tables and code, and the most characters of an item of the decisions.
 README_WORDS = 1000
 ITEM_CHARACTERS = 500
+# Where it stands what crates there are, and with which words the names of crates of tests alone begin.
+LAYERS = "docs/layers.md"
+OF_TESTS = "tests_of_"
 # Where the version stands.
 VERSIONS = {
     "crates/bb_command/src/command.rt": r'\.version\("([0-9.]+)"\)',
@@ -379,6 +383,39 @@ def long_items(path: str, text: str) -> Iterator[Finding]:
             yield Finding(path, number, what)
 
 
+def with_below(sources: Sources, names: List[str]) -> Set[str]:
+    """Those of these names that are crates, and what they stand on, directly or through others."""
+    crates = {name for name in names if name in sources.by_crate}
+    return crates.union(*(with_below(sources, sources.below[crate]) for crate in crates))
+
+
+def wrong_crates(sources: Sources, path: str, text: str) -> Iterator[Finding]:
+    """Rows of the table of crates that say otherwise than crates.txt on what a crate stands, and crates
+    without a row; those of tests need none."""
+    missing = {crate for crate in sources.by_crate if not crate.startswith(OF_TESTS)}
+    for number, line in enumerate(text.split("\n"), 1):
+        row = re.match(r"\| `(\w+)` \|([^|]*)\|", line)
+        if row and row[1] in missing:
+            missing.remove(row[1])
+            named, there = (with_below(sources, names) for names in (quoted(row[2]), sources.below[row[1]]))
+            if named != there:
+                differ = ", ".join(sorted(named ^ there))
+                yield Finding(path, number, "on what `%s` stands: %s" % (row[1], differ))
+    for crate in sorted(missing):
+        yield Finding(path, 1, "no row of `%s`" % crate)
+
+
+def unnamed_modules(sources: Sources, path: str, text: str) -> Iterator[Finding]:
+    """Modules of the crates of tests that the crate's item doesn't name."""
+    lines = text.split("\n")
+    for crate in sorted(crate for crate in sources.by_crate if crate.startswith(OF_TESTS)):
+        item = next((at for at, line in enumerate(lines) if quoted(leading(line)) == [crate]), 0)
+        modules = re.findall(r"^mod (\w+);", read(TOP, "crates/%s/src/lib.rt" % crate), re.M)
+        for module in modules:
+            if module not in quoted(lines[item]):
+                yield Finding(path, item + 1, "no module `%s` of `%s`" % (module, crate))
+
+
 def documents() -> List[str]:
     """The paths of the documents."""
     listed = sorted(name for name in os.listdir(os.path.join(TOP, "docs")) if name.endswith(".md"))
@@ -387,11 +424,11 @@ def documents() -> List[str]:
 
 def tried(sources: Sources) -> Iterator[Tuple[str, bool]]:
     """A copy of a document with one of each broken: each is named with its line, and nothing else is."""
-    text = read(TOP, "docs/layers.md")
+    text = read(TOP, LAYERS)
     first = text.count("\n") + 2
-    broken = Document(sources, "docs/layers.md", "\n".join([text, *(line for line, _ in BROKEN)]))
+    broken = Document(sources, LAYERS, "\n".join([text, *(line for line, _ in BROKEN)]))
     found = [str(finding) for finding in broken.findings()]
-    wanted = ["docs/layers.md:%d: %s" % (first + at, what) for at, (_, what) in enumerate(BROKEN) if what]
+    wanted = ["%s:%d: %s" % (LAYERS, first + at, what) for at, (_, what) in enumerate(BROKEN) if what]
     for what in wanted:
         yield "it is named: %s" % what, what in found
     for what in found:
@@ -409,13 +446,26 @@ def tried(sources: Sources) -> Iterator[Tuple[str, bool]]:
     yield "long items: %s" % items, items == ["one.md:2: too long: an item of 501 characters (500 at most)"]
 
 
+def tried_layers(sources: Sources) -> Iterator[Tuple[str, bool]]:
+    """A copy of the layers that lacks a crate, what a crate stands on, and a module: each is named."""
+    text = read(TOP, LAYERS).replace("| `bb_decide`, `bb_lines` and below |", "| `bb_decide` and below |")
+    text = text.replace("\n| `example` |", "\n| an example |").replace("`line_engine`, ", "")
+    crates = [finding.what for finding in wrong_crates(sources, LAYERS, text)]
+    yield "crates: %s" % crates, crates == ["on what `bb_run` stands: bb_lines", "no row of `example`"]
+    modules = [finding.what for finding in unnamed_modules(sources, LAYERS, text)]
+    yield "modules of tests: %s" % modules, modules == ["no module `line_engine` of `tests_of_runs`"]
+
+
 def findings_of(sources: Sources, path: str) -> Iterator[Finding]:
-    """What a document or the manual page names that isn't there, and items that are too long."""
+    """What a document or the manual page names that isn't there or leaves out, and what is too long."""
     text = read(TOP, path)
     if not path.endswith(".md"):
         yield from manual_page(sources, path, text)
         return
     yield from Document(sources, path, text).findings()
+    if path == LAYERS:
+        yield from wrong_crates(sources, path, text)
+        yield from unnamed_modules(sources, path, text)
     if path == "docs/DECISIONS.md":
         yield from long_items(path, text)
     if path == "README.md" and words_beside(text) > README_WORDS:
@@ -431,7 +481,7 @@ def main() -> int:
     words(__doc__, needs_program=False).parse_args()
     sources = sources_of(TOP)
     tally = Tally(most_printed=1000)
-    for what, holds in tried(sources):
+    for what, holds in [*tried(sources), *tried_layers(sources)]:
         tally.hold(what, holds)
     found = versions()
     named = {tuple(ones) for ones in found.values()}
