@@ -44,7 +44,7 @@ QUICK_PASS = (300, 64, 3, 10)
 DEADLY = "    if %r in lines: import os; os._exit(9)\n" % LONG_MACHINE
 # How a worker answers the same to all verdicts, and how it says of a wrong one that it is right.
 KEEPS_ANSWERS = """
-def _kept_answer(limits: Numbers) -> Reply:
+def _kept_answer(limits: Numbers) -> PieceReply:
     return _replied(question(CHECK, limits), checking(Limits(*limits)), b"1RZ--- halt 1 1\\n")
 
 
@@ -188,7 +188,7 @@ def hold_end(tally: Tally, what: str, case: Case, status: int, right: bytes) -> 
 
 
 def hold_sentence(tally: Tally, case: Case, process: Process, text: str) -> None:
-    """Waits until the run tells something."""
+    """Waits until the run prints something."""
     tally.hold("%r is printed: %s" % (text, case.said()), seen(process, lambda: text in case.said()))
 
 
