@@ -31,7 +31,7 @@ sys.path.insert(0, os.path.join(os.path.dirname(os.path.abspath(__file__)), ".."
 
 from built import has_library  # noqa: E402
 from machines import mixed  # noqa: E402
-from program import ended, joined, options  # noqa: E402
+from program import as_lines, ended, options  # noqa: E402
 from runs import Case, environment, folder, is_at_work, seen  # noqa: E402
 from tally import TOP, Tally, end_with, heed_interruption, words  # noqa: E402
 
@@ -51,8 +51,8 @@ class Place:
         lines = list(mixed(count, seed))
         lines[count // 2], lines[count // 3] = "1rB1LB", ""
         self.list, self.verdicts, self.out = top / "list.txt", top / "verdicts.txt", top / "out.tar"
-        self.list.write_bytes(joined(lines))
-        self.verdicts.write_bytes(ended([program, "decide", *options(FIRST)], joined(lines)).output)
+        self.list.write_bytes(as_lines(lines))
+        self.verdicts.write_bytes(ended([program, "decide", *options(FIRST)], as_lines(lines)).output)
 
     def words(self, *more: str, out: Optional[pathlib.Path] = None) -> List[str]:
         """A command that publishes."""
