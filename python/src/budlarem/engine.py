@@ -11,7 +11,7 @@ from ._crew import BatchPace, in_order
 from ._lengths import LONGEST_GIVEN, LONGEST_SHOWN, LONGEST_VALUE
 from ._library import NOT_CLEAN, SHORT, Reply, Room, forbid_fork, loaded
 from .limits import Limits, Plan, in_range, whole
-from .verdicts import STATES, VERDICTS, Answer, Refused, Verdict, hold_fields, verdict_of
+from .verdicts import VERDICTS, Answer, Refused, Verdict, hold_fields, verdict_of
 
 __all__ = [
     "Configuration",

@@ -10,13 +10,12 @@ import dataclasses
 import heapq
 import html
 import io
-import itertools
 import math
 import os
 import pathlib
 import re
 import string
-from typing import Any, Callable, Counter, Dict, Iterable, Iterator, List, Optional, Sequence, Tuple, Union
+from typing import Any, Counter, Dict, Iterable, Iterator, List, Optional, Sequence, Tuple, Union
 
 from ._errors import naming
 from .limits import Limits, in_range
@@ -27,7 +26,6 @@ from .verdicts import (
     Backward,
     Cycler,
     Halt,
-    Refused,
     Translated,
     Undecided,
     Verdict,
