@@ -21,17 +21,7 @@ from ._errors import naming
 from .limits import Limits, in_range
 from .lists import Growth, Triage, triage
 from .pictures import COLOURS, HEAD, UNVISITED, Row, png, png_of_colours, spread
-from .verdicts import (
-    VERDICTS,
-    Backward,
-    Cycler,
-    Halt,
-    Translated,
-    Undecided,
-    Verdict,
-    parse,
-    size_of,
-)
+from .verdicts import VERDICTS, Backward, Cycler, Halt, Translated, Undecided, Verdict, parse, size_of
 
 __all__ = ["Report", "ReportError", "report"]
 

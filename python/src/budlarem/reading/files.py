@@ -33,7 +33,7 @@ class _Raw(io.RawIOBase):
 
 def lines_of(source: Source) -> Iterator[str]:
     """The lines, as texts without newlines. Raises OSError where a path can't be opened, TypeError where it
-    is no list."""
+    is no list, ValueError where it is the text of one."""
     if isinstance(source, (bytes, bytearray, memoryview)):
         raise TypeError("a list's bytes are given as io.BytesIO(..), and a path as a str")
     if isinstance(source, str) and "\n" in source:
