@@ -103,7 +103,7 @@ def summary_of(case: Case) -> Dict[str, float]:
 def by_dask(
     case: Case, limits: Sequence[int], found: Cluster, more: Sequence[str] = ()
 ) -> Tuple[bytes, float]:
-    """What the runner writes by dask, and the seconds that its summary tells."""
+    """What the runner writes by dask, and the seconds that its summary has."""
     written = by_runner(case, limits, ["--scheduler", found.address, *more])
     return written, summary_of(case)["seconds"]
 

@@ -272,7 +272,7 @@ def hold_names(tally: Tally, place: Place) -> None:
 
 
 def hold_run(tally: Tally, program: str, top: pathlib.Path) -> None:
-    """A run's folder tells its limits; one that isn't at its end, or kept only some verdicts, is refused."""
+    """A run's folder says its limits; one that isn't at its end, or kept only some verdicts, is refused."""
     place = Place(program, top / "of_run", 400, 5)
     case = Case(top / "run", place.list.read_bytes())
     case.run()

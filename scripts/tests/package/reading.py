@@ -137,7 +137,7 @@ def hold_read(tally: Tally, program: str, lines: List[str]) -> None:
                 "%s:%d: refused: %s" % (shown, one.number, one.reason) in error.decode()
                 for one in refused[:50]
             )
-            tally.hold("what budlarem read tells of %s" % name, whole and len(printed) > len(refused))
+            tally.hold("what budlarem read says of %s" % name, whole and len(printed) > len(refused))
     decided = ended([program, "decide", *options(LIMITS)], right)
     tally.hold("the program reads each of the machines", b"refused" not in decided.output)
     found = command("decide", *options(LIMITS), given=right)
