@@ -41,8 +41,8 @@ def has_page() -> bool:
 
 
 def has_web(tally: Tally, what: str, built: str) -> bool:
-    """Whether the module or the page, of which `built` is the path, is that of these sources. Where neither it
-    nor the kit is there, what needs it is skipped."""
+    """Whether the module or the page, of which `built` is the path, is that of these sources. Where neither
+    it nor the kit is there, what needs it is skipped."""
     if shutil.which("rt") is None and not os.path.exists(built):
         path = os.path.relpath(built, TOP)
         tally.skip("%s: %s isn't built, and there is no kit to build it" % (what, path))
