@@ -9,23 +9,23 @@
 #include "bb.h"
 
 int main(int words, char **word) {
-    int status = 0;
+    int worst = BB_CLEAN;
     for (int at = 1; at < words; at++) {
         size_t length = strlen(word[at]), room = BB_DECIDE_LINE_ROOM(length), count;
         uint8_t *reply = malloc(room);
         if (reply == NULL)
             return BB_MEMORY;
-        uint32_t told = bb_decide_line(1000000, 65536, 300, 1000000, true, true, true,
-                                       (const uint8_t *)word[at], length, reply, room, &count);
-        if (told > BB_NOT_CLEAN) {
-            fprintf(stderr, "decide: status %u\n", (unsigned)told);
+        uint32_t status = bb_decide_line(1000000, 65536, 300, 1000000, true, true, true,
+                                         (const uint8_t *)word[at], length, reply, room, &count);
+        if (status > BB_NOT_CLEAN) {
+            fprintf(stderr, "decide: status %u\n", (unsigned)status);
             free(reply);
-            return (int)told;
+            return (int)status;
         }
         printf("%.*s\n", (int)count, (const char *)reply);
         free(reply);
-        if (told == BB_NOT_CLEAN)
-            status = 1;
+        if (status == BB_NOT_CLEAN)
+            worst = BB_NOT_CLEAN;
     }
-    return status;
+    return worst;
 }

@@ -2,7 +2,7 @@
  *
  *     trace MACHINE UPTO [EVERY [FROM]]
  *
- * The first call tells how much room the lines need.
+ * The first call says how much room the lines need.
  */
 #include <stdio.h>
 #include <stdlib.h>
@@ -25,17 +25,17 @@ int main(int words, char **word) {
     uint64_t upto = number(words, word, 2, 0), every = number(words, word, 3, 1);
     uint64_t from = number(words, word, 4, 0);
     uint8_t none[1], *out = NULL;
-    uint32_t told = bb_trace(upto, 65536, from, every, machine, length, none, 0, &count);
-    if (told == BB_SHORT) {
+    uint32_t status = bb_trace(upto, 65536, from, every, machine, length, none, 0, &count);
+    if (status == BB_SHORT) {
         size_t room = count;
         out = malloc(room);
-        told = out == NULL ? BB_MEMORY
-                           : bb_trace(upto, 65536, from, every, machine, length, out, room, &count);
+        status = out == NULL ? BB_MEMORY
+                             : bb_trace(upto, 65536, from, every, machine, length, out, room, &count);
     }
-    if (told > BB_NOT_CLEAN)
-        fprintf(stderr, "trace: status %u\n", (unsigned)told);
+    if (status > BB_NOT_CLEAN)
+        fprintf(stderr, "trace: status %u\n", (unsigned)status);
     else if (count > 0)
         fwrite(out, 1, count, stdout);
     free(out);
-    return (int)told;
+    return (int)status;
 }

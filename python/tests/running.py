@@ -31,6 +31,25 @@ SMALL, MIDDLE = Limits(30, 16, 3, 5), Limits(1_000, 128, 20, 100)
 PASSES = (SMALL, MIDDLE)
 
 
+class ExecutorPlace:
+    """Any executor, with so many workers. Each has a piece, and as many pieces wait."""
+
+    def __init__(self, executor: Executor, workers: int) -> None:
+        self._executor, self._workers = executor, workers
+
+    def width(self) -> int:
+        return 2 * self._workers
+
+    def submit(self, task: tasks.Task, lines: bytes, limits: tasks.Numbers) -> Future[Any]:
+        return self._executor.submit(task, lines, limits)
+
+    def tend(self) -> None:
+        pass
+
+    def status(self) -> str:
+        return ""
+
+
 def expected(given: bytes, limits: Sequence[Limits] = PASSES) -> bytes:
     """The verdict lines of a list, by one call for each pass."""
     lines = b"".join(budlarem.decide_bytes(given, limits[0])).splitlines(keepends=True)
@@ -114,7 +133,7 @@ class RunnerTest(unittest.TestCase):
         """A run, by an executor or by two threads."""
         place: workplace.Workplace = workplace.Threads(2)
         if executor is not None:
-            place = workplace.ExecutorPlace(executor, 2)
+            place = ExecutorPlace(executor, 2)
         listed = source.ListFile(path or str(self.list))
         try:
             opened = folders.Folder(str(self.out))

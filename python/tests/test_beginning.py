@@ -14,7 +14,7 @@ import unittest.mock
 from typing import Iterator, List, Tuple
 
 from budlarem import PublishError, commands, publish
-from budlarem._batches import LONG
+from budlarem._lengths import LONGEST_GIVEN
 from budlarem.runner import errors, forms, source
 
 MACHINE = b"1RB1LB_1LA1RZ\n"
@@ -77,7 +77,7 @@ class FirstLinesTest(BeginningTest):
     def test_a_list_that_has_no_newline_is_not_held_whole(self) -> None:
         self.list.write_bytes(gzip.compress(os.urandom(4_000_000).replace(b"\n", b"")))
         with contextlib.closing(source.ListFile(str(self.list))) as listed:
-            self.assertEqual([len(line) for line in listed.first_lines(1_000)], [LONG])
+            self.assertEqual([len(line) for line in listed.first_lines(1_000)], [LONGEST_GIVEN])
             self.assertLess(listed.part(0) or 1.0, 0.7)
 
     def test_a_pause(self) -> None:

@@ -39,7 +39,7 @@ class DecideTest(unittest.TestCase):
             self.assertEqual(decided(machines), LINES)
         self.assertEqual(decided([]), [])
 
-    def test_what_was_refused_is_told(self) -> None:
+    def test_what_was_refused_is_kept(self) -> None:
         (verdict,) = budlarem.decide(["x y"])
         self.assertEqual(verdict, budlarem.Refused(1))
         self.assertEqual(verdict.machine, "x y")
@@ -240,7 +240,7 @@ class ProcessTest(unittest.TestCase):
         self.assertIn("/nowhere/libbb.so", self.run_with(code, BB_LIBRARY="/nowhere/libbb.so"))
         self.assertIn("can't be loaded", self.run_with(code, BB_LIBRARY=__file__))
 
-    def test_a_fork_with_threads_is_told(self) -> None:
+    def test_a_fork_with_threads_is_refused(self) -> None:
         code = """
 import os, sys, threading, warnings, budlarem
 warnings.simplefilter("ignore")

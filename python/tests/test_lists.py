@@ -278,7 +278,7 @@ class ReportTest(unittest.TestCase):
         self.assertEqual(re.findall(r"<text[^>]*>([0-9.]+)</text>", drawn), ["3"])
 
     @unittest.skipIf(HAS_PLOTS, "numpy and matplotlib are installed")
-    def test_what_is_missing_is_told(self) -> None:
+    def test_what_is_missing_is_named(self) -> None:
         self.assertRaisesRegex(budlarem.ReportError, "pip install", budlarem.report, [], "page.html")
 
 
@@ -293,7 +293,7 @@ class CommandTest(unittest.TestCase):
         status, lines, _ = self.run_with("decide", given="1RZ---, a b\r\n%s\n# c\nx;y\n" % CHAMPION)
         self.assertEqual((status, lines), (1, ["1RZ--- halt 1 1\ta b", CHAMPION + " halt 6 4", "refused 1"]))
 
-    def test_a_refused_line_is_told_and_passed_over(self) -> None:
+    def test_a_refused_line_is_named_and_passed_over(self) -> None:
         machines = [CHAMPION, "1RB1LC_1LA1RZ", "1RA1RA"]
         claims = [CHAMPION + " halt 6 4", "1RA1RA halt 6", "1RA1RA translated R 1 2 1 1"]
         with tempfile.TemporaryDirectory() as folder:
@@ -314,7 +314,7 @@ class CommandTest(unittest.TestCase):
                 self.assertEqual((status, len(written)), (1, count), words)
                 self.assertIn("%s:2: refused: " % path, said, words)
 
-    def test_a_full_disk_is_told_with_what_was_written(self) -> None:
+    def test_a_full_disk_is_named_with_what_was_written(self) -> None:
         command = [sys.executable, "-m", "budlarem", "decide"]
         with open("/dev/full", "wb") as full:
             ended = subprocess.run(command, input=b"1RZ---\n", stdout=full, stderr=subprocess.PIPE)

@@ -14,7 +14,7 @@ from typing import Any, Dict, Iterator, List
 
 import budlarem
 from budlarem import Reading, Rewriting
-from budlarem.reading.lines import LONGEST_LINE
+from budlarem._lengths import LONGEST_LINE
 from budlarem.reading.values import ADVICE
 
 CHAMPION = "1RB1LB_1LA1RZ"

@@ -40,6 +40,19 @@ def has_page() -> bool:
     return status_of("web") == 0
 
 
+def has_web(tally: Tally, what: str, built: str) -> bool:
+    """Whether the module or the page, of which `built` is the path, is that of these sources. Where neither
+    it nor the kit is there, what needs it is skipped."""
+    if shutil.which("rt") is None and not os.path.exists(built):
+        path = os.path.relpath(built, TOP)
+        tally.skip("%s: %s isn't built, and there is no kit to build it" % (what, path))
+        return False
+    stands = has_page()
+    if not stands:
+        tally.hold("scripts/web builds", False)
+    return stands
+
+
 def has_lister(tally: Tally, what: str) -> bool:
     """Whether lists can be made, which takes `rustc`; else what needs one is skipped."""
     return tally.has(what, "rustc")

@@ -63,7 +63,7 @@ def ended(
     return Ended(done.returncode, done.stdout, done.stderr)
 
 
-def joined(lines: Iterable[str]) -> bytes:
+def as_lines(lines: Iterable[str]) -> bytes:
     """Lines as bytes, each with its newline."""
     return "".join(line + "\n" for line in lines).encode("utf-8", "surrogatepass")
 
@@ -71,7 +71,7 @@ def joined(lines: Iterable[str]) -> bytes:
 def replies(command: Sequence[str], lines: Iterable[str]) -> List[str]:
     """The lines that a command of the program answers to these. It must end with status 0, or with 1 as where
     an answer isn't clean, and say nothing on standard error; else this process ends with status 1."""
-    status, output, error = ended(command, joined(lines))
+    status, output, error = ended(command, as_lines(lines))
     if status not in (0, 1) or error:
         sys.exit("failed: %s: status %d, %r" % (" ".join(command[1:]), status, error))
     return output.decode().splitlines()

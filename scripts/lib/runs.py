@@ -14,7 +14,7 @@ from typing import Any, Callable, Dict, Iterator, List, Optional, Sequence
 
 from built import LIBRARY
 from machines import mixed
-from program import LIMITS, ended, joined, options
+from program import LIMITS, as_lines, ended, options
 from tally import TOP, Tally, heed_interruption
 
 SOURCE = os.path.join(TOP, "python", "src")
@@ -47,7 +47,7 @@ def random_list(count: int, seed: int) -> bytes:
     """Machines of all sizes, and some lines that are none."""
     lines = list(mixed(count, seed))
     lines[count // 2], lines[count // 3] = "1rB1LB", lines[count // 3] + " halt 6 4"
-    return joined(lines)
+    return as_lines(lines)
 
 
 def decided(program: str, given: bytes, limits: Sequence[int]) -> List[bytes]:

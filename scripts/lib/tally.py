@@ -34,7 +34,7 @@ class Tally:
         self.passed, self.failed, self.skipped, self.most_printed = 0, 0, 0, most_printed
 
     def hold(self, what: str, holds: object) -> None:
-        """Counts one thing; tells it where it doesn't hold."""
+        """Counts one thing; prints it where it doesn't hold."""
         if holds:
             self.passed += 1
         else:
@@ -43,14 +43,14 @@ class Tally:
                 print("failed:", what, flush=True)
 
     def within(self, what: str, seconds: float, bar: float) -> None:
-        """Tells a time beside its bar, both in seconds. It fails only where it is far above the bar;
+        """Prints a time beside its bar, both in seconds. It fails only where it is far above the bar;
         `scripts/speed/outside.py` holds the bars themselves, on a quiet machine."""
         sentence = "%s: %.3f s (bar: %.3f s)" % (what, seconds, bar)
         print(sentence, flush=True)
         self.hold(sentence, seconds <= FAR * bar)
 
     def skip(self, what: str, count: int = 1) -> None:
-        """Counts what can't be tried here, one thing or more, and tells why."""
+        """Counts what can't be tried here, one thing or more, and prints why."""
         self.skipped += count
         print("skipped:", what, flush=True)
 

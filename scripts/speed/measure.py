@@ -30,9 +30,9 @@ from machines import halting_once, uniform  # noqa: E402
 from program import (
     MAX_CELLS,
     SIMULATION,
+    as_lines,
     begins_modulo_64,
     ended,
-    joined,
     kind_of,
     processor_time,
     replies,
@@ -76,7 +76,7 @@ Ending = Tuple[int, bytes]
 
 def halting_machines(draw: random.Random, count: int, states: int) -> str:
     """So many random machines of so many states, each with one entry that halts."""
-    return joined(halting_once(draw, states) for _ in range(count)).decode()
+    return as_lines(halting_once(draw, states) for _ in range(count)).decode()
 
 
 def refused_lines(draw: random.Random) -> str:
@@ -125,7 +125,7 @@ def trees(draw: random.Random) -> Case:
 
 def random_machines(draw: random.Random) -> Case:
     """What measures everything at once: all deciders at the default limits."""
-    drawn = joined(uniform(draw, 5) for _ in range(RANDOM)).decode()
+    drawn = as_lines(uniform(draw, 5) for _ in range(RANDOM)).decode()
     return Case(f"{RANDOM} machines of five states, all deciders, default limits", [], drawn)
 
 
@@ -226,7 +226,7 @@ def measure_forms(name: str, commands: Sequence[Sequence[str]], file: str, runs:
 def three_kinds(draw: random.Random) -> List[Tuple[str, str]]:
     """Random machines of five states: with one halting entry, uniformly drawn, and with one undefined."""
     halting = halting_machines(draw, KINDS, 5)
-    drawn = joined(uniform(draw, 5) for _ in range(KINDS)).decode()
+    drawn = as_lines(uniform(draw, 5) for _ in range(KINDS)).decode()
     undefined = halting_machines(draw, KINDS, 5).replace("1RZ", "---")
     return [("one halting entry", halting), ("uniformly drawn", drawn), ("one undefined entry", undefined)]
 
@@ -255,7 +255,7 @@ def undecided(program: str, options: Sequence[str], lines: str) -> str:
     """Those of the lines on whose machines the program finds nothing. Over such a machine the simulation
     and a search that is on make the same steps, up to the limits, so that their times can be compared."""
     found = replies([program, "decide", *options], lines.splitlines())
-    return joined(line.split()[0] for line in found if kind_of(line) == "undecided").decode()
+    return as_lines(line.split()[0] for line in found if kind_of(line) == "undecided").decode()
 
 
 def searches(program: str, draw: random.Random) -> List[Search]:
@@ -302,11 +302,11 @@ def measure_checking(program: str, draw: random.Random, file: str, runs: int) ->
     machines = halting_machines(draw, CHECKED, 5)
     verdicts = replies([program, "decide"], machines.splitlines())
     answers = ["open" if kind_of(line) == "undecided" else "ok" for line in verdicts]
-    written = joined(verdicts)
+    written = as_lines(verdicts)
     best = []
     for command, text, expected in (
         ("decide", machines, written),
-        ("check", written.decode(), joined(answers)),
+        ("check", written.decode(), as_lines(answers)),
     ):
         put(file, text)
         best.append(min(spent([program, command], file, (0, expected)) for _ in range(runs)))

@@ -38,7 +38,7 @@ MOST = dict(zip(LIMITS, GREATEST))
 README = b"1RB1LB_1LA1RZ\n1RA1RA\n1rB1LB\n"
 CHAMPION = "1RB1LC_1RC1RB_1RD0LE_1LA1LD_1RZ0LA"
 CHAMPION_STEPS = 47_176_870
-TOLD = 1_000
+TRACED_LINES = 1_000
 SHORT_LINES = 1_000_000
 REPORTED = 1_000
 LISTS = 1_000
@@ -200,7 +200,7 @@ def measure_trace(figures: Figures, program: str, folder: str) -> None:
 
     room, machine = Room(), CHAMPION.encode()
     steps, cells = 50_000_000, 65_536
-    every = CHAMPION_STEPS // (TOLD - 1)
+    every = CHAMPION_STEPS // (TRACED_LINES - 1)
     lines: List[int] = []
 
     def trace() -> None:

@@ -37,7 +37,7 @@ sys.path[:0] = [os.path.join(HERE, "..", "lib"), os.path.join(HERE, "..", "tests
 from built import has_library, has_lister, listed  # noqa: E402
 from cluster import Cluster, changed_package, cluster  # noqa: E402
 from machines import uniform  # noqa: E402
-from program import joined, options  # noqa: E402
+from program import as_lines, options  # noqa: E402
 from runs import Case, environment, most_memory, words_of  # noqa: E402
 from tally import Tally, end_with, from_one, words  # noqa: E402
 
@@ -62,7 +62,7 @@ CHAMPION = b"1RB1LC_1RC1RB_1RD0LE_1LA1LD_1RZ0LA\n"
 def random_machines(count: int) -> bytes:
     """Random machines of five states and two symbols."""
     source = random.Random(5)
-    return joined(uniform(source, 5) for _ in range(count))
+    return as_lines(uniform(source, 5) for _ in range(count))
 
 
 def whole_list(most: int) -> bytes:
@@ -103,7 +103,7 @@ def summary_of(case: Case) -> Dict[str, float]:
 def by_dask(
     case: Case, limits: Sequence[int], found: Cluster, more: Sequence[str] = ()
 ) -> Tuple[bytes, float]:
-    """What the runner writes by dask, and the seconds that its summary tells."""
+    """What the runner writes by dask, and the seconds that its summary has."""
     written = by_runner(case, limits, ["--scheduler", found.address, *more])
     return written, summary_of(case)["seconds"]
 

@@ -368,7 +368,7 @@ def hold_wrong(tally: Tally, edit: Edit, batches: Sequence[Tuple[Claims, bytes]]
 
 
 def hold_theorem(tally: Tally, words_given: Sequence[str], status: int, what: str) -> None:
-    """How `coq/theorem` ends, and what it tells."""
+    """How `coq/theorem` ends, and what it prints."""
     with tempfile.TemporaryDirectory() as folder:
         done = ended([os.path.join(FOLDER, "theorem"), *words_given, os.path.join(folder, "Made.v")])
         printed = (done.output + done.error).decode()

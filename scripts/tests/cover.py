@@ -27,7 +27,7 @@ from typing import Callable, List, Sequence, Tuple
 sys.path.insert(0, os.path.join(os.path.dirname(os.path.dirname(os.path.abspath(__file__))), "lib"))
 
 from built import has_lister, listed  # noqa: E402
-from program import ended, joined, options, processor_time  # noqa: E402
+from program import as_lines, ended, options, processor_time  # noqa: E402
 from tally import TOP, Tally, end_with, words  # noqa: E402
 from terminals import on_terminal  # noqa: E402
 
@@ -112,7 +112,7 @@ def hold_whole(tally: Tally, program: str, states: int, symbols: int) -> List[st
     lines = decided(program, states, symbols)
     what = "%d states and %d symbols" % (states, symbols)
     tally.hold("no line of %s" % what, lines)
-    hold_output(tally, what, [COVER], joined(lines), 0, summary(states, symbols, lines))
+    hold_output(tally, what, [COVER], as_lines(lines), 0, summary(states, symbols, lines))
     return lines
 
 
@@ -122,14 +122,14 @@ def hold_changes(tally: Tally, lines: List[str], count: int, chance: random.Rand
     for k in range(count):
         change = CHANGES[k % len(CHANGES)]
         made, line = change.make(lines, chance.randrange(len(lines)), chance)
-        done = ended(command, joined(made))
+        done = ended(command, as_lines(made))
         is_refused = done.status == 1 and done.output.startswith(b"line %d: " % line) and not done.error
         tally.hold("%s: not refused at line %d: %r" % (change.name, line, done.output), is_refused)
 
 
 def hold_time(tally: Tally, program: str, lines: Sequence[str]) -> None:
     """Holds the time of `cover` over a list, beside that of `bb check`, both in processor time."""
-    given, times = joined(lines), []
+    given, times = as_lines(lines), []
     for command in ([program, "check", *LIMITS], [COVER, *LIMITS]):
         before = processor_time()
         ended(command, given)
@@ -152,7 +152,7 @@ def hold_sentences(tally: Tally, lines: List[str]) -> None:
         ([root + " halt 201 1"], "line 1: the claim on %s needs more than the limits" % root),
     ]
     for made, sentence in rows:
-        hold_output(tally, sentence, [COVER, *LIMITS], joined(made), 1, sentence)
+        hold_output(tally, sentence, [COVER, *LIMITS], as_lines(made), 1, sentence)
     for given, status, error in (
         (["--steps", "1000000000001"], 2, b"cover: steps out of range\n"),
         (["--cells", "0"], 2, b"cover: cells out of range\n"),
@@ -170,7 +170,7 @@ def hold_sentences(tally: Tally, lines: List[str]) -> None:
         done = ended([COVER, word])
         tally.hold("cover %s: %r" % (word, done), done.status == 0 and done.output and not done.error)
     with open("/dev/full", "wb") as full:
-        done_full = subprocess.run([COVER], input=joined(lines), stdout=full, stderr=subprocess.PIPE)
+        done_full = subprocess.run([COVER], input=as_lines(lines), stdout=full, stderr=subprocess.PIPE)
     full_fails = (done_full.returncode, done_full.stderr) == (3, b"cover: write failed\n")
     tally.hold("a full disk: %r" % done_full, full_fails)
 
@@ -178,7 +178,7 @@ def hold_sentences(tally: Tally, lines: List[str]) -> None:
 def hold_terminal(tally: Tally, lines: Sequence[str]) -> None:
     """Holds what `cover` says on a terminal alone: how far a list has come, and what failed and why."""
     with tempfile.NamedTemporaryFile() as file:
-        file.write(joined(lines))
+        file.write(as_lines(lines))
         file.flush()
         status, shown = on_terminal([COVER, *LIMITS, file.name], b"", subprocess.DEVNULL)
         is_shown = re.match(r"\r0% 0 lines\x1b\[K(\r\d+% \d+ lines\x1b\[K)*\r\x1b\[K$", shown)

@@ -14,19 +14,18 @@ The last line is `N passed, M failed`, with `, K skipped` where some were; the s
 import itertools
 import os
 import random
-import shutil
 import sys
 import tempfile
 from typing import Any, Dict, Iterator, List, Tuple
 
 sys.path.insert(0, os.path.join(os.path.dirname(os.path.dirname(os.path.abspath(__file__))), "lib"))
 
-from built import MODULE, has_lister, has_page, listed  # noqa: E402
+from built import MODULE, has_lister, has_web, listed  # noqa: E402
 from examples import EXAMPLES, content  # noqa: E402
 from machines import mixed  # noqa: E402
 from node import CallEnd, Engine, documented, plan_of  # noqa: E402
 from program import GREATEST, LIMITS, MAX_CELLS, ROWS, SWITCHES  # noqa: E402
-from program import ended, joined, processor_time, words_of_plan  # noqa: E402
+from program import as_lines, ended, processor_time, words_of_plan  # noqa: E402
 from tally import TOP, Tally, end_with, words  # noqa: E402
 
 FOUR = {"steps": 200, "cells": 256, "depth": 20, "nodes": 1_000}
@@ -44,7 +43,8 @@ REFUSED = [
     {"cells": 0, "steps": 10**13},
     {"depth": 10_001, "nodes": 10**13},
 ]
-TOTAL_BYTES = 65_536
+# How many bytes the module has at most, and how many a page of its memory has.
+MOST_BYTES, MEMORY_PAGE = 65_536, 65_536
 
 
 class Held:
@@ -130,13 +130,13 @@ def hold_random(held: Held, count: int, seed: int) -> None:
     for k in range(0, count, 100):
         plan = random_plan(source)
         decided = (
-            held.same("random machines", "decide", plan, joined(listed[k : k + 100]))
+            held.same("random machines", "decide", plan, as_lines(listed[k : k + 100]))
             .reply.decode()
             .splitlines()
         )
         claims = [forged(line, source) if source.random() < 0.5 else line for line in decided]
         limits = {name: value for name, value in random_plan(source).items() if name not in SWITCHES}
-        held.same("claims", "check", limits, joined(claims))
+        held.same("claims", "check", limits, as_lines(claims))
 
 
 def hold_four_states(held: Held) -> None:
@@ -206,7 +206,7 @@ def hold_document(held: Held, folder: str) -> None:
 
 def hold_memory(held: Held) -> None:
     """Memory that can't be had is an error; it doesn't grow from call to call."""
-    some = 64 * TOTAL_BYTES
+    some = 64 * MEMORY_PAGE
     for name, plan in (("decide", {"cells": 10**7}), ("check", {"cells": 10**7})):
         printed = held.engine.call(name, plan, b"1RA1RA translated R 1 2\n", memory=some).answer
         held.tally.hold("%s without memory: %s" % (name, printed), printed.get("error") == "MemoryError")
@@ -306,15 +306,11 @@ def main() -> int:
     asked = words(__doc__, quick="leave out what takes more than some seconds", seed=1).parse_args()
     tally = Tally()
     hold_types(tally)
-    if tally.has("the engine in Node", "node"):
-        if shutil.which("rt") is None and not os.path.exists(MODULE):
-            tally.skip("the engine in Node: web/out/bb.wasm isn't built, and there is no kit to build it")
-        elif has_page():
-            size = os.path.getsize(MODULE)
-            tally.hold("the module has %d bytes" % size, size <= 65_536)
-            hold_all(asked.program, tally, asked.quick, asked.seed)
-        else:
-            tally.hold("scripts/web builds", False)
+    what = "the engine in Node"
+    if tally.has(what, "node") and has_web(tally, what, MODULE):
+        size = os.path.getsize(MODULE)
+        tally.hold("the module has %d bytes" % size, size <= MOST_BYTES)
+        hold_all(asked.program, tally, asked.quick, asked.seed)
     return tally.end()
 
 

@@ -16,7 +16,7 @@ from typing import List, Mapping, Sequence, Tuple, Union
 sys.path.insert(0, os.path.join(os.path.dirname(os.path.dirname(os.path.abspath(__file__))), "lib"))
 
 from built import LISTER, has_lister  # noqa: E402
-from program import SIMULATION, ended, joined, kind_of, processor_time, words_of_plan  # noqa: E402
+from program import SIMULATION, as_lines, ended, kind_of, processor_time, words_of_plan  # noqa: E402
 from tally import TOP, Tally, end_with, words  # noqa: E402
 
 FIRST = {"steps": 200, "cells": 256, "depth": 20, "nodes": 1_000}
@@ -45,7 +45,7 @@ def row(*cells: Union[int, str]) -> str:
 def run(command: Sequence[str], lines: Sequence[str]) -> Tuple[List[str], float]:
     """What a command writes, given these lines, and the processor time that it took, in seconds."""
     before = processor_time()
-    status, output, _ = ended(command, joined(lines))
+    status, output, _ = ended(command, as_lines(lines))
     tally.hold("%s: status %d" % (command, status), status == 0)
     return output.decode().splitlines(), processor_time() - before
 

@@ -22,7 +22,7 @@ sys.path.insert(0, os.path.join(os.path.dirname(os.path.dirname(os.path.abspath(
 
 import library_room  # noqa: E402
 from built import has_lister, listed  # noqa: E402
-from program import begins_modulo_64, ended, joined, replies  # noqa: E402
+from program import as_lines, begins_modulo_64, ended, replies  # noqa: E402
 from tally import TOP, Tally, end_with, words  # noqa: E402
 
 SOURCE = os.path.join(TOP, "python", "src")
@@ -88,7 +88,7 @@ def hold_c(tally: Tally, program: str, archive: str, folder: str) -> None:
 
 def hold_words(tally: Tally, program: str, decide: str) -> None:
     """An example that decides its arguments writes what the program does with a list of them."""
-    wanted = output([program, "decide"], joined(MACHINES))
+    wanted = output([program, "decide"], as_lines(MACHINES))
     tally.hold("%s and the program" % decide, output([decide, *MACHINES]) == wanted)
     tally.hold("%s and a limit of one word" % decide, output([decide, "1RZ---"]) == (0, b"1RZ--- halt 1 1\n"))
 
@@ -113,7 +113,7 @@ def hold_many_cores(tally: Tally, program: str, made: str) -> None:
         b"",
         b"1RZ---",
         b"\n",
-        joined(MACHINES),
+        as_lines(MACHINES),
         long + b"\n1RZ---\n" + long,
         b"1RB1LB_1LA1RZ\n" * 99_999,
     ]

@@ -19,7 +19,7 @@ from typing import List, Tuple
 
 sys.path.insert(0, os.path.join(os.path.dirname(os.path.dirname(os.path.abspath(__file__))), "lib"))
 
-from program import ended, joined  # noqa: E402
+from program import as_lines, ended  # noqa: E402
 from tally import TOP, Tally, end_with, words  # noqa: E402
 
 SCRIPT = os.path.join(TOP, "scripts", "npm")
@@ -60,16 +60,16 @@ def documented() -> str:
 def hold_examples(tally: Tally, program: str, folder: pathlib.Path) -> None:
     """The examples run, with no other file in the folder."""
     (folder / "decide.mjs").write_text(documented(), encoding="utf-8")
-    status, shown = run(["node", "decide.mjs"], folder, joined(MACHINES))
+    status, shown = run(["node", "decide.mjs"], folder, as_lines(MACHINES))
     limits = ["--steps", "100000", "--cells", "4096"]
-    verdicts = ended([program, "decide", *limits], joined(MACHINES)).output
+    verdicts = ended([program, "decide", *limits], as_lines(MACHINES)).output
     right = (verdicts + ended([program, "check", *limits], verdicts).output).decode()
     tally.hold("docs/web.md's example: %d, %s" % (status, shown), (status, shown) == (0, right))
     page = (folder / "node_modules" / "budlarem" / "README.md").read_text(encoding="utf-8")
     lines = [line[4:] for line in page.splitlines() if line.startswith("    ")]
     (folder / "readme.mjs").write_text("\n".join(lines) + "\n", encoding="utf-8")
     status, shown = run(["node", "readme.mjs"], folder)
-    expected = ended([program, "decide"], joined(MACHINES[:1])).output.decode()
+    expected = ended([program, "decide"], as_lines(MACHINES[:1])).output.decode()
     tally.hold("README's example: %d, %s" % (status, shown), (status, shown) == (0, expected))
 
 

@@ -8,7 +8,7 @@ import tempfile
 from typing import List, Sequence, Set
 
 from machines import machine
-from program import SIMULATION, ended, joined, options
+from program import SIMULATION, as_lines, ended, options
 from tally import TOP, Tally
 
 PEER = os.path.join(TOP, "scripts", "speed", "peer", "main.rs")
@@ -35,7 +35,7 @@ def asked_of(source: random.Random) -> List[str]:
 
 def hold_batch(tally: Tally, commands: Sequence[List[str]], machines: Sequence[str]) -> List[bytes]:
     """Counts, for each of these machines, whether all commands write the same line. Gives the lines."""
-    ends = [ended(command, joined(machines)) for command in commands]
+    ends = [ended(command, as_lines(machines)) for command in commands]
     lists = [end.output.split(b"\n") for end in ends]
     lines = lists[0]
     for end, other, command in zip(ends[1:], lists[1:], commands[1:]):

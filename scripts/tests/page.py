@@ -26,11 +26,11 @@ import time
 
 sys.path.insert(0, os.path.join(os.path.dirname(os.path.dirname(os.path.abspath(__file__))), "lib"))
 
-from built import MODULE, PAGE, has_lister, has_page, listed  # noqa: E402
+from built import MODULE, PAGE, has_lister, has_web, listed  # noqa: E402
 from engine import FOUR, README, examples, forged, plans, random_machines, random_plan  # noqa: E402
 from node import documented  # noqa: E402
 from page_held import Held  # noqa: E402
-from program import SWITCHES, joined  # noqa: E402
+from program import SWITCHES, as_lines  # noqa: E402
 from tally import TOP, Tally, end_with, words  # noqa: E402
 
 LONG = "0RB---_0LA---"
@@ -97,11 +97,11 @@ def hold_random(held: Held, count: int, seed: int) -> None:
     listed = random_machines(count, source)
     for k in range(0, count, 200):
         plan = random_plan(source)
-        decided = held.same("random machines", "decide", plan, joined(listed[k : k + 200]))
+        decided = held.same("random machines", "decide", plan, as_lines(listed[k : k + 200]))
         lines = decided.decode().splitlines()
         claims = [forged(line, source) if source.random() < 0.5 else line for line in lines]
         limits = {name: value for name, value in random_plan(source).items() if name not in SWITCHES}
-        held.same("claims", "check", limits, joined(claims))
+        held.same("claims", "check", limits, as_lines(claims))
     held.page.plan({}, "auto")
     held.page.file(decided)
     held.page.ended()
@@ -310,16 +310,12 @@ def has_selenium(tally: Tally) -> bool:
 def main() -> int:
     asked = words(__doc__, quick="the short part", seed=1).parse_args()
     tally = Tally()
-    if tally.has("the page", "chromium", "chromedriver") and has_selenium(tally):
-        if shutil.which("rt") is None and not os.path.exists(PAGE):
-            tally.skip("the page: web/out/bb.html isn't built, and there is no kit to build it")
-        elif has_page():
-            size = os.path.getsize(PAGE)
-            print("the page has %d bytes" % size)
-            tally.hold("the page has %d bytes" % size, size <= MOST_BYTES)
-            hold_all(asked.program, tally, asked.quick, asked.seed)
-        else:
-            tally.hold("scripts/web builds", False)
+    what = "the page"
+    if tally.has(what, "chromium", "chromedriver") and has_selenium(tally) and has_web(tally, what, PAGE):
+        size = os.path.getsize(PAGE)
+        print("the page has %d bytes" % size)
+        tally.hold("the page has %d bytes" % size, size <= MOST_BYTES)
+        hold_all(asked.program, tally, asked.quick, asked.seed)
     return tally.end()
 
 

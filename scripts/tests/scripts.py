@@ -4,7 +4,7 @@
     scripts/tests/scripts.py
 
 All Python in `scripts/` and `coq/` passes `mypy --strict` and `black --check`, and so does `./test`. Each
-script that can be started tells its help with status 0, and ends with status 2 and a sentence where it is
+script that can be started prints its help with status 0, and ends with status 2 and a sentence where it is
 given an option that it doesn't have. It takes half a minute. The last line is `N passed, M failed`, with `, K
 skipped` where something isn't installed; the status is 1 where any failed.
 """

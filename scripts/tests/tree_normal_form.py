@@ -152,7 +152,7 @@ def hold_every(tally: Tally) -> None:
 
 
 def ended(command: List[str], out: str = os.devnull, path: str = os.environ["PATH"]) -> Tuple[int, str]:
-    """The status of a command, and what it tells on standard error; it writes into `out`, and programs are
+    """The status of a command, and what it prints on standard error; it writes into `out`, and programs are
     looked for in `path`."""
     with open(out, "wb") as file:
         done = subprocess.run(command, stdout=file, stderr=subprocess.PIPE, env={**os.environ, "PATH": path})

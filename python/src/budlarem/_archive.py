@@ -15,7 +15,7 @@ import pathlib
 import string
 import tarfile
 import textwrap
-from typing import Any, BinaryIO, Counter, Dict, Iterator, List, Optional, Sequence, Tuple
+from typing import Any, BinaryIO, Counter, Dict, Iterator, List, Optional, Tuple
 
 from ._errors import naming
 from .limits import Limits

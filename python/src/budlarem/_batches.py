@@ -6,13 +6,11 @@ import dataclasses
 from typing import Any, Iterable, Iterator, List, Protocol, Union, runtime_checkable
 
 from ._crew import BatchPace
+from ._lengths import LONGEST_GIVEN, LONGEST_VALUE
 
 # How many lines and bytes a batch has at most. One line may have more bytes.
 MOST_LINES = 8_192
 MOST_BYTES = 1 << 19
-# A line of more bytes is cut to so many: nothing longer is a machine or a verdict line, and each call answers
-# the same to the beginning of a longer line as to the whole.
-LONG = 1_024
 
 
 @runtime_checkable
@@ -38,7 +36,7 @@ class Batch:
 def _wrong(name: str, place: int, text: Any) -> Exception:
     """The error that says what is wrong with an item."""
     if isinstance(text, str):
-        return ValueError("%s[%d] has a newline in it: %.100r" % (name, place, text))
+        return ValueError("%s[%d] has a newline in it: %.*r" % (name, place, LONGEST_VALUE, text))
     kind = type(text).__name__
     more = "; %s_bytes takes bytes" % ("decide" if name == "machines" else "check")
     return TypeError("%s[%d] is of type %s, not str%s" % (name, place, kind, more if kind == "bytes" else ""))
@@ -46,7 +44,7 @@ def _wrong(name: str, place: int, text: Any) -> Exception:
 
 def _batch(name: str, before: int, texts: List[str]) -> Batch:
     """The batch of these texts. Raises TypeError, ValueError."""
-    cut = [text if len(text) <= LONG else text[:LONG] for text in texts]
+    cut = [text if len(text) <= LONGEST_GIVEN else text[:LONGEST_GIVEN] for text in texts]
     lines = ("\n".join(cut) + "\n").encode("utf-8", "surrogatepass")
     if lines.count(b"\n") != len(texts):
         _look(name, before, texts)
@@ -66,7 +64,7 @@ def of_texts(texts: Iterable[str], name: str, pace: BatchPace) -> Iterator[Batch
     before, size = 0, 0
     held: List[str] = []
     for text in texts:
-        if not isinstance(text, str) or (len(text) > LONG and "\n" in text):
+        if not isinstance(text, str) or (len(text) > LONGEST_GIVEN and "\n" in text):
             if held:
                 yield _batch(name, before, held)
             raise _wrong(name, before + len(held), text)
@@ -114,7 +112,7 @@ def _pieces(blocks: Blocks) -> Iterator[bytes]:
 
 
 def of_bytes(blocks: Blocks, pace: BatchPace) -> Iterator[bytes]:
-    """The bytes in batches of whole lines; what is left of a line longer than LONG is its beginning."""
+    """The bytes in batches of whole lines; of a line longer than LONGEST_GIVEN its beginning is left."""
     rest, is_cut = b"", False
     for piece in _pieces(blocks):
         if is_cut:
@@ -127,8 +125,8 @@ def of_bytes(blocks: Blocks, pace: BatchPace) -> Iterator[bytes]:
             yield from _sliced(rest, piece, whole, pace)
             rest = b""
         rest += piece[whole:]
-        if len(rest) > LONG:
-            rest, is_cut = rest[:LONG], True
+        if len(rest) > LONGEST_GIVEN:
+            rest, is_cut = rest[:LONGEST_GIVEN], True
     if rest:
         yield rest
 

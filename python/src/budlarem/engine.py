@@ -6,11 +6,12 @@ import dataclasses
 from typing import Callable, Iterable, Iterator, List, Optional, Sequence, Tuple, Union
 
 from . import _batches
-from ._batches import LONG, MOST_BYTES, MOST_LINES, Batch, BinaryReader, Blocks
+from ._batches import MOST_BYTES, MOST_LINES, Batch, BinaryReader, Blocks
 from ._crew import BatchPace, in_order
+from ._lengths import LONGEST_GIVEN, LONGEST_SHOWN, LONGEST_VALUE
 from ._library import NOT_CLEAN, SHORT, Reply, Room, forbid_fork, loaded
 from .limits import Limits, Plan, in_range, whole
-from .verdicts import STATES, VERDICTS, Answer, Refused, Verdict, hold_fields, verdict_of
+from .verdicts import VERDICTS, Answer, Refused, Verdict, hold_fields, verdict_of
 
 __all__ = [
     "Configuration",
@@ -51,7 +52,7 @@ class MachineError(ValueError):
         self.machine, self.column, self.place = machine, column, place
 
     def __str__(self) -> str:
-        sentence = "no machine, from column %d on: %.200r" % (self.column, self.machine)
+        sentence = "no machine, from column %d on: %.*r" % (self.column, LONGEST_SHOWN, self.machine)
         return "%s: %s" % (self.place, sentence) if self.place else sentence
 
 
@@ -148,7 +149,7 @@ def column_of(text: str) -> Optional[int]:
     LibraryError, RuntimeError, MemoryError."""
     forbid_fork()
     room = Room()
-    line = text.encode("utf-8", "surrogateescape")[:LONG]
+    line = text.encode("utf-8", "surrogateescape")[:LONGEST_GIVEN]
     deciding(Limits(0, 1, 0, 0), Plan(False, False, False))(room, line)
     reply = room.reply().text
     return int(reply.split()[1]) if reply.startswith(b"refused ") else None
@@ -219,7 +220,7 @@ def check_bytes(blocks: Blocks, limits: Limits = Limits(), *, threads: int = 1) 
 
 def checked(file: BinaryReader, limits: Limits, *, threads: int = 1) -> Iterator[Tuple[bytes, bytes]]:
     """Lines of a file, and the bytes that `bb check` writes for them, in large blocks: with large tapes what
-    a call costs is the tapes. A line of more than LONG bytes is cut. Raises what `decide` does."""
+    a call costs is the tapes. A line of more than LONGEST_GIVEN bytes is cut. Raises what `decide` does."""
     threads = _made_ready(limits, Plan(), threads)
     most = _LARGE if threads == 1 else _LARGE // 4
     pace = BatchPace(most, is_steady=True)
@@ -305,7 +306,7 @@ class Trace(Iterator[Configuration]):
 
 def _apart(machine: str, asked: Sequence[int], room: int) -> Reply:
     """What one call that traces returns. It is made beside the caller's thread unless it is short."""
-    line = machine.encode("utf-8", "surrogatepass")[: _batches.LONG]
+    line = machine.encode("utf-8", "surrogatepass")[:LONGEST_GIVEN]
 
     def work(buffer: Room, line: bytes) -> None:
         buffer.call_once("bb_trace", asked, line, room)
@@ -332,7 +333,7 @@ def trace(machine: str, upto: int, cells: int = 65_536, start: int = 0, every: i
     if not isinstance(machine, str):
         raise TypeError("machine is of type %s, not str" % type(machine).__name__)
     if "\n" in machine:
-        raise ValueError("the machine has a newline in it: %.100r" % machine)
+        raise ValueError("the machine has a newline in it: %.*r" % (LONGEST_VALUE, machine))
     most = Limits.RANGES["steps"][1]
     upto = in_range("upto", upto, 0, most)
     cells = in_range("cells", cells, *Limits.RANGES["cells"])

@@ -6,6 +6,8 @@ import dataclasses
 import operator
 from typing import Any, ClassVar, Dict, Tuple
 
+from ._lengths import LONGEST_VALUE
+
 __all__ = ["Limits", "LimitsError", "Plan"]
 
 
@@ -40,7 +42,8 @@ def whole(name: str, given: Any) -> int:
         return operator.index(given)
     except TypeError:
         kind = type(given).__name__
-        raise TypeError("%s is %.100r of type %s, but must be a whole number" % (name, given, kind)) from None
+        parts = (name, LONGEST_VALUE, given, kind)
+        raise TypeError("%s is %.*r of type %s, but must be a whole number" % parts) from None
 
 
 def in_range(name: str, given: Any, lowest: int, highest: int) -> int:
@@ -104,9 +107,8 @@ class Plan:
             given = getattr(self, field.name)
             if not isinstance(given, bool):
                 kind = type(given).__name__
-                raise TypeError(
-                    "%s is %.100r of type %s, but must be True or False" % (field.name, given, kind)
-                )
+                parts = (field.name, LONGEST_VALUE, given, kind)
+                raise TypeError("%s is %.*r of type %s, but must be True or False" % parts)
 
     def switches(self) -> Tuple[bool, bool, bool]:
         """The three switches, in their order."""

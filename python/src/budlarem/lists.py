@@ -313,7 +313,7 @@ def distinct(
             form = normal(machine, steps=steps, cells=cells)
         except MachineError as error:
             raise MachineError(machine, error.column, "machines[%d]" % place) from None
-        before = met.setdefault(form.normal, machine) if form.normal in met else None
+        before = met.get(form.normal)
         met.setdefault(form.normal, machine)
         yield form, before
 

@@ -10,6 +10,7 @@ import zlib
 from typing import Dict, Iterable, Iterator, List, Optional, Sequence, Tuple, Union
 
 from ._errors import naming
+from ._lengths import LONGEST_SHOWN
 from .engine import Configuration, trace
 from .limits import in_range, whole
 from .verdicts import MOST_SYMBOLS, STATES, is_machine, size_of
@@ -91,7 +92,7 @@ def rows_of_lines(lines: Iterable[str]) -> Iterator[Row]:
     for line in lines:
         fields = line.split()
         if len(fields) != 4:
-            raise PictureError("not a line of a trace: %.200r" % line)
+            raise PictureError("not a line of a trace: %.*r" % (LONGEST_SHOWN, line))
         step, state, position, cells = fields
         if state != "Z":
             low = min(low, int(position))

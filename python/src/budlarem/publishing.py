@@ -10,6 +10,7 @@ from typing import Callable, List, NoReturn, Optional, Sequence, Tuple, Union
 
 from ._archive import LINES, LIST, VERDICTS, Contents, Decided, Input, PublishError, Seen, write_new
 from ._crew import BatchPace, in_order
+from ._lengths import LONGEST_SHOWN
 from .checking import why
 from .engine import checking, decide_bytes
 from .limits import Limits, in_range
@@ -65,12 +66,12 @@ def _raise_unconfirmed(verdicts: Input, before: int, answers: Sequence[str], lim
     place = next(place for place, answer in enumerate(answers) if answer not in ("ok", "open"))
     number, answer = before + place, Answer(answers[place])
     line = next(itertools.islice(verdicts.lines(), number, None), b"").decode("utf-8", "surrogateescape")
-    parts = (verdicts.path, number + 1, answer, line, why(line, answer, limits))
-    raise UnconfirmedError("%s:%d: %s: %.200s: %s" % parts)
+    parts = (verdicts.path, number + 1, answer, LONGEST_SHOWN, line, why(line, answer, limits))
+    raise UnconfirmedError("%s:%d: %s: %.*s: %s" % parts)
 
 
 def _shown(line: bytes) -> str:
-    return repr(line[:200].decode("utf-8", "backslashreplace"))
+    return repr(line[:LONGEST_SHOWN].decode("utf-8", "backslashreplace"))
 
 
 def _seen(verdicts: Input) -> Seen:

@@ -10,30 +10,18 @@ import dataclasses
 import heapq
 import html
 import io
-import itertools
 import math
 import os
 import pathlib
 import re
 import string
-from typing import Any, Callable, Counter, Dict, Iterable, Iterator, List, Optional, Sequence, Tuple, Union
+from typing import Any, Counter, Dict, Iterable, Iterator, List, Optional, Sequence, Tuple, Union
 
 from ._errors import naming
 from .limits import Limits, in_range
 from .lists import Growth, Triage, triage
 from .pictures import COLOURS, HEAD, UNVISITED, Row, png, png_of_colours, spread
-from .verdicts import (
-    VERDICTS,
-    Backward,
-    Cycler,
-    Halt,
-    Refused,
-    Translated,
-    Undecided,
-    Verdict,
-    parse,
-    size_of,
-)
+from .verdicts import VERDICTS, Backward, Cycler, Halt, Translated, Undecided, Verdict, parse, size_of
 
 __all__ = ["Report", "ReportError", "report"]
 

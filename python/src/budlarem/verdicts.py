@@ -7,6 +7,7 @@ import functools
 import re
 from typing import Callable, ClassVar, Dict, List, Optional, Pattern, Tuple, Union
 
+from ._lengths import LONGEST_SHOWN, LONGEST_VALUE
 from ._words import Words
 from .limits import whole
 
@@ -165,8 +166,8 @@ def hold_fields(name: str, verdict: Union[Verdict, Extent]) -> None:
         if kind is int:
             whole("%s.%s" % (name, field), given)
         else:
-            other = type(given).__name__
-            raise TypeError("%s.%s is %.100r of type %s, not str" % (name, field, given, other))
+            parts = (name, field, LONGEST_VALUE, given, type(given).__name__)
+            raise TypeError("%s.%s is %.*r of type %s, not str" % parts)
     if isinstance(verdict, Translated) and verdict.extent is not None:
         if not isinstance(verdict.extent, Extent):
             raise TypeError("%s.extent is of type %s, not Extent" % (name, type(verdict.extent).__name__))
@@ -292,4 +293,4 @@ def parse(line: str) -> Verdict:
             raise ValueError
         return verdict_of(machine, words, whole_number)
     except ValueError:
-        raise ValueError("no verdict line: %.200r" % line) from None
+        raise ValueError("no verdict line: %.*r" % (LONGEST_SHOWN, line)) from None

@@ -11,7 +11,7 @@ from typing import Iterator, List, Sequence, Tuple
 
 from built import LIBRARY, has_lister, listed  # noqa: E402
 from machines import mixed  # noqa: E402
-from program import PLANS, ROWS, SIMULATION, ended, joined, options  # noqa: E402
+from program import MAX_CELLS, MAX_STEPS, PLANS, ROWS, SIMULATION, as_lines, ended, options  # noqa: E402
 from runs import LONG_MACHINE, PATIENCE, SOURCE, environment, is_at_work, seen  # noqa: E402
 from tally import TOP, Tally, heed_interruption
 
@@ -32,10 +32,13 @@ print("begun", flush=True)
 if sys.argv[1] == "list":
     for verdict in budlarem.decide(machines(), threads=2): print("decided", flush=True)
 elif sys.argv[1] == "machine":
-    print(list(budlarem.decide([sys.argv[2]], budlarem.Limits(steps=10**12, cells=67108864))))
+    print(list(budlarem.decide([sys.argv[2]], budlarem.Limits(steps=%(steps)d, cells=%(cells)d))))
 else:
-    list(budlarem.trace(sys.argv[2], 10**12, 67108864, start=10**12))
-"""
+    list(budlarem.trace(sys.argv[2], %(steps)d, %(cells)d, start=%(steps)d))
+""" % {
+    "steps": MAX_STEPS,
+    "cells": MAX_CELLS,
+}
 MEMORY = """
 import itertools, resource, sys, budlarem
 count = int(sys.argv[1])
@@ -68,13 +71,13 @@ def hold_deciding(
     tally: Tally, program: str, row: Row, switches: Sequence[str], lines: List[str], threads: int
 ) -> List[str]:
     """The package's verdicts, as objects and as bytes, are the program's; gives their lines."""
-    expected = printed_by(program, ["decide", *options(row), *switches], joined(lines))
+    expected = printed_by(program, ["decide", *options(row), *switches], as_lines(lines))
     limits, plan = Limits(*row), plan_of(switches)
     what = "%s %s, %d lines, %d threads" % (row, switches, len(lines), threads)
-    found = b"".join(budlarem.decide_bytes(joined(lines), limits, plan, threads=threads))
+    found = b"".join(budlarem.decide_bytes(as_lines(lines), limits, plan, threads=threads))
     tally.hold("decide_bytes at %s" % what, found == expected)
     verdicts = list(budlarem.decide(lines, limits, plan, threads=threads))
-    tally.hold("decide at %s" % what, joined([str(verdict) for verdict in verdicts]) == expected)
+    tally.hold("decide at %s" % what, as_lines([str(verdict) for verdict in verdicts]) == expected)
     read = [budlarem.parse(line) for line in expected.decode().splitlines()]
     tally.hold("parse at %s" % what, read == verdicts)
     return expected.decode().splitlines()
@@ -101,9 +104,9 @@ def hold_claims(tally: Tally, program: str, lines: List[str], row: Row, seed: in
     """The answers to claims of which half are forged, and what `parse` takes of them."""
     source = random.Random(seed)
     claims = [forged(source, line) if k % 2 else line for k, line in enumerate(lines)]
-    expected = printed_by(program, ["check", *options(row)], joined(claims))
+    expected = printed_by(program, ["check", *options(row)], as_lines(claims))
     answers = expected.decode().splitlines()
-    found = b"".join(budlarem.check_bytes(joined(claims), Limits(*row)))
+    found = b"".join(budlarem.check_bytes(as_lines(claims), Limits(*row)))
     tally.hold("check_bytes of %d claims at %s" % (len(claims), row), found == expected)
     as_objects = [str(answer) for answer in budlarem.check(claims, Limits(*row), threads=2)]
     tally.hold("check of %d claims at %s" % (len(claims), row), as_objects == answers)
@@ -165,7 +168,7 @@ def noise(source: random.Random, count: int) -> Iterator[str]:
 def hold_noise(tally: Tally, program: str, count: int, seed: int) -> None:
     lines = [*noise(random.Random(seed), count), "1RA1RA" * 200_000, "x" * 3_000_000]
     hold_deciding_noise(tally, program, lines)
-    answers = printed_by(program, ["check"], joined(lines)).decode().splitlines()
+    answers = printed_by(program, ["check"], as_lines(lines)).decode().splitlines()
     tally.hold("check of noise", [str(answer) for answer in budlarem.check(lines)] == answers)
     hold_parse(tally, lines, answers)
     blob = random.Random(seed).randbytes(1_000_000)
@@ -178,7 +181,7 @@ def hold_noise(tally: Tally, program: str, count: int, seed: int) -> None:
 
 
 def hold_deciding_noise(tally: Tally, program: str, lines: List[str]) -> None:
-    expected = printed_by(program, ["decide"], joined(lines)).decode().splitlines()
+    expected = printed_by(program, ["decide"], as_lines(lines)).decode().splitlines()
     found = list(budlarem.decide(lines))
     tally.hold("decide of noise", [str(verdict) for verdict in found] == expected)
     tally.hold("what was refused keeps its text", all(one.machine == line for one, line in zip(found, lines)))

@@ -6,7 +6,7 @@
 A worker is killed; the only worker is killed five times on one piece; a line ends each worker that decides
 it; all workers are killed and new ones come; the scheduler is killed and started again, before and after the
 runner's timeout; workers lack the package, have another version, answer garbage or what belongs elsewhere,
-tell seconds that didn't pass, or lie of a verdict; the runner is killed by SIGKILL at ten random moments, and
+give seconds that didn't pass, or lie of a verdict; the runner is killed by SIGKILL at ten random moments, and
 interrupted; connections are encrypted. After each the verdicts are byte for byte those of one process for
 each pass, or the run ended with status 3 and a sentence and goes on when it is run again. It needs Debian's
 `python3-distributed`, and runs `scripts/library` where the library isn't there. It takes some minutes;
@@ -44,7 +44,7 @@ QUICK_PASS = (300, 64, 3, 10)
 DEADLY = "    if %r in lines: import os; os._exit(9)\n" % LONG_MACHINE
 # How a worker answers the same to all verdicts, and how it says of a wrong one that it is right.
 KEEPS_ANSWERS = """
-def _kept_answer(limits: Numbers) -> Reply:
+def _kept_answer(limits: Numbers) -> PieceReply:
     return _replied(question(CHECK, limits), checking(Limits(*limits)), b"1RZ--- halt 1 1\\n")
 
 
@@ -188,7 +188,7 @@ def hold_end(tally: Tally, what: str, case: Case, status: int, right: bytes) -> 
 
 
 def hold_sentence(tally: Tally, case: Case, process: Process, text: str) -> None:
-    """Waits until the run tells something."""
+    """Waits until the run prints something."""
     tally.hold("%r is printed: %s" % (text, case.said()), seen(process, lambda: text in case.said()))
 
 
@@ -340,7 +340,7 @@ def hold_wrong_worker(tally: Tally, what: str, given: bytes, right: bytes) -> No
 
 
 def hold_claimed_seconds(tally: Tally, given: bytes, right: bytes) -> None:
-    """Workers that tell seconds that didn't pass: pieces don't become small by it, nor does the run fail."""
+    """Workers that give seconds that didn't pass: pieces don't become small by it, nor does the run fail."""
     for seconds in ("1e9", "1e308"):
         with cluster(0) as found:
             change = ("return (written, seconds,", "return (written, %s," % seconds)

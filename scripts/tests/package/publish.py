@@ -25,13 +25,13 @@ import subprocess
 import sys
 import tarfile
 import time
-from typing import Any, Callable, Dict, List, Optional, Sequence
+from typing import Any, Callable, Dict, List, Optional
 
 sys.path.insert(0, os.path.join(os.path.dirname(os.path.abspath(__file__)), "..", "..", "lib"))
 
 from built import has_library  # noqa: E402
 from machines import mixed  # noqa: E402
-from program import ended, joined, options  # noqa: E402
+from program import as_lines, ended, options  # noqa: E402
 from runs import Case, environment, folder, is_at_work, seen  # noqa: E402
 from tally import TOP, Tally, end_with, heed_interruption, words  # noqa: E402
 
@@ -51,8 +51,8 @@ class Place:
         lines = list(mixed(count, seed))
         lines[count // 2], lines[count // 3] = "1rB1LB", ""
         self.list, self.verdicts, self.out = top / "list.txt", top / "verdicts.txt", top / "out.tar"
-        self.list.write_bytes(joined(lines))
-        self.verdicts.write_bytes(ended([program, "decide", *options(FIRST)], joined(lines)).output)
+        self.list.write_bytes(as_lines(lines))
+        self.verdicts.write_bytes(ended([program, "decide", *options(FIRST)], as_lines(lines)).output)
 
     def words(self, *more: str, out: Optional[pathlib.Path] = None) -> List[str]:
         """A command that publishes."""
@@ -272,7 +272,7 @@ def hold_names(tally: Tally, place: Place) -> None:
 
 
 def hold_run(tally: Tally, program: str, top: pathlib.Path) -> None:
-    """A run's folder tells its limits; one that isn't at its end, or kept only some verdicts, is refused."""
+    """A run's folder says its limits; one that isn't at its end, or kept only some verdicts, is refused."""
     place = Place(program, top / "of_run", 400, 5)
     case = Case(top / "run", place.list.read_bytes())
     case.run()

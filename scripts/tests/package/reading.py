@@ -25,7 +25,7 @@ sys.path.insert(0, os.path.join(os.path.dirname(os.path.abspath(__file__)), ".."
 
 from built import LIBRARY, has_library, has_lister, listed  # noqa: E402
 from machines import mixed, uniform  # noqa: E402
-from program import Ended, ended, joined, options  # noqa: E402
+from program import Ended, as_lines, ended, options  # noqa: E402
 from runs import SOURCE, environment, folder  # noqa: E402
 from tally import TOP, Tally, end_with, words  # noqa: E402
 from terminals import on_terminal  # noqa: E402
@@ -122,13 +122,13 @@ def hold_read(tally: Tally, program: str, lines: List[str]) -> None:
     """`budlarem read` writes what `read` reads, out of a file, a gzip and standard input, and tells the
     rest."""
     readings = list(budlarem.read(lines))
-    right = joined([reading.machine for reading in readings if reading.machine is not None])
+    right = as_lines([reading.machine for reading in readings if reading.machine is not None])
     refused = [reading for reading in readings if reading.machine is None]
     with folder() as top:
         plain, packed = top / "list.txt", top / "list.txt.gz"
-        plain.write_bytes(joined(lines))
-        packed.write_bytes(gzip.compress(joined(lines)))
-        for name, given in ((str(plain), b""), (str(packed), b""), ("-", joined(lines))):
+        plain.write_bytes(as_lines(lines))
+        packed.write_bytes(gzip.compress(as_lines(lines)))
+        for name, given in ((str(plain), b""), (str(packed), b""), ("-", as_lines(lines))):
             status, output, error = command("read", name, given=given)
             tally.hold("budlarem read of %s" % name, (status, output) == (1, right))
             shown = "standard input" if name == "-" else name
@@ -137,7 +137,7 @@ def hold_read(tally: Tally, program: str, lines: List[str]) -> None:
                 "%s:%d: refused: %s" % (shown, one.number, one.reason) in error.decode()
                 for one in refused[:50]
             )
-            tally.hold("what budlarem read tells of %s" % name, whole and len(printed) > len(refused))
+            tally.hold("what budlarem read says of %s" % name, whole and len(printed) > len(refused))
     decided = ended([program, "decide", *options(LIMITS)], right)
     tally.hold("the program reads each of the machines", b"refused" not in decided.output)
     found = command("decide", *options(LIMITS), given=right)
@@ -146,7 +146,7 @@ def hold_read(tally: Tally, program: str, lines: List[str]) -> None:
 
 def hold_check(tally: Tally, program: str, lines: List[str]) -> None:
     """The answers are the program's, at small limits and at the greatest; counts and status tell of them."""
-    given = joined(lines)
+    given = as_lines(lines)
     for row in (LIMITS, GREATEST):
         right = ended([program, "check", *options(row)], given)
         with folder() as top:
@@ -208,7 +208,7 @@ def hold_forged(tally: Tally, program: str, count: int, seed: int) -> List[str]:
     claims = list(map(str, verdicts))
     places = source.sample(range(len(claims)), len(claims))
     lines = [forged(source, verdicts[place]) for place in places] + claims
-    answers = ended([program, "check", *options(GREATEST)], joined(lines)).output.decode().splitlines()
+    answers = ended([program, "check", *options(GREATEST)], as_lines(lines)).output.decode().splitlines()
     wrong: Dict[str, str] = {"bad": "contradicted", "ok": "confirmed"}
     judging = budlarem.judge(lines, limits=limits, undefined_steps=False, threads=2)
     missed = [
@@ -253,19 +253,19 @@ def hold_undefined_steps(tally: Tally, program: str, count: int, seed: int) -> N
     """Halts that count a step for an undefined entry are found out, and confirmed; the command says so."""
     verdicts = [verdict for verdict in verdicts_of(count, seed) if isinstance(verdict, Halt)]
     machines = [verdict.machine.replace("---", "1RZ") for verdict in verdicts]
-    decided = ended([program, "decide", *options((LIMITS[0] + 1, *LIMITS[1:]))], joined(machines)).output
+    decided = ended([program, "decide", *options((LIMITS[0] + 1, *LIMITS[1:]))], as_lines(machines)).output
     more = [line.partition(" ")[2] for line in decided.decode().splitlines()]
     lines = ["%s %s" % (verdict.machine, one) for verdict, one in zip(verdicts, more)]
     changed = sum(line != str(verdict) for line, verdict in zip(lines, verdicts))
-    status, output, error = command("judge", "-", given=joined(lines))
+    status, output, error = command("judge", "-", given=as_lines(lines))
     kinds = {line.split(b"\t")[0] for line in output.splitlines()}
     held = (status, kinds) == (0, {b"confirmed"}) and b"a step is counted for each ---" in error
     tally.hold("%d of %d halts count a step more: %s" % (changed, len(lines), kinds), held and changed > 9)
     mixed_lines = [*lines, next(str(v) for line, v in zip(lines, verdicts) if line != str(v))]
-    status, output, error = command("judge", "-", given=joined(mixed_lines))
+    status, output, error = command("judge", "-", given=as_lines(mixed_lines))
     found = output.count(b"contradicted\t")
     tally.hold("not where one halt is as ours: %d" % found, (status, found) == (1, changed))
-    status, output, _ = command("judge", "--undefined-steps", "-", given=joined(mixed_lines))
+    status, output, _ = command("judge", "--undefined-steps", "-", given=as_lines(mixed_lines))
     tally.hold("but where the command says so", (status, output.count(b"contradicted\t")) == (1, 1))
 
 
@@ -300,7 +300,7 @@ def hold_progress(tally: Tally) -> None:
     with folder() as top:
         for name, (more, word) in cases.items():
             given = top / (name + ".txt")
-            given.write_bytes(joined(lines) * 100 if name == "judge" else joined(lines[:1]) * 10)
+            given.write_bytes(as_lines(lines) * 100 if name == "judge" else as_lines(lines[:1]) * 10)
             words = [word.replace("out.tar", str(top / "out.tar")) for word in more]
             texts, left = shown_on_terminal(name, *words, str(given))
             held = any(word in text for text in texts) and all(len(text) < 80 for text in texts)

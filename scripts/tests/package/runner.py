@@ -431,7 +431,7 @@ def hold_closed_files(tally: Tally, top: pathlib.Path) -> None:
 
 
 def hold_clock(tally: Tally, top: pathlib.Path) -> None:
-    """The wall's clock is set back all the time: no time that the summary tells is below nothing."""
+    """The wall's clock is set back all the time: no time in the summary is below nothing."""
     case = Case(top / "clock", b"1RZ---\n" * 5_000)
     (top / "clock" / "sitecustomize.py").write_text(SET_BACK, encoding="utf-8")
     places = os.pathsep.join([str(top / "clock"), environment()["PYTHONPATH"]])

@@ -6,6 +6,7 @@ import argparse
 import contextlib
 import sys
 
+from .._lengths import LONGEST_SHOWN
 from ..checking import Checked, answers_to, why
 from ..reading.files import BytesFile
 from ..runner.progress import count_of
@@ -47,7 +48,8 @@ def do_check(asked: argparse.Namespace) -> int:
     if found.first is None:
         return 0
     number, line, answer = found.first
-    print("%s:%d: %s: %.200s: %s" % (name, number, answer, line, why(line, answer, limits)), file=sys.stderr)
+    parts = (name, number, answer, LONGEST_SHOWN, line, why(line, answer, limits))
+    print("%s:%d: %s: %.*s: %s" % parts, file=sys.stderr)
     return 1
 
 

@@ -9,12 +9,10 @@ import os
 import zlib
 from typing import Any, BinaryIO, Callable, Iterable, Iterator, Union
 
-from .lines import LONGEST_LINE
+from .._lengths import BYTES_KEPT, LONGEST_VALUE
 
 GZIP = b"\x1f\x8b"
 BLOCK = 1 << 19
-# A longer line of bytes is cut to so many: it has more characters than a line that is looked through.
-_LONG = 4 * LONGEST_LINE + 4
 Source = Union[str, "os.PathLike[str]", BinaryIO, Iterable[str], Iterable[bytes]]
 
 
@@ -35,7 +33,7 @@ class _Raw(io.RawIOBase):
 
 def lines_of(source: Source) -> Iterator[str]:
     """The lines, as texts without newlines. Raises OSError where a path can't be opened, TypeError where it
-    is no list."""
+    is no list, ValueError where it is the text of one."""
     if isinstance(source, (bytes, bytearray, memoryview)):
         raise TypeError("a list's bytes are given as io.BytesIO(..), and a path as a str")
     if isinstance(source, str) and "\n" in source:
@@ -94,7 +92,7 @@ def _of_items(items: Iterator[Any]) -> Iterator[str]:
             raise TypeError("lines[%d] is of type %s, not str" % (place, type(item).__name__))
         line = item[:-1] if item.endswith("\n") else item
         if "\n" in line:
-            raise ValueError("lines[%d] has a newline in it: %.100r" % (place, item))
+            raise ValueError("lines[%d] has a newline in it: %.*r" % (place, LONGEST_VALUE, item))
         yield line
 
 
@@ -106,13 +104,13 @@ def _of_file(file: BytesFile) -> Iterator[str]:
 
 
 def _cut(file: BytesFile) -> Iterator[bytes]:
-    """The lines of a file without their newlines, none longer than _LONG bytes."""
-    line = file.readline(_LONG)
+    """The lines of a file without their newlines, none longer than BYTES_KEPT bytes."""
+    line = file.readline(BYTES_KEPT)
     while line:
         if line.endswith(b"\n"):
             yield line[:-1]
         else:
             yield line
-            while len(line) == _LONG and not line.endswith(b"\n"):
-                line = file.readline(_LONG)
-        line = file.readline(_LONG)
+            while len(line) == BYTES_KEPT and not line.endswith(b"\n"):
+                line = file.readline(BYTES_KEPT)
+        line = file.readline(BYTES_KEPT)

@@ -5,13 +5,12 @@ from __future__ import annotations
 import re
 from typing import List, Optional, Tuple
 
+from .._lengths import LONGEST_LINE
 from ..verdicts import is_machine
 from .texts import Found, Outcome, Word, read_words, shown
 from .values import Reading, Reason
 from .words import SPACES, Parts, Text, parts_of, row_beside
 
-# A longer line isn't looked through.
-LONGEST_LINE = 16_384
 _VERDICT = re.compile(
     r"(?:halt|cycler|backward) [0-9]+ [0-9]+|translated [LR](?: [0-9]+){2,4}|undecided (?:steps|cells)"
 )

@@ -6,6 +6,7 @@ import dataclasses
 import re
 from typing import List, Sequence, Set, Tuple, Union
 
+from .._lengths import LONGEST_QUOTED
 from ..verdicts import MOST_SYMBOLS, STATES, is_machine
 from .values import Reason, Rewriting
 
@@ -13,7 +14,6 @@ from .values import Reason, Rewriting
 MOST_BEFORE_H = STATES.index("H")
 _ENTRY = re.compile(r"[0-9][LRlr][A-Za-z]|---|\.\.\.")
 _LOST = re.compile(r"[0-9][LRlr][-_]")
-_SHOWN = 60
 
 
 @dataclasses.dataclass(frozen=True)
@@ -43,7 +43,7 @@ Group = List[Tuple[int, str]]
 
 def shown(text: str) -> str:
     """A text as a sentence has it: cut where it is long."""
-    return text if len(text) <= _SHOWN else text[: _SHOWN - 2] + ".."
+    return text if len(text) <= LONGEST_QUOTED else text[: LONGEST_QUOTED - 2] + ".."
 
 
 def counted(count: int, word: str, words: str) -> str:

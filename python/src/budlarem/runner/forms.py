@@ -4,6 +4,7 @@ from __future__ import annotations
 
 from typing import List, Tuple
 
+from .._lengths import LONGEST_SHOWN, LONGEST_VALUE
 from ..engine import column_of
 from ..reading import Reading
 from ..reading.lines import read_line
@@ -28,9 +29,9 @@ def hold_form(source: ListFile) -> None:
         return
     number, text = refused[0]
     raise FolderError(
-        "%d of the first %d lines of %s would be refused, so nothing was decided; line %d: %.200r: %s."
+        "%d of the first %d lines of %s would be refused, so nothing was decided; line %d: %.*r: %s."
         " `budlarem read LIST` writes the machines of a list in other forms"
-        % (len(refused), len(lines), source.name, number, text, why_refused(number, text))
+        % (len(refused), len(lines), source.name, number, LONGEST_SHOWN, text, why_refused(number, text))
     )
 
 
@@ -51,7 +52,7 @@ def why_refused(number: int, line: str) -> str:
 def _more(line: str, reading: Reading) -> str:
     """What stands beside a machine."""
     if reading.fields:
-        return "%.100r" % reading.fields
+        return "%.*r" % (LONGEST_VALUE, reading.fields)
     if line.endswith("\r"):
         return "a carriage return at its end"
     return "a byte order mark at its begin" if line.startswith("\ufeff") else "spaces or signs about it"

@@ -8,6 +8,7 @@ import dataclasses
 import time
 from typing import Callable, Counter, Optional, Sequence
 
+from .._lengths import LONGEST_OF_ERROR
 from ..limits import Limits
 from .cutting import HERE, Cutter, Piece, PieceSize
 from .errors import CheckError, FolderError, ReplyError
@@ -216,4 +217,5 @@ def sentence_of(error: BaseException) -> str:
     """An error as a sentence has it."""
     if isinstance(error, ReplyError):
         return str(error)
-    return "%s: %s" % (type(error).__name__, str(error)[:500]) if str(error) else type(error).__name__
+    name, text = type(error).__name__, str(error)[:LONGEST_OF_ERROR]
+    return "%s: %s" % (name, text) if text else name

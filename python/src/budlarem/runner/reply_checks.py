@@ -10,6 +10,7 @@ import math
 import re
 from typing import Dict, List, Tuple
 
+from .._lengths import LONGEST_OF_REPLY
 from .._library import Room, has_call
 from .._library import look as looked
 from ..engine import Call, checking, deciding
@@ -65,7 +66,8 @@ def counts_of(verdicts: bytes, lines: int) -> Counts:
 
 def shown(line: bytes) -> str:
     """A line as a sentence has it: cut, and with what isn't printable spelled out."""
-    return ascii(line[:80].decode("latin-1")) + ("..." if len(line) > 80 else "")
+    end = "..." if len(line) > LONGEST_OF_REPLY else ""
+    return ascii(line[:LONGEST_OF_REPLY].decode("latin-1")) + end
 
 
 def _split(lines: bytes, count: int, what: str) -> List[bytes]:

@@ -12,7 +12,7 @@ import stat
 import zlib
 from typing import Any, Callable, Iterator, List, Optional, Protocol, Tuple
 
-from .._batches import LONG
+from .._lengths import LONGEST_GIVEN
 from .errors import RunError
 
 STANDARD_INPUT = "standard input"
@@ -25,8 +25,9 @@ _FEW = 16
 
 
 class Cuttable(Protocol):
-    """Lines that are taken some at a time. A line of more than LONG bytes is cut to so many, which changes no
-    reply; a last line without a newline gets one. How many bytes and lines were taken is counted."""
+    """Lines that are taken some at a time. A line of more than LONGEST_GIVEN bytes is cut to so many, which
+    changes no reply; a last line without a newline gets one. How many bytes and lines were taken is counted.
+    """
 
     taken: int
     taken_lines: int
@@ -126,7 +127,7 @@ class PlainLines:
 
     def _long(self) -> bytes:
         """A line that is longer than all that may be taken."""
-        begin, size = os.pread(self._number, LONG, self._place).partition(b"\n")[0], 0
+        begin, size = os.pread(self._number, LONGEST_GIVEN, self._place).partition(b"\n")[0], 0
         while True:
             held = os.pread(self._number, BLOCK, self._place + size)
             end = held.find(b"\n") + 1
@@ -158,26 +159,26 @@ def _end_of(held: bytes, begin: int, lines: int) -> Tuple[Optional[int], int]:
 
 
 def _whole_lines(blocks: Iterator[bytes]) -> Iterator[bytes]:
-    """The stream in whole lines, none longer than LONG bytes beside its newline."""
+    """The stream in whole lines, none longer than LONGEST_GIVEN bytes beside its newline."""
     rest = b""
     for block in blocks:
         whole = block.rfind(b"\n") + 1
         if whole:
             yield shortened(rest + block[:whole])
-            rest = block[whole:][:LONG]
+            rest = block[whole:][:LONGEST_GIVEN]
         else:
-            rest = (rest + block)[:LONG]
+            rest = (rest + block)[:LONGEST_GIVEN]
     if rest:
         yield rest + b"\n"
 
 
 def shortened(lines: bytes) -> bytes:
-    """Whole lines, each of more than LONG bytes cut to so many."""
+    """Whole lines, each of more than LONGEST_GIVEN bytes cut to so many."""
     begin = 0
-    while len(lines) - begin > LONG:
-        last = lines.rfind(b"\n", begin, begin + LONG + 1)
+    while len(lines) - begin > LONGEST_GIVEN:
+        last = lines.rfind(b"\n", begin, begin + LONGEST_GIVEN + 1)
         if last < 0:
-            return b"\n".join(line[:LONG] for line in lines.split(b"\n"))
+            return b"\n".join(line[:LONGEST_GIVEN] for line in lines.split(b"\n"))
         begin = last + 1
     return lines
 
@@ -266,12 +267,12 @@ class ListFile:
         return min((self._raw.tell() if self.is_compressed else taken) / self.size, 1.0)
 
     def first_lines(self, most: int) -> List[bytes]:
-        """Its first lines, so many at most, none longer than LONG bytes; `lines` and `blocks` give them
-        again. No lines where it pauses before so many came: what came is to be decided then. Raises what
-        `blocks` does."""
+        """Its first lines, so many at most, none longer than LONGEST_GIVEN bytes; `lines` and `blocks` give
+        them again. No lines where it pauses before so many came: what came is to be decided then. Raises
+        what `blocks` does."""
         held: List[bytes] = []
         count, size, is_paused = 0, 0, False
-        while count < most and size < most * LONG and not is_paused:
+        while count < most and size < most * LONGEST_GIVEN and not is_paused:
             block = next(self._blocks, b"")
             if not block:
                 break
@@ -280,7 +281,7 @@ class ListFile:
             is_paused = count < most and self._raw.pauses(_PAUSE)
         self._blocks = itertools.chain(held, self._blocks)
         lines = [] if is_paused else b"".join(held).split(b"\n")
-        return [line[:LONG] for line in (lines if lines and lines[-1] else lines[:-1])[:most]]
+        return [line[:LONGEST_GIVEN] for line in (lines if lines and lines[-1] else lines[:-1])[:most]]
 
     def lines(self) -> Cuttable:
         """Its lines. Taking them raises RunError where it can't be read, or changed meanwhile; OSError."""

@@ -1,10 +1,9 @@
-"""Where pieces are decided: by threads of this process, or anything over an executor of
-`concurrent.futures`."""
+"""Where pieces are decided: by threads of this process, or by others that give futures of their replies."""
 
 from __future__ import annotations
 
 import dataclasses
-from concurrent.futures import Executor, Future
+from concurrent.futures import Future
 from typing import Any, Protocol, Union
 
 from .tasks import Numbers, Task
@@ -38,22 +37,3 @@ class Executing(Protocol):
 
 
 Workplace = Union[Threads, Executing]
-
-
-class ExecutorPlace:
-    """Any executor, with so many workers. Each has a piece, and as many pieces wait."""
-
-    def __init__(self, executor: Executor, workers: int) -> None:
-        self._executor, self._workers = executor, workers
-
-    def width(self) -> int:
-        return 2 * self._workers
-
-    def submit(self, task: Task, lines: bytes, limits: Numbers) -> Future[Any]:
-        return self._executor.submit(task, lines, limits)
-
-    def tend(self) -> None:
-        pass
-
-    def status(self) -> str:
-        return ""
