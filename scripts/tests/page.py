@@ -248,11 +248,15 @@ def hold_page(held: Held, quick: bool, seed: int) -> None:
     """All that is tried in one page."""
     from page_access import hold_access
     from page_axes import hold_axes
-    from page_gestures import hold_drag, hold_edges
+    from page_gestures import hold_button, hold_drag, hold_edges
+    from page_given import hold_given
     from page_keys import hold_keys
+    from page_leaving import hold_leaving
     from page_lists import hold_lists
     from page_machine import hold_machine
     from page_pictures import hold_pictures
+    from page_reload import hold_reload
+    from page_rows import hold_rows
 
     hold_first(held)
     hold_examples(held, quick)
@@ -261,9 +265,14 @@ def hold_page(held: Held, quick: bool, seed: int) -> None:
     hold_refused(held)
     hold_link(held)
     hold_lists(held, quick, seed)
+    hold_reload(held)
+    hold_rows(held)
+    hold_given(held)
+    hold_leaving(held)
     hold_pictures(held, quick, seed)
     hold_axes(held)
     hold_drag(held)
+    hold_button(held)
     hold_keys(held)
     hold_access(held)
     if not quick:

@@ -181,7 +181,8 @@ def hold_scaled(held: Held, seed: int) -> None:
     held.hold("all cells are seen: " + shown, "all of 12,289 cells visited" in shown)
     last = int(re.sub(r"\D", "", shown.split(" to ")[1].split(",  ")[0].split(" every")[0]))
     held.hold("it goes from the start to the halt", last <= 47_176_870 < last + every and view["top"] == 0)
-    for number in source.sample(range(50, last // every), 6):
+    # The last row has a mark.
+    for number in source.sample(range(50, last // every - 6), 6):
         hold_means(held, source, sampled(number * every))
 
 
