@@ -91,6 +91,7 @@ export class Diagram {
     Object.assign(this, { shown: null, data: null, sheet: null, view: null, marks: [], place: null });
     this.asked += 1;
     this.canvas.dataset.state = "asked";
+    part("diagram-text").textContent = "Drawing …";
     this.ahead.end();
   }
 
@@ -99,7 +100,6 @@ export class Diagram {
     if (this.data === null) {
       // A new width has it empty.
       this.canvas.width = this.canvas.clientWidth;
-      part("diagram-text").textContent = "Drawing …";
     }
   }
 

@@ -40,7 +40,7 @@ async function begin(isOfLink = false) {
   part("results").dataset.state = "asked";
   begun += 1;
   const mine = begun;
-  const given = await source.given().catch(unread);
+  const given = await source.given().catch((error) => (mine === begun ? unread(error) : null));
   if (mine === begun && given !== null) {
     if (!isOfLink && location.hash !== "") {
       history.replaceState(null, "", location.pathname + location.search);

@@ -61,13 +61,13 @@ export class Tape {
   close() {
     this.pause();
     Object.assign(this, { about: null, rows: [] });
+    part("tape-text").textContent = "…";
   }
 
   /** Shows nothing, where no row of the next machine has come. */
   blank() {
     if (this.row === undefined) {
       part("tape-cells").replaceChildren();
-      part("tape-text").textContent = "…";
     }
   }
 

@@ -35,6 +35,7 @@ export class View {
     this.again = new Again((about) => this.showAgain(about));
     /** @type {About | null} */
     this.about = null;
+    this.timer = 0;
     listen(this.diagram, (words, byKeys) => {
       part("place-text").textContent = words;
       byKeys && tellLive(words);
@@ -99,7 +100,8 @@ export class View {
     this.diagram.close();
     this.tape.close();
     part("place-text").textContent = "";
-    setTimeout(() => {
+    clearTimeout(this.timer);
+    this.timer = setTimeout(() => {
       this.diagram.blank();
       this.tape.blank();
     }, BLANK_MILLISECONDS);

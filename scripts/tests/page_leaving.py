@@ -46,10 +46,10 @@ def hold_next(held: Held) -> None:
     page.until(lambda: page.text("tape-text").startswith("Step"))
     page.click("tape-play")
     held.hold("it plays", page.text("tape-play") == "Pause")
-    play, machine, state, isPainted, cells = page.driver.execute_async_script(NEXT)
+    play, machine, state, is_painted, cells = page.driver.execute_async_script(NEXT)
     held.hold("its rows aren't traced yet: %s" % state, machine == CHAMPION and state == "asked")
     held.hold("nothing plays on: " + play, play == "Play")
-    held.hold("no older picture", not isPainted)
+    held.hold("no older picture", not is_painted)
     held.hold("no older tape: %d cells" % cells, cells == 0)
     page.drawn()
     page.until(lambda: page.text("tape-text").startswith("Step"))
@@ -62,8 +62,8 @@ def hold_active(held: Held, name: str, times: int, wanted: str) -> None:
     page.js("document.getElementById(arguments[0]).focus()", name)
     for _ in range(times):
         key(page, "Enter")
-    isThere = soon(lambda: page.js(ACTIVE) == wanted)
-    held.hold("the focus goes from %s to %s: %r" % (name, wanted, page.js(ACTIVE)), isThere)
+    is_there = soon(lambda: page.js(ACTIVE) == wanted)
+    held.hold("the focus goes from %s to %s: %r" % (name, wanted, page.js(ACTIVE)), is_there)
 
 
 def hold_focus(held: Held) -> None:

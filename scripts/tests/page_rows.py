@@ -63,9 +63,9 @@ def hold_chips(held: Held) -> None:
     page = held.page
     page.js("window.chip = document.getElementById('kind-halt')")
     page.open_list("%s\n%s\n" % (HALT, HALT))
-    isSame = page.js("return window.chip === document.getElementById('kind-halt')")
+    is_same = page.js("return window.chip === document.getElementById('kind-halt')")
     held.hold(
-        "a kind's button stays: " + page.text("kind-halt"), isSame and page.text("kind-halt") == "halt 2"
+        "a kind's button stays: " + page.text("kind-halt"), is_same and page.text("kind-halt") == "halt 2"
     )
 
 
