@@ -1,7 +1,7 @@
 /** Deciding one machine again with larger limits, beside what the list says of it. */
 import { larger } from "./fields.mjs";
 import { readLine, shown } from "./machine.mjs";
-import { part } from "./parts.mjs";
+import { part, setAside } from "./parts.mjs";
 import { Asker } from "./asker.mjs";
 
 /** @typedef {import("./view.mjs").About} About */
@@ -46,7 +46,7 @@ export class Again {
       const { verdict } = readLine(answer.line);
       this.about = { machine: about.machine, verdict, answer: answer.answer, plan };
       this.tell(`With ${limits}: ${verdict.text}. The list keeps what it has.`);
-      part("again").hidden = verdict.kind !== "undecided";
+      setAside("again", "hidden", verdict.kind !== "undecided", "copy-text");
       this.done(this.about);
     });
   }

@@ -75,6 +75,8 @@ export class Asker {
     this.isBusy = true;
     this.begun = performance.now();
     const heard = (/** @type {any} */ answer) => {
+      // What waited for the answer isn't kept with the worker.
+      Object.assign(worker, { onmessage: null, onerror: null });
       const isLast = this.waiting === null;
       this.next();
       // Of a question that another one followed only rows and pictures are of use.

@@ -11,6 +11,7 @@
  *   every: number, columns: number, image: Uint8ClampedArray, low: number, high: number,
  *   ahead: import("./samples.mjs").Asked[]}} Picture `ahead` are the rows of views that may come next
  */
+import { Ahead } from "./ahead.mjs";
 import { Asker } from "./asker.mjs";
 import { forgetColours, palette } from "./colours.mjs";
 import { paintAll, sheetOf } from "./paint.mjs";
@@ -28,8 +29,7 @@ export class Diagram {
     this.choose = choose;
     this.canvas = /** @type {HTMLCanvasElement} */ (part("diagram"));
     this.asker = new Asker(PATIENCE_MILLISECONDS);
-    // Takes rows of views that may come next.
-    this.aheadAsker = new Asker();
+    this.ahead = new Ahead(this.asker);
     /** @type {Shown | null} */
     this.shown = null;
     /** @type {Picture | null} */
@@ -80,14 +80,27 @@ export class Diagram {
 
   /** Shows a machine from its start on, or what is marked. */
   open(/** @type {Shown} */ asked, /** @type {import("./paint.mjs").Mark[]} */ marks) {
-    Object.assign(this, { shown: asked, marks, data: null, sheet: null });
-    Object.assign(this, { view: null, opens: true, isFitted: true });
-    this.place = null;
+    this.close();
+    Object.assign(this, { shown: asked, marks, opens: true, isFitted: true });
     this.chosen = { step: 0, position: 0 };
-    if (this.aheadAsker.isBusy) {
-      this.aheadAsker.end();
-    }
     this.fetch();
+  }
+
+  /** Leaves a machine: a picture of it that comes is too late. */
+  close() {
+    Object.assign(this, { shown: null, data: null, sheet: null, view: null, marks: [], place: null });
+    this.asked += 1;
+    this.canvas.dataset.state = "asked";
+    part("diagram-text").textContent = "Drawing …";
+    this.ahead.end();
+  }
+
+  /** Shows nothing, where no picture of the next machine has come. */
+  blank() {
+    if (this.data === null) {
+      // A new width has it empty.
+      this.canvas.width = this.canvas.clientWidth;
+    }
   }
 
   /** Shows as much as fits now, where nobody chose another view. */
@@ -144,6 +157,8 @@ export class Diagram {
       return;
     }
     if (answer.error) {
+      Object.assign(this, { data: null, sheet: null });
+      this.blank();
       part("diagram-text").textContent = `No diagram: ${answer.message}.`;
       return;
     }
@@ -155,26 +170,9 @@ export class Diagram {
     this.canvas.dataset.state = isLast ? "taken" : "asked";
     this.draw();
     if (isLast) {
-      this.lookAhead(data.ahead, this.asked);
+      const { asked } = this;
+      this.ahead.take(data.ahead, () => asked === this.asked);
     }
-  }
-
-  /**
-   * Has rows of views that may come next taken, and kept where pictures are made.
-   * @param {import("./samples.mjs").Asked[]} ahead @param {number} asked the picture that they belong to
-   */
-  lookAhead([rows, ...others], asked) {
-    if (rows === undefined || asked !== this.asked) {
-      return;
-    }
-    this.aheadAsker.ask({ what: "ahead", rows }, ({ error, kept: taken }) => {
-      if (taken) {
-        this.asker.tell({ what: "keep", kept: taken }, [taken.sample.cells.buffer]);
-      }
-      if (!error) {
-        this.lookAhead(others, asked);
-      }
-    });
   }
 
   /** Shows a view, or one nearby with something visited, where it isn't the one that is shown. */

@@ -6,6 +6,8 @@ import { made, part } from "./parts.mjs";
 
 /** @type {("steps" | "cells" | "depth" | "nodes")[]} */
 const NAMES = ["steps", "cells", "depth", "nodes"];
+// Commas stand between groups of three digits.
+const GROUPS = /^\d{1,3}(?:,\d{3})+(?![\d,])/;
 const SWITCHES = ["cyclers", "translated", "backward"];
 const WHAT = {
   steps: "steps of one simulation",
@@ -48,6 +50,7 @@ export function setPlan(/** @type {Record<string, any>} */ plan) {
   SWITCHES.forEach((name) => {
     field(name).checked = plan[name] ?? true;
   });
+  forget();
   tellLimits();
 }
 
@@ -65,12 +68,18 @@ export function larger(/** @type {Record<string, any>} */ plan) {
   return { ...plan, steps, cells };
 }
 
+/** A number's text without what separates its digits. */
+function digitsOf(/** @type {string} */ text) {
+  const plain = text.replace(/[\s_]/g, "").replace(/^\+/, "");
+  return plain.replace(GROUPS, (digits) => digits.replaceAll(",", ""));
+}
+
 /**
  * A whole number as people write it: with separators, or as `1e6` or `10^6`; null for another text.
  * @returns {bigint | null}
  */
 export function numberOf(/** @type {string} */ given) {
-  const text = given.replace(/[\s,_]/g, "").replace(/^\+/, "");
+  const text = digitsOf(given);
   const power = /^(\d{1,15})(?:\.(\d{1,15}))?e\+?(\d{1,2})$/i.exec(text) ?? /^(1)()0\^(\d{1,2})$/.exec(text);
   if (power === null) {
     return /^\d{1,19}$/.test(text) ? BigInt(text) : null;
@@ -93,7 +102,7 @@ export function planOf() {
     const number = numberOf(text);
     const { least, most } = RANGES[name];
     if (number === null || number < least || number > most) {
-      const isLarge = number !== null || /^\d{20,}$/.test(text.replace(/[\s,_]/g, ""));
+      const isLarge = number !== null || /^\d{20,}$/.test(digitsOf(text));
       throw new LimitsError(name, isLarge ? `${name} out of range` : `${name} is no number`);
     }
     plan[name] = number;

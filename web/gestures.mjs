@@ -62,6 +62,10 @@ class Fingers {
 
   down(/** @type {PointerEvent} */ event) {
     const { canvas } = this.diagram;
+    // Only the main button moves the picture.
+    if (event.button !== 0) {
+      return;
+    }
     this.moves = event.pointerType === "mouse" || document.activeElement === canvas;
     if (this.moves) {
       canvas.setPointerCapture(event.pointerId);
@@ -131,7 +135,7 @@ class Fingers {
 
   up(/** @type {PointerEvent} */ event) {
     const { diagram, fingers } = this;
-    if (fingers.size === 1 && this.moved < CLICK_PIXELS) {
+    if (fingers.has(event.pointerId) && fingers.size === 1 && this.moved < CLICK_PIXELS) {
       const place = diagram.placeAt(event.offsetX, event.offsetY);
       if (place !== null) {
         this.tell(diagram.placeWords(place), false);

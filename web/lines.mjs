@@ -1,11 +1,12 @@
 /** The lines of a list that are shown: their kinds, their order, and which one is open. */
 import { Asker } from "./asker.mjs";
 import { KINDS, shown } from "./machine.mjs";
-import { made, part, tellLive } from "./parts.mjs";
+import { made, part, setAside, tellLive } from "./parts.mjs";
 import { Rows } from "./rows.mjs";
 
 // How the time is called, in the browser's list, at which the page showed its first verdict.
 const FIRST_VERDICT = "first verdict";
+const UNDECIDED = KINDS.indexOf("undecided");
 
 /**
  * @typedef {import("./results.mjs").Results} Results
@@ -25,6 +26,8 @@ export class Lines {
     this.rows = new Rows((row) => this.open(row, true));
     this.sorter = new Asker();
     this.kindsShown = new Set(KINDS.keys());
+    this.kindButtons = KINDS.map((_, k) => this.kindButton(k));
+    part("kinds").append(...this.kindButtons);
     this.order = /** @type {HTMLSelectElement} */ (part("order"));
     // Whether a line of the list was opened.
     this.isOpen = false;
@@ -40,16 +43,22 @@ export class Lines {
 
   /** Begins with a list of which nothing is answered yet. */
   begin() {
-    Object.assign(this.rows, { chosen: -1, top: 0 });
+    this.rows.begin();
     this.isOpen = false;
   }
 
-  /** Shows what is answered, and opens the first line once there is one. */
+  /**
+   * Shows what is answered, and opens the first line once it has come, if none was opened before. Where none
+   * comes no machine is shown.
+   */
   show() {
     this.showKinds();
     this.showRows();
-    if (!this.isOpen && this.answered().results.lines > 0) {
-      this.isOpen = true;
+    const { results, isUnderWay } = this.answered();
+    if (!this.isOpen && results.lines === 0 && !isUnderWay) {
+      this.view.close();
+    }
+    if (!this.isOpen && results.lines > 0 && (results.hasFirst || !isUnderWay)) {
       this.rows.choose(0, false);
       this.open(this.rows.rows[0] ?? 0, false);
       if (performance.getEntriesByName(FIRST_VERDICT).length === 0) {
@@ -58,23 +67,22 @@ export class Lines {
     }
   }
 
-  /** The kinds with their counts; each is shown or not. */
+  /** The kinds with their counts; each is shown or not. Their buttons stay, so that a click finds them. */
   showKinds() {
     const { counts } = this.answered().results;
-    const focused = document.activeElement?.id;
-    part("kinds").replaceChildren(...KINDS.map((_, k) => this.kindButton(k, counts[k])));
-    part("save-shown").hidden = KINDS.every((_, k) => this.kindsShown.has(k) || counts[k] === 0);
-    if (focused?.startsWith("kind-")) {
-      document.getElementById(focused)?.focus();
-    }
+    this.kindButtons.forEach((button, k) => {
+      button.textContent = `${KINDS[k]} ${shown(counts[k])}`;
+      button.setAttribute("aria-pressed", String(this.kindsShown.has(k)));
+      button.hidden = counts[k] === 0;
+    });
+    const isAll = KINDS.every((_, k) => this.kindsShown.has(k) || counts[k] === 0);
+    setAside("save-shown", "hidden", isAll, "save");
   }
 
-  /** The button of a kind, with how many lines have it. */
-  kindButton(/** @type {number} */ k, /** @type {number} */ count) {
+  /** The button of a kind. */
+  kindButton(/** @type {number} */ k) {
     const { kindsShown } = this;
-    const given = { type: "button", id: `kind-${KINDS[k]}`, "aria-pressed": kindsShown.has(k) };
-    const button = made("button", given, `${KINDS[k]} ${shown(count)}`);
-    button.hidden = count === 0;
+    const button = made("button", { type: "button", id: `kind-${KINDS[k]}`, hidden: true });
     button.addEventListener("click", () => {
       kindsShown.has(k) ? kindsShown.delete(k) : kindsShown.add(k);
       this.showKinds();
@@ -89,13 +97,13 @@ export class Lines {
     const order = this.order.value;
     const all = results.rows(this.kindsShown);
     if (order === "list" || isUnderWay) {
-      this.rows.show(results, all);
+      this.rows.show(results, all, true);
       return;
     }
     const question = { what: "sort", rows: all.slice(), steps: results.stepsOf(all), down: order === "down" };
     this.sorter.ask(question, (answer) => {
-      if (results === this.answered().results) {
-        this.rows.show(results, answer.order);
+      if (results === this.answered().results && order === this.order.value) {
+        this.rows.show(results, answer.order, false);
       }
     });
   }
@@ -103,6 +111,7 @@ export class Lines {
   open(/** @type {number} */ row, /** @type {boolean} */ moves) {
     const { results, plan, isRead } = this.answered();
     const { machine, verdict, answer, given, number } = results.row(row);
+    this.isOpen = true;
     this.view.open({ machine, verdict, answer, plan }, moves, { text: given, number, isRead });
   }
 
@@ -110,8 +119,8 @@ export class Lines {
   openBeside(/** @type {number} */ by, /** @type {boolean} */ isUndecided) {
     const { rows } = this.rows;
     const { results } = this.answered();
-    let place = this.rows.chosen + by;
-    const fits = () => !isUndecided || results.row(rows[place]).kind === "undecided";
+    let place = this.rows.placeBeside(by);
+    const fits = () => !isUndecided || results.kindOf(rows[place]) === UNDECIDED;
     while (place >= 0 && place < rows.length && !fits()) {
       place += by;
     }

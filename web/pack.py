@@ -7,7 +7,7 @@ A page that is opened from a disk may load no other files, so the modules stand 
 of the page, that of the worker, and what both begin with. Each module stands there once, after those that it
 imports, as a function that gives what it exports. A content security policy names these scripts by their
 hashes, so that the browser runs no other one and connects to nothing. Comments, types, indentation, and
-spaces on lines without texts are left out; the modules in the repository have them.
+spaces beside signs are left out; the modules in the repository have them. The engine stands there in base85.
 """
 
 import base64
@@ -29,9 +29,12 @@ COMMENT = re.compile(r"^[ \t]*(?:/\*\*(?:(?!\*/).)*\*/|//[^\n]*)\n", re.MULTILIN
 
 TYPE = re.compile(r"/\*\* @(?:type|param|returns) [^\n]*? \*/ ?")
 INDENT = re.compile(r"^[ \t]+|\n(?=\n)", re.MULTILINE)
-# Lines with none of these have no text and no regular expression; there no space beside these signs counts.
-PLAIN = re.compile(r"^[^\"'`/\n]+$", re.MULTILINE)
-SPACED = re.compile(r" ?([=(){}\[\],;:?<>&|*!]) ?")
+# A text in quotes, or in backticks where what is filled in has no text itself.
+TEXT = r"\"(?:[^\"\\\n]|\\.)*\"|`(?:[^`\\\n$]|\$\{[^`{}\"'\n]*\})*`"
+# Lines that have nothing else with quotes or slashes, so no regular expression; beside these signs no space
+# counts there, but in texts.
+PLAIN = re.compile(r"^(?:[^\"'`/\n]|%s)+$" % TEXT, re.MULTILINE)
+SPACED = re.compile(r"(%s)| ?([=(){}\[\],;:?<>&|*!]) ?" % TEXT)
 
 
 def read(*path: str) -> str:
@@ -56,7 +59,7 @@ def wrapped(name: str) -> str:
     text = IMPORT.sub(r"const \1 = of_\2;", REEXPORT.sub("", text))
     text = INDENT.sub("", TYPE.sub("", COMMENT.sub("", EXPORT.sub(r"\1", text))))
     script = "const of_%s = (() => {\n%s\nreturn { %s };\n})();\n" % (name, text, ", ".join(exported))
-    return PLAIN.sub(lambda line: SPACED.sub(r"\1", line[0]), script)
+    return PLAIN.sub(lambda line: SPACED.sub(r"\1\2", line[0]), script)
 
 
 def joined(modules: List[str]) -> str:
@@ -109,7 +112,9 @@ def policy(style: str, *scripts: str) -> str:
 def main() -> None:
     module, page = sys.argv[1:]
     with open(module, "rb") as file:
-        engine = base64.b64encode(file.read()).decode()
+        engine = base64.b85encode(file.read()).decode()
+    if "<!--" in engine:
+        sys.exit("pack: the engine's text can't stand in a page")
     data = json.dumps(list(examples())).replace("<", "\\u003c")
     page_modules, worker_modules = in_order("page", []), in_order("worker", [])
     shared = [module for module in worker_modules if module in page_modules]

@@ -8,7 +8,8 @@ import { copy, made, part, save } from "./parts.mjs";
 import { kept } from "./session.mjs";
 import { Source } from "./source.mjs";
 import { View } from "./view.mjs";
-import { Work, tell } from "./work.mjs";
+import { Work, failureWords, tell } from "./work.mjs";
+import { toldOf } from "./workers.mjs";
 
 const MOST_COPIED = 50_000_000;
 const FIRST_LIST = "1RB1LB_1LA1RZ\n1RA1RA\n1rB1LB\n";
@@ -25,23 +26,36 @@ const lines = new Lines(new View(), () => {
 // How often a list was given.
 let begun = 0;
 
-/** Answers the list that is given; where another one is given meanwhile, only that. */
-async function begin() {
+/**
+ * Answers the list that is given; where another one is given meanwhile, only that. A list that isn't a link's
+ * takes the link out of the address.
+ */
+async function begin(isOfLink = false) {
+  const plan = planOrRefused();
+  if (plan === null) {
+    return;
+  }
   tell("");
   work.stop();
   part("results").dataset.state = "asked";
   begun += 1;
   const mine = begun;
-  const plan = planOrRefused();
-  if (plan === null) {
-    return;
-  }
-  const { blob, mode } = await source.given();
-  if (mine === begun) {
+  const given = await source.given().catch((error) => (mine === begun ? unread(error) : null));
+  if (mine === begun && given !== null) {
+    if (!isOfLink && location.hash !== "") {
+      history.replaceState(null, "", location.pathname + location.search);
+    }
     source.keep();
     lines.begin();
-    work.begin(blob, { mode, clean: source.clean.checked, plan });
+    work.begin(given.blob, { mode: given.mode, clean: source.clean.checked, plan });
   }
+}
+
+/** Says that a list can't be read. */
+function unread(/** @type {Error} */ error) {
+  tell(failureWords(toldOf(error)));
+  part("results").dataset.state = "ended";
+  return null;
 }
 
 /** What the fields say; null where a limit is refused, which is said beside it. */
@@ -55,12 +69,15 @@ function planOrRefused() {
   }
 }
 
-/** Takes a file in place of the text; none takes it away again. */
-function take(/** @type {File | null} */ file) {
+/**
+ * Takes a file in place of the text; none takes it away again.
+ * @param {File | null} file @param {boolean} [isOwn] whether the page made it
+ */
+function take(file, isOwn = false) {
   if (file !== null) {
     source.forgetExample();
   }
-  source.hold(file);
+  source.hold(file, isOwn);
   if (file !== null) {
     begin();
   }
@@ -72,9 +89,9 @@ async function decideLeft() {
   const blob = await results.undecided();
   const name = `${counted(results.counts[KINDS.indexOf("undecided")], "undecided machine")}.txt`;
   setPlan(larger(run.plan));
-  source.isExample = false;
+  source.leaveExample();
   source.mode.value = "decide";
-  take(new File([blob], name));
+  take(new File([blob], name), true);
 }
 
 /** The examples, which stand in the page. */
@@ -95,10 +112,14 @@ function makeExamples() {
   });
 }
 
-/** Opens what a link says; without one what a reload kept, or the list that stands there first. */
-function openLink() {
+/**
+ * Opens what a link says; without one, or where the page is loaded again with it, what was kept; else the
+ * list that stands there first.
+ */
+function openLink(isAgain = false) {
   const link = readLink(location.hash);
-  const before = link === null ? kept() : null;
+  const stored = kept();
+  const before = link === null || (isAgain && stored?.hash === location.hash) ? stored : null;
   source.toDefaults();
   if (before === null) {
     setPlan(link?.plan ?? {});
@@ -110,8 +131,15 @@ function openLink() {
     source.tellGone(before.gone);
     return;
   }
-  source.fill(link === null ? before?.text ?? FIRST_LIST : `${link.machine}\n`);
-  begin();
+  const list = link === null ? FIRST_LIST : `${link.machine}\n`;
+  source.fill(before?.text ?? list);
+  begin(link !== null && source.list.value === list);
+}
+
+/** Whether the page is loaded again, or come back to. */
+function isLoadedAgain() {
+  const [entry] = performance.getEntriesByType("navigation");
+  return /** @type {PerformanceNavigationTiming | undefined} */ (entry)?.type !== "navigate";
 }
 
 /** What the keys do anywhere but in a field. */
@@ -150,7 +178,8 @@ function listen() {
   on("save-shown", async () => save(await work.results.blobOf(lines.kindsShown), name()));
   on("copy", copyAll);
   addEventListener("keydown", pressed);
-  addEventListener("hashchange", openLink);
+  addEventListener("hashchange", () => openLink());
+  addEventListener("pagehide", () => source.keep());
 }
 
 function start() {
@@ -162,7 +191,7 @@ function start() {
   });
   listen();
   if (isSupported()) {
-    openLink();
+    openLink(isLoadedAgain());
   } else {
     tell(
       "This browser’s WebAssembly has no vectors (SIMD), which the engine needs, so nothing can be decided " +

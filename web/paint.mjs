@@ -18,7 +18,6 @@ import { cellsOf, stepsOf, ticks } from "./scale.mjs";
 
 const LABEL_PIXELS = 18;
 const LEAST_BAND = 4;
-const LEAST_HALO = 3;
 const STEPS_APART = 44;
 const POSITIONS_APART = 84;
 const LETTERED = 16;
@@ -92,15 +91,15 @@ function paintPicture(pen, area, view, { view: own, every, columns, rows, sheet 
 }
 
 /**
- * Frames the heads, with their states where cells are large enough; the frame has a halo, so that it is seen
- * on each symbol's colour.
+ * Frames the heads, with their states where cells are large enough; the frame has a halo in the colour of
+ * letters on the cell's symbol, so that it is seen on each symbol's colour.
  * @param {CanvasRenderingContext2D} pen @param {Area} area @param {View} view @param {Sample} sample
  */
 function paintHeads(pen, area, view, sample) {
   if (view.wide < FRAMED || view.high < FRAMED) {
     return;
   }
-  const [head, halo] = [ink("--head"), ink("--halo")];
+  const head = ink("--head");
   const line = view.high >= 12 ? 2 : 1.5;
   pen.textAlign = "center";
   pen.textBaseline = "middle";
@@ -108,15 +107,15 @@ function paintHeads(pen, area, view, sample) {
   sample.steps.forEach((step, k) => {
     const [x, y] = [columnAt(area, view, sample.heads[k]), rowAt(area, view, step)];
     const inner = line + 0.5;
+    const symbol = symbolAt(sample, k, sample.heads[k]);
+    pen.fillStyle = ink(symbol < 0 ? "--text" : `--on${symbol}`);
     pen.lineWidth = 1;
-    pen.strokeStyle = halo;
+    pen.strokeStyle = pen.fillStyle;
     pen.strokeRect(x + inner, y + inner, view.wide - 2 * inner, view.high - 2 * inner);
     pen.lineWidth = line;
     pen.strokeStyle = head;
     pen.strokeRect(x + line / 2, y + line / 2, view.wide - line, view.high - line);
     if (view.high >= LETTERED && view.wide >= LETTERED) {
-      const symbol = symbolAt(sample, k, sample.heads[k]);
-      pen.fillStyle = ink(symbol < 0 ? "--text" : `--on${symbol}`);
       pen.fillText(sample.states[k], x + view.wide / 2, y + view.high / 2 + 1);
     }
   });
@@ -195,8 +194,7 @@ function paintMarks(pen, area, view, marks) {
       const wanted = Math.max(box.y + box.high / 2, free);
       const middle = Math.min(wanted, area.y + area.height - LABEL_PIXELS / 2);
       free = middle + LABEL_PIXELS + 2;
-      // A halo has the mark seen on each symbol's colour, where it leaves something of the row above.
-      paintBand(pen, box, bands[k].label, mark, { area, middle, hasHalo: view.high > LEAST_HALO });
+      paintBand(pen, box, bands[k].label, mark, { area, middle });
     });
     if (arrow && boxes.length === 2) {
       paintArrow(pen, boxes[0], boxes[1], mark);
@@ -211,23 +209,22 @@ function paintMarks(pen, area, view, marks) {
 function boxOf(/** @type {Band} */ band, /** @type {View} */ view, /** @type {Area} */ area) {
   const x = band.from === null ? area.x + 1 : columnAt(area, view, band.from);
   const end = band.to === null ? area.x + area.width - 1 : columnAt(area, view, band.to + 1);
-  const y = rowAt(area, view, band.step);
+  const y = Math.floor(rowAt(area, view, band.step));
   return { x, y, wide: Math.max(LEAST_BAND, end - x), high: Math.max(LEAST_BAND, view.high) };
 }
 
 /**
+ * Outlines a band; a halo about the outline has it seen on each symbol's colour.
  * @param {CanvasRenderingContext2D} pen @param {Box} box @param {string} label @param {string} mark
- * @param {{area: Area, middle: number, hasHalo: boolean}} how where the label stands
+ * @param {{area: Area, middle: number}} how where the label stands
  */
-function paintBand(pen, { x, y, wide, high }, label, mark, { area, middle, hasHalo }) {
+function paintBand(pen, { x, y, wide, high }, label, mark, { area, middle }) {
   if (y + high < area.y || y > area.y + area.height) {
     return;
   }
-  if (hasHalo) {
-    pen.strokeStyle = ink("--panel");
-    pen.lineWidth = 1;
-    pen.strokeRect(x - 2.5, y - 2.5, wide + 5, high + 5);
-  }
+  pen.strokeStyle = ink("--panel");
+  pen.lineWidth = 1;
+  pen.strokeRect(x - 2.5, y - 2.5, wide + 5, high + 5);
   pen.strokeStyle = mark;
   pen.lineWidth = 2;
   pen.strokeRect(x - 1, y - 1, wide + 2, high + 2);

@@ -29,6 +29,18 @@ export function made(name, given = {}, ...children) {
   return element;
 }
 
+/**
+ * Hides or disables something, or takes that back; where it has the focus, something else gets that.
+ * @param {string} id @param {"hidden" | "disabled"} how @param {boolean} is @param {string} other
+ */
+export function setAside(id, how, is, other) {
+  const hasFocus = is && document.activeElement === part(id);
+  Object.assign(part(id), { [how]: is });
+  if (hasFocus) {
+    part(other).focus({ preventScroll: true });
+  }
+}
+
 const number = new Intl.NumberFormat("en");
 
 /** A number as people read it, below 0 with a minus. */

@@ -76,7 +76,7 @@ export class Pool {
       const given = { ...piece, job: this.jobs, begin: 0, done: 0, nextLine: piece.line };
       hand.pieces.push(given);
       this.jobs += 1;
-      this.send(hand, given);
+      await this.send(hand, given);
     }
   }
 
@@ -133,7 +133,7 @@ export class Pool {
     this.listen(hand);
     for (const piece of pieces) {
       Object.assign(piece, { begin: piece.done, line: piece.nextLine });
-      this.send(hand, piece);
+      this.send(hand, piece).catch((error) => this.failed(toldOf(error)));
     }
   }
 

@@ -61,6 +61,31 @@ export class Results {
     return { part: parts[low], line: row - this.begins[low] };
   }
 
+  /** The row of a line; -1 where it has none. */
+  rowOf(/** @type {Place} */ { part, line }) {
+    const at = this.parts().indexOf(part);
+    return at < 0 ? -1 : this.begins[at] + line;
+  }
+
+  /** The kind of a row, by its number. */
+  kindOf(/** @type {number} */ row) {
+    const { part, line } = this.place(row);
+    return part.kinds[line];
+  }
+
+  /** Whether the first line of the list has come: no piece before it has one that comes later. */
+  get hasFirst() {
+    for (const parts of this.jobs) {
+      if (parts?.some(({ kinds }) => kinds.length > 0)) {
+        return true;
+      }
+      if (!parts?.some(({ done }) => done)) {
+        return false;
+      }
+    }
+    return false;
+  }
+
   /** A row as it is shown: its number in the list, its verdict line, and as what it was given. */
   row(/** @type {number} */ row) {
     const { part, line } = this.place(row);

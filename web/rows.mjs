@@ -30,7 +30,12 @@ export class Rows {
      */
     this.drawn = new Map();
     this.top = 0;
+    // The place of the chosen line; -1 where it isn't among those that are shown.
     this.chosen = -1;
+    // Where the chosen line would stand, between the places before and from it on.
+    this.gap = 0;
+    /** @type {import("./results.mjs").Place | null} */
+    this.line = null;
     this.phone = matchMedia(PHONE);
     this.phone.addEventListener("change", () => this.resized());
     this.box = part("rows");
@@ -58,14 +63,44 @@ export class Rows {
     return this.rows.length * this.pixels > MOST_PIXELS;
   }
 
-  /** Shows these rows of results. */
-  show(/** @type {Results} */ results, /** @type {Uint32Array} */ rows) {
+  /** Begins with other results, of which no line is chosen. */
+  begin() {
+    Object.assign(this, { chosen: -1, gap: 0, line: null, top: 0 });
+  }
+
+  /**
+   * Shows these rows of results; the chosen line stays chosen, wherever it stands then.
+   * @param {Results} results @param {Uint32Array} rows @param {boolean} isInOrder of the list
+   */
+  show(results, rows, isInOrder) {
     this.results = results;
     this.rows = rows;
+    this.find(results, rows, isInOrder);
     part("spacer").style.height = `${this.height}px`;
     this.box.setAttribute("aria-rowcount", String(rows.length + 1));
     this.top = Math.min(this.top, Math.max(0, rows.length - this.seen));
     this.draw();
+  }
+
+  /**
+   * Finds where the chosen line stands now.
+   * @param {Results} results @param {Uint32Array} rows @param {boolean} isInOrder
+   */
+  find(results, rows, isInOrder) {
+    const row = this.line === null ? -1 : results.rowOf(this.line);
+    this.chosen = row < 0 ? -1 : rows.indexOf(row);
+    if (this.chosen >= 0) {
+      this.gap = this.chosen;
+    } else if (row >= 0 && isInOrder) {
+      const beyond = rows.findIndex((one) => one > row);
+      this.gap = beyond < 0 ? rows.length : beyond;
+    }
+    this.gap = Math.min(this.gap, rows.length);
+  }
+
+  /** The place that is so many from the chosen line. */
+  placeBeside(/** @type {number} */ by) {
+    return this.gap + (this.chosen < 0 && by > 0 ? by - 1 : by);
   }
 
   resized() {
@@ -163,7 +198,7 @@ export class Rows {
     const moves = { ArrowDown: 1, ArrowUp: -1, PageDown: page, PageUp: -page, Home: -far, End: far };
     if (event.key in moves && this.rows.length > 0) {
       event.preventDefault();
-      this.choose(this.chosen + moves[event.key], false);
+      this.choose(this.placeBeside(moves[event.key]), false);
     } else if (event.key === "Enter" && this.chosen >= 0) {
       this.choose(this.chosen, true);
     }
@@ -171,12 +206,17 @@ export class Rows {
 
   /** Chooses a row, and opens its machine where that is asked for. */
   choose(/** @type {number} */ place, /** @type {boolean} */ opens) {
+    if (this.rows.length === 0) {
+      return;
+    }
     this.chosen = Math.max(0, Math.min(place, this.rows.length - 1));
+    this.gap = this.chosen;
+    this.line = this.results?.place(this.rows[this.chosen]) ?? null;
     if (this.chosen < this.top || this.chosen >= this.top + this.seen) {
       this.go(this.chosen < this.top ? this.chosen : this.chosen - this.seen + 1);
     }
     this.draw();
-    if (opens && this.rows.length > 0) {
+    if (opens) {
       this.open(this.rows[this.chosen]);
     }
   }

@@ -14,11 +14,14 @@ export class Source {
     this.clean = /** @type {HTMLInputElement} */ (part("clean"));
     /** @type {File | null} */
     this.file = null;
+    // What the list is called that a reload doesn't keep, where a file or such a list stands there.
+    this.gone = "";
     // Whether the settings are those of an example: then the next list has the defaults again.
     this.isExample = false;
     this.list.addEventListener("input", () => {
       this.forgetExample();
       this.nameRun();
+      this.gone = "";
     });
     this.mode.addEventListener("change", () => this.nameRun());
     part("defaults").addEventListener("click", () => this.toDefaults());
@@ -33,18 +36,24 @@ export class Source {
     return asked === "check" || (asked === "auto" && hasVerdicts(start)) ? "check" : "decide";
   }
 
-  /** Has the button say what it does with the text. */
+  /** Has the button say what it does with the text, or with a file once its begin is read. */
   nameRun() {
     if (this.file === null) {
       nameRun(this.modeOf(new TextEncoder().encode(this.list.value.slice(0, BEGIN_BYTES))));
+    } else {
+      // A file that can't be read is told where it is run.
+      this.given().catch(() => undefined);
     }
   }
 
   /** What is to be answered, and whether it is decided or checked; the button says so. */
   async given() {
     const blob = this.file ?? new Blob([this.list.value]);
+    const { file } = this;
     const mode = this.modeOf(new Uint8Array(await blob.slice(0, BEGIN_BYTES).arrayBuffer()));
-    nameRun(mode);
+    if (file === this.file) {
+      nameRun(mode);
+    }
     return { blob, mode };
   }
 
@@ -54,9 +63,16 @@ export class Source {
     this.hold(null);
   }
 
-  /** Takes a file in place of the text; null takes it away again. */
-  hold(/** @type {File | null} */ file) {
+  /**
+   * Takes a file in place of the text; null takes it away again. One that the page made stands for the list
+   * that was there before.
+   * @param {File | null} file @param {boolean} [isOwn]
+   */
+  hold(file, isOwn = false) {
     this.file = file;
+    if (!isOwn) {
+      this.gone = file === null ? "" : `The file ${file.name}`;
+    }
     part("file-shown").hidden = file === null;
     part("list-gone").hidden = true;
     this.list.hidden = file !== null;
@@ -70,11 +86,12 @@ export class Source {
   tellGone(/** @type {string} */ name) {
     const words = `${name} isn’t kept over a reload; choose it again.`;
     Object.assign(part("list-gone"), { textContent: words, hidden: false });
+    this.gone = name;
   }
 
   /** All settings as they are at first. */
   toDefaults() {
-    this.isExample = false;
+    this.leaveExample();
     this.set({}, true, "auto");
   }
 
@@ -93,15 +110,20 @@ export class Source {
   forgetExample() {
     if (this.isExample) {
       this.toDefaults();
-      /** @type {HTMLSelectElement} */ (part("examples")).value = "";
     }
+  }
+
+  /** The settings are no example's any more; each can be chosen again. */
+  leaveExample() {
+    this.isExample = false;
+    /** @type {HTMLSelectElement} */ (part("examples")).value = "";
   }
 
   /** Keeps list and settings for a reload. */
   keep() {
-    const { file, list, mode, clean } = this;
-    const gone = file === null ? "" : `The file ${file.name}`;
-    keep({ text: list.value, gone, plan: planWords(), mode: mode.value, clean: clean.checked });
+    const { gone, list, mode, clean } = this;
+    const { hash } = location;
+    keep({ text: list.value, gone, plan: planWords(), mode: mode.value, clean: clean.checked, hash });
   }
 }
 

@@ -1,7 +1,8 @@
 /** The tape at one step: its cells about the head, the entry that is used next, and moving on by one step. */
 import { Asker } from "./asker.mjs";
+import { numberOf } from "./fields.mjs";
 import { machineOf, shown, stateLetter } from "./machine.mjs";
-import { made, part, signed } from "./parts.mjs";
+import { made, part, setAside, signed, tellLive } from "./parts.mjs";
 
 /**
  * @typedef {import("./traced.mjs").Row} Row
@@ -14,8 +15,6 @@ const STRETCH_CELLS = 2_000_000;
 const [FEWEST, MOST] = [16, 512];
 const CELL_PIXELS = 26;
 const PACE_MILLISECONDS = 250;
-
-const button = (/** @type {string} */ id) => /** @type {HTMLButtonElement} */ (part(id));
 
 export class Tape {
   /** @param {(place: import("./diagram.mjs").Place, closes: boolean) => void} went follows a step's change */
@@ -58,6 +57,20 @@ export class Tape {
     this.go(step);
   }
 
+  /** Leaves a machine: nothing of it plays on. */
+  close() {
+    this.pause();
+    Object.assign(this, { about: null, rows: [] });
+    part("tape-text").textContent = "…";
+  }
+
+  /** Shows nothing, where no row of the next machine has come. */
+  blank() {
+    if (this.row === undefined) {
+      part("tape-cells").replaceChildren();
+    }
+  }
+
   get row() {
     return this.rows.find((row) => row.step === this.step);
   }
@@ -65,14 +78,16 @@ export class Tape {
   /** Goes to the step that the field names. */
   goToAsked() {
     const field = /** @type {HTMLInputElement} */ (part("tape-step"));
-    const text = field.value.replace(/[\s,_]/g, "");
-    const isNumber = /^\d{1,15}$/.test(text);
-    field.setAttribute("aria-invalid", String(!isNumber));
+    const number = numberOf(field.value);
+    field.setAttribute("aria-invalid", String(number === null));
     const last = this.about?.last ?? 0;
-    part("tape-refused").textContent = isNumber ? "" : `A step is a whole number, 0 to ${shown(last)}.`;
-    if (isNumber) {
+    const words = number === null ? `A step is a whole number, 0 to ${shown(last)}.` : "";
+    part("tape-refused").textContent = words;
+    if (number === null) {
+      tellLive(words);
+    } else {
       this.pause();
-      this.go(Number(text), true);
+      this.go(Number(number), true);
     }
   }
 
@@ -103,6 +118,9 @@ export class Tape {
   }
 
   take(/** @type {any} */ answer) {
+    if (this.about === null) {
+      return;
+    }
     if (answer.error) {
       part("tape-text").textContent = `The tape can’t be shown: ${answer.message}.`;
       return;
@@ -125,7 +143,7 @@ export class Tape {
     const { machine, cells } = /** @type {About} */ (this.about);
     const question = { what: "last", machine, cells, upto: this.step };
     this.asker.ask(question, (answer) => {
-      if (!answer.error && answer.last < this.step) {
+      if (this.about !== null && !answer.error && answer.last < this.step) {
         this.go(answer.last, this.closes);
       }
     });
@@ -213,10 +231,11 @@ export class Tape {
     if (document.activeElement !== field) {
       field.value = String(row.step);
     }
-    button("tape-first").disabled = row.step === 0;
-    button("tape-back").disabled = row.step === 0;
-    button("tape-on").disabled = !this.goesOn;
-    button("tape-play").disabled = !this.goesOn && this.timer === 0;
+    // The focus goes from a button that does nothing here to the tape, whose keys do the same.
+    setAside("tape-first", "disabled", row.step === 0, "tape");
+    setAside("tape-back", "disabled", row.step === 0, "tape");
+    setAside("tape-on", "disabled", !this.goesOn, "tape");
+    setAside("tape-play", "disabled", !this.goesOn && this.timer === 0, "tape");
     this.markEntry(row);
   }
 

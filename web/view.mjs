@@ -12,6 +12,8 @@ import { ZOOM } from "./scale.mjs";
 import { Tape } from "./tape.mjs";
 
 const NARROW = "(max-width: 900px)";
+// What is shown of the machine before goes where the next one's pictures take longer.
+const BLANK_MILLISECONDS = 100;
 const ELSEWHERE = "https://bbchallenge.org/";
 /** @type {Record<string, string>} */
 const DOUBTS = {
@@ -33,6 +35,7 @@ export class View {
     this.again = new Again((about) => this.showAgain(about));
     /** @type {About | null} */
     this.about = null;
+    this.timer = 0;
     listen(this.diagram, (words, byKeys) => {
       part("place-text").textContent = words;
       byKeys && tellLive(words);
@@ -59,6 +62,7 @@ export class View {
     const { machine, verdict } = about;
     const isMachine = verdict.kind !== "refused";
     this.about = about;
+    this.leave();
     part("machine").hidden = false;
     part("machine-text").textContent = machine;
     part("machine-says").textContent = `${doubtOf(about)}${sentence(verdict)}`;
@@ -78,6 +82,29 @@ export class View {
       part("machine").scrollIntoView({ block: "start" });
       part("back").focus({ preventScroll: true });
     }
+    const focused = /** @type {any} */ (document.activeElement);
+    if (part("machine").contains(focused) && !focused.checkVisibility()) {
+      part("row-next").focus({ preventScroll: true });
+    }
+  }
+
+  /** Shows no machine. */
+  close() {
+    this.about = null;
+    this.leave();
+    part("machine").hidden = true;
+  }
+
+  /** Leaves the machine before; nothing of it plays on. */
+  leave() {
+    this.diagram.close();
+    this.tape.close();
+    part("place-text").textContent = "";
+    clearTimeout(this.timer);
+    this.timer = setTimeout(() => {
+      this.diagram.blank();
+      this.tape.blank();
+    }, BLANK_MILLISECONDS);
   }
 
   /** Shows a machine's pictures, its table, and what is known of it. */

@@ -1,7 +1,7 @@
 /** The work on a list: workers answer it, and how far they are is said. */
 import { refuse } from "./fields.mjs";
 import { KINDS } from "./machine.mjs";
-import { part, tellLive } from "./parts.mjs";
+import { part, setAside, tellLive } from "./parts.mjs";
 import { Pieces } from "./pieces.mjs";
 import { Pool } from "./pool.mjs";
 import { Results } from "./results.mjs";
@@ -19,6 +19,17 @@ const LEAST_BYTES = 256;
 const UNDECIDED = KINDS.indexOf("undecided");
 const NO_MEMORY =
   "Out of memory. What was decided until then stays. Fewer cells would do, or a browser with more memory.";
+
+const NO_FILE = "It could not be read: a folder, or a file that has changed since. Choose a file again.";
+
+/** What went wrong, in words that say what would do. */
+export function failureWords(/** @type {{error: string, message: string}} */ { error, message }) {
+  if (error === "MemoryError" || error === "RangeError") {
+    return NO_MEMORY;
+  }
+  const isUnread = error === "NotReadableError" || error === "NotFoundError";
+  return isUnread ? NO_FILE : `The engine ended: ${message}`;
+}
 
 /** Says what went wrong, above the results. */
 export function tell(/** @type {string} */ message) {
@@ -84,24 +95,20 @@ export class Work {
     clearInterval(this.clock);
     this.run.taken = performance.now() - this.run.begun;
     this.pool = null;
-    /** @type {HTMLButtonElement} */ (part("stop")).disabled = true;
+    setAside("stop", "disabled", true, "run");
     part("results").dataset.state = how.toLowerCase();
     this.show(how);
     tellLive(part("status").textContent ?? "");
     makeReady(mostWorkers(), () => this.isUnderWay);
   }
 
-  /** What can't be done, in words that say what would do. */
-  failed(/** @type {{error: string, message: string, limit?: string}} */ { error, message, limit }) {
+  /** What can't be done is said, a refused limit beside its field. */
+  failed(/** @type {{error: string, message: string, limit?: string}} */ told) {
     this.ended("Ended");
-    if (error === "LimitsError" && limit !== undefined) {
-      refuse(limit, message);
-    } else if (error === "MemoryError" || error === "RangeError") {
-      tell(NO_MEMORY);
-    } else if (error === "NotReadableError" || error === "NotFoundError") {
-      tell("The file could not be read; it may have changed. Choose it again.");
+    if (told.error === "LimitsError" && told.limit !== undefined) {
+      refuse(told.limit, told.message);
     } else {
-      tell(`The engine ended: ${message}`);
+      tell(failureWords(told));
     }
   }
 
@@ -152,7 +159,8 @@ export class Work {
     }
     const { run, results } = this;
     this.showProgress(how);
-    part("left").hidden = how === "Running" || run.mode === "check" || results.counts[UNDECIDED] === 0;
+    const hasLeft = how !== "Running" && run.mode !== "check" && results.counts[UNDECIDED] > 0;
+    setAside("left", "hidden", !hasLeft, "rows");
     this.isShown = results.lines > 0;
     this.shows();
   }

@@ -3,20 +3,34 @@ import { isSupported } from "./memory.mjs";
 import { part } from "./parts.mjs";
 
 const READY_MILLISECONDS = 50;
+const DIGITS =
+  "0123456789ABCDEFGHIJKLMNOPQRSTUVWXYZabcdefghijklmnopqrstuvwxyz!#$%&()*+-;<=>?@^_`{|}~";
 
 /** A text that stands in the page. */
 function text(/** @type {string} */ id) {
   return part(id).textContent ?? "";
 }
 
+/** The bytes of a text in base85, as Python's `b85encode` writes them: five digits are four bytes. */
+function decoded(/** @type {string} */ encoded) {
+  const values = new Uint8Array(128);
+  Array.from(DIGITS, (digit, value) => (values[digit.charCodeAt(0)] = value));
+  const words = Math.ceil(encoded.length / 5);
+  const padded = encoded.padEnd(5 * words, "~");
+  const bytes = new DataView(new ArrayBuffer(4 * words));
+  for (let word = 0; word < words; word += 1) {
+    let number = 0;
+    for (let at = 5 * word; at < 5 * word + 5; at += 1) {
+      number = 85 * number + values[padded.charCodeAt(at)];
+    }
+    bytes.setUint32(4 * word, number);
+  }
+  return new Uint8Array(bytes.buffer, 0, Math.floor((encoded.length * 4) / 5));
+}
+
 /** The engine's module. */
 async function compiled() {
-  const encoded = atob(text("module").trim());
-  const bytes = new Uint8Array(encoded.length);
-  for (let at = 0; at < bytes.length; at += 1) {
-    bytes[at] = encoded.charCodeAt(at);
-  }
-  return WebAssembly.compile(bytes);
+  return WebAssembly.compile(decoded(text("module").trim()));
 }
 
 const scripts = new Blob([text("shared"), text("worker")], { type: "text/javascript" });
@@ -53,8 +67,9 @@ export function takeWorker() {
   return idle.pop() ?? newWorker();
 }
 
-/** Has a worker wait for the next list. */
+/** Has a worker wait for the next list; it keeps nothing of the last one. */
 export function giveBack(/** @type {Worker} */ worker) {
+  Object.assign(worker, { onmessage: null, onerror: null });
   idle.push(worker);
 }
 

@@ -1,13 +1,17 @@
 """The built page in a headless Chromium, as the tests use it."""
 
+import contextlib
 import json
 import os
+import signal
+import threading
 import time
 from typing import Any, Callable, Dict, List, Optional
 
 from selenium import webdriver
 from selenium.webdriver.chrome.service import Service
 from selenium.webdriver.common.by import By
+from selenium.webdriver.remote.remote_connection import RemoteConnection
 
 from program import LIMITS, SWITCHES
 
@@ -53,6 +57,23 @@ canvas.dispatchEvent(new WheelEvent("wheel", {
 """
 # After so many seconds something that is waited for counts as lost.
 PATIENCE = 1_800
+# A command that takes more seconds counts as lost; a script and a page's loading a few less, so that they
+# are what is told.
+COMMAND, SCRIPT = 300, 290
+# A browser that takes more seconds to end is killed.
+ENDING = 20
+
+
+def begun_by(process: int) -> List[int]:
+    """A process and all that it began, and they in turn."""
+    parents: Dict[int, int] = {}
+    for name in filter(str.isdigit, os.listdir("/proc")):
+        with contextlib.suppress(OSError), open("/proc/%s/stat" % name, encoding="utf-8") as file:
+            parents[int(name)] = int(file.read().rsplit(")", 1)[1].split()[1])
+    found = [process]
+    for one in found:
+        found += [child for child, parent in parents.items() if parent == one]
+    return found
 
 
 def is_whole(path: str) -> bool:
@@ -79,9 +100,12 @@ class Page:
             metrics = {"deviceMetrics": {"width": width, "height": height, "pixelRatio": 2.0}}
             options.add_experimental_option("mobileEmulation", metrics)
         options.set_capability("goog:loggingPrefs", {"browser": "ALL", "performance": "ALL"})
-        self.driver = webdriver.Chrome(options=options, service=Service("/usr/bin/chromedriver"))
-        self.driver.set_script_timeout(PATIENCE)
-        self.driver.set_page_load_timeout(PATIENCE)
+        RemoteConnection.set_timeout(COMMAND)
+        service = Service("/usr/bin/chromedriver")
+        self.driver = webdriver.Chrome(options=options, service=service)
+        self.process: int = service.process.pid
+        self.driver.set_script_timeout(SCRIPT)
+        self.driver.set_page_load_timeout(SCRIPT)
         self.folder, self.path = folder, path
         saving = {"behavior": "allow", "downloadPath": folder}
         self.driver.execute_cdp_cmd("Page.setDownloadBehavior", saving)
@@ -91,7 +115,8 @@ class Page:
     def open(self, link: str = "") -> None:
         """Opens the page from the disk, and waits for what it decides first."""
         if self.driver.current_url.startswith("file:"):
-            self.js("sessionStorage.clear()")
+            # The page keeps its list when it is left.
+            self.js("addEventListener('pagehide', () => sessionStorage.clear())")
         self.driver.get("about:blank")
         self.driver.get("file://" + self.path + link)
         self.ended()
@@ -254,5 +279,18 @@ class Page:
         """What the console has of errors."""
         return [entry["message"] for entry in self.driver.get_log("browser") if entry["level"] == "SEVERE"]
 
+    def quit(self) -> None:
+        """Asks the browser to end; whether it answers doesn't matter."""
+        with contextlib.suppress(Exception):
+            self.driver.quit()
+
     def end(self) -> None:
-        self.driver.quit()
+        """Ends the browser; where it no longer answers, by its processes."""
+        processes = begun_by(self.process)
+        ending = threading.Thread(target=self.quit, daemon=True)
+        ending.start()
+        ending.join(ENDING)
+        if ending.is_alive():
+            for process in processes:
+                with contextlib.suppress(ProcessLookupError):
+                    os.kill(process, signal.SIGKILL)

@@ -7,8 +7,9 @@ First it runs `scripts/web`, which builds the page where it isn't up to date, in
 `./bb`. The page is opened from the disk, in a headless Chromium: what it writes is held against the program,
 byte for byte (the first run of the README, the examples, all plans at some limits, random machines and claims
 at random limits, all machines of four states as a dropped file, noise), and its reader against `forms.json`;
-then refused limits, a stop in the middle of a machine, links, settings, pictures, axes, mouse, fingers and
-keys, the tape, what is known of a machine, contrasts, names, widths, a phone, and what the page could send.
+then refused limits, a stop in the middle of a machine, links, reloads, settings, rows, files, pictures, axes,
+mouse, fingers and keys, the tape, what is known of a machine, what goes where another one is opened,
+contrasts, names, widths, a phone, and what the page could send.
 It takes six minutes, `--quick` one. Without `chromium`, `chromedriver` and Python's selenium it is skipped,
 with a line that says which package is missing. The last line is `N passed, M failed`, with `, K skipped`
 where some were; the status is 1 where any failed.
@@ -36,7 +37,16 @@ from tally import TOP, Tally, end_with, words  # noqa: E402
 LONG = "0RB---_0LA---"
 MOST_BYTES = 260_000
 # Bars in seconds, on a quiet machine.
-FIRST_VERDICT, STILL, STOPPED = 0.3, 0.1, 0.3
+FIRST_VERDICT, STILL, STOPPED, BESIDE = 0.3, 0.1, 0.3, 0.3
+# Goes on to the next undecided line a few times; the most milliseconds that it takes.
+UNDECIDED = """
+const taken = [0, 0, 0].map(() => {
+  const begun = performance.now();
+  document.getElementById("open-next").click();
+  return performance.now() - begun;
+});
+return Math.max(...taken);
+"""
 REFUSED = [
     ({"cells": 0}, "cells", "cells out of range"),
     ({"steps": 10**12 + 1}, "steps", "steps out of range"),
@@ -197,6 +207,7 @@ def hold_four_states(held: Held) -> None:
     held.tally.hold("machines of four states", held.page.saved() == wanted)
     print("four states: %.1f s, decided and checked; the program %.1f s, decided" % (taken, program))
     held.tally.within("the page stood still for at most", longest / 1000, STILL)
+    held.tally.within("to the next undecided line", held.page.js(UNDECIDED) / 1000, BESIDE)
     held.page.js("const order = document.getElementById('order'); order.value = 'down'")
     held.page.js("document.getElementById('order').dispatchEvent(new Event('change'))")
     held.page.until(lambda: "halt 107" in held.page.text("shown") or "translated" in held.page.text("shown"))
@@ -248,11 +259,15 @@ def hold_page(held: Held, quick: bool, seed: int) -> None:
     """All that is tried in one page."""
     from page_access import hold_access
     from page_axes import hold_axes
-    from page_gestures import hold_drag, hold_edges
+    from page_gestures import hold_button, hold_drag, hold_edges
+    from page_given import hold_given
     from page_keys import hold_keys
+    from page_leaving import hold_leaving
     from page_lists import hold_lists
     from page_machine import hold_machine
     from page_pictures import hold_pictures
+    from page_reload import hold_reload
+    from page_rows import hold_rows
 
     hold_first(held)
     hold_examples(held, quick)
@@ -261,9 +276,14 @@ def hold_page(held: Held, quick: bool, seed: int) -> None:
     hold_refused(held)
     hold_link(held)
     hold_lists(held, quick, seed)
+    hold_reload(held)
+    hold_rows(held)
+    hold_given(held)
+    hold_leaving(held)
     hold_pictures(held, quick, seed)
     hold_axes(held)
     hold_drag(held)
+    hold_button(held)
     hold_keys(held)
     hold_access(held)
     if not quick:

@@ -9,10 +9,17 @@ from typing import Any, Dict, List, Tuple
 
 from selenium.webdriver.common.keys import Keys
 
-from page_held import Held
+from page_held import Held, palette, pixels, traced
+from page_input import soon
 from tally import TOP, Tally
 
 TEXT, MARK = 4.5, 3.0
+# Its head comes to each of ten symbols, and halts at step 19.
+COUNTER = "1RB2RB3RB4RB5RB6RB7RB8RB9RB9RZ_1LA2LA3LA4LA5LA6LA7LA8LA9LA9LA"
+# It has marks late, over cells of a pixel.
+LATE = "1RB1LB_1LA0LC_1RE1LD_1RD0RA_1RE1RE"
+# The pixels above a marked row: its outline, what is about that, and one that only a label reaches.
+ABOVE = (-1, -2, -3, -6)
 # Texts and what is behind them: the smallest contrast of each element's text, computed in the page.
 CONTRASTS = """
 const parse = (text) => (text.match(/[0-9.]+/g) ?? []).map(Number);
@@ -52,7 +59,7 @@ return [bad, borders];
 NAMES = """
 const nodes = arguments[0];
 const named = ["button", "textbox", "combobox", "checkbox", "link", "grid", "img", "image", "listbox",
-  "progressbar", "group", "region"];
+  "progressbar", "group", "region", "application"];
 return nodes.filter(({ role, name, ignored }) => !ignored && named.includes(role?.value) && !name?.value)
   .map((node) => node.role.value + JSON.stringify(node.properties));
 """
@@ -130,7 +137,7 @@ def contrast(one: str, two: str) -> float:
 
 
 def hold_colours(tally: Tally) -> None:
-    """The colours of the style: a head with its halo on each symbol, the letters in it, marks and texts."""
+    """The colours of the style: the letter in a head, which is its halo's colour, marks and texts."""
     with open(os.path.join(TOP, "web", "page.css"), encoding="utf-8") as file:
         schemes = file.read().split("@media (prefers-color-scheme: dark)")[:2]
     for name, text in zip(("light", "dark"), schemes):
@@ -138,13 +145,56 @@ def hold_colours(tally: Tally) -> None:
         for symbol in range(10):
             ground, letter = colours["s%d" % symbol], colours["on%d" % symbol]
             tally.hold("%s: a letter on symbol %d" % (name, symbol), contrast(ground, letter) >= TEXT)
-            halo = max(contrast(colours["head"], ground), contrast(letter, ground))
-            tally.hold("%s: head or halo on symbol %d" % (name, symbol), halo >= MARK)
             tally.hold("%s: head and halo" % name, contrast(colours["head"], letter) >= MARK)
         for mark in ("mark", "head", "accent"):
             tally.hold("%s: %s" % (name, mark), contrast(colours[mark], colours["panel"]) >= MARK)
         tally.hold("%s: the label of a mark" % name, contrast(colours["mark"], colours["panel"]) >= TEXT)
         tally.hold("%s: ok in a chosen row" % name, contrast(colours["good"], colours["wash"]) >= TEXT)
+
+
+def text_of(colour: List[int]) -> str:
+    return "#%02x%02x%02x" % tuple(colour)
+
+
+def hold_halos(held: Held) -> None:
+    """The frame of a head is seen beside its halo on each symbol, and a mark also over cells of a pixel."""
+    page = held.page
+    for scheme in ("light", "dark"):
+        page.media(prefers_color_scheme=scheme)
+        page.open("#machine=" + COUNTER)
+        view, rows = page.drawn(), traced(held.program, COUNTER, 18)
+        symbols = [row.cells[row.head - row.low] for row in rows]
+        held.hold("%s: a head on each symbol: %s" % (scheme, symbols), set(symbols) == set("0123456789"))
+        held.hold("%s: cells are large: %s" % (scheme, view), view["high"] >= 12 and view["every"] == 1)
+        for row, symbol in zip(rows, symbols):
+            x, y = (row.head - view["left"]) * view["wide"], (row.step + 0.5) * view["high"]
+            frame, ring = pixels(page, [[x + 1, y], [x + 2, y]])
+            ratio = contrast(text_of(frame), text_of(ring))
+            held.hold("%s: the halo on symbol %s: %.2f" % (scheme, symbol, ratio), ratio >= MARK)
+            held.hold("%s: the frame: %s" % (scheme, frame), frame == palette(page)[-1])
+        hold_mark(held, scheme)
+    page.media()
+
+
+def hold_mark(held: Held, scheme: str) -> None:
+    """A mark over cells of a pixel has a halo of the panel's colour."""
+    page = held.page
+    page.open("#machine=%s" % LATE)
+    page.drawn()
+    page.click("fit")
+    soon(lambda: page.drawn()["top"] == 0)
+    view = page.drawn()
+    step = int(held.written("decide", {}, LATE.encode()).split()[3])
+    held.hold("%s: small cells: %s" % (scheme, view), view["high"] <= 3)
+    line = (step - view["top"]) / view["every"] * view["high"]
+    y = int(line + view["y"]) - view["y"]
+    places = [[x, y + k] for x in range(2, 600, 3) for k in ABOVE]
+    found = [text_of(one) for one in pixels(page, places)]
+    mark = page.js("return getComputedStyle(document.documentElement).getPropertyValue('--mark')").strip()
+    columns = [found[k : k + len(ABOVE)] for k in range(0, len(found), len(ABOVE))]
+    outer = [about for one, two, about, label in columns if one == two == mark != label]
+    least = min((contrast(mark, about) for about in outer), default=0.0)
+    held.hold("%s: about a mark, %d columns: %.2f" % (scheme, len(outer), least), least >= MARK)
 
 
 def hold_contrasts(held: Held) -> None:
@@ -178,6 +228,8 @@ def hold_names(held: Held) -> None:
     page.js("const rows = document.getElementById('rows'); rows.scrollTop = 0")
     page.until(lambda: page.js("return document.querySelector('#row-0') !== null"))
     held.hold("or isn't named: %s" % page.js(REFERENCES), not page.js(REFERENCES))
+    role = page.js("return document.getElementById('diagram').role")
+    held.hold("the picture has keys of its own: %s" % role, role == "application")
     chooser = page.js("return document.getElementById('file-choose').tagName")
     held.hold("a file is chosen by a button", chooser == "BUTTON")
 
@@ -301,6 +353,7 @@ def hold_digits(page: Any, tally: Tally) -> None:
 def hold_access(held: Held) -> None:
     hold_colours(held.tally)
     hold_kinds(held.tally)
+    hold_halos(held)
     hold_contrasts(held)
     hold_names(held)
     hold_live(held)

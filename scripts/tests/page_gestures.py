@@ -15,6 +15,19 @@ GO = (
     "document.getElementById('tape-form').requestSubmit()"
 )
 INTO_VIEW = "document.getElementById('diagram').scrollIntoView({ block: 'center' })"
+# What the browser tells where the mouse is dragged by its right button.
+OTHER_BUTTON = """
+const canvas = document.getElementById("diagram");
+canvas.setPointerCapture = () => {};
+const { left, top } = canvas.getBoundingClientRect();
+for (const [kind, far] of [["down", 0], ["move", 40], ["move", 80], ["up", 80]]) {
+  canvas.dispatchEvent(new PointerEvent("pointer" + kind, {
+    pointerId: 1, pointerType: "mouse", button: kind === "move" ? -1 : 2, buttons: kind === "up" ? 0 : 2,
+    clientX: left + 200, clientY: top + 200 - far, bubbles: true,
+  }));
+}
+delete canvas.setPointerCapture;
+"""
 SIZE = (
     "const { clientWidth, clientHeight } = document.getElementById('diagram');"
     "return [clientWidth, clientHeight]"
@@ -105,6 +118,14 @@ def hold_drag(held: Held) -> None:
     is_shown = soon(lambda: page.text("tape-text").startswith("Step {:,}".format(step)))
     held.hold("what moves little is a click: " + page.text("tape-text"), is_shown)
     held.hold("and moves nothing", page.drawn() == before)
+
+
+def hold_button(held: Held) -> None:
+    """Another button than the main one moves nothing."""
+    page = held.page
+    before = open_near(page)
+    page.js(OTHER_BUTTON)
+    held.hold("another button moves nothing", not soon(lambda: page.drawn() != before, 0.5))
 
 
 def hold_edges(held: Held) -> None:

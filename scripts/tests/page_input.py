@@ -19,9 +19,9 @@ return [x + canvas.clientLeft, y + canvas.clientTop];
 """
 
 
-def soon(what: Callable[[], object]) -> bool:
+def soon(what: Callable[[], object], patience: float = PATIENCE) -> bool:
     """Whether something becomes so before long."""
-    end = time.monotonic() + PATIENCE
+    end = time.monotonic() + patience
     while not what():
         if time.monotonic() > end:
             return False

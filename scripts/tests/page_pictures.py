@@ -41,8 +41,10 @@ def hold_cells(held: Held, machine: str, upto: int, limits: str = "") -> None:
     wide, high, left = view["wide"], view["high"], view["left"]
     is_framed = wide >= 6 and high >= 6
     places, wanted = [], []
+    # Of small cells those above a halt's mark are behind its halo.
+    hidden = upto - 1 if high <= 3 else -1
     for row in traced(held.program, machine, upto):
-        for at, symbol in enumerate(row.cells, row.low):
+        for at, symbol in enumerate("" if row.step == hidden else row.cells, row.low):
             x, y = (at - left) * wide, (row.step - view["top"]) // view["every"] * high
             is_head = at == row.head
             places.append([x + 1, y + high / 2] if is_head and is_framed else [x + wide / 4, y + high * 0.1])
@@ -181,7 +183,8 @@ def hold_scaled(held: Held, seed: int) -> None:
     held.hold("all cells are seen: " + shown, "all of 12,289 cells visited" in shown)
     last = int(re.sub(r"\D", "", shown.split(" to ")[1].split(",  ")[0].split(" every")[0]))
     held.hold("it goes from the start to the halt", last <= 47_176_870 < last + every and view["top"] == 0)
-    for number in source.sample(range(50, last // every), 6):
+    # The last row has a mark.
+    for number in source.sample(range(50, last // every - 6), 6):
         hold_means(held, source, sampled(number * every))
 
 

@@ -1,0 +1,141 @@
+"""What the page is given: settings that are refused or reset, numbers, files that can't be read, and drags."""
+
+import os
+import time
+from typing import Any, Optional
+
+from page_held import Held
+from page_input import soon
+from page_gestures import GO
+
+from selenium.webdriver.common.by import By
+
+LONG = "0RB---_0LA---"
+DROP_TEXT = """
+const moved = new DataTransfer();
+moved.setData("text/plain", "1RA1RA");
+const words = { dataTransfer: moved, bubbles: true, cancelable: true };
+const event = new DragEvent("drop", words);
+document.querySelector(arguments[0]).dispatchEvent(event);
+return event.defaultPrevented;
+"""
+LIST = "return document.getElementById('list').value"
+
+
+def invalid(page: Any, name: str) -> Optional[str]:
+    """Whether a field is told to be refused."""
+    found: Optional[str] = page.js("return document.getElementById(arguments[0]).ariaInvalid", name)
+    return found
+
+
+def hold_mode(held: Held) -> None:
+    """With a file, too, the button says what it does."""
+    page = held.page
+    page.open()
+    page.file(b"1RA1RA\n")
+    page.ended()
+    for mode, words in (("check", "Check"), ("decide", "Decide"), ("check", "Check"), ("auto", "Decide")):
+        page.choose_option("mode", mode)
+        held.hold("a file as %s: %s" % (mode, words), soon(lambda: page.text("run") == words))
+    page.click("file-remove")
+
+
+def hold_defaults(held: Held) -> None:
+    """The defaults take a refusal back, and let each example be chosen again."""
+    page = held.page
+    page.type("steps", "many")
+    page.run()
+    held.hold("a limit is refused", soon(lambda: invalid(page, "steps") == "true"))
+    page.click("defaults")
+    shown = page.text("steps-range")
+    held.hold("the defaults take it back: " + shown, invalid(page, "steps") is None and "number" not in shown)
+    page.js("document.getElementById('results').dataset.state = 'asked'")
+    page.choose_option("examples", "0")
+    page.ended()
+    page.click("defaults")
+    menu = page.js("return document.getElementById('examples').value")
+    held.hold("an example can be chosen again: %r" % menu, menu == "")
+
+
+def hold_commas(held: Held) -> None:
+    """A comma stands between groups of three digits, or the number is refused."""
+    page = held.page
+    for text in ("1,5e3", "1,5", "1,00,000", ",100"):
+        page.plan({"steps": text}, "decide", True)
+        page.run()
+        held.hold("%s is no number" % text, soon(lambda: invalid(page, "steps") == "true"))
+    page.plan({}, "auto", True)
+
+
+def hold_step(held: Held) -> None:
+    """A step is written as a limit is; a refusal is told."""
+    page = held.page
+    page.open("#machine=1RB1LB_1LA0LC_1RZ1LD_1RD0RA")
+    page.drawn()
+    page.js(GO, "1e2")
+    held.hold("a step as 1e2", soon(lambda: page.text("tape-text").startswith("Step 100:")))
+    page.js(GO, "many")
+    held.hold("a refused step is told", soon(lambda: "whole number" in page.text("live")))
+
+
+def hold_unread(held: Held) -> None:
+    """A file that has changed since it was chosen is told, and can be chosen again."""
+    page = held.page
+    page.open()
+    page.file(b"1RA1RA\n")
+    page.ended()
+    path = os.path.join(page.folder, "list")
+    time.sleep(1.1)
+    with open(path, "wb") as out:
+        out.write(b"1RB1LB_1LA1RZ\n1RA1RA\n")
+    page.run()
+    held.hold("a changed file is told", soon(lambda: "could not be read" in page.text("error")))
+    page.js("const field = document.getElementById('file'); field.click = () => {}")
+    page.click("file-choose")
+    chosen = page.js("return document.getElementById('file').files.length")
+    held.hold("it can be chosen again", chosen == 0)
+    page.driver.find_element(By.ID, "file").send_keys(path)
+    held.hold("and is decided", soon(lambda: page.text("machine-text") == "1RB1LB_1LA1RZ"))
+    page.ended()
+    page.click("file-remove")
+
+
+def hold_drops(held: Held) -> None:
+    """A text that is dropped into the list is the browser's to insert; beside it, it becomes the list."""
+    page = held.page
+    page.type("list", "1RB1LB_1LA1RZ\n")
+    taken = page.js(DROP_TEXT, "#list")
+    held.hold("a text is dropped into the list", not taken and page.js(LIST) == "1RB1LB_1LA1RZ\n")
+    page.js("document.body.dispatchEvent(new DragEvent('dragstart', { bubbles: true }))")
+    page.js(DROP_TEXT, "h1")
+    held.hold("a text of the page's own", page.js(LIST) == "1RB1LB_1LA1RZ\n")
+    page.js("document.body.dispatchEvent(new DragEvent('dragend', { bubbles: true }))")
+    taken = page.js(DROP_TEXT, "h1")
+    held.hold("a text is dropped beside it", taken and page.js(LIST) == "1RA1RA")
+
+
+def hold_refused_run(held: Held) -> None:
+    """A refused limit leaves the list that is worked on alone."""
+    page = held.page
+    page.plan({"steps": 10**12, "cells": 64, "depth": 9, "cyclers": False, "translated": False}, "decide")
+    page.js("document.getElementById('backward').checked = false")
+    page.type("list", "1RB1LB_1LA1RZ\n%s\n" % LONG)
+    page.run()
+    held.hold("it runs", soon(lambda: page.text("status").startswith("Running")))
+    page.type("steps", "many")
+    page.run()
+    held.hold("a limit is refused", soon(lambda: invalid(page, "steps") == "true"))
+    time.sleep(0.3)
+    held.hold("the list runs on: " + page.text("status"), page.text("status").startswith("Running"))
+    page.click("stop")
+    page.plan({}, "auto", True)
+
+
+def hold_given(held: Held) -> None:
+    hold_mode(held)
+    hold_defaults(held)
+    hold_commas(held)
+    hold_step(held)
+    hold_unread(held)
+    hold_drops(held)
+    hold_refused_run(held)

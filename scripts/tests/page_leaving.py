@@ -1,0 +1,127 @@
+"""What goes: a machine's pictures when another one is opened, buttons that had the focus, what workers held."""
+
+from typing import Any
+
+from page_held import Held
+from page_input import key, soon
+from page_times import CHAMPION
+
+HALT = "1RB1LB_1LA1RZ"
+LONG = "0RB---_0LA---"
+STEPS = 50_000_000
+# Opens the next line, and tells soon after it whether the diagram and the tape are empty; it takes longer than
+# that to trace the champion's last row.
+NEXT = """
+const done = arguments[arguments.length - 1];
+const part = (name) => document.getElementById(name);
+part("rows").dispatchEvent(new KeyboardEvent("keydown", { key: "n", bubbles: true }));
+const play = part("tape-play").textContent;
+setTimeout(() => {
+  const canvas = part("diagram");
+  const data = canvas.getContext("2d").getImageData(0, 0, canvas.width, canvas.height).data;
+  const state = canvas.dataset.state;
+  done([play, part("machine-text").textContent, state, data.some(Boolean), part("tape-cells").children.length]);
+}, 180);
+"""
+ACTIVE = "return document.activeElement.id"
+WORKERS = """
+window.workers = [];
+window.Worker = class extends Worker {
+  constructor(...words) {
+    super(...words);
+    window.workers.push(this);
+  }
+};
+"""
+HEARING = "return window.workers.filter((one) => one.onmessage !== null || one.onerror !== null).length"
+
+
+def hold_next(held: Held) -> None:
+    """When another machine is opened, nothing of the one before plays on or stays under its name."""
+    page = held.page
+    page.open()
+    page.plan({"steps": STEPS}, "decide")
+    page.open_list("1RA1RA\n%s\n" % CHAMPION)
+    page.drawn()
+    page.until(lambda: page.text("tape-text").startswith("Step"))
+    page.click("tape-play")
+    held.hold("it plays", page.text("tape-play") == "Pause")
+    play, machine, state, is_painted, cells = page.driver.execute_async_script(NEXT)
+    held.hold("its rows aren't traced yet: %s" % state, machine == CHAMPION and state == "asked")
+    held.hold("nothing plays on: " + play, play == "Play")
+    held.hold("no older picture", not is_painted)
+    held.hold("no older tape: %d cells" % cells, cells == 0)
+    page.drawn()
+    page.until(lambda: page.text("tape-text").startswith("Step"))
+    page.plan({}, "auto", True)
+
+
+def hold_active(held: Held, name: str, times: int, wanted: str) -> None:
+    """A button that is pressed so often gives its focus to what is wanted."""
+    page = held.page
+    page.js("document.getElementById(arguments[0]).focus()", name)
+    for _ in range(times):
+        key(page, "Enter")
+    is_there = soon(lambda: page.js(ACTIVE) == wanted)
+    held.hold("the focus goes from %s to %s: %r" % (name, wanted, page.js(ACTIVE)), is_there)
+
+
+def hold_focus(held: Held) -> None:
+    """Where a button is hidden or disabled that has the focus, something beside it has it then."""
+    page = held.page
+    page.open("#machine=%s" % HALT)
+    page.drawn()
+    page.until(lambda: page.text("tape-text").startswith("Step 0"))
+    hold_active(held, "tape-on", 6, "tape")
+    hold_active(held, "tape-first", 1, "tape")
+    hold_active(held, "tape-on", 1, "tape-on")
+    hold_active(held, "tape-back", 1, "tape")
+    page.plan({"steps": 50}, "auto", True)
+    page.open_list("1RB1LB_1LA0LC_1RZ1LD_1RD0RA\n")
+    hold_active(held, "again", 1, "copy-text")
+    hold_active(held, "left", 1, "rows")
+    page.ended()
+    page.open()
+    page.open_list("1RA1RA\nno machine\n")
+    page.js("document.getElementById('diagram').focus(); document.getElementById('row-next').click()")
+    held.hold("from a picture that is hidden", soon(lambda: page.js(ACTIVE) == "row-next"))
+    page.plan({"steps": 10**12, "cells": 64, "depth": 9, "cyclers": False, "translated": False}, "decide")
+    page.js("document.getElementById('backward').checked = false")
+    page.type("list", "%s\n" % LONG)
+    page.run()
+    page.until(lambda: page.text("status").startswith("Running"))
+    hold_active(held, "stop", 1, "run")
+    page.plan({}, "auto", True)
+
+
+def hold_memory(held: Held) -> None:
+    """Where the page itself is refused memory for a piece, the list ends, and it is told."""
+    page = held.page
+    page.open()
+    page.js("Uint8Array.prototype.slice = () => { throw new RangeError('Array buffer allocation failed'); }")
+    page.type("list", "1RA1RA\n")
+    page.run()
+    held.hold("out of memory is told", soon(lambda: page.text("error").startswith("Out of memory")))
+    held.hold("the list ended", page.state() == "ended")
+    page.open()
+
+
+def hold_workers(held: Held) -> None:
+    """A worker that waits keeps nothing of the list or the question before."""
+    page = held.page
+    command = "Page.addScriptToEvaluateOnNewDocument"
+    added: Any = page.driver.execute_cdp_cmd(command, {"source": WORKERS})
+    page.open()
+    page.open_list("1RA1RA\n" * 200)
+    page.drawn()
+    page.until(lambda: "\u2026" not in page.text("facts"))
+    held.hold("workers are begun", page.js("return window.workers.length") > 1)
+    held.hold("none hears on: %d" % page.js(HEARING), soon(lambda: page.js(HEARING) == 0))
+    page.driver.execute_cdp_cmd("Page.removeScriptToEvaluateOnNewDocument", added)
+
+
+def hold_leaving(held: Held) -> None:
+    hold_next(held)
+    hold_focus(held)
+    hold_memory(held)
+    hold_workers(held)
