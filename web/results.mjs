@@ -25,6 +25,8 @@ export class Results {
     /** @type {Part[] | null} */
     this.flat = null;
     this.begins = new Float64Array(1);
+    // The numbers from 0 on.
+    this.numbers = new Uint32Array(0);
   }
 
   /** Takes in a part. */
@@ -121,8 +123,19 @@ export class Results {
     return new Blob(texts, { type: "text/plain" });
   }
 
+  /** All rows, in order, in a list that is kept. */
+  allRows() {
+    if (this.numbers.length < this.lines) {
+      this.numbers = numbersTo(Math.max(this.lines, 2 * this.numbers.length));
+    }
+    return this.numbers.subarray(0, this.lines);
+  }
+
   /** The rows of these kinds, in order. */
   rows(/** @type {Set<number>} */ kinds) {
+    if (this.counts.every((count, kind) => count === 0 || kinds.has(kind))) {
+      return this.allRows();
+    }
     const isShown = Uint8Array.from(KINDS, (_, kind) => (kinds.has(kind) ? 1 : 0));
     const rows = new Uint32Array(this.lines);
     let [count, begin] = [0, 0];
@@ -144,6 +157,15 @@ export class Results {
   blob() {
     return new Blob(this.parts().map((part) => part.bytes), { type: "text/plain" });
   }
+}
+
+/** The numbers from 0 on, so many. */
+function numbersTo(/** @type {number} */ count) {
+  const numbers = new Uint32Array(count);
+  for (let k = 0; k < count; k += 1) {
+    numbers[k] = k;
+  }
+  return numbers;
 }
 
 /**

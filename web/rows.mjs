@@ -43,7 +43,12 @@ export class Rows {
     this.box.addEventListener("keydown", (event) => this.pressed(event));
     this.box.addEventListener("wheel", (event) => this.wheeled(event), { passive: false });
     part("shown").addEventListener("click", (event) => this.clicked(event));
-    new ResizeObserver(() => this.draw()).observe(this.box);
+    // How high the box is inside. To ask for it costs the browser a layout.
+    this.inner = 0;
+    new ResizeObserver(() => {
+      this.measure();
+      this.draw();
+    }).observe(this.box);
   }
 
   get pixels() {
@@ -52,7 +57,7 @@ export class Rows {
 
   /** How many rows are seen, below the head. */
   get seen() {
-    return Math.max(1, Math.floor((this.box.clientHeight - this.pixels - 1) / this.pixels));
+    return Math.max(1, Math.floor((this.inner - this.pixels - 1) / this.pixels));
   }
 
   get height() {
@@ -73,13 +78,22 @@ export class Rows {
    * @param {Results} results @param {Uint32Array} rows @param {boolean} isInOrder of the list
    */
   show(results, rows, isInOrder) {
+    const fewer = Math.min(rows.length, this.rows.length);
     this.results = results;
     this.rows = rows;
     this.find(results, rows, isInOrder);
     part("spacer").style.height = `${this.height}px`;
+    // Where there are more rows than it has room for, before and now, it is as high as it was.
+    if (fewer * this.pixels <= this.inner) {
+      this.measure();
+    }
     this.box.setAttribute("aria-rowcount", String(rows.length + 1));
     this.top = Math.min(this.top, Math.max(0, rows.length - this.seen));
     this.draw();
+  }
+
+  measure() {
+    this.inner = this.box.clientHeight;
   }
 
   /**
