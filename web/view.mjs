@@ -82,8 +82,9 @@ export class View {
       part("machine").scrollIntoView({ block: "start" });
       part("back").focus({ preventScroll: true });
     }
-    const focused = /** @type {any} */ (document.activeElement);
-    if (part("machine").contains(focused) && !focused.checkVisibility()) {
+    const focused = document.activeElement;
+    const isHidden = focused instanceof HTMLElement && focused.offsetParent === null;
+    if (isHidden && part("machine").contains(focused)) {
       part("row-next").focus({ preventScroll: true });
     }
   }
