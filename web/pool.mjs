@@ -15,8 +15,8 @@
 
 import { giveBack, newWorker, ready, takeWorker, toldOf } from "./workers.mjs";
 
-// A worker has the next two pieces before it is done with one, so that it needn't wait while the page draws.
-const PIECES = 3;
+// A worker has the next piece before it is done with one, so that it needn't wait while the page draws.
+const PIECES = 2;
 // A worker whose engine holds more isn't kept for the next list.
 const MOST_HELD = 16_777_216;
 // What a worker has decided is handed over after so long at the latest.
