@@ -3,9 +3,9 @@
 
     scripts/tests/dist.py
 
-Each is a clone of this repository's commit, in which `scripts/dist` builds from nothing; what was proved on
-this machine isn't proved again. It takes ten minutes, on a busy machine twenty. The last line is `N passed,
-M failed`; the status is 1 where any failed.
+Each is a clone of this repository's commit, in which `scripts/dist` builds from nothing. It takes ten minutes
+with a kit that keeps what was proved on this machine, else a build of all crates more for each. The last line
+is `N passed, M failed`; the status is 1 where any failed.
 """
 
 import hashlib
