@@ -122,9 +122,10 @@ def words(
 
 
 def heed_interruption() -> None:
-    """Has this process end by SIGINT, which what a shell began by `&` ignores. It is the `preexec_fn` of
-    processes that are to be interrupted."""
-    signal.signal(signal.SIGINT, signal.SIG_DFL)
+    """Has this process end by SIGINT, which what a shell began by `&` ignores, and by SIGHUP, which what
+    `nohup` began does. It is the `preexec_fn` of processes that are to be interrupted."""
+    for number in (signal.SIGINT, signal.SIGHUP):
+        signal.signal(number, signal.SIG_DFL)
 
 
 def end_with(main: Callable[[], int]) -> NoReturn:

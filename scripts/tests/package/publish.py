@@ -327,7 +327,11 @@ def ended_by(
     with subprocess.Popen(place.words(*place.given()), preexec_fn=heed_interruption, **how) as process:
         ready(process)
         process.send_signal(number)
-        _, error = process.communicate(timeout=60)
+        try:
+            _, error = process.communicate(timeout=60)
+        except subprocess.TimeoutExpired:
+            process.kill()
+            raise
     return process.returncode, error.decode()
 
 
