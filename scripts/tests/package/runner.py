@@ -35,7 +35,7 @@ from program import MAX_CELLS, MAX_STEPS  # noqa: E402
 from runs import LONG_MACHINE, PASSES, Case, environment, expected, folder  # noqa: E402
 from runs import hold_interrupted, is_at_work, kill_often, killed, most_memory  # noqa: E402
 from runs import random_list, seen  # noqa: E402
-from tally import Tally, end_with, words  # noqa: E402
+from tally import Tally, end_with, heed_interruption, words  # noqa: E402
 
 # Limits at which a line costs nothing to speak of.
 QUICK_PASS = (50, 64, 3, 10)
@@ -225,10 +225,14 @@ def hold_signals(tally: Tally, top: pathlib.Path) -> None:
     for number in (signal.SIGTERM, signal.SIGHUP):
         case = Case(top / number.name, b"1RZ---\n" * 30 + LONG_MACHINE * 3)
         case.words = ["--pass", LONG_PASS, "--threads", "2"]
-        with case.start() as process:
+        with case.start(preexec_fn=heed_interruption) as process:
             seen(process, lambda: case.pieces() > 0 and is_at_work(process.pid))
             process.send_signal(number)
-            status = process.wait(60)
+            try:
+                status = process.wait(60)
+            except subprocess.TimeoutExpired:
+                process.kill()
+                raise
         said = case.said()
         what = "ended by %s; the same command goes on after what stands in %s\n" % (number.name, case.out)
         tally.hold("%s: status %d: %s" % (number.name, status, said), status == 128 + number and what in said)
