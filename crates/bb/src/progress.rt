@@ -40,7 +40,9 @@ pub struct Progress<'a> {
 
 impl<'a> Progress<'a> {
     /// The progress of this work over a list of so many bytes. None for a trace, where standard error is
-    /// no terminal, and where standard output is neither a file nor the null device.
+    /// no terminal, and where standard output is neither a file nor the null device. It isn't inlined, for
+    /// the same reason as `add_read`.
+    #[inline(never)]
     pub fn of(
         rt: &'a HostRuntime,
         work: &Work,

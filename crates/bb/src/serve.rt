@@ -63,9 +63,9 @@ pub fn serve<R: Read, W: Write>(
     }
 }
 
-/// The same as [`serve`], byte for byte, but each machine of a list is decided in one run, so that a line
-/// costs what its verdict names, and the summary has what was made. The lines of a list are counted in
-/// `counts` as they are answered.
+/// The same as [`serve`], byte for byte, but each machine of a list is decided in one run, so that a halt or
+/// a pair costs about what its verdict names, and the summary has what was made. The lines of a list are
+/// counted in `counts` as they are answered.
 pub fn serve_in_one_run<R: Read, W: Write>(
     alloc: Global,
     asked: &Asked,

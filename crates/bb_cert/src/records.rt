@@ -89,7 +89,9 @@ impl Records {
         self.has_same_cells(runner, run, saved)
     }
 
-    /// How the kept record and the one that the runner has just made, which agree, lie.
+    /// How the kept record and the one that the runner has just made, which agree, lie. It isn't inlined:
+    /// where the searches begin beside the watched run hangs on it (docs/speed_tried.md).
+    #[inline(never)]
     pub fn extent(&self, runner: &Runner) -> Extent
         requires nearest { IsNarrow self.now.nearest }
         requires kept { IsNarrow (position_of self.now.kept) }

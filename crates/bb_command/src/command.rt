@@ -151,7 +151,7 @@ pub struct Numbers {
     pub depth: u64,
     /// What is given for the nodes.
     pub nodes: u64,
-    /// Whether they are those of a trace, whose steps are told by `--upto`, and which has no tree.
+    /// Whether they are those of a trace, whose steps are given by `--upto`, and which has no tree.
     pub is_of_trace: bool,
 }
 
@@ -229,8 +229,8 @@ Out: for each line, in order, the machine and one of
   undecided steps|cells          a limit came first
 or, where the line is no machine: refused COLUMN.
 
-A decided machine costs about the steps that its verdict names; one that is left undecided
-costs a run to the limit, and the tree. 2 times the depth, less 1, must be at most the cells.
+A halt or a pair costs about the steps that its verdict names; any other machine costs a
+run to the limit, and the tree. 2 times the depth, less 1, must be at most the cells.
 
 Status: 0 every line was a machine, 1 a line was refused, 2 the command line was refused,
 3 memory, reading or writing failed.
