@@ -82,7 +82,8 @@ def is_whole(path: str) -> bool:
 
 
 class Page:
-    """A page of its own; `folder` is where it saves files. `cores` are those that it believes to have."""
+    """A page in a browser of its own, which ends with the block of `with`, whatever comes. `folder` is where
+    it saves files. `cores` are those that it believes to have."""
 
     def __init__(
         self,
@@ -278,6 +279,12 @@ class Page:
     def errors(self) -> List[str]:
         """What the console has of errors."""
         return [entry["message"] for entry in self.driver.get_log("browser") if entry["level"] == "SEVERE"]
+
+    def __enter__(self) -> "Page":
+        return self
+
+    def __exit__(self, *_: object) -> None:
+        self.end()
 
     def quit(self) -> None:
         """Asks the browser to end; whether it answers doesn't matter."""
