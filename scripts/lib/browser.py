@@ -58,7 +58,7 @@ canvas.dispatchEvent(new WheelEvent("wheel", {
 # After so many seconds something that is waited for counts as lost.
 PATIENCE = 1_800
 # A command that takes more seconds counts as lost; a script and a page's loading a few less, so that they
-# are what is told.
+# are what is named.
 COMMAND, SCRIPT = 300, 290
 # A browser that takes more seconds to end is killed.
 ENDING = 20
