@@ -1,4 +1,4 @@
-"""The built page in a headless Chromium, as the tests use it."""
+"""The built page in a headless Chromium, as the checks use it."""
 
 import contextlib
 import json

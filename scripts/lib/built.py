@@ -45,7 +45,8 @@ def has_web(tally: Tally, what: str, built: str) -> bool:
         tally.skip("%s: %s isn't built, and there is no kit to build it" % (what, path))
         return False
     status = status_of("web")
-    tally.hold("scripts/web: status %d" % status, status == 0)
+    if status != 0:
+        tally.hold("scripts/web: status %d" % status, False)
     return status == 0
 
 

@@ -26,7 +26,7 @@ painting("scale", () => { window.painted = { texts: [], marks: [] }; });
 painting("fillText", ({ textAlign }, [text, x, y]) => window.painted.texts.push([text, x, y, textAlign]));
 painting("fillRect", (_, words) => window.painted.marks.push(words));
 """
-# How far ticks are apart at least, in pixels, so that their numbers are apart.
+# How far ticks are apart at least, in pixels, so that their numbers can be read.
 STEPS_APART, POSITIONS_APART = 20, 40
 # What stands at the pointer.
 AT_POINTER = re.compile(
