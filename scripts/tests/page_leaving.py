@@ -1,4 +1,4 @@
-"""What goes: a machine's pictures when another one is opened, buttons that had the focus, what workers had."""
+"""What goes: a machine's pictures when another one is opened, focused buttons, what workers held."""
 
 from typing import Any
 
