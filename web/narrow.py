@@ -1,7 +1,7 @@
 #!/usr/bin/env python3
 """Narrows the memory of a WebAssembly module from 64-bit addresses to 32-bit ones.
 
-    web/narrow.py WIDE NARROW
+    python3 web/narrow.py WIDE NARROW
 
 An engine of WebAssembly guards each access to a 64-bit memory by a comparison, but puts pages that can't be
 touched behind a 32-bit one; and every browser with vectors has 32-bit memory. Addresses stay numbers of 64

@@ -1,7 +1,7 @@
 #!/usr/bin/env python3
 """Packs the page, its modules, the examples and the engine into one file.
 
-    web/pack.py web/out/bb.wasm web/out/bb.html
+    python3 web/pack.py web/out/bb.wasm web/out/bb.html
 
 A page that is opened from a disk may load no other files, so the modules stand in it as three scripts: that
 of the page, that of the worker, and what both begin with. Each module stands there once, after those that it

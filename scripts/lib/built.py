@@ -14,6 +14,8 @@ LIBRARY = os.path.join(TOP, "crates", "bb_c", "out", "libbb.so")
 LISTER = os.path.join(TOP, "scripts", "tools", "tree_normal_form")
 MODULE = os.path.join(TOP, "web", "out", "bb.wasm")
 PAGE = os.path.join(TOP, "web", "out", "bb.html")
+# How many bytes the module and the page have at most.
+MODULE_BYTES, PAGE_BYTES = 65_536, 260_000
 
 
 def status_of(script: str) -> int:
@@ -35,11 +37,6 @@ def has_library(tally: Tally, what: str) -> bool:
     return status == 0
 
 
-def has_page() -> bool:
-    """Whether the module and the page are those of these sources."""
-    return status_of("web") == 0
-
-
 def has_web(tally: Tally, what: str, built: str) -> bool:
     """Whether the module or the page, of which `built` is the path, is that of these sources. Where neither
     it nor the kit is there, what needs it is skipped."""
@@ -47,10 +44,16 @@ def has_web(tally: Tally, what: str, built: str) -> bool:
         path = os.path.relpath(built, TOP)
         tally.skip("%s: %s isn't built, and there is no kit to build it" % (what, path))
         return False
-    stands = has_page()
-    if not stands:
-        tally.hold("scripts/web builds", False)
-    return stands
+    status = status_of("web")
+    if status != 0:
+        tally.hold("scripts/web: status %d" % status, False)
+    return status == 0
+
+
+def has_page(tally: Tally, what: str) -> bool:
+    """The same of the page, which Chromium has to open too."""
+    is_installed = tally.has(what, "chromium", "chromedriver") and tally.has_module(what, "selenium")
+    return is_installed and has_web(tally, what, PAGE)
 
 
 def has_lister(tally: Tally, what: str) -> bool:

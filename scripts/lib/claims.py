@@ -5,9 +5,8 @@ import itertools
 import random
 from typing import Dict, Iterable, Iterator, List, NamedTuple, Optional, Sequence, Tuple
 
-from machines import LETTERS, table_of
+from machines import LETTERS, SWAPPED, table_of
 
-SWAPPED = str.maketrans("LR", "RL")
 KINDS = ("halt", "cycler", "translated L", "translated R", "backward", "undecided", "refused")
 # Numbers that no verdict has, or that are none.
 ODD_NUMBERS = (
@@ -153,6 +152,16 @@ def forged(source: random.Random, lines: Sequence[str], count: int) -> Iterator[
     """So many lines, each made of one of these by a change."""
     for change in source.choices(list(CHANGES), list(CHANGES.values()), k=count):
         yield " ".join(change(source, source.choice(lines).split(" ")))
+
+
+def with_other_number(line: str, source: random.Random) -> str:
+    """A verdict line with one number changed."""
+    fields = line.split(" ")
+    numbers = [k for k, field in enumerate(fields) if k and field.isdigit()]
+    if numbers:
+        at = source.choice(numbers)
+        fields[at] = str(max(0, int(fields[at]) + source.choice([-2, -1, 1, 2, 1000])))
+    return " ".join(fields)
 
 
 def refusals(numbers: Iterable[int]) -> Iterator[str]:

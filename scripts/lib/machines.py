@@ -6,6 +6,11 @@ from typing import Iterable, Iterator, List, Sequence
 
 LETTERS = "ABCDEFGHIJKLMNOPQRSTUVWXY"
 DIGITS = "0123456789"
+# Left and right, one for the other.
+SWAPPED = str.maketrans("LR", "RL")
+# The champion of five states, and after how many steps it halts; that of four.
+CHAMPION, CHAMPION_STEPS = "1RB1LC_1RC1RB_1RD0LE_1LA1LD_1RZ0LA", 47_176_870
+CHAMPION_OF_FOUR = "1RB1LB_1LA0LC_1RZ1LD_1RD0RA"
 
 
 def text_of(table: Iterable[Sequence[str]]) -> str:
@@ -58,6 +63,11 @@ def mixed(count: int, seed: int) -> Iterator[str]:
             yield machine(source, source.randint(1, 4), source.randint(3, 10))
         else:
             yield machine(source, source.randint(1, 25), source.randint(2, 10))
+
+
+def random_machines(count: int, source: random.Random) -> List[str]:
+    """So many of the same, from a source of chance."""
+    return list(mixed(count, source.randrange(2**32)))
 
 
 def seldom_halting(source: random.Random, states: int, symbols: int) -> str:

@@ -1,4 +1,5 @@
-"""What the checks of `budlarem run` share: lists, what must come of them, and runs as processes."""
+"""What the checks of the Python package share: lists and what must come of them, runs as processes, and
+interruptions."""
 
 import contextlib
 import os
@@ -10,11 +11,11 @@ import subprocess
 import sys
 import tempfile
 import time
-from typing import Any, Callable, Dict, Iterator, List, Optional, Sequence
+from typing import Any, Callable, Dict, Iterator, List, Optional, Sequence, Tuple
 
 from built import LIBRARY
-from machines import mixed
-from program import LIMITS, as_lines, ended, options
+from machines import CHAMPION, mixed
+from program import LIMITS, MAX_CELLS, MAX_STEPS, as_lines, ended, options
 from tally import TOP, Tally, heed_interruption
 
 SOURCE = os.path.join(TOP, "python", "src")
@@ -22,6 +23,24 @@ PASSES = ((300, 64, 10, 100), (20_000, 1_024, 40, 10_000))
 # It grows as the root of its steps, and no decider finds anything.
 LONG_MACHINE = b"0RB1LD_0RC1RD_0RD---_1LA0RB\n"
 Process = subprocess.Popen[bytes]
+# Where a process of the package is interrupted, and what it does there.
+WHERE = ("list", "machine", "trace")
+WAITS = """
+import sys, budlarem
+def machines():
+    while True: yield "%(champion)s"
+print("begun", flush=True)
+if sys.argv[1] == "list":
+    for verdict in budlarem.decide(machines(), threads=2): print("decided", flush=True)
+elif sys.argv[1] == "machine":
+    print(list(budlarem.decide([sys.argv[2]], budlarem.Limits(steps=%(steps)d, cells=%(cells)d))))
+else:
+    list(budlarem.trace(sys.argv[2], %(steps)d, %(cells)d, start=%(steps)d))
+""" % {
+    "steps": MAX_STEPS,
+    "cells": MAX_CELLS,
+    "champion": CHAMPION,
+}
 # How long something may take that must come, in seconds, before it is called missing.
 PATIENCE = 600
 
@@ -163,7 +182,7 @@ def most_memory(case: Case, count: int, limits: Sequence[int]) -> int:
     here, since a process begins with the memory of the one that it was forked from."""
     with open(case.list, "wb") as file:
         for _ in range(count // 1_000):
-            file.write(b"1RB1LC_1RC1RB_1RD0LE_1LA1LD_1RZ0LA\n" * 1_000)
+            file.write(as_lines([CHAMPION]) * 1_000)
     with case.start(words=["--pass", words_of(limits)] * 2) as process:
         _, status, used = os.wait4(process.pid, 0)
         process.returncode = os.waitstatus_to_exitcode(status)
@@ -189,3 +208,27 @@ def is_at_work(pid: int) -> bool:
         return any(work_of("%s/%s" % (tasks, one)) > 0.5 for one in os.listdir(tasks) if int(one) != pid)
     except FileNotFoundError:
         return False
+
+
+def interrupted(where: str) -> Tuple[int, bytes, float]:
+    """How a process ends that is interrupted in a list, in one long machine or in a trace: its status, what
+    it said, and after how many seconds."""
+    command = [sys.executable, "-c", WAITS, where, LONG_MACHINE.decode().strip()]
+    pipe = subprocess.PIPE
+    with subprocess.Popen(
+        command, preexec_fn=heed_interruption, stdout=pipe, stderr=pipe, env=environment()
+    ) as process:
+        assert process.stdout is not None
+        process.stdout.readline()
+        if where == "list":
+            process.stdout.readline()
+        else:
+            seen(process, lambda: is_at_work(process.pid))
+        began = time.monotonic()
+        process.send_signal(signal.SIGINT)
+        try:
+            said = process.communicate(timeout=PATIENCE)[1]
+        except subprocess.TimeoutExpired:
+            process.kill()
+            said = process.communicate()[1]
+        return process.returncode, said, time.monotonic() - began

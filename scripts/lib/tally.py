@@ -5,6 +5,7 @@ after an interruption.
 """
 
 import argparse
+import importlib.util
 import os
 import shutil
 import signal
@@ -60,6 +61,14 @@ class Tally:
             if shutil.which(program) is None:
                 self.skip("%s: %s isn't installed (%s)" % (what, program, source_of(program)), count)
                 return False
+        return True
+
+    def has_module(self, what: str, module: str) -> bool:
+        """Whether Python finds a module; else what needs it is skipped."""
+        if importlib.util.find_spec(module) is None:
+            package = "package python3-%s, which is for /usr/bin/python3" % module
+            self.skip("%s: Python has no %s (%s)" % (what, module, package))
+            return False
         return True
 
     def end(self) -> int:

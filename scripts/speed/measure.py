@@ -26,7 +26,7 @@ HERE = os.path.dirname(os.path.abspath(__file__))
 sys.path.insert(0, os.path.join(os.path.dirname(HERE), "lib"))
 
 from built import listed  # noqa: E402
-from machines import halting_once, uniform  # noqa: E402
+from machines import CHAMPION, halting_once, uniform  # noqa: E402
 from program import (
     MAX_CELLS,
     SIMULATION,
@@ -39,7 +39,7 @@ from program import (
 )  # noqa: E402
 from tally import Tally, end_with, words  # noqa: E402
 
-CHAMPION = "1RB1LC_1RC1RB_1RD0LE_1LA1LD_1RZ0LA\n"
+CHAMPION_LIST = CHAMPION + "\n"
 LIST = 100_000
 DRAWN = 800_000
 HALTING_LIST = 1_000_000
@@ -106,7 +106,7 @@ def cases(draw: random.Random) -> List[Case]:
     limits = ["--steps", "1000", "--cells", "200", "--depth", "60"]
     at_once = f"{HALTING_LIST} machines that halt at once"
     return [
-        Case("the five-state champion", ["--steps", "50000000"], CHAMPION),
+        Case("the five-state champion", ["--steps", "50000000"], CHAMPION_LIST),
         Case(f"{LIST} machines of four states", limits, four),
         Case("the same, without a step", ["--steps", "0", *limits[2:]], four),
         Case(f"{at_once}, 64 cells", ["--cells", "64", "--depth", "10"], halting),
@@ -134,7 +134,7 @@ def count(program: str, options: Sequence[str], steps: int) -> Optional[int]:
     counting = ["valgrind", "--tool=callgrind", "--callgrind-out-file=/dev/null"]
     command = [*counting, program, "decide", "--steps", str(steps), *options]
     try:
-        collected = re.search(rb"Collected : (\d+)", ended(command, CHAMPION.encode()).error)
+        collected = re.search(rb"Collected : (\d+)", ended(command, CHAMPION_LIST.encode()).error)
     except FileNotFoundError:
         return None
     return int(collected.group(1)) if collected else None
@@ -245,7 +245,7 @@ def in_one_run(program: str, draw: random.Random) -> List[Case]:
     return [
         Case(f"all {four.count(chr(10))} machines of four states", limits, four),
         *kinds,
-        Case("the champion, all deciders", ["--steps", "50000000"], CHAMPION),
+        Case("the champion, all deciders", ["--steps", "50000000"], CHAMPION_LIST),
         Case(few_name + ", without the tree", ["--no-backward"], few),
         Case(few_name, [], few),
     ]
@@ -269,9 +269,9 @@ def searches(program: str, draw: random.Random) -> List[Search]:
     four = halting_machines(draw, LIST, 4)
     steps = "cyclers over the champion's first 40,000,000 steps"
     cases = [
-        Search(steps, [*long, *cycles], "--no-cyclers", CHAMPION),
+        Search(steps, [*long, *cycles], "--no-cyclers", CHAMPION_LIST),
         Search(f"cyclers over {LIST} machines of four states", [*limits, *cycles], "--no-cyclers", four),
-        Search("translated over the same steps", [*long, *records], "--no-translated", CHAMPION),
+        Search("translated over the same steps", [*long, *records], "--no-translated", CHAMPION_LIST),
     ]
     for states in (4, 5):
         kept = undecided(program, [*limits, *records], halting_machines(draw, DRAWN, states))

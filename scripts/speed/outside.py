@@ -21,23 +21,23 @@ import time
 from typing import Any, Callable, Iterator, List, Optional
 
 TOP = os.path.dirname(os.path.dirname(os.path.dirname(os.path.abspath(__file__))))
-sys.path.insert(0, os.path.join(TOP, "scripts", "tests"))
-sys.path.insert(0, os.path.join(TOP, "scripts", "tests", "package"))
 sys.path.insert(0, os.path.join(TOP, "scripts", "lib"))
 sys.path.insert(0, os.path.join(TOP, "python", "src"))
 
-from built import LIBRARY, has_library, has_lister, listed  # noqa: E402
-from program import GREATEST, LIMITS, processor_time  # noqa: E402
+from built import LIBRARY, MODULE, MODULE_BYTES, PAGE, PAGE_BYTES  # noqa: E402
+from built import has_library, has_lister, has_page, has_web, listed  # noqa: E402
+from examples import README  # noqa: E402
+from machines import CHAMPION, CHAMPION_STEPS  # noqa: E402
+from node import Engine  # noqa: E402
+from page_times import PAUSE, end, traced_views, views  # noqa: E402
+from plans import FOUR, MOST  # noqa: E402
+from program import processor_time  # noqa: E402
 from program import words_of_plan as options  # noqa: E402
+from runs import WHERE, interrupted  # noqa: E402
 from tally import Tally, end_with, words  # noqa: E402
 
 os.environ["BB_LIBRARY"] = LIBRARY
-FOUR = {"steps": 200, "cells": 256, "depth": 20, "nodes": 1_000}
 LOWEST = {"steps": 0, "cells": 1, "depth": 0, "nodes": 0}
-MOST = dict(zip(LIMITS, GREATEST))
-README = b"1RB1LB_1LA1RZ\n1RA1RA\n1rB1LB\n"
-CHAMPION = "1RB1LC_1RC1RB_1RD0LE_1LA1LD_1RZ0LA"
-CHAMPION_STEPS = 47_176_870
 TRACED_LINES = 1_000
 SHORT_LINES = 1_000_000
 REPORTED = 1_000
@@ -146,19 +146,17 @@ def four_states(folder: str) -> str:
 
 def measure_node(figures: Figures, program: str, folder: str) -> None:
     """The module: its size, the list of four states, memory."""
-    from built import MODULE, has_page
-    from node import Engine
-
     tally = figures.tally
-    if not tally.has("the module in Node", "node") or not has_page():
+    what = "the module in Node"
+    if not tally.has(what, "node") or not has_web(tally, what, MODULE):
         return
     engine = Engine(folder)
     if engine.about.get("unsupported"):
-        tally.skip("the module in Node: it has no vectors")
+        tally.skip("%s: it has no vectors" % what)
         return
     figures.head("The module `bb.wasm`, in Node")
     size = os.path.getsize(MODULE)
-    figures.row("bytes of the module", "{:,}".format(size), size, 65_536)
+    figures.row("bytes of the module", "{:,}".format(size), size, MODULE_BYTES)
     path = four_states(folder)
     with open(path, "rb") as file:
         given = file.read()
@@ -183,8 +181,6 @@ def measure_node(figures: Figures, program: str, folder: str) -> None:
 
 def fresh_after(folder: str, times: int) -> int:
     """The bytes that an engine holds after so many lists."""
-    from node import Engine
-
     engine = Engine(folder)
     small = {"steps": 100, "cells": 64, "depth": 20, "nodes": 100}
     held = int(engine.call("decide", small, README * 1000, times=times).answer["held"])
@@ -246,14 +242,10 @@ def measure_look(figures: Figures, program: str, folder: str) -> None:
 def page_of(folder: str, cores: Optional[int] = None) -> Iterator[Any]:
     """The page in a browser of its own."""
     from browser import Page
-    from built import PAGE
 
-    page = Page(PAGE, folder, cores=cores)
-    try:
+    with Page(PAGE, folder, cores=cores) as page:
         page.open()
         yield page
-    finally:
-        page.end()
 
 
 def opened(folder: str) -> float:
@@ -277,15 +269,11 @@ def in_page(folder: str, path: str, cores: int, longest: List[float]) -> float:
 
 def measure_page(figures: Figures, program: str, folder: str) -> None:
     """The page: its size, its first verdict, the list of four states, memory."""
-    from built import PAGE, has_page
-    from page import has_selenium
-
-    tally = figures.tally
-    if not tally.has("the page", "chromium", "chromedriver") or not has_selenium(tally) or not has_page():
+    if not has_page(figures.tally, "the page"):
         return
     figures.head("The page `bb.html`, in Chromium, opened from the disk")
     size = os.path.getsize(PAGE)
-    figures.row("bytes of the page", "{:,}".format(size), size, 260_000)
+    figures.row("bytes of the page", "{:,}".format(size), size, PAGE_BYTES)
     first = figures.least(lambda: opened(folder))[0]
     figures.row("first verdict after opening, in ms", "%d" % (first * 1000), first * 1000, 300)
     path = four_states(folder)
@@ -316,16 +304,8 @@ def milliseconds(figures: Figures, what: str, seconds: float, bar: Optional[floa
 
 def measure_views(figures: Figures, program: str, folder: str) -> None:
     """Views of the five-state champion's run in the page, and what the module takes of them in Node."""
-    from built import has_page
-    from page import has_selenium
-    from page_times import PAUSE, end, traced_views, views
-
-    tally = figures.tally
-    if (
-        not tally.has("views", "chromium", "chromedriver", "node")
-        or not has_selenium(tally)
-        or not has_page()
-    ):
+    what = "views"
+    if not figures.tally.has(what, "node") or not has_page(figures.tally, what):
         return
     longest: List[float] = []
     each: List[List[float]] = []
@@ -369,8 +349,6 @@ def measure_views(figures: Figures, program: str, folder: str) -> None:
 
 def traced_in_node(folder: str) -> float:
     """The seconds that the module takes for the lines of a view at step 10^7."""
-    from node import Engine
-
     engine = Engine(folder)
     sample = {"steps": 10_000_000, "cells": 65_536, "from": 0, "every": 18_432}
     taken = [engine.call("trace", sample, CHAMPION.encode()).answer["seconds"] for _ in range(4)]
@@ -502,8 +480,6 @@ def measure_report(figures: Figures, program: str, folder: str) -> None:
 
 def measure_interruption(figures: Figures) -> None:
     """After how long SIGINT is heard, and the process has ended by it."""
-    from beside import WHERE, interrupted
-
     for where in WHERE:
         seconds = figures.least(lambda: interrupted(where)[2])[0]
         figures.row(

@@ -32,11 +32,11 @@ import time
 from typing import Callable, Dict, List, Sequence, Tuple
 
 HERE = os.path.dirname(os.path.abspath(__file__))
-sys.path[:0] = [os.path.join(HERE, "..", "lib"), os.path.join(HERE, "..", "tests", "package")]
+sys.path.insert(0, os.path.join(os.path.dirname(HERE), "lib"))
 
 from built import has_library, has_lister, listed  # noqa: E402
-from cluster import Cluster, changed_package, cluster  # noqa: E402
-from machines import uniform  # noqa: E402
+from clusters import Cluster, changed_package, cluster  # noqa: E402
+from machines import CHAMPION, uniform  # noqa: E402
 from program import as_lines, options  # noqa: E402
 from runs import Case, environment, most_memory, words_of  # noqa: E402
 from tally import Tally, end_with, from_one, words  # noqa: E402
@@ -56,7 +56,6 @@ WAITS = """    time.sleep(%f)
     replies = lines.replace(b"\\n", b" undecided steps\\n")
     return reply_of(question(DECIDE, limits), lines, replies, 1e-6)
     return _replied(question(DECIDE"""
-CHAMPION = b"1RB1LC_1RC1RB_1RD0LE_1LA1LD_1RZ0LA\n"
 
 
 def random_machines(count: int) -> bytes:
@@ -283,7 +282,7 @@ def measure_waiting(tally: Tally, top: pathlib.Path, part: float) -> None:
             for _ in range(WAITING_PROCESSES):
                 found.start_worker(waiting, WAITING_THREADS)
             wait_for_workers(found, WAITING_PROCESSES)
-            case = Case(top / ("waiting-%d" % lines), CHAMPION * int(lines * pieces * part))
+            case = Case(top / ("waiting-%d" % lines), as_lines([CHAMPION]) * int(lines * pieces * part))
             by_dask(case, QUICK_PASS, found, ["--piece", str(lines)])
             summary = summary_of(case)
             tally.hold("a line for each: %s" % case.said(), case.verdicts().count(b"\n") > 0)

@@ -24,7 +24,7 @@ from typing import Dict, Iterator, List, NamedTuple, Optional, Sequence, Tuple
 
 sys.path.insert(0, os.path.join(os.path.dirname(os.path.dirname(os.path.abspath(__file__))), "lib"))
 
-from machines import LETTERS, all_machines, entries_of, machine, table_of, text_of  # noqa: E402
+from machines import LETTERS, SWAPPED, all_machines, entries_of, machine, table_of, text_of  # noqa: E402
 from program import PLANS, options, replies, verdict_of  # noqa: E402
 from tally import Tally, end_with, words  # noqa: E402
 
@@ -32,7 +32,6 @@ Entry = str
 Table = List[List[Entry]]
 LIMITS = options((1_000, 64, 20, 1_000))
 TREES_ALONE = ["--no-cyclers", "--no-translated"]
-SWAPPED = str.maketrans("LR", "RL")
 # Limits of the random machines, so many under each.
 RANDOM_LIMITS = (options((50, 9, 5, 20)), LIMITS)
 RANDOM_BATCH = 250

@@ -16,22 +16,21 @@ import os
 import random
 import sys
 import tempfile
-from typing import Any, Dict, Iterator, List, Tuple
+from typing import Any, Dict, List, Tuple
 
 sys.path.insert(0, os.path.join(os.path.dirname(os.path.dirname(os.path.abspath(__file__))), "lib"))
 
-from built import MODULE, has_lister, has_web, listed  # noqa: E402
-from examples import EXAMPLES, content  # noqa: E402
-from machines import mixed  # noqa: E402
-from node import CallEnd, Engine, documented, plan_of  # noqa: E402
-from program import GREATEST, LIMITS, MAX_CELLS, ROWS, SWITCHES  # noqa: E402
+from built import MODULE, MODULE_BYTES, has_lister, has_web, listed  # noqa: E402
+from claims import with_other_number  # noqa: E402
+from examples import README, examples_of_lists  # noqa: E402
+from machines import random_machines  # noqa: E402
+from node import CallEnd, Engine, documented  # noqa: E402
+from plans import FOUR, MOST, all_plans, random_plan  # noqa: E402
+from program import MAX_CELLS, SWITCHES  # noqa: E402
 from program import as_lines, ended, processor_time, words_of_plan  # noqa: E402
 from tally import TOP, Tally, end_with, words  # noqa: E402
 
-FOUR = {"steps": 200, "cells": 256, "depth": 20, "nodes": 1_000}
 SMALL = {"steps": 100, "cells": 64, "depth": 20, "nodes": 100}
-MOST = dict(zip(LIMITS, GREATEST))
-README = b"1RB1LB_1LA1RZ\n1RA1RA\n1rB1LB\n"
 SIMULATION = {name: False for name in SWITCHES}
 REFUSED = [
     {"steps": 10**12 + 1},
@@ -43,8 +42,8 @@ REFUSED = [
     {"cells": 0, "steps": 10**13},
     {"depth": 10_001, "nodes": 10**13},
 ]
-# How many bytes the module has at most, and how many a page of its memory has.
-MOST_BYTES, MEMORY_PAGE = 65_536, 65_536
+# How many bytes a page of the module's memory has.
+MEMORY_PAGE = 65_536
 
 
 class Held:
@@ -65,61 +64,16 @@ class Held:
         return reply
 
 
-def examples() -> Iterator[Tuple[str, str, Dict[str, Any], bytes]]:
-    """Each example that decides or checks: its name, command, plan and input."""
-    for name in sorted(os.listdir(EXAMPLES)):
-        folder = os.path.join(EXAMPLES, name)
-        asked = content(folder, "command").decode().split()
-        if asked and asked[0] in ("decide", "check"):
-            files = [word for word in asked if word.startswith("examples/")]
-            given = content(TOP, files[0]) if files else content(folder, "lines.txt")
-            yield name, asked[0], plan_of([word for word in asked[1:] if word not in files]), given
-
-
-def plans() -> Iterator[Dict[str, Any]]:
-    """Every plan at every row of limits."""
-    for numbers, switches in itertools.product(ROWS, itertools.product([True, False], repeat=3)):
-        plan: Dict[str, Any] = dict(zip(LIMITS, numbers))
-        yield {**plan, **dict(zip(SWITCHES, switches))}
-
-
-def random_plan(source: random.Random) -> Dict[str, Any]:
-    """Limits that are accepted, small ones more often, and switches."""
-    cells = int(2 ** source.uniform(0, 13))
-    return {
-        "steps": int(10 ** source.uniform(0, 4)),
-        "cells": cells,
-        "depth": source.randint(0, min(300, (cells + 1) // 2)),
-        "nodes": int(10 ** source.uniform(0, 4)),
-        **{name: source.random() < 0.7 for name in SWITCHES},
-    }
-
-
-def random_machines(count: int, source: random.Random) -> List[str]:
-    """Machines of 1 to 25 states and 2 to 10 symbols."""
-    return list(mixed(count, source.randrange(2**32)))
-
-
-def forged(line: str, source: random.Random) -> str:
-    """A verdict line with one number changed."""
-    fields = line.split(" ")
-    numbers = [k for k, field in enumerate(fields) if k and field.isdigit()]
-    if numbers:
-        at = source.choice(numbers)
-        fields[at] = str(max(0, int(fields[at]) + source.choice([-2, -1, 1, 2, 1000])))
-    return " ".join(fields)
-
-
 def hold_examples(held: Held) -> None:
     """The README's first run, the examples, and all plans at the rows of limits."""
     held.same("README", "decide", {}, README)
     held.same("README", "decide", SIMULATION, README)
     given = b""
-    for name, command, plan, lines in examples():
+    for name, command, plan, lines in examples_of_lists():
         held.same(name, command, plan, lines)
         if name in ("verdicts", "small_limits"):
             given += lines
-    for plan in plans():
+    for plan in all_plans():
         held.same("plans", "decide", plan, given)
 
 
@@ -134,7 +88,7 @@ def hold_random(held: Held, count: int, seed: int) -> None:
             .reply.decode()
             .splitlines()
         )
-        claims = [forged(line, source) if source.random() < 0.5 else line for line in decided]
+        claims = [with_other_number(line, source) if source.random() < 0.5 else line for line in decided]
         limits = {name: value for name, value in random_plan(source).items() if name not in SWITCHES}
         held.same("claims", "check", limits, as_lines(claims))
 
@@ -309,7 +263,7 @@ def main() -> int:
     what = "the engine in Node"
     if tally.has(what, "node") and has_web(tally, what, MODULE):
         size = os.path.getsize(MODULE)
-        tally.hold("the module has %d bytes" % size, size <= MOST_BYTES)
+        tally.hold("the module has %d bytes" % size, size <= MODULE_BYTES)
         hold_all(asked.program, tally, asked.quick, asked.seed)
     return tally.end()
 

@@ -16,10 +16,10 @@ from typing import List, Mapping, Sequence, Tuple, Union
 sys.path.insert(0, os.path.join(os.path.dirname(os.path.dirname(os.path.abspath(__file__))), "lib"))
 
 from built import LISTER, has_lister  # noqa: E402
+from plans import FOUR  # noqa: E402
 from program import SIMULATION, as_lines, ended, kind_of, processor_time, words_of_plan  # noqa: E402
 from tally import TOP, Tally, end_with, words  # noqa: E402
 
-FIRST = {"steps": 200, "cells": 256, "depth": 20, "nodes": 1_000}
 LATER = [
     {"steps": 1_000, "cells": 1_024, "depth": 40, "nodes": 10_000},
     {"steps": 10_000, "cells": 4_096, "depth": 100, "nodes": 10_000},
@@ -126,7 +126,7 @@ def main() -> int:
     machines, taken = run([LISTER, "--states", "4"], [])
     print("%d machines, listed in %.2f s" % (len(machines), taken))
     print_figure("lists {:,} machines".format(len(machines)))
-    lines = decided(program, FIRST, machines)
+    lines = decided(program, FOUR, machines)
     tell_kinds(lines)
     tell_greatest(lines)
     for limits in LATER:

@@ -27,15 +27,17 @@ import time
 
 sys.path.insert(0, os.path.join(os.path.dirname(os.path.dirname(os.path.abspath(__file__))), "lib"))
 
-from built import MODULE, PAGE, has_lister, has_web, listed  # noqa: E402
-from engine import FOUR, README, examples, forged, plans, random_machines, random_plan  # noqa: E402
+from built import MODULE, PAGE, PAGE_BYTES, has_lister, has_page, listed  # noqa: E402
+from claims import with_other_number  # noqa: E402
+from examples import README, examples_of_lists  # noqa: E402
+from machines import random_machines  # noqa: E402
 from node import documented  # noqa: E402
 from page_held import Held  # noqa: E402
+from plans import FOUR, all_plans, random_plan  # noqa: E402
 from program import SWITCHES, as_lines  # noqa: E402
 from tally import TOP, Tally, end_with, words  # noqa: E402
 
 LONG = "0RB---_0LA---"
-MOST_BYTES = 260_000
 # Bars in seconds, on a quiet machine.
 FIRST_VERDICT, STILL, STOPPED, BESIDE = 0.3, 0.1, 0.3, 0.3
 # Goes on to the next undecided line a few times; the most milliseconds that it takes.
@@ -86,10 +88,10 @@ def hold_cleaning(held: Held) -> None:
 def hold_examples(held: Held, quick: bool) -> None:
     """The examples, by their files and by the menu; all plans at the rows of limits."""
     given = b""
-    for name, command, plan, lines in examples():
+    for name, command, plan, lines in examples_of_lists():
         held.same(name, command, plan, lines)
         given += lines if name in ("verdicts", "small_limits") else b""
-    for plan in list(plans())[:: 9 if quick else 1]:
+    for plan in list(all_plans())[:: 9 if quick else 1]:
         held.same("plans", "decide", plan, given)
     page = held.page
     page.js(
@@ -109,7 +111,7 @@ def hold_random(held: Held, count: int, seed: int) -> None:
         plan = random_plan(source)
         decided = held.same("random machines", "decide", plan, as_lines(listed[k : k + 200]))
         lines = decided.decode().splitlines()
-        claims = [forged(line, source) if source.random() < 0.5 else line for line in lines]
+        claims = [with_other_number(line, source) if source.random() < 0.5 else line for line in lines]
         limits = {name: value for name, value in random_plan(source).items() if name not in SWITCHES}
         held.same("claims", "check", limits, as_lines(claims))
     held.page.plan({}, "auto")
@@ -219,40 +221,39 @@ def hold_phone(program: str, tally: Tally, folder: str) -> None:
     from page_access import hold_digits, hold_narrow
     from page_gestures import hold_fingers, hold_pinch
 
-    page = Page(PAGE, folder, 390, 844, is_phone=True)
-    page.open()
     script = (
         "const rows = document.getElementById('rows'); rows.focus();"
         "for (const key of ['ArrowDown', 'Enter'])"
         "rows.dispatchEvent(new KeyboardEvent('keydown', { key, bubbles: true }))"
     )
-    page.js(script)
-    page.until(lambda: page.text("machine-text") == "1RA1RA")
-    hold_narrow(page, tally, 390)
-    held = Held(program, page, tally)
-    hold_fingers(held)
-    hold_pinch(held)
-    tally.hold("no error in a phone's console: %s" % page.errors(), not page.errors())
-    page.end()
-    narrow = Page(PAGE, folder, 320, 640, is_phone=True)
-    hold_narrow(narrow, tally, 320)
-    hold_digits(narrow, tally)
-    narrow.end()
+    with Page(PAGE, folder, 390, 844, is_phone=True) as page:
+        page.open()
+        page.js(script)
+        page.until(lambda: page.text("machine-text") == "1RA1RA")
+        hold_narrow(page, tally, 390)
+        held = Held(program, page, tally)
+        hold_fingers(held)
+        hold_pinch(held)
+        errors = page.errors()
+        tally.hold("no error in a phone's console: %s" % errors, not errors)
+    with Page(PAGE, folder, 320, 640, is_phone=True) as narrow:
+        hold_narrow(narrow, tally, 320)
+        hold_digits(narrow, tally)
 
 
 def hold_unsupported(tally: Tally, folder: str) -> None:
     """A browser without vectors hears that it lacks them, and can't decide."""
     from browser import Page
 
-    page = Page(PAGE, folder)
     source = "WebAssembly.validate = () => false"
-    page.driver.execute_cdp_cmd("Page.addScriptToEvaluateOnNewDocument", {"source": source})
-    page.driver.get("file://" + PAGE)
-    shown = page.text("error")
-    tally.hold("a browser without vectors: " + shown, "no vectors" in shown and "Chromium 156" in shown)
-    tally.hold("it can't decide", page.js("return document.getElementById('run').disabled"))
-    tally.hold("no error in its console: %s" % page.errors(), not page.errors())
-    page.end()
+    with Page(PAGE, folder) as page:
+        page.driver.execute_cdp_cmd("Page.addScriptToEvaluateOnNewDocument", {"source": source})
+        page.driver.get("file://" + PAGE)
+        shown = page.text("error")
+        tally.hold("a browser without vectors: " + shown, "no vectors" in shown and "Chromium 156" in shown)
+        tally.hold("it can't decide", page.js("return document.getElementById('run').disabled"))
+        errors = page.errors()
+        tally.hold("no error in its console: %s" % errors, not errors)
 
 
 def hold_page(held: Held, quick: bool, seed: int) -> None:
@@ -298,43 +299,26 @@ def hold_all(program: str, tally: Tally, quick: bool, seed: int) -> None:
     """All of it, in pages that are ended whatever comes."""
     from browser import Page
 
-    with tempfile.TemporaryDirectory() as folder:
-        page = Page(PAGE, folder)
-        try:
-            held = Held(program, page, tally)
-            hold_page(held, quick, seed)
-            if not quick:
-                hold_phone(program, tally, folder)
-                hold_unsupported(tally, folder)
-            requests, errors = page.requests(), page.errors()
-            tally.hold("no request: %s" % requests[:3], not requests)
-            hold_document(held, folder)
-            errors += page.errors()
-            tally.hold("no error in the console: %s" % errors[:3], not errors)
-        finally:
-            page.end()
-
-
-def has_selenium(tally: Tally) -> bool:
-    """Whether Python finds selenium; else the page is skipped."""
-    try:
-        import selenium  # noqa: F401
-    except ImportError:
-        tally.skip(
-            "the page: Python has no selenium (package python3-selenium, which is for /usr/bin/python3)"
-        )
-        return False
-    return True
+    with tempfile.TemporaryDirectory() as folder, Page(PAGE, folder) as page:
+        held = Held(program, page, tally)
+        hold_page(held, quick, seed)
+        if not quick:
+            hold_phone(program, tally, folder)
+            hold_unsupported(tally, folder)
+        requests, errors = page.requests(), page.errors()
+        tally.hold("no request: %s" % requests[:3], not requests)
+        hold_document(held, folder)
+        errors += page.errors()
+        tally.hold("no error in the console: %s" % errors[:3], not errors)
 
 
 def main() -> int:
     asked = words(__doc__, quick="the short part", seed=1).parse_args()
     tally = Tally()
-    what = "the page"
-    if tally.has(what, "chromium", "chromedriver") and has_selenium(tally) and has_web(tally, what, PAGE):
+    if has_page(tally, "the page"):
         size = os.path.getsize(PAGE)
         print("the page has %d bytes" % size)
-        tally.hold("the page has %d bytes" % size, size <= MOST_BYTES)
+        tally.hold("the page has %d bytes" % size, size <= PAGE_BYTES)
         hold_all(asked.program, tally, asked.quick, asked.seed)
     return tally.end()
 

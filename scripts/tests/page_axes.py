@@ -1,11 +1,12 @@
-"""The axes of a diagram, whose numbers stand where the view has them, and what is told at the pointer."""
+"""The axes of a diagram, whose numbers stand where the view has them, and what is shown at the pointer."""
 
 import re
 from typing import Any, Dict, List, NamedTuple, Tuple
 
+from machines import CHAMPION
+from page_gestures import GO, INTO_VIEW, SIZE
 from page_held import HEAD, Held, Row, colour, palette, pixels, symbol_of, traced
 from page_input import in_window, mouse, soon
-from page_times import CHAMPION
 
 STEPS = 10_000
 # A step at which both ends of the tape are in view.
@@ -25,9 +26,10 @@ painting("scale", () => { window.painted = { texts: [], marks: [] }; });
 painting("fillText", ({ textAlign }, [text, x, y]) => window.painted.texts.push([text, x, y, textAlign]));
 painting("fillRect", (_, words) => window.painted.marks.push(words));
 """
-# How far ticks are apart at least, in pixels, so that their numbers are told apart.
+# How far ticks are apart at least, in pixels, so that their numbers can be read.
 STEPS_APART, POSITIONS_APART = 20, 40
-TOLD = re.compile(
+# What stands at the pointer.
+AT_POINTER = re.compile(
     r"Step ([\d,]+), state ([A-Z]); position (\u2212?[\d,]+): (?:symbol (\d)|not visited yet); "
     r"the head is (?:here|at (\u2212?[\d,]+))\."
 )
@@ -122,13 +124,10 @@ def hold_rows(held: Held, what: str, rows: Dict[int, Row]) -> None:
 
 
 def hold_place(held: Held, what: str, rows: Dict[int, Row]) -> None:
-    """At the pointer the program's row of that step is told."""
+    """At the pointer the program's row of that step is shown."""
     page = held.page
     view = page.drawn()
-    width, height = page.js(
-        "const { clientWidth, clientHeight } = document.getElementById('diagram');"
-        "return [clientWidth, clientHeight]"
-    )
+    width, height = page.js(SIZE)
     for right, down in ((0.05, 0.03), (0.5, 0.5), (0.97, 0.4), (0.3, 0.9), (0.52, 0.2)):
         x = int(view["x"] + right * (width - view["x"] - 1))
         y = int(view["y"] + down * (height - view["y"] - 1))
@@ -138,7 +137,7 @@ def hold_place(held: Held, what: str, rows: Dict[int, Row]) -> None:
         begin = "Step {:,}, ".format(int(step))
         soon(lambda: page.text("place-text").startswith(begin) or step not in rows)
         shown = page.text("place-text")
-        found = TOLD.fullmatch(shown)
+        found = AT_POINTER.fullmatch(shown)
         held.hold("%s: at the pointer: %s" % (what, shown), found is not None or step not in rows)
         if found is not None:
             row = rows[int(step)]
@@ -160,7 +159,7 @@ def hold_axes(held: Held) -> None:
     page = held.page
     made = page.driver.execute_cdp_cmd("Page.addScriptToEvaluateOnNewDocument", {"source": PAINTED})
     page.open("#machine=%s&steps=%d" % (CHAMPION, STEPS))
-    page.js("document.getElementById('diagram').scrollIntoView({ block: 'center' })")
+    page.js(INTO_VIEW)
     rows = {row.step: row for row in traced(held.program, CHAMPION, STEPS)}
     view = page.drawn()
     held.hold("steps are sampled: %s" % view, view["every"] > 1)
@@ -171,11 +170,7 @@ def hold_axes(held: Held) -> None:
         page.drawn()
         hold_ticks(held, "closer, %d" % gesture)
         hold_place(held, "closer, %d" % gesture, rows)
-    page.js(
-        "document.getElementById('tape-step').value = arguments[0];"
-        "document.getElementById('tape-form').requestSubmit()",
-        str(EARLY),
-    )
+    page.js(GO, str(EARLY))
     soon(lambda: page.drawn()["every"] == 1 and page.drawn()["top"] > EARLY / 2)
     hold_ticks(held, "single cells")
     hold_rows(held, "single cells", rows)

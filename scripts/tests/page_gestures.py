@@ -2,9 +2,9 @@
 
 from typing import Any, Dict, Tuple
 
+from machines import CHAMPION
 from page_held import Held, palette, pixels, symbol_of, traced
 from page_input import Point, drag, in_window, pinch, soon, swipe, tap
-from page_times import CHAMPION
 
 View = Dict[str, float]
 STEPS = 10_000

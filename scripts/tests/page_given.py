@@ -1,4 +1,4 @@
-"""What the page is given: settings that are refused or reset, numbers, files that can't be read, and drags."""
+"""What the page is given: settings that are refused or reset, numbers, files that can't be read, drags."""
 
 import os
 import time
@@ -23,7 +23,7 @@ LIST = "return document.getElementById('list').value"
 
 
 def invalid(page: Any, name: str) -> Optional[str]:
-    """Whether a field is told to be refused."""
+    """Whether a field is marked as refused."""
     found: Optional[str] = page.js("return document.getElementById(arguments[0]).ariaInvalid", name)
     return found
 
@@ -68,18 +68,18 @@ def hold_commas(held: Held) -> None:
 
 
 def hold_step(held: Held) -> None:
-    """A step is written as a limit is; a refusal is told."""
+    """A step is written as a limit is; a refusal is said."""
     page = held.page
     page.open("#machine=1RB1LB_1LA0LC_1RZ1LD_1RD0RA")
     page.drawn()
     page.js(GO, "1e2")
     held.hold("a step as 1e2", soon(lambda: page.text("tape-text").startswith("Step 100:")))
     page.js(GO, "many")
-    held.hold("a refused step is told", soon(lambda: "whole number" in page.text("live")))
+    held.hold("a refused step is said", soon(lambda: "whole number" in page.text("live")))
 
 
 def hold_unread(held: Held) -> None:
-    """A file that has changed since it was chosen is told, and can be chosen again."""
+    """Where a file has changed since it was chosen, the page says so, and it can be chosen again."""
     page = held.page
     page.open()
     page.file(b"1RA1RA\n")
@@ -89,7 +89,7 @@ def hold_unread(held: Held) -> None:
     with open(path, "wb") as out:
         out.write(b"1RB1LB_1LA1RZ\n1RA1RA\n")
     page.run()
-    held.hold("a changed file is told", soon(lambda: "could not be read" in page.text("error")))
+    held.hold("a changed file is said", soon(lambda: "could not be read" in page.text("error")))
     page.js("const field = document.getElementById('file'); field.click = () => {}")
     page.click("file-choose")
     chosen = page.js("return document.getElementById('file').files.length")

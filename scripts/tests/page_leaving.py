@@ -1,16 +1,16 @@
-"""What goes: a machine's pictures when another one is opened, buttons that had the focus, what workers held."""
+"""What goes: a machine's pictures when another one is opened, focused buttons, what workers held."""
 
 from typing import Any
 
+from machines import CHAMPION
 from page_held import Held
 from page_input import key, soon
-from page_times import CHAMPION
 
 HALT = "1RB1LB_1LA1RZ"
 LONG = "0RB---_0LA---"
 STEPS = 50_000_000
-# Opens the next line, and tells soon after it whether the diagram and the tape are empty; it takes longer than
-# that to trace the champion's last row.
+# Opens the next line, and tells soon after it whether the diagram and the tape are empty; to trace the
+# champion's last row takes longer than that.
 NEXT = """
 const done = arguments[arguments.length - 1];
 const part = (name) => document.getElementById(name);
@@ -19,8 +19,8 @@ const play = part("tape-play").textContent;
 setTimeout(() => {
   const canvas = part("diagram");
   const data = canvas.getContext("2d").getImageData(0, 0, canvas.width, canvas.height).data;
-  const state = canvas.dataset.state;
-  done([play, part("machine-text").textContent, state, data.some(Boolean), part("tape-cells").children.length]);
+  const text = part("machine-text").textContent;
+  done([play, text, canvas.dataset.state, data.some(Boolean), part("tape-cells").children.length]);
 }, 180);
 """
 ACTIVE = "return document.activeElement.id"
@@ -95,13 +95,13 @@ def hold_focus(held: Held) -> None:
 
 
 def hold_memory(held: Held) -> None:
-    """Where the page itself is refused memory for a piece, the list ends, and it is told."""
+    """Where the page itself is refused memory for a piece, the list ends, and the page says so."""
     page = held.page
     page.open()
     page.js("Uint8Array.prototype.slice = () => { throw new RangeError('Array buffer allocation failed'); }")
     page.type("list", "1RA1RA\n")
     page.run()
-    held.hold("out of memory is told", soon(lambda: page.text("error").startswith("Out of memory")))
+    held.hold("out of memory is said", soon(lambda: page.text("error").startswith("Out of memory")))
     held.hold("the list ended", page.state() == "ended")
     page.open()
 

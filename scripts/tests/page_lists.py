@@ -1,4 +1,4 @@
-"""Lists in the page: how their lines are read, what is told of them, and how settings go with them."""
+"""Lists in the page: how their lines are read, what is shown of them, and how settings go with them."""
 
 import json
 import os
@@ -84,7 +84,7 @@ def hold_disguised(tally: Tally, count: int, seed: int) -> None:
 
 
 def hold_list_of_forms(held: Held) -> None:
-    """A file of all forms: each line is decided as it is read, and told with its own number."""
+    """A file of all forms: each line is decided as it is read, and shown with its own number."""
     with open(FORMS, encoding="utf-8") as file:
         forms = [form for form in json.load(file)["forms"] if "\n" not in form["line"]]
     # What marks the order of bytes stands at the begin of a file alone.

@@ -8,6 +8,7 @@ import time
 from typing import Any, Dict, List
 
 from built import has_library
+from machines import CHAMPION, SWAPPED
 from page_held import Held
 from tally import TOP
 
@@ -19,7 +20,7 @@ MACHINES = [
     "1LC1RZ_1RB---_1RA1LA",
     "1RB1LB_1LA0LC_1RE1LD_1RD0RA_1RE1RE",
     "1RB1LB_1LA0RC_0LD1RC_---1LA",
-    "1RB1LC_1RC1RB_1RD0LE_1LA1LD_1RZ0LA",
+    CHAMPION,
     "1RB---_1LB1LA",
 ]
 # What the package says of a verdict line.
@@ -44,7 +45,6 @@ GROWTHS = {
     "line": "as a line",
     "halts": "The run ends",
 }
-SWAPPED = str.maketrans("LR", "RL")
 
 
 def found_by_package(lines: List[str]) -> List[Dict[str, Any]]:

@@ -13,17 +13,15 @@ from typing import Any, Dict, List, Tuple
 from selenium.webdriver.common.keys import Keys
 
 from built import MODULE
-from machines import mixed, seldom_halting
+from machines import CHAMPION, CHAMPION_OF_FOUR, mixed, seldom_halting
 from node import Engine
 from page_held import HEAD, Held, Row, colour, palette, pixels, symbol_of, traced
-from page_times import CHAMPION as CHAMPION_5
 from page_times import PAUSE, end, steps_seen, traced_views, views
 from program import ended
 from tally import TOP
 
 WINDOWS = os.path.join(TOP, "scripts", "tests", "windows.mjs")
 KEPT = os.path.join(TOP, "scripts", "tests", "kept_rows.mjs")
-CHAMPION = "1RB1LB_1LA0LC_1RZ1LD_1RD0RA"
 TRANSLATED = "1LB0LA_1RA---"
 # The champion of four states, which goes to the right for ever in place of its halt.
 LATE = "1RB1LB_1LA0LC_1RE1LD_1RD0RA_1RE1RE"
@@ -59,7 +57,7 @@ def hold_windows(held: Held, count: int, seed: int) -> None:
         return
     source = random.Random(seed)
     machines = [seldom_halting(source, source.randint(2, 5), source.randint(2, 4)) for _ in range(count)]
-    machines += [CHAMPION_5, LATE, TREE, *mixed(count, seed)]
+    machines += [CHAMPION, LATE, TREE, *mixed(count, seed)]
     asked = [(machine, source.randint(100, 4_000)) for machine in machines]
     words = [{"machine": machine, "upto": upto, "cells": 65_536} for machine, upto in asked]
     given = "".join(json.dumps(one) + "\n" for one in words)
@@ -91,7 +89,7 @@ def hold_kept(held: Held, count: int, seed: int) -> None:
         return
     source = random.Random(seed)
     machines = [seldom_halting(source, source.randint(2, 5), source.randint(2, 10)) for _ in range(count)]
-    asked = [(machine, questions(source)) for machine in [CHAMPION_5, CHAMPION, LATE, TREE, *machines]]
+    asked = [(machine, questions(source)) for machine in [CHAMPION, CHAMPION_OF_FOUR, LATE, TREE, *machines]]
     given = "".join(json.dumps({"machine": one, "cells": 512, "asked": rows}) + "\n" for one, rows in asked)
     command = ["node", KEPT, MODULE]
     done = subprocess.run(command, input=given, stdout=subprocess.PIPE, text=True, check=True)
@@ -133,7 +131,7 @@ def sampled_with_origin(step: int) -> Row:
     with tempfile.TemporaryDirectory() as folder:
         engine = Engine(folder)
         reply = engine.call(
-            "trace", {"steps": step, "from": step, "every": 1}, with_origin(CHAMPION_5).encode()
+            "trace", {"steps": step, "from": step, "every": 1}, with_origin(CHAMPION).encode()
         )
         engine.end()
     _, state, head, cells = reply.reply.decode().split()
@@ -166,7 +164,7 @@ def hold_symbols(held: Held, seed: int) -> None:
     """Machines of more than two symbols: single cells, and a wide run whose pixels are means."""
     # It halts after 38 steps: before, nothing is marked over the cells.
     hold_cells(held, "1RB2LB1RZ_2LA2RB1LB", 30, "&steps=30")
-    held.page.open("#machine=%s&steps=300000" % with_origin(CHAMPION_5))
+    held.page.open("#machine=%s&steps=300000" % with_origin(CHAMPION))
     view, source = held.page.drawn(), random.Random(seed)
     held.hold("a pixel has several cells: %s" % view, view["across"] > 1)
     for number in (60, 200, 400):
@@ -176,7 +174,7 @@ def hold_symbols(held: Held, seed: int) -> None:
 def hold_scaled(held: Held, seed: int) -> None:
     """The run of the champion of five states is seen whole: a pixel has the mean colour of its cells."""
     page, source = held.page, random.Random(seed)
-    page.open("#machine=%s&steps=50000000" % CHAMPION_5)
+    page.open("#machine=%s&steps=50000000" % CHAMPION)
     view, shown = page.drawn(), page.text("diagram-text")
     every, across = int(view["every"]), int(view["across"])
     held.hold("a pixel is the mean of cells: " + shown, "mean colour of %d cells" % across in shown)
@@ -192,7 +190,7 @@ def hold_resized(held: Held) -> None:
     """A window of another width, as of a phone that is turned, shows the whole run again; a view that someone
     chose stays."""
     page = held.page
-    page.open("#machine=%s&steps=200" % CHAMPION)
+    page.open("#machine=%s&steps=200" % CHAMPION_OF_FOUR)
 
     def resize(width: int, height: int) -> str:
         before = page.js("return document.getElementById('diagram').clientWidth")
@@ -217,7 +215,7 @@ def hold_resized(held: Held) -> None:
 def hold_zoom(held: Held) -> None:
     """From a glance at 10^7 steps to 100 steps in a few gestures, at the head; and back to the whole."""
     page, gestures = held.page, 0
-    page.open("#machine=%s&steps=10000000" % CHAMPION_5)
+    page.open("#machine=%s&steps=10000000" % CHAMPION)
     whole = page.drawn()
     held.hold("10^7 steps are seen", steps_seen(page) >= 10**7)
     page.click("fit")
@@ -227,7 +225,7 @@ def hold_zoom(held: Held) -> None:
     held.hold("in %d gestures to 100 steps" % gestures, gestures <= 9)
     near = page.drawn()
     held.hold("single cells are seen: %s" % near, near["high"] >= 6 and near["wide"] == near["high"])
-    rows = {row.step: row for row in traced(held.program, CHAMPION_5, int(near["top"]) + 200)}
+    rows = {row.step: row for row in traced(held.program, CHAMPION, int(near["top"]) + 200)}
     head = rows[int(near["top"]) + 3].head
     held.hold("the head is in view", 0 <= (head - near["left"]) * near["wide"] < 900)
     for _ in range(gestures):
@@ -252,7 +250,7 @@ def hold_times(held: Held) -> None:
 def hold_wheel(held: Held) -> None:
     """The wheel zooms at the pointer, after a click: the cell under it stays there."""
     page = held.page
-    page.open("#machine=%s&steps=10000000" % CHAMPION_5)
+    page.open("#machine=%s&steps=10000000" % CHAMPION)
     before = page.drawn()
     script = (
         "const canvas = document.getElementById('diagram'); arguments[0] && canvas.focus();"
@@ -273,7 +271,7 @@ def hold_wheel(held: Held) -> None:
 def hold_goto(held: Held) -> None:
     """Going to a step shows its cells and its tape; a step beyond the last one is the last one."""
     page = held.page
-    page.open("#machine=%s&steps=50000000" % CHAMPION_5)
+    page.open("#machine=%s&steps=50000000" % CHAMPION)
     page.drawn()
     page.type("tape-step", "47,176,860")
     page.js("document.getElementById('tape-form').requestSubmit()")
@@ -318,7 +316,7 @@ def is_tape(page: Any, row: Row) -> bool:
     )
     used = page.js("return document.querySelector('#machine-table td.used')?.dataset.entry")
     around = dict(enumerate(row.cells, row.low))
-    is_described = page.text("tape-text").startswith(tape_words(row, entry_of(CHAMPION, row)))
+    is_described = page.text("tape-text").startswith(tape_words(row, entry_of(CHAMPION_OF_FOUR, row)))
     is_shown = all(around.get(at, "0") == symbol for at, symbol in shown)
     return is_described and is_shown and bool(used == row.state + around.get(row.head, "0"))
 
@@ -326,10 +324,10 @@ def is_tape(page: Any, row: Row) -> bool:
 def hold_tape(held: Held) -> None:
     """The tape goes on and back by a step, by buttons and keys; it plays, or steps where that is wanted."""
     page = held.page
-    page.open("#machine=%s" % CHAMPION)
+    page.open("#machine=%s" % CHAMPION_OF_FOUR)
     page.drawn()
     wrong = []
-    for row in traced(held.program, CHAMPION, 107)[:60]:
+    for row in traced(held.program, CHAMPION_OF_FOUR, 107)[:60]:
         page.until(lambda: page.text("tape-text").startswith("Step %d:" % row.step))
         if not is_tape(page, row):
             wrong.append(row)
@@ -356,10 +354,10 @@ def hold_tape(held: Held) -> None:
 
 
 def hold_pointed(held: Held) -> None:
-    """What is told at the pointer, and of what keys point at: step, state, position, symbol."""
+    """What is shown at the pointer, and of what keys point at: step, state, position, symbol."""
     page = held.page
-    page.open("#machine=%s" % CHAMPION)
-    view, rows = page.drawn(), traced(held.program, CHAMPION, 107)
+    page.open("#machine=%s" % CHAMPION_OF_FOUR)
+    view, rows = page.drawn(), traced(held.program, CHAMPION_OF_FOUR, 107)
     script = (
         "const canvas = document.getElementById('diagram'); const box = canvas.getBoundingClientRect();"
         "canvas.dispatchEvent(new PointerEvent('pointermove', { clientX: box.x + arguments[0], "
@@ -374,10 +372,10 @@ def hold_pointed(held: Held) -> None:
             state = "halted" if row.state == "Z" else "state " + row.state
             wanted = "Step %d, %s; position %s: symbol %s; " % (row.step, state, signed(at), symbol)
             right = right and page.text("place-text").startswith(wanted)
-    held.hold("told at the pointer: " + page.text("place-text"), right)
+    held.hold("shown at the pointer: " + page.text("place-text"), right)
     page.press("diagram", "0", *["+"] * 3, Keys.ARROW_DOWN, Keys.ARROW_DOWN, Keys.ARROW_RIGHT)
     page.drawn()
-    held.hold("told by keys: " + page.text("place-text"), "Step 2, state" in page.text("place-text"))
+    held.hold("shown by keys: " + page.text("place-text"), "Step 2, state" in page.text("place-text"))
     page.press("diagram", Keys.ENTER)
     page.until(lambda: page.text("tape-text").startswith("Step 2:"))
     axes = page.js(
@@ -453,7 +451,7 @@ def hold_pictures(held: Held, quick: bool, seed: int) -> None:
     """All that diagrams show; the long runs only where there is time."""
     hold_windows(held, 50 if quick else 500, seed)
     hold_kept(held, 20 if quick else 200, seed)
-    hold_cells(held, CHAMPION, 107)
+    hold_cells(held, CHAMPION_OF_FOUR, 107)
     hold_cells(held, "1RB1LB_1LA1RZ", 6)
     hold_symbols(held, seed)
     hold_stretch(held)

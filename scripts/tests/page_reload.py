@@ -2,9 +2,9 @@
 
 from typing import Any
 
+from machines import CHAMPION_OF_FOUR
 from page_held import Held
 
-CHAMPION = "1RB1LB_1LA0LC_1RZ1LD_1RD0RA"
 HASH = "return location.hash"
 
 
@@ -51,15 +51,17 @@ def hold_left(held: Held) -> None:
     page = held.page
     page.open()
     page.plan({"steps": 50}, "auto", True)
-    page.open_list("1RB1LB_1LA1RZ\n%s\n" % CHAMPION)
+    page.open_list("1RB1LB_1LA1RZ\n%s\n" % CHAMPION_OF_FOUR)
     page.js("document.getElementById('results').dataset.state = 'asked'")
     page.click("left")
     page.ended()
     reload(page)
-    held.hold("the list before what was left", value(page, "list") == "1RB1LB_1LA1RZ\n%s\n" % CHAMPION)
+    held.hold(
+        "the list before what was left", value(page, "list") == "1RB1LB_1LA1RZ\n%s\n" % CHAMPION_OF_FOUR
+    )
     held.hold("no file is asked for", page.js("return document.getElementById('list-gone').hidden"))
     page.plan({"steps": 50}, "auto", True)
-    page.file(b"%s\n" % CHAMPION.encode())
+    page.file(b"%s\n" % CHAMPION_OF_FOUR.encode())
     page.ended()
     page.js("document.getElementById('results').dataset.state = 'asked'")
     page.click("left")

@@ -1,12 +1,12 @@
-"""The lines of a list in the page: which one is open, chosen and highlighted, also while more come, in another
-order, and where kinds are hidden."""
+"""The lines of a list in the page: which one is open, chosen and highlighted, also while more come, in
+another order, and where kinds are hidden."""
 
 import time
 from typing import Any, List
 
+from machines import CHAMPION
 from page_held import Held
 from page_input import soon
-from page_times import CHAMPION
 
 HALT = "1RB1LB_1LA1RZ"
 CHOSEN = (

@@ -13,37 +13,19 @@ import re
 import struct
 import sys
 import zlib
-from typing import Dict, Iterator, List, Optional, Tuple
+from typing import Iterator, Optional, Tuple
 
 sys.path.insert(0, os.path.join(os.path.dirname(os.path.dirname(os.path.abspath(__file__))), "lib"))
 
+from images import Rows, pixels  # noqa: E402
+from machines import CHAMPION, CHAMPION_OF_FOUR  # noqa: E402
 from program import ended, kind_of, replies  # noqa: E402
 from tally import TOP, Tally, end_with, words  # noqa: E402
 
 PICTURE = os.path.join(TOP, "scripts", "tools", "picture.py")
-FOUR_STATES = "1RB1LB_1LA0LC_1RZ1LD_1RD0RA"
 GOES_RIGHT = "1RA1RA"
-FIVE_STATES = "1RB1LC_1RC1RB_1RD0LE_1LA1LD_1RZ0LA"
 WHITE, BLACK, GREY, RED = (255, 255, 255), (20, 20, 20), (225, 225, 225), (220, 30, 30)
-
-
-# The rows of a picture, each pixel as its colour.
-Rows = List[List[Tuple[int, ...]]]
 Held = Iterator[Tuple[str, bool]]
-
-
-def pixels(data: bytes) -> Rows:
-    """The rows of a picture with a palette."""
-    place = 8
-    chunks: Dict[bytes, bytes] = {}
-    while place < len(data):
-        length, kind = struct.unpack(">I4s", data[place : place + 8])
-        chunks[kind] = chunks.get(kind, b"") + data[place + 8 : place + 8 + length]
-        place += length + 12
-    wide, high = struct.unpack(">II", chunks[b"IHDR"][:8])
-    palette = [tuple(chunks[b"PLTE"][k : k + 3]) for k in range(0, len(chunks[b"PLTE"]), 3)]
-    raw = zlib.decompress(chunks[b"IDAT"])
-    return [[palette[at] for at in raw[row * (wide + 1) + 1 :][:wide]] for row in range(high)]
 
 
 def asked_for(program: str, machine: str, upto: int, *options: str) -> Tuple[Optional[Rows], str]:
@@ -62,7 +44,7 @@ def picture(program: str, machine: str, upto: int, *options: str) -> Tuple[Rows,
 
 def champion(program: str) -> Held:
     """The whole run of the champion of four states: 107 steps over 14 cells, from -10 to 3."""
-    rows, said = picture(program, FOUR_STATES, 107, "--scale", "2")
+    rows, said = picture(program, CHAMPION_OF_FOUR, 107, "--scale", "2")
     yield "two pixels a place", len(rows) == 216 and all(len(row) == 28 for row in rows)
     yield "nothing is said of a whole picture", said == ""
     yield "the head begins at 0", rows[0][20] == rows[1][21] == RED
@@ -126,7 +108,7 @@ def first_of_readme(program: str) -> Held:
     yield "README shows a command: %s" % shown, len(shown) == 1
     machine, limit, verdict = shown[0]
     (line,) = replies([program, "decide", "--steps", limit], [machine])
-    yield "%s steps: %s" % (limit, line), line == verdict and machine == FIVE_STATES
+    yield "%s steps: %s" % (limit, line), line == verdict and machine == CHAMPION
     steps = int(verdict.split()[2])
     (line,) = replies([program, "decide", "--steps", str(steps - 1)], [machine])
     yield "a step less: %s" % line, kind_of(line) == "undecided"

@@ -23,8 +23,8 @@ from typing import Callable, Dict, Iterator, List, Tuple, Union
 sys.path.insert(0, os.path.join(os.path.dirname(os.path.dirname(os.path.abspath(__file__))), "lib"))
 
 from built import has_library  # noqa: E402
+from images import pixels  # noqa: E402
 from machines import mixed  # noqa: E402
-from pictures import pixels  # noqa: E402
 from program import GREATEST, ended, options, options_of_pass  # noqa: E402
 from tally import TOP, Tally, end_with, heed_interruption, words  # noqa: E402
 

@@ -3,10 +3,10 @@
 
     scripts/tests/scripts.py
 
-All Python in `scripts/` and `coq/` passes `mypy --strict` and `black --check`, and so does `./test`. Each
-script that can be started prints its help with status 0, and ends with status 2 and a sentence where it is
-given an option that it doesn't have. It takes half a minute. The last line is `N passed, M failed`, with `, K
-skipped` where something isn't installed; the status is 1 where any failed.
+All Python in `scripts/`, `coq/` and `web/` passes `mypy --strict` and `black --check`, and so does `./test`.
+Each script that can be started prints its help with status 0, and ends with status 2 and a sentence where it
+is given an option that it doesn't have. It takes half a minute. The last line is `N passed, M failed`, with
+`, K skipped` where something isn't installed; the status is 1 where any failed.
 """
 
 import itertools
@@ -19,7 +19,7 @@ sys.path.insert(0, os.path.join(os.path.dirname(os.path.dirname(os.path.abspath(
 
 from tally import TOP, Tally, end_with, words  # noqa: E402
 
-FOLDERS = ("scripts", "coq")
+FOLDERS = ("scripts", "coq", "web")
 SETTINGS = os.path.join("python", "pyproject.toml")
 # So many seconds a script has for its help, and for refusing words: then it counts as having begun its work.
 PATIENCE = 120

@@ -6,14 +6,13 @@ import random
 import signal
 import subprocess
 import sys
-import time
 from typing import Iterator, List, Sequence, Tuple
 
 from built import LIBRARY, has_lister, listed  # noqa: E402
 from machines import mixed  # noqa: E402
-from program import MAX_CELLS, MAX_STEPS, PLANS, ROWS, SIMULATION, as_lines, ended, options  # noqa: E402
-from runs import LONG_MACHINE, PATIENCE, SOURCE, environment, is_at_work, seen  # noqa: E402
-from tally import TOP, Tally, heed_interruption
+from program import PLANS, ROWS, SIMULATION, as_lines, ended, options  # noqa: E402
+from runs import SOURCE, WHERE, environment, interrupted  # noqa: E402
+from tally import TOP, Tally
 
 sys.path.insert(0, SOURCE)
 
@@ -23,22 +22,6 @@ from budlarem import Limits, Plan  # noqa: E402
 Row = Tuple[int, int, int, int]
 # In so many seconds an interruption is heard, on a quiet machine.
 HEARD = 0.2
-WHERE = ("list", "machine", "trace")
-WAITS = """
-import sys, budlarem
-def machines():
-    while True: yield "1RB1LC_1RC1RB_1RD0LE_1LA1LD_1RZ0LA"
-print("begun", flush=True)
-if sys.argv[1] == "list":
-    for verdict in budlarem.decide(machines(), threads=2): print("decided", flush=True)
-elif sys.argv[1] == "machine":
-    print(list(budlarem.decide([sys.argv[2]], budlarem.Limits(steps=%(steps)d, cells=%(cells)d))))
-else:
-    list(budlarem.trace(sys.argv[2], %(steps)d, %(cells)d, start=%(steps)d))
-""" % {
-    "steps": MAX_STEPS,
-    "cells": MAX_CELLS,
-}
 MEMORY = """
 import itertools, resource, sys, budlarem
 count = int(sys.argv[1])
@@ -248,30 +231,6 @@ def hold_memory(tally: Tally, count: int) -> None:
             peaks.append(int(done.stdout or 0))
         what = "%s: %d KB for 100,000 lines, %d KB for %d" % (how, peaks[0], peaks[1], count)
         tally.hold(what, 0 < peaks[1] < 1.1 * peaks[0] + 2_000)
-
-
-def interrupted(where: str) -> Tuple[int, bytes, float]:
-    """How a process ends that is interrupted in a list, in one long machine or in a trace: its status, what
-    it said, and after how many seconds."""
-    command = [sys.executable, "-c", WAITS, where, LONG_MACHINE.decode().strip()]
-    pipe = subprocess.PIPE
-    with subprocess.Popen(
-        command, preexec_fn=heed_interruption, stdout=pipe, stderr=pipe, env=environment()
-    ) as process:
-        assert process.stdout is not None
-        process.stdout.readline()
-        if where == "list":
-            process.stdout.readline()
-        else:
-            seen(process, lambda: is_at_work(process.pid))
-        began = time.monotonic()
-        process.send_signal(signal.SIGINT)
-        try:
-            said = process.communicate(timeout=PATIENCE)[1]
-        except subprocess.TimeoutExpired:
-            process.kill()
-            said = process.communicate()[1]
-        return process.returncode, said, time.monotonic() - began
 
 
 def hold_interruption(tally: Tally) -> None:

@@ -15,23 +15,22 @@ where something isn't installed; the status is 1 where any failed.
 """
 
 import contextlib
-import importlib.util
 import os
 import pathlib
 import random
-import shutil
 import signal
-import socket
 import subprocess
 import sys
 import time
-from typing import Dict, Iterator, List, Optional, Tuple
+from typing import Dict, Iterator, List, Tuple
 
 sys.path.insert(0, os.path.join(os.path.dirname(os.path.abspath(__file__)), "..", "..", "lib"))
 
 from built import has_library  # noqa: E402
-from program import MAX_CELLS, MAX_STEPS  # noqa: E402
-from runs import LONG_MACHINE, PASSES, SOURCE, Case, Process, decided, environment  # noqa: E402
+from clusters import Cluster, changed_package, cluster  # noqa: E402
+from machines import CHAMPION  # noqa: E402
+from program import MAX_CELLS, MAX_STEPS, as_lines  # noqa: E402
+from runs import LONG_MACHINE, PASSES, Case, Process, decided, environment  # noqa: E402
 from runs import expected, folder, hold_interrupted, is_at_work, kill_often, random_list, seen  # noqa: E402
 from tally import Tally, end_with, words  # noqa: E402
 
@@ -96,75 +95,6 @@ WRONG_WORKERS: Dict[str, Tuple[str, List[Tuple[str, str]], str]] = {
         "AttributeError: ",
     ),
 }
-
-
-class Cluster:
-    """A scheduler and workers, all of them processes; what is started is ended by its id.
-    `more` are words that each of them gets."""
-
-    def __init__(self, top: pathlib.Path, more: List[str]) -> None:
-        self.top, self.more = top, more
-        with socket.socket() as free:
-            free.bind(("127.0.0.1", 0))
-            self.port = free.getsockname()[1]
-        self.scheduler: Optional[Process] = None
-        self.workers: List[Process] = []
-
-    @property
-    def address(self) -> str:
-        return "%s://127.0.0.1:%d" % ("tls" if self.more else "tcp", self.port)
-
-    def _start(self, what: str, asked: List[str], variables: Dict[str, str]) -> Process:
-        command = [sys.executable, "-m", "distributed.cli.dask_" + what, *asked, *self.more]
-        with open(self.top / "dask.txt", "ab") as log:
-            return subprocess.Popen(command, stdout=log, stderr=log, cwd=self.top, env=variables)
-
-    def start_scheduler(self) -> None:
-        """Starts a scheduler at the address, and waits until it listens."""
-        asked = ["--host", self.address.rpartition(":")[0], "--port", str(self.port)]
-        asked += ["--dashboard-address", "127.0.0.1:0"]
-        self.scheduler = self._start("scheduler", asked, environment())
-        seen(self.scheduler, self._listens)
-
-    def _listens(self) -> bool:
-        with socket.socket() as asked:
-            return asked.connect_ex(("127.0.0.1", self.port)) == 0
-
-    def start_worker(self, variables: Optional[Dict[str, str]] = None, threads: int = 1) -> Process:
-        asked = [self.address, "--nthreads", str(threads), "--no-nanny", "--no-dashboard"]
-        asked += ["--local-directory", str(self.top / "scratch")]
-        self.workers.append(self._start("worker", asked, variables or environment()))
-        return self.workers[-1]
-
-    def kill_workers(self) -> None:
-        for worker in self.workers:
-            worker.kill()
-            worker.wait()
-        self.workers = []
-
-    def kill_scheduler(self) -> None:
-        if self.scheduler is not None:
-            self.scheduler.kill()
-            self.scheduler.wait()
-            self.scheduler = None
-
-    def end(self) -> None:
-        self.kill_workers()
-        self.kill_scheduler()
-
-
-@contextlib.contextmanager
-def cluster(
-    workers: int, top: Optional[pathlib.Path] = None, more: Tuple[str, ...] = ()
-) -> Iterator[Cluster]:
-    """A scheduler with so many workers."""
-    with contextlib.ExitStack() as kept:
-        found = Cluster(top or kept.enter_context(folder()), list(more))
-        kept.callback(found.end)
-        found.start_scheduler()
-        for _ in range(workers):
-            found.start_worker()
-        yield found
 
 
 def case_of(found: Cluster, name: str, given: bytes, passes: Tuple[Tuple[int, ...], ...] = PASSES) -> Case:
@@ -298,19 +228,6 @@ def hold_scheduler(tally: Tally, given: bytes, right: bytes, is_late: bool) -> N
         hold_end(tally, "another scheduler, %s" % ("late" if is_late else "soon"), case, status, right)
 
 
-def changed_package(top: pathlib.Path, file: str, changes: List[Tuple[str, str]]) -> Dict[str, str]:
-    """The environment of a process with a package in which something is changed."""
-    source = top / "source"
-    shutil.copytree(SOURCE, source, ignore=shutil.ignore_patterns("__pycache__"))
-    path = source / "budlarem" / file
-    text = path.read_text(encoding="utf-8")
-    for before, after in changes:
-        assert before in text
-        text = text.replace(before, after)
-    path.write_text(text, encoding="utf-8")
-    return {**environment(), "PYTHONPATH": str(source)}
-
-
 def collecting(top: pathlib.Path) -> Dict[str, str]:
     """The environment of a run that collects garbage all the time, so that nothing is kept by chance."""
     site = top / "site"
@@ -420,7 +337,7 @@ def hold_encryption(tally: Tally, given: bytes, right: bytes) -> None:
 
 def hold_large_pieces(tally: Tally, program: str) -> None:
     """Pieces as large as they may be, which are also checked; dask's warning of large tasks isn't printed."""
-    given = b"1RB1LC_1RC1RB_1RD0LE_1LA1LD_1RZ0LA\n" * 100_000
+    given = as_lines([CHAMPION]) * 100_000
     with cluster(2) as found:
         case = case_of(found, "large", given, (QUICK_PASS,))
         status = case.run(str(case.list), "--piece", "20000", "--check")
@@ -433,10 +350,8 @@ def main() -> int:
     asked = words(__doc__, quick="a short run with one killed worker", seed=1).parse_args()
     program, is_quick, seed = asked.program, asked.quick, asked.seed
     tally = Tally()
-    if importlib.util.find_spec("distributed") is None:
-        tally.skip("the runner on a cluster: dask isn't installed (package python3-distributed)")
-        return tally.end()
-    if not has_library(tally, "the runner over dask"):
+    what = "the runner over dask"
+    if not tally.has_module(what, "distributed") or not has_library(tally, what):
         return tally.end()
     hold_killed_worker(tally, program, 1_000 if is_quick else 10_000, seed)
     if is_quick:

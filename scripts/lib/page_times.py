@@ -3,7 +3,8 @@
 import time
 from typing import Any, List
 
-CHAMPION = "1RB1LC_1RC1RB_1RD0LE_1LA1LD_1RZ0LA"
+from machines import CHAMPION
+
 # Views go up to this step, and are zoomed at one near it.
 STEPS, LATE = 10_000_000, 9_900_000
 # A step near the halt, which is the 47,176,870th.

@@ -1,4 +1,4 @@
-"""The built page in a headless Chromium, as the tests use it."""
+"""The built page in a headless Chromium, as the checks use it."""
 
 import contextlib
 import json
@@ -58,7 +58,7 @@ canvas.dispatchEvent(new WheelEvent("wheel", {
 # After so many seconds something that is waited for counts as lost.
 PATIENCE = 1_800
 # A command that takes more seconds counts as lost; a script and a page's loading a few less, so that they
-# are what is told.
+# are what is named.
 COMMAND, SCRIPT = 300, 290
 # A browser that takes more seconds to end is killed.
 ENDING = 20
@@ -82,7 +82,8 @@ def is_whole(path: str) -> bool:
 
 
 class Page:
-    """A page of its own; `folder` is where it saves files. `cores` are those that it believes to have."""
+    """A page in a browser of its own, which ends with the block of `with`, whatever comes. `folder` is where
+    it saves files. `cores` are those that it believes to have."""
 
     def __init__(
         self,
@@ -278,6 +279,12 @@ class Page:
     def errors(self) -> List[str]:
         """What the console has of errors."""
         return [entry["message"] for entry in self.driver.get_log("browser") if entry["level"] == "SEVERE"]
+
+    def __enter__(self) -> "Page":
+        return self
+
+    def __exit__(self, *_: object) -> None:
+        self.end()
 
     def quit(self) -> None:
         """Asks the browser to end; whether it answers doesn't matter."""

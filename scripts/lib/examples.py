@@ -1,4 +1,4 @@
-"""The examples, run by the program; see `command_lines.py`.
+"""The examples: what they are made of, and what is wrong with one; and the first list of the README.
 
 Each folder of `examples/` that has a file `command` is one: `command` has the program's words, `lines.txt`
 is its standard input (none: it is empty), `expected.txt` what it must write, and `status` the status that it
@@ -6,12 +6,14 @@ must end with (none: 0). Words that name files are read from the top of the repo
 """
 
 import os
-from typing import Optional
+from typing import Any, Dict, Iterator, Optional, Tuple
 
+from node import plan_of
 from program import ended
 from tally import TOP, Tally
 
 EXAMPLES = os.path.join(TOP, "examples")
+README = b"1RB1LB_1LA1RZ\n1RA1RA\n1rB1LB\n"
 
 
 def content(folder: str, name: str, otherwise: bytes = b"") -> bytes:
@@ -21,6 +23,17 @@ def content(folder: str, name: str, otherwise: bytes = b"") -> bytes:
         return otherwise
     with open(path, "rb") as file:
         return file.read()
+
+
+def examples_of_lists() -> Iterator[Tuple[str, str, Dict[str, Any], bytes]]:
+    """Each example that decides or checks: its name, command, plan and input."""
+    for name in sorted(os.listdir(EXAMPLES)):
+        folder = os.path.join(EXAMPLES, name)
+        asked = content(folder, "command").decode().split()
+        if asked and asked[0] in ("decide", "check"):
+            files = [word for word in asked if word.startswith("examples/")]
+            given = content(TOP, files[0]) if files else content(folder, "lines.txt")
+            yield name, asked[0], plan_of([word for word in asked[1:] if word not in files]), given
 
 
 def wrong(program: str, folder: str) -> Optional[str]:
