@@ -17,7 +17,8 @@
  * @typedef {Limits & {cyclers?: boolean, translated?: boolean, backward?: boolean}} Plan
  * @typedef {{steps: Whole, cells?: Whole, from?: Whole, every?: Whole}} Sample
  * @typedef {{bytes: Uint8Array, clean: boolean}} Reply What is written; whether the program's status is 0.
- * @typedef {(...words: (bigint | boolean)[]) => number} Call
+ * @typedef {(...words: (bigint | boolean | number)[]) => number} Call its addresses are numbers, all else that
+ *   counts has 64 bits
  */
 
 import { LimitsError, RANGES, limitsOf, raiseLimits, switchesOf } from "./limits.mjs";
@@ -151,8 +152,7 @@ export class Engine {
       throw new MemoryError();
     }
     room.bytes(list, given.length).set(given);
-    const places = [list, given.length, out, space, count].map(BigInt);
-    const status = call(...words, ...places);
+    const status = call(...words, list, BigInt(given.length), out, BigInt(space), count);
     const length = Number(new DataView(room.bytes(count, COUNT_BYTES).slice().buffer).getBigUint64(0, true));
     if (status === SHORT) {
       return this.called(name, names, words, given, length);

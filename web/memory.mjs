@@ -93,23 +93,23 @@ export class Room {
   }
 
   /** Writes what the module waits for: whether there is memory, and its address. */
-  answer(/** @type {bigint} */ to, /** @type {number} */ at) {
-    const view = new DataView(/** @type {WebAssembly.Memory} */ (this.memory).buffer, Number(to), 16);
+  answer(/** @type {number} */ to, /** @type {number} */ at) {
+    const view = new DataView(/** @type {WebAssembly.Memory} */ (this.memory).buffer, to >>> 0, 16);
     view.setBigUint64(0, at === 0 ? 0n : 1n, true);
     view.setBigUint64(8, BigInt(at === 0 ? 1 : at), true);
   }
 
-  /** What the module imports. */
+  /** What the module imports. An address comes as a signed number of 32 bits. */
   imports() {
     return {
-      /** @param {bigint} to @param {bigint} size @param {bigint} align */
+      /** @param {number} to @param {bigint} size @param {bigint} align */
       rattle_alloc: (to, size, align) => this.answer(to, this.take(Number(size), Number(align))),
       /**
-       * @param {bigint} to @param {bigint} old @param {bigint} was @param {bigint} size
+       * @param {number} to @param {number} old @param {bigint} was @param {bigint} size
        * @param {bigint} align
        */
       rattle_realloc: (to, old, was, size, align) =>
-        this.answer(to, this.retake(Number(old), Number(was), Number(size), Number(align))),
+        this.answer(to, this.retake(old >>> 0, Number(was), Number(size), Number(align))),
       rattle_dealloc: () => undefined,
     };
   }

@@ -14,6 +14,7 @@ The last line is `N passed, M failed`, with `, K skipped` where some were; the s
 import itertools
 import os
 import random
+import re
 import sys
 import tempfile
 from typing import Any, Dict, List, Tuple
@@ -205,22 +206,53 @@ def hold_traces(held: Held, count: int, source: random.Random) -> None:
     held.tally.hold("a trace of no machine", (reply.status, reply.reply) == (1, b"refused 2\n"))
 
 
+# Lines of intermediate code, and what they are with pointers of 32 bits.
+NARROWED = [
+    ("  store ptr %a, ptr %b, align 8", "ptrtoint ptr %a to i64|store i64 %X, ptr %b, align 8"),
+    ("  %a = alloca ptr, align 8", "%a = alloca i64, align 8"),
+    ("  %a = load { i8, ptr }, ptr %b, align 8", "%a = load { i8, i64 }, ptr %b, align 8"),
+    ("  %a = extractvalue { i8, ptr } %b, 1", "extractvalue { i8, i64 } %b, 1|%a = inttoptr i64 %X to ptr"),
+    ("  %a = extractvalue { ptr, i64 } %b, 1", "%a = extractvalue { i64, i64 } %b, 1"),
+    ("  %a = ptrtoaddr ptr %b to i64", "%a = ptrtoint ptr %b to i64"),
+    ('  call void @"a ptr"(ptr %b, i64 8)', 'call void @"a ptr"(ptr %b, i64 8)'),
+]
+NOT_NARROWED = [
+    "@a = constant [1 x ptr] [ptr @b]",
+    "  %a = alloca [2 x ptr], align 8",
+    "  %a = alloca ptr, i64 2, align 8",
+    "  %a = getelementptr ptr, ptr %b, i64 1",
+    "  %a = inttoptr i64 %b to ptr",
+    "  %a = insertvalue { ptr, i64 } %b, ptr %c, 0",
+    "  %a = load <2 x ptr>, ptr %b, align 16",
+    "  call void @a(ptr byval([8 x i8]) %b)",
+    "  store { ptr, i64, i64 } %a, ptr %b, align 8",
+]
+
+
 def hold_narrowing(tally: Tally, folder: str) -> None:
-    """What `web/narrow.py` doesn't know it refuses, with a line that says so, and writes nothing."""
+    """`web/narrow.py` writes each form of a line as it must; what it doesn't know it refuses, with a line that
+    says so, and writes nothing."""
     given, made = (os.path.join(folder, name) for name in ("wide", "narrow"))
-    with open(MODULE, "rb") as file:
-        module = file.read()
-    head, memory = module[:8], bytes([5, 3, 1, 4, 0])
-    cases = [("its own module", module), ("a table", head + bytes([4, 4, 1, 0x70, 0, 1]) + memory)]
-    for what, wide in cases:
-        with open(given, "wb") as file:
-            file.write(wide)
-        command = ["python3", os.path.join(TOP, "web", "narrow.py"), given, made]
+    command = ["python3", os.path.join(TOP, "web", "narrow.py"), given, made]
+    for line in NOT_NARROWED:
+        put(given, line)
         refused = ended(command)
-        is_explained = refused.error.startswith(b"narrow: ") and refused.error.count(b"\n") == 1
-        tally.hold(
-            "%s: %r" % (what, refused), refused.status == 1 and is_explained and not os.path.exists(made)
-        )
+        said = b"narrow: %s isn't known here\n" % line.strip().encode()
+        is_left = refused.status == 1 and refused.error == said and not os.path.exists(made)
+        tally.hold("%s: %r" % (line, refused), is_left)
+    for line, wanted in NARROWED:
+        put(given, line)
+        done = ended(command)
+        with open(made, encoding="ascii") as file:
+            lines = [re.sub(r"%narrow\.\d+", "%X", one.strip()) for one in file]
+        written = "|".join(one.replace("%X = ", "") for one in lines)
+        tally.hold("%s: %r" % (line, written), (done.status, written) == (0, wanted))
+
+
+def put(path: str, line: str) -> None:
+    """Writes a line into a file."""
+    with open(path, "w", encoding="ascii") as file:
+        file.write(line + "\n")
 
 
 def hold_types(tally: Tally) -> None:
