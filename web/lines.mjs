@@ -31,6 +31,8 @@ export class Lines {
     this.order = /** @type {HTMLSelectElement} */ (part("order"));
     // Whether a line of the list was opened.
     this.isOpen = false;
+    // How often rows were shown, so that what comes late isn't.
+    this.turn = 0;
     this.order.addEventListener("change", () => this.showRows());
     /** @param {string} id @param {number} by @param {boolean} isUndecided */
     const on = (id, by, isUndecided) =>
@@ -91,21 +93,32 @@ export class Lines {
     return button;
   }
 
-  /** Shows the rows of these kinds in the order that is asked for; a worker sorts them. */
+  /** Shows the rows of these kinds in the order that is asked for. */
   showRows() {
     const { results, isUnderWay } = this.answered();
     const order = this.order.value;
-    const all = results.rows(this.kindsShown);
+    const rows = results.rows(this.kindsShown);
+    this.turn += 1;
     if (order === "list" || isUnderWay) {
-      this.rows.show(results, all, true);
-      return;
+      this.rows.show(results, rows, true);
+    } else {
+      this.showSorted(results, rows.slice(), order === "down");
     }
-    const question = { what: "sort", rows: all.slice(), steps: results.stepsOf(all), down: order === "down" };
-    this.sorter.ask(question, (answer) => {
-      if (results === this.answered().results && order === this.order.value) {
-        this.rows.show(results, answer.order, false);
-      }
-    });
+  }
+
+  /**
+   * Shows rows in the order of their steps, by which a worker sorts them, unless others are shown meanwhile.
+   * @param {Results} results @param {Uint32Array} rows @param {boolean} down
+   */
+  async showSorted(results, rows, down) {
+    const { turn } = this;
+    const isLast = () => turn === this.turn && results === this.answered().results;
+    const steps = await results.stepsOf(rows);
+    if (isLast()) {
+      this.sorter.ask({ what: "sort", rows, steps, down }, ({ order }) => {
+        order !== undefined && isLast() && this.rows.show(results, order, false);
+      });
+    }
   }
 
   open(/** @type {number} */ row, /** @type {boolean} */ moves) {

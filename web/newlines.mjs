@@ -3,6 +3,8 @@
 const NEWLINE = 10;
 const NEWLINES = 0x0a0a0a0a;
 const LOWER_BITS = 0x7f7f7f7f;
+// Counts of a byte each, four in a number, hold the newlines of so many words.
+const MOST_WORDS = 255;
 
 /**
  * The bytes in words of four, from the first place on that a word can begin at: `first`; they end at `end`.
@@ -27,16 +29,22 @@ export function countLines(/** @type {Uint8Array} */ bytes) {
   const { length } = bytes;
   const { words, first, end } = wordsOf(bytes);
   let count = length > 0 && bytes[length - 1] !== NEWLINE ? 1 : 0;
-  for (let at = 0; at < words.length; at += 1) {
-    const found = newlinesIn(words[at]);
-    count += found === 0 ? 0 : bitsOf(found);
+  for (let from = 0; from < words.length; from += MOST_WORDS) {
+    count += newlinesAmong(words, from, Math.min(from + MOST_WORDS, words.length));
   }
   return count + newlines(bytes, 0, first) + newlines(bytes, end, length);
 }
 
-/** How many of the four bytes have their upper bit; the other bits are 0. */
-function bitsOf(/** @type {number} */ word) {
-  return ((word >>> 7) & 1) + ((word >>> 15) & 1) + ((word >>> 23) & 1) + (word >>> 31);
+/**
+ * How many newlines words have, MOST_WORDS of them at most.
+ * @param {Int32Array} words @param {number} from @param {number} end
+ */
+function newlinesAmong(words, from, end) {
+  let counts = 0;
+  for (let at = from; at < end; at += 1) {
+    counts = (counts + (newlinesIn(words[at]) >>> 7)) | 0;
+  }
+  return (counts & 255) + ((counts >>> 8) & 255) + ((counts >>> 16) & 255) + (counts >>> 24);
 }
 
 /** The newlines between two places. */

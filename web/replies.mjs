@@ -1,8 +1,8 @@
 /**
  * What a reply says, line by line, read from its bytes: no text is made of them.
  *
- * @typedef {{starts: Uint32Array, kinds: Uint8Array, steps: Float64Array}} Lines where each line begins and
- *   the last one ends, the number of its kind, and the steps that it names, -1 for none
+ * @typedef {{starts: Uint32Array, kinds: Uint8Array}} Lines where each line begins and the last one ends, and
+ *   the number of its kind
  */
 import { ANSWERS, KINDS } from "./machine.mjs";
 import { newlinesIn, wordsOf } from "./newlines.mjs";
@@ -24,18 +24,24 @@ KINDS.forEach((word, kind) => (KIND_BY_LETTER[word.charCodeAt(0)] = kind));
 const ANSWER_BY_LETTER = new Uint8Array(256);
 ANSWERS.forEach((word, answer) => (ANSWER_BY_LETTER[word.charCodeAt(1)] = answer));
 const ANSWER_LENGTHS = Uint8Array.from(ANSWERS, (word) => word.length + 1);
-/**
- * Of kinds that name steps: what stands before the first number, and how many numbers before theirs.
- * @type {Record<string, [string, number]>}
- */
-const NAMED = { halt: ["halt ", 0], cycler: ["cycler ", 1], translated: ["translated R ", 1] };
-const IS_NAMED = Uint8Array.from(KINDS, (kind) => (kind in NAMED ? 1 : 0));
-const WORDS = Uint8Array.from(KINDS, (kind) => NAMED[kind]?.[0].length ?? 0);
-const NUMBERS = Uint8Array.from(KINDS, (kind) => NAMED[kind]?.[1] ?? 0);
-// How many spaces stand between a kind's first letter and the number of its steps.
-const SPACES = Uint8Array.from(KINDS, (kind, k) => NUMBERS[k] + (NAMED[kind]?.[0].match(/ /g)?.length ?? 0));
+// How many spaces stand between a kind's first letter and the number of the steps that it names; 0 where it
+// names none.
+const SPACES = kindsBytes({ halt: 1, cycler: 2, translated: 3 });
+// The least bytes from a kind's first letter to the end of its line.
+const LEAST = kindsBytes({
+  halt: "halt 0 0".length,
+  cycler: "cycler 0 1".length,
+  translated: "translated R 1 2 1 1".length,
+  backward: "backward 0 0".length,
+  undecided: "undecided steps".length,
+});
 
 let scratch = new Uint32Array(0);
+
+/** A byte for each kind, 0 where none is given. */
+function kindsBytes(/** @type {Record<string, number>} */ given) {
+  return Uint8Array.from(KINDS, (kind) => given[kind] ?? 0);
+}
 
 /** Where each line begins and the last one ends, in a list that the next call overwrites. */
 export function startsOf(/** @type {Uint8Array} */ bytes) {
@@ -43,11 +49,7 @@ export function startsOf(/** @type {Uint8Array} */ bytes) {
   scratch = scratch.length > length + 1 ? scratch : new Uint32Array(2 * length + 2);
   const { words, first, end } = wordsOf(bytes);
   let lines = addStarts(0, bytes, 0, first);
-  for (let k = 0; k < words.length; k += 1) {
-    if (newlinesIn(words[k]) !== 0) {
-      lines = addStarts(lines, bytes, first + 4 * k, first + 4 * k + 4);
-    }
-  }
+  lines = addStartsIn(lines, words, first);
   lines = addStarts(lines, bytes, end, length);
   if (scratch[lines] < length) {
     lines += 1;
@@ -66,6 +68,23 @@ function addStarts(lines, bytes, from, to) {
     if (bytes[at] === NEWLINE) {
       count += 1;
       scratch[count] = at + 1;
+    }
+  }
+  return count;
+}
+
+/**
+ * The same for bytes in words of four.
+ * @param {number} lines that end before @param {Int32Array} words @param {number} from where they begin
+ */
+function addStartsIn(lines, words, from) {
+  const starts = scratch;
+  let count = lines;
+  for (let at = 0; at < words.length; at += 1) {
+    // Each newline's bit is taken away once its place is known.
+    for (let left = newlinesIn(words[at]); left !== 0; left &= left - 1) {
+      count += 1;
+      starts[count] = from + 4 * at + ((31 - Math.clz32(left & -left)) >> 3) + 1;
     }
   }
   return count;
@@ -116,38 +135,33 @@ export function numberAt(/** @type {Uint8Array} */ bytes, /** @type {number} */ 
 
 /** Room for what so many lines say; until it is known they are refused. @returns {Lines} */
 function roomFor(/** @type {number} */ count) {
-  const kinds = new Uint8Array(count).fill(REFUSED);
-  return { starts: new Uint32Array(count + 1), kinds, steps: new Float64Array(count).fill(-1) };
+  return { starts: new Uint32Array(count + 1), kinds: new Uint8Array(count).fill(REFUSED) };
 }
 
 /** What is said in so many verdict lines that anyone wrote. @returns {Lines} */
 export function readLines(/** @type {Uint8Array} */ bytes, /** @type {number} */ count) {
-  const { starts, kinds, steps } = roomFor(count);
+  const { starts, kinds } = roomFor(count);
   let at = 0;
   for (let k = 0; k < count; k += 1) {
     if (bytes[at] !== LETTER_R) {
       at = behind(bytes, at, 1);
       kinds[k] = KIND_BY_LETTER[bytes[at]] ?? REFUSED;
     }
-    if (IS_NAMED[kinds[k]] === 1) {
-      at = behind(bytes, at, SPACES[kinds[k]]);
-      steps[k] = numberAt(bytes, at);
-    }
     at = Math.min(lineEnd(bytes, at) + 1, bytes.length);
     starts[k + 1] = at;
   }
-  return { starts, kinds, steps };
+  return { starts, kinds };
 }
 
 /**
- * What the engine says of machines. Each line that isn't refused begins with the machine's line, so that
- * neither it nor the kind's word needs to be looked through.
+ * What the engine says of machines. Each line that isn't refused begins with the machine's line and ends no
+ * sooner than the shortest of its kind, so that neither needs to be looked through.
  * @param {Uint8Array} bytes @param {Uint32Array} machines where the machines' lines begin and the last ends
  * @returns {Lines}
  */
 export function readReply(bytes, machines) {
   const count = machines.length - 1;
-  const { starts, kinds, steps } = roomFor(count);
+  const { starts, kinds } = roomFor(count);
   let at = 0;
   for (let k = 0; k < count; k += 1) {
     if (bytes[at] !== LETTER_R) {
@@ -155,15 +169,23 @@ export function readReply(bytes, machines) {
       at = bytes[space] === SPACE ? space + 1 : behind(bytes, at, 1);
       const kind = KIND_BY_LETTER[bytes[at]] ?? REFUSED;
       kinds[k] = kind;
-      if (IS_NAMED[kind] === 1) {
-        at = behind(bytes, at + WORDS[kind], NUMBERS[kind]);
-        steps[k] = numberAt(bytes, at);
-      }
+      at += LEAST[kind];
     }
     at = Math.min(lineEnd(bytes, at) + 1, bytes.length);
     starts[k + 1] = at;
   }
-  return { starts, kinds, steps };
+  return { starts, kinds };
+}
+
+/** The steps that verdict lines name, -1 for none. */
+export function stepsIn(/** @type {Uint8Array} */ bytes, /** @type {Lines} */ { starts, kinds }) {
+  const steps = new Float64Array(kinds.length).fill(-1);
+  for (let k = 0; k < kinds.length; k += 1) {
+    if (SPACES[kinds[k]] > 0) {
+      steps[k] = numberAt(bytes, behind(bytes, starts[k], 1 + SPACES[kinds[k]]));
+    }
+  }
+  return steps;
 }
 
 /** The numbers of the answers of a reply to `check`. */

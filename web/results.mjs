@@ -7,10 +7,11 @@
 import { BYTES_KEPT, LONGEST_SHOWN } from "./lengths.mjs";
 import { ANSWERS, KINDS, readLine } from "./machine.mjs";
 import { lineAt } from "./prepare.mjs";
-import { startsOf } from "./replies.mjs";
+import { startsOf, stepsIn } from "./replies.mjs";
 
-// Rows that are read before the page rests.
+// Rows that are read before the page rests, and how long other work takes before it does.
 const RESTS = 2_000;
+const BUSY_MILLISECONDS = 20;
 const decoder = new TextDecoder();
 
 export class Results {
@@ -146,10 +147,18 @@ export class Results {
     return rows.subarray(0, count);
   }
 
-  /** The steps that these rows name, -1 for none. */
-  stepsOf(/** @type {Uint32Array} */ rows) {
+  /** The steps that these rows name, -1 for none; the page rests while they are read for the first time. */
+  async stepsOf(/** @type {Uint32Array} */ rows) {
     const all = new Float64Array(this.lines);
-    this.parts().forEach((part, k) => all.set(part.steps, this.begins[k]));
+    let begun = performance.now();
+    for (const [k, part] of this.parts().entries()) {
+      part.steps ??= stepsIn(part.lines ?? part.bytes, part);
+      all.set(part.steps, this.begins[k]);
+      if (performance.now() - begun > BUSY_MILLISECONDS) {
+        await rest();
+        begun = performance.now();
+      }
+    }
     return Float64Array.from(rows, (row) => all[row]);
   }
 

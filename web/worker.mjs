@@ -3,11 +3,11 @@
  *
  * @typedef {{mode: "decide" | "check", clean: boolean, plan: Record<string, any>}} Asked
  * @typedef {{job: number, bytes: Uint8Array, lines: Uint8Array | null, starts: Uint32Array,
- *   kinds: Uint8Array, steps: Float64Array, answers: Uint8Array, kindCounts: number[],
+ *   kinds: Uint8Array, steps?: Float64Array, answers: Uint8Array, kindCounts: number[],
  *   answerCounts: number[], first: number, numbers: Uint32Array | null, source: Uint8Array | null,
  *   places: Uint32Array | null, left: number, next: number, nextLine: number, done: boolean, taken: number,
  *   held: number}} Part
- *   `first` is the number of the first line, `numbers` those of all where some between them were left out;
+ *   `steps` are those that lines name, once they are read; `first` is the number of the first line, `numbers` those of all where some between them were left out;
  *   `source` has the lines as they were given and `places` where they begin, where some aren't as the engine
  *   was given them; `left` is how many were left out; `next` and `nextLine` say which byte and line of the
  *   piece come next; `taken` are the milliseconds that it took, `held` is the memory of the engine, in bytes
@@ -158,8 +158,8 @@ function nextSize(taken, lines) {
 }
 
 function send(/** @type {Part} */ part) {
-  const { bytes, starts, kinds, steps, answers, lines, source } = part;
-  const moved = [bytes, starts, kinds, steps, answers, lines, source].filter((array) => array !== null);
+  const { bytes, starts, kinds, answers, lines, source } = part;
+  const moved = [bytes, starts, kinds, answers, lines, source].filter((array) => array !== null);
   postMessage(part, /** @type {any} */ (moved.map((array) => /** @type {Uint8Array} */ (array).buffer)));
 }
 
