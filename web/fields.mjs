@@ -6,8 +6,8 @@ import { made, part } from "./parts.mjs";
 
 /** @type {("steps" | "cells" | "depth" | "nodes")[]} */
 const NAMES = ["steps", "cells", "depth", "nodes"];
-// Commas stand between groups of three digits.
-const GROUPS = /^\d{1,3}(?:,\d{3})+(?![\d,])/;
+// What separates digits stands between groups of three.
+const GROUPS = /^\d{1,3}([,\s_])\d{3}(?:\1\d{3})*(?![\d,\s_])/;
 const SWITCHES = ["cyclers", "translated", "backward"];
 const WHAT = {
   steps: "steps of one simulation",
@@ -68,10 +68,10 @@ export function larger(/** @type {Record<string, any>} */ plan) {
   return { ...plan, steps, cells };
 }
 
-/** A number's text without what separates its digits. */
+/** A number's text without what separates groups of its digits. */
 function digitsOf(/** @type {string} */ text) {
-  const plain = text.replace(/[\s_]/g, "").replace(/^\+/, "");
-  return plain.replace(GROUPS, (digits) => digits.replaceAll(",", ""));
+  const plain = text.trim().replace(/^\+/, "").replace(/\s*\^\s*/, "^");
+  return plain.replace(GROUPS, (digits) => digits.replace(/\D/g, ""));
 }
 
 /**

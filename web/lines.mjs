@@ -47,6 +47,7 @@ export class Lines {
   begin() {
     this.rows.begin();
     this.isOpen = false;
+    this.view.closeSoon();
   }
 
   /**

@@ -12,8 +12,10 @@ import { ZOOM } from "./scale.mjs";
 import { Tape } from "./tape.mjs";
 
 const NARROW = "(max-width: 900px)";
-// What is shown of the machine before goes where the next one's pictures take longer.
+// What is shown of the machine before goes where the next one's pictures take longer, and all of it where the
+// first machine of a list takes longer.
 const BLANK_MILLISECONDS = 100;
+const CLOSE_MILLISECONDS = 250;
 const ELSEWHERE = "https://bbchallenge.org/";
 /** @type {Record<string, string>} */
 const DOUBTS = {
@@ -36,6 +38,7 @@ export class View {
     /** @type {About | null} */
     this.about = null;
     this.timer = 0;
+    this.closing = 0;
     listen(this.diagram, (words, byKeys) => {
       part("place-text").textContent = words;
       byKeys && tellLive(words);
@@ -62,6 +65,7 @@ export class View {
     const { machine, verdict } = about;
     const isMachine = verdict.kind !== "refused";
     this.about = about;
+    clearTimeout(this.closing);
     this.leave();
     part("machine").hidden = false;
     part("machine-text").textContent = machine;
@@ -89,11 +93,20 @@ export class View {
     }
   }
 
-  /** Shows no machine. */
+  /** Shows no machine; a focus in it goes to the rows. */
   close() {
+    const hasFocus = part("machine").contains(document.activeElement);
     this.about = null;
+    clearTimeout(this.closing);
     this.leave();
     part("machine").hidden = true;
+    hasFocus && part("rows").focus({ preventScroll: true });
+  }
+
+  /** Shows no machine soon, unless one is opened before. */
+  closeSoon() {
+    clearTimeout(this.closing);
+    this.closing = setTimeout(() => this.close(), CLOSE_MILLISECONDS);
   }
 
   /** Leaves the machine before; nothing of it plays on. */

@@ -4,6 +4,7 @@ import os
 import time
 from typing import Any, Optional
 
+from machines import CHAMPION
 from page_held import Held
 from page_input import soon
 from page_gestures import GO
@@ -57,13 +58,18 @@ def hold_defaults(held: Held) -> None:
     held.hold("an example can be chosen again: %r" % menu, menu == "")
 
 
-def hold_commas(held: Held) -> None:
-    """A comma stands between groups of three digits, or the number is refused."""
+def hold_groups(held: Held) -> None:
+    """What separates digits stands between groups of three, or the number is refused."""
     page = held.page
-    for text in ("1,5e3", "1,5", "1,00,000", ",100"):
+    for text in ("1,5e3", "1,5", "1,00,000", ",100", "1 5", "1_5", "1,000 000", "1 000 00"):
         page.plan({"steps": text}, "decide", True)
         page.run()
         held.hold("%s is no number" % text, soon(lambda: invalid(page, "steps") == "true"))
+    for text in ("47 176 870", "47\u202f176\u202f870", "47_176_870", " +47,176,870 "):
+        page.plan({"steps": text}, "decide", True)
+        page.open_list("%s\n" % CHAMPION)
+        wanted = "It halts after 47,176,870 steps"
+        held.hold("%s is a number" % text, soon(lambda: page.text("machine-says").startswith(wanted)))
     page.plan({}, "auto", True)
 
 
@@ -134,7 +140,7 @@ def hold_refused_run(held: Held) -> None:
 def hold_given(held: Held) -> None:
     hold_mode(held)
     hold_defaults(held)
-    hold_commas(held)
+    hold_groups(held)
     hold_step(held)
     hold_unread(held)
     hold_drops(held)

@@ -56,6 +56,27 @@ def hold_next(held: Held) -> None:
     page.plan({}, "auto", True)
 
 
+def hold_slow(held: Held) -> None:
+    """Where the first machine of a list takes long, that of the list before isn't shown meanwhile."""
+    page = held.page
+    page.open()
+    page.open_list("1RA1RA\n")
+    page.drawn()
+    page.plan({"steps": 10**12, "cells": 64, "depth": 9, "cyclers": False, "translated": False}, "decide")
+    page.js("document.getElementById('backward').checked = false")
+    page.type("list", "%s\n1RA1RA\n" % LONG)
+    page.js("document.getElementById('copy-text').focus()")
+    page.run()
+    page.until(lambda: page.text("status").startswith("Running"))
+    hidden = "return document.getElementById('machine').hidden"
+    held.hold("the machine before goes", soon(lambda: page.js(hidden)))
+    held.hold("the focus goes to the rows: %r" % page.js(ACTIVE), page.js(ACTIVE) == "rows")
+    page.click("stop")
+    page.plan({}, "auto", True)
+    page.open_list("1RB1LB_1LA1RZ\n")
+    held.hold("the next one is shown", not page.js(hidden) and page.text("machine-text") == HALT)
+
+
 def hold_active(held: Held, name: str, times: int, wanted: str) -> None:
     """A button that is pressed so often gives its focus to what is wanted."""
     page = held.page
@@ -122,6 +143,7 @@ def hold_workers(held: Held) -> None:
 
 def hold_leaving(held: Held) -> None:
     hold_next(held)
+    hold_slow(held)
     hold_focus(held)
     hold_memory(held)
     hold_workers(held)
