@@ -17,8 +17,8 @@
  * @typedef {Limits & {cyclers?: boolean, translated?: boolean, backward?: boolean}} Plan
  * @typedef {{steps: Whole, cells?: Whole, from?: Whole, every?: Whole}} Sample
  * @typedef {{bytes: Uint8Array, clean: boolean}} Reply What is written; whether the program's status is 0.
- * @typedef {(...words: (bigint | boolean | number)[]) => number} Call its addresses are numbers, all else that
- *   counts has 64 bits
+ * @typedef {(...words: (bigint | boolean | number)[]) => number} Call its addresses are numbers, all else
+ *   that counts has 64 bits
  */
 
 import { LimitsError, RANGES, limitsOf, raiseLimits, switchesOf } from "./limits.mjs";

@@ -24,6 +24,7 @@ const NODE_WORDS =
   "A node is a state and the cells that are known; the head is in brackets, a dot is a cell of which " +
   "nothing is known.";
 const SHOW = ["The rows above show it.", "The rows above don’t show"];
+const NO_EXTENT = "The line doesn’t say which cells agree.";
 const NO_TREE = "No entry halts, so nothing could come before a halt.";
 const asker = new Asker();
 /**
@@ -31,6 +32,11 @@ const asker = new Asker();
  * @type {Verdict | null}
  */
 let shownVerdict = null;
+
+/** Leaves the verdict that is shown. */
+export function forgetBehind() {
+  shownVerdict = null;
+}
 
 /** The last step that the diagram of a verdict goes to, and the last one that there is. */
 export function stepsOf(/** @type {Verdict} */ { kind, numbers }, /** @type {number} */ limit) {
@@ -105,6 +111,7 @@ function rowsBehind(/** @type {Verdict} */ { kind, numbers, side }, /** @type {R
     return { bands: [], parts: [made("p", { class: "error" }, "The rows could not be traced.")] };
   }
   const extent = length ?? 0;
+  const isBare = kind === "translated" && length === undefined;
   const bands = rows.map((row) => {
     const [from, to] = kind === "translated" && extent > 0 ? stretchOf(row, side, extent) : [null, null];
     return { step: row.step, from, to, label: kind === "halt" ? "halt" : `step ${shown(row.step)}` };
@@ -117,8 +124,9 @@ function rowsBehind(/** @type {Verdict} */ { kind, numbers, side }, /** @type {R
     translated:
       `The two records: the same ${counted(extent, "cell")}, ` + `${counted(shift ?? 0, "cell")} farther out`,
   };
+  const title = made("h3", {}, isBare ? "The two records" : titles[kind]);
   const shownRows = made("div", { class: "cells" }, ...lines);
-  return { bands, parts: [made("h3", {}, titles[kind]), shownRows, seen(kind, rows, bands, second)] };
+  return { bands, parts: [title, shownRows, isBare ? hint(NO_EXTENT) : seen(kind, rows, bands, second)] };
 }
 
 /**

@@ -34,7 +34,7 @@ export function makeFields() {
 
 /** Says beside the closed fields which ones aren't the defaults. */
 export function tellLimits() {
-  const limits = NAMES.filter((name) => field(name).value.trim() !== String(RANGES[name].usual));
+  const limits = NAMES.filter((name) => numberOf(field(name).value) !== RANGES[name].usual);
   const off = SWITCHES.filter((name) => !field(name).checked);
   const limit = (/** @type {string} */ text) => numberOf(text)?.toLocaleString("en") ?? text;
   const named = limits.map((name) => `${name} ${limit(field(name).value)}`);

@@ -6,6 +6,9 @@ import { shown } from "./machine.mjs";
 
 // Characters that are shown about the place where a line goes wrong.
 const AROUND = 30;
+const NO_VERDICT_LINE =
+  "Unread: a verdict line has a machine, a space and what is said of it, as “1RB1LB_1LA1RZ halt 6 4”, and " +
+  "1,023 bytes at most.";
 
 /**
  * @typedef {import("./machine.mjs").Verdict} Verdict
@@ -23,18 +26,31 @@ export function tellGiven(/** @type {Given} */ given, /** @type {Verdict} */ ver
   const caret = isRefused && given.text !== null ? caretOf(given.text, placeOf(reading, verdict)) : "";
   Object.assign(part("machine-caret"), { textContent: caret, hidden: caret === "" });
   if (isRefused) {
-    part("machine-text").textContent = `Line ${shown(given.number + 1)} is no machine`;
+    const what = isUnread(verdict) ? "verdict line" : "machine";
+    part("machine-text").textContent = `Line ${shown(given.number + 1)} is no ${what}`;
     part("machine-says").textContent = refusedWords(reading, verdict);
   }
 }
 
-/** @param {Reading | null} reading @param {Verdict} verdict */
+/** Whether a line is no verdict line; of a machine's refusal the column is known. */
+function isUnread(/** @type {Verdict} */ { numbers }) {
+  return numbers.length === 0;
+}
+
+/**
+ * The place where a line goes wrong, from 1 on; null where none is known.
+ * @param {Reading | null} reading @param {Verdict} verdict
+ */
 function placeOf(reading, { numbers: [column] }) {
-  return reading?.kind === "refusal" ? reading.place : column;
+  return reading?.kind === "refusal" ? reading.place : column ?? null;
 }
 
 /** @param {Reading | null} reading @param {Verdict} verdict */
-function refusedWords(reading, { numbers: [column], text }) {
+function refusedWords(reading, verdict) {
+  const { numbers: [column], text } = verdict;
+  if (isUnread(verdict)) {
+    return NO_VERDICT_LINE;
+  }
   if (reading?.kind !== "refusal") {
     return `Refused: as it stands it goes wrong at column ${shown(column)}; ${ADVICE.none}.`;
   }
@@ -52,9 +68,12 @@ function rewrittenWords({ rewritten, before, behind }, text) {
   return parts.length > 0 ? `${parts.join(". ")}.` : "";
 }
 
-/** A line about a place, with a caret under it. */
-function caretOf(/** @type {string} */ text, /** @type {number} */ place) {
+/** A line about a place, with a caret under it; without a place its begin. */
+function caretOf(/** @type {string} */ text, /** @type {number | null} */ place) {
   const characters = [...text.replace(/^\ufeff/, "")].map((one) => (/[\s\p{C}]/u.test(one) ? " " : one));
+  if (place === null) {
+    return characters.slice(0, 2 * AROUND).join("") + (characters.length > 2 * AROUND ? "…" : "");
+  }
   const first = Math.max(0, place - 1 - AROUND);
   const [head, tail] = [first > 0 ? "…" : "", place - 1 + AROUND < characters.length ? "…" : ""];
   const seen = characters.slice(first, place - 1 + AROUND).join("");

@@ -43,24 +43,21 @@ export class Lines {
     on("open-next", 1, true);
   }
 
-  /** Begins with a list of which nothing is answered yet. */
+  /**
+   * Begins with a list of which nothing is answered yet. Where its first line takes long, or none comes, no
+   * machine is shown.
+   */
   begin() {
     this.rows.begin();
     this.isOpen = false;
     this.view.closeSoon();
   }
 
-  /**
-   * Shows what is answered, and opens the first line once it has come, if none was opened before. Where none
-   * comes no machine is shown.
-   */
+  /** Shows what is answered, and opens the first line once it has come, if none was opened before. */
   show() {
     this.showKinds();
     this.showRows();
     const { results, isUnderWay } = this.answered();
-    if (!this.isOpen && results.lines === 0 && !isUnderWay) {
-      this.view.close();
-    }
     if (!this.isOpen && results.lines > 0 && (results.hasFirst || !isUnderWay)) {
       this.rows.choose(0, false);
       this.open(this.rows.rows[0] ?? 0, false);
@@ -76,7 +73,7 @@ export class Lines {
     this.kindButtons.forEach((button, k) => {
       button.textContent = `${KINDS[k]} ${shown(counts[k])}`;
       button.setAttribute("aria-pressed", String(this.kindsShown.has(k)));
-      button.hidden = counts[k] === 0;
+      setAside(button.id, "hidden", counts[k] === 0, "rows");
     });
     const isAll = KINDS.every((_, k) => this.kindsShown.has(k) || counts[k] === 0);
     setAside("save-shown", "hidden", isAll, "save");
@@ -99,10 +96,13 @@ export class Lines {
     const { results, isUnderWay } = this.answered();
     const order = this.order.value;
     const rows = results.rows(this.kindsShown);
+    const isSorted = order !== "list" && !isUnderWay;
     this.turn += 1;
-    if (order === "list" || isUnderWay) {
+    // The line that is opened first is the first one of the list.
+    if (!isSorted || !this.isOpen) {
       this.rows.show(results, rows, true);
-    } else {
+    }
+    if (isSorted) {
       this.showSorted(results, rows.slice(), order === "down");
     }
   }
@@ -114,7 +114,7 @@ export class Lines {
   async showSorted(results, rows, down) {
     const { turn } = this;
     const isLast = () => turn === this.turn && results === this.answered().results;
-    const steps = await results.stepsOf(rows);
+    const steps = await results.stepsOf(rows, isLast);
     if (isLast()) {
       this.sorter.ask({ what: "sort", rows, steps, down }, ({ order }) => {
         order !== undefined && isLast() && this.rows.show(results, order, false);

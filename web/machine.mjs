@@ -13,6 +13,9 @@ export const KINDS = ["halt", "cycler", "translated", "backward", "undecided", "
 /** The answers to a verdict line, as they are shown. */
 export const ANSWERS = ["ok", "open", "bad", "over", "unread"];
 
+/** @type {Verdict} */
+const NO_VERDICT = { kind: "refused", numbers: [], side: "", text: "" };
+
 const GROUP = "(?:[0-9][LR][A-Z]|---){2,10}";
 /** The machines in a line, wherever they stand in it. */
 export const MACHINES = new RegExp(`(?<![0-9A-Za-z_])${GROUP}(?:_${GROUP})*(?![0-9A-Za-z_])`, "g");
@@ -46,6 +49,11 @@ function stateNumber(/** @type {string} */ letter) {
 /** The letter of a state. */
 export function stateLetter(/** @type {number} */ state) {
   return state < 0 ? "Z" : String.fromCharCode(65 + state);
+}
+
+/** What a line says that is no verdict line: nothing. @returns {{machine: string, verdict: Verdict}} */
+export function unreadLine() {
+  return { machine: "", verdict: NO_VERDICT };
 }
 
 /**

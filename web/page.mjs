@@ -83,10 +83,17 @@ function take(file, isOwn = false) {
   }
 }
 
-/** Decides again what is left, with larger limits; the text that stands there stays. */
+/**
+ * Decides again what is left, with larger limits; the text that stands there stays. Where another list is
+ * given meanwhile, only that is answered.
+ */
 async function decideLeft() {
   const { results, run } = work;
+  const mine = begun;
   const blob = await results.undecided();
+  if (mine !== begun) {
+    return;
+  }
   const name = `${counted(results.counts[KINDS.indexOf("undecided")], "undecided machine")}.txt`;
   setPlan(larger(run.plan));
   source.leaveExample();
@@ -125,6 +132,7 @@ function openLink(isAgain = false) {
     setPlan(link?.plan ?? {});
   } else {
     source.set(before.plan, before.clean, before.mode);
+    source.isExample = before.isExample;
   }
   if (before !== null && before.gone !== "") {
     source.fill("");

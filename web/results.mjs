@@ -5,7 +5,7 @@
  * @typedef {{part: Part, line: number}} Place
  */
 import { BYTES_KEPT, LONGEST_SHOWN } from "./lengths.mjs";
-import { ANSWERS, KINDS, readLine } from "./machine.mjs";
+import { ANSWERS, KINDS, readLine, unreadLine } from "./machine.mjs";
 import { lineAt } from "./prepare.mjs";
 import { startsOf, stepsIn } from "./replies.mjs";
 
@@ -94,11 +94,13 @@ export class Results {
     const { part, line } = this.place(row);
     const text = part.lines ?? part.bytes;
     const end = Math.min(part.starts[line + 1], part.starts[line] + LONGEST_SHOWN);
-    const read = readLine(decoder.decode(text.subarray(part.starts[line], end)).replace(/[\r\n]+$/, ""));
+    const answer = ANSWERS[part.answers[line]];
+    const written = decoder.decode(text.subarray(part.starts[line], end)).replace(/[\r\n]+$/, "");
+    const read = answer === "unread" ? unreadLine() : readLine(written);
     const number = part.first + (part.numbers === null ? line : part.numbers[line]);
     const { source, places } = part;
     const given = source === null || places === null ? null : lineAt(source, places[line], BYTES_KEPT);
-    return { ...read, answer: ANSWERS[part.answers[line]], kind: KINDS[part.kinds[line]], number, given };
+    return { ...read, answer, kind: KINDS[part.kinds[line]], number, given };
   }
 
   /** The lines of these kinds, as the program would write them; the page rests between parts. */
@@ -147,11 +149,18 @@ export class Results {
     return rows.subarray(0, count);
   }
 
-  /** The steps that these rows name, -1 for none; the page rests while they are read for the first time. */
-  async stepsOf(/** @type {Uint32Array} */ rows) {
+  /**
+   * The steps that these rows name, -1 for none; the page rests while they are read for the first time. Where
+   * they aren't wanted any more, they are left.
+   * @param {Uint32Array} rows @param {() => boolean} isWanted
+   */
+  async stepsOf(rows, isWanted) {
     const all = new Float64Array(this.lines);
     let begun = performance.now();
     for (const [k, part] of this.parts().entries()) {
+      if (!isWanted()) {
+        break;
+      }
       part.steps ??= stepsIn(part.lines ?? part.bytes, part);
       all.set(part.steps, this.begins[k]);
       if (performance.now() - begun > BUSY_MILLISECONDS) {
@@ -159,13 +168,22 @@ export class Results {
         begun = performance.now();
       }
     }
-    return Float64Array.from(rows, (row) => all[row]);
+    return taken(all, rows);
   }
 
   /** All that the program would write. */
   blob() {
     return new Blob(this.parts().map((part) => part.bytes), { type: "text/plain" });
   }
+}
+
+/** The numbers at these places. */
+function taken(/** @type {Float64Array} */ numbers, /** @type {Uint32Array} */ places) {
+  const found = new Float64Array(places.length);
+  for (let k = 0; k < places.length; k += 1) {
+    found[k] = numbers[places[k]];
+  }
+  return found;
 }
 
 /** The numbers from 0 on, so many. */

@@ -186,13 +186,15 @@ export class Rows {
     const cell = (/** @type {string} */ text, name = "") =>
       made("span", { role: "gridcell", class: name, title: text }, text);
     const isRefused = kind === "refused";
+    // A refused machine has no claim that could be checked.
+    const hasNone = isRefused && answer !== "unread";
     const text = isRefused ? cell((given ?? "").slice(0, LONGEST_SHOWN)) : cell(machine);
     const reading = given === null || isRefused ? null : readingOf(given);
     if (reading?.kind === "machine" && reading.rewritten.length > 0) {
       text.append(made("span", { class: "from" }, ` ← ${given?.trim()}`));
       text.title = `${machine} ← ${given?.trim()}`;
     }
-    const cells = [text, cell(verdict.text), isRefused ? cell("–", "none") : cell(answer, answer)];
+    const cells = [text, cell(verdict.text), hasNone ? cell("–", "none") : cell(answer, answer)];
     const line = cell(shown(number + 1), "number");
     const about = { role: "row", class: "row", id: `row-${place}`, "aria-rowindex": place + 2 };
     const chosen = { "aria-selected": place === this.chosen, "data-place": place };

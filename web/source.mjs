@@ -1,7 +1,7 @@
 /** The list that is given, as a text or a file, and the settings with which it is answered. */
 import { planWords, setPlan } from "./fields.mjs";
 import { counted } from "./machine.mjs";
-import { part } from "./parts.mjs";
+import { part, setAside } from "./parts.mjs";
 import { BEGIN_BYTES, hasVerdicts } from "./prepare.mjs";
 import { keep } from "./session.mjs";
 
@@ -22,6 +22,7 @@ export class Source {
       this.forgetExample();
       this.nameRun();
       this.gone = "";
+      part("list-gone").hidden = true;
     });
     this.mode.addEventListener("change", () => this.nameRun());
     part("defaults").addEventListener("click", () => this.toDefaults());
@@ -75,7 +76,7 @@ export class Source {
     }
     part("file-shown").hidden = file === null;
     part("list-gone").hidden = true;
-    this.list.hidden = file !== null;
+    setAside("list", "hidden", file !== null, "file-remove");
     if (file !== null) {
       part("file-name").textContent = `${file.name}, ${counted(file.size, "byte")}`;
     }
@@ -121,9 +122,10 @@ export class Source {
 
   /** Keeps list and settings for a reload. */
   keep() {
-    const { gone, list, mode, clean } = this;
+    const { gone, list, mode, clean, isExample } = this;
     const { hash } = location;
-    keep({ text: list.value, gone, plan: planWords(), mode: mode.value, clean: clean.checked, hash });
+    const settings = { plan: planWords(), mode: mode.value, clean: clean.checked, isExample };
+    keep({ text: list.value, gone, ...settings, hash });
   }
 }
 

@@ -1,6 +1,6 @@
 /** The view of one machine: its verdict in words, diagram, tape and table, and what stands behind. */
 import { Again } from "./again.mjs";
-import { showBehind, stepsOf } from "./behind.mjs";
+import { forgetBehind, showBehind, stepsOf } from "./behind.mjs";
 import { Diagram } from "./diagram.mjs";
 import { tellFacts } from "./facts.mjs";
 import { linkOf } from "./fields.mjs";
@@ -84,7 +84,7 @@ export class View {
     }
     if (moves && matchMedia(NARROW).matches) {
       part("machine").scrollIntoView({ block: "start" });
-      part("back").focus({ preventScroll: true });
+      part("machine").contains(document.activeElement) || part("back").focus({ preventScroll: true });
     }
     const focused = document.activeElement;
     const isHidden = focused instanceof HTMLElement && focused.offsetParent === null;
@@ -109,8 +109,10 @@ export class View {
     this.closing = setTimeout(() => this.close(), CLOSE_MILLISECONDS);
   }
 
-  /** Leaves the machine before; nothing of it plays on. */
+  /** Leaves the machine before; nothing of it plays on, and what is asked of it comes too late. */
   leave() {
+    this.again.stop();
+    forgetBehind();
     this.diagram.close();
     this.tape.close();
     part("place-text").textContent = "";

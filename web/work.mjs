@@ -1,6 +1,6 @@
 /** The work on a list: workers answer it, and how far they are is said. */
 import { refuse } from "./fields.mjs";
-import { KINDS } from "./machine.mjs";
+import { KINDS, counted } from "./machine.mjs";
 import { part, setAside, tellLive } from "./parts.mjs";
 import { Pieces } from "./pieces.mjs";
 import { Pool } from "./pool.mjs";
@@ -160,6 +160,8 @@ export class Work {
     const { run, results } = this;
     this.showProgress(how);
     const hasLeft = how !== "Running" && run.mode !== "check" && results.counts[UNDECIDED] > 0;
+    const left = counted(results.counts[UNDECIDED], "undecided machine");
+    part("left").textContent = `Decide ${left} again, with larger limits`;
     setAside("left", "hidden", !hasLeft, "rows");
     this.isShown = results.lines > 0;
     this.shows();

@@ -7,10 +7,11 @@
  *   answerCounts: number[], first: number, numbers: Uint32Array | null, source: Uint8Array | null,
  *   places: Uint32Array | null, left: number, next: number, nextLine: number, done: boolean, taken: number,
  *   held: number}} Part
- *   `steps` are those that lines name, once they are read; `first` is the number of the first line, `numbers` those of all where some between them were left out;
- *   `source` has the lines as they were given and `places` where they begin, where some aren't as the engine
- *   was given them; `left` is how many were left out; `next` and `nextLine` say which byte and line of the
- *   piece come next; `taken` are the milliseconds that it took, `held` is the memory of the engine, in bytes
+ *   `steps` are those that lines name, once they are read; `first` is the number of the first line,
+ *   `numbers` those of all where some between them were left out; `source` has the lines as they were given
+ *   and `places` where they begin, where some aren't as the engine was given them; `left` is how many were
+ *   left out; `next` and `nextLine` say which byte and line of the piece come next; `taken` are the
+ *   milliseconds that it took, `held` is the memory of the engine, in bytes
  * @typedef {{job: number, at: string, lines: number, bytes: number}} Note what is begun: the first line of a
  *   batch, and how many lines and bytes it has
  * @typedef {import("./bb.mjs").Engine} Host
@@ -32,6 +33,7 @@ const GROWTH = 2;
 const FAST_GROWTH = 8;
 const SHORT_MILLISECONDS = 4;
 const REFUSED = KINDS.indexOf("refused");
+const UNREAD = ANSWERS.indexOf("unread");
 const MOST_BYTES = 1_048_576;
 // A call costs much by itself where a line of a larger batch takes less than this part of the time.
 const SHARED = 0.75;
@@ -65,11 +67,21 @@ function answered(
   const reply = host.checkBytes(verdicts, { steps, cells, depth, nodes }, count).bytes;
   const lines = mode === "decide" ? readReply(verdicts, starts) : readLines(verdicts, count);
   const answers = readAnswers(reply, count);
+  if (mode === "check") {
+    refuseUnread(lines.kinds, answers);
+  }
   const kindCounts = tallied(lines.kinds, KINDS.length);
   const answerCounts = tallied(answers, ANSWERS.length);
   const written =
     mode === "decide" ? { bytes: verdicts, lines: null } : { bytes: reply, lines: verdicts.slice() };
   return { ...written, ...lines, answers, kindCounts, answerCounts, held: host.held };
+}
+
+/** Lines that are no verdict lines say nothing, whatever word they have. */
+function refuseUnread(/** @type {Uint8Array} */ kinds, /** @type {Uint8Array} */ answers) {
+  for (let k = 0; k < kinds.length; k += 1) {
+    kinds[k] = answers[k] === UNREAD ? REFUSED : kinds[k];
+  }
 }
 
 /**

@@ -230,8 +230,8 @@ NOT_NARROWED = [
 
 
 def hold_narrowing(tally: Tally, folder: str) -> None:
-    """`web/narrow.py` writes each form of a line as it must; what it doesn't know it refuses, with a line that
-    says so, and writes nothing."""
+    """`web/narrow.py` writes each form of a line as it must; what it doesn't know it refuses, with a line
+    that says so, and writes nothing."""
     given, made = (os.path.join(folder, name) for name in ("wide", "narrow"))
     command = ["python3", os.path.join(TOP, "web", "narrow.py"), given, made]
     for line in NOT_NARROWED:

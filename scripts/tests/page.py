@@ -210,9 +210,11 @@ def hold_four_states(held: Held) -> None:
     print("four states: %.1f s, decided and checked; the program %.1f s, decided" % (taken, program))
     held.tally.within("the page stood still for at most", longest / 1000, STILL)
     held.tally.within("to the next undecided line", held.page.js(UNDECIDED) / 1000, BESIDE)
-    held.page.js("const order = document.getElementById('order'); order.value = 'down'")
+    held.page.js("window.longest = 0; document.getElementById('order').value = 'down'")
     held.page.js("document.getElementById('order').dispatchEvent(new Event('change'))")
     held.page.until(lambda: "halt 107" in held.page.text("shown") or "translated" in held.page.text("shown"))
+    longest = held.page.js("return window.longest")
+    held.tally.within("it stood still, while rows were sorted, for at most", longest / 1000, STILL)
 
 
 def hold_phone(program: str, tally: Tally, folder: str) -> None:

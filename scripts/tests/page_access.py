@@ -313,7 +313,7 @@ def hold_width(held: Held) -> None:
     page = held.page
     page.plan({}, "check", True)
     machine = "1RB1LC_1RC1RB_1RD0LE_1LA1LD_1RZ0LA"
-    page.open_list("%s translated R 1234 5678 12 34\n" % machine)
+    page.open_list("%s translated R 1234 5678 12 34\n1RB1LB_1LA1RZ halt 7\n" % machine)
     held.hold("a row at 1280: %s" % clipped(page), not clipped(page))
     page.plan({}, "auto", True)
 
@@ -334,6 +334,10 @@ def hold_narrow(page: Any, tally: Tally, width: int) -> None:
     )
     tally.hold("two lines at %d: %s" % (width, tops), tops[1] < tops[2])
     tally.hold("rows at %d: %s" % (width, clipped(page)), width < 390 or not clipped(page))
+    for line in ("`1rb1la_1lc1re_1ld1rf_1ra0lb_0re1lc_1rz0rd`", "1RA1RA %s" % ("x" * 90)):
+        page.open_list(line + "\n")
+        wide = page.js("return document.documentElement.scrollWidth")
+        tally.hold("%s at %d: %d" % (line, width, wide), wide <= width)
 
 
 def hold_digits(page: Any, tally: Tally) -> None:

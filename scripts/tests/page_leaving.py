@@ -1,8 +1,9 @@
 """What goes: a machine's pictures when another one is opened, focused buttons, what workers held."""
 
+import time
 from typing import Any
 
-from machines import CHAMPION
+from machines import CHAMPION, CHAMPION_OF_FOUR
 from page_held import Held
 from page_input import key, soon
 
@@ -77,6 +78,51 @@ def hold_slow(held: Held) -> None:
     held.hold("the next one is shown", not page.js(hidden) and page.text("machine-text") == HALT)
 
 
+def hold_again(held: Held) -> None:
+    """A machine that is decided again is left with it: nothing is said of it under another list."""
+    page = held.page
+    page.open()
+    page.plan({"steps": STEPS // 10}, "decide")
+    page.open_list("%s\n" % CHAMPION)
+    page.click("again")
+    held.hold("it is decided again", page.text("again") == "Stop")
+    page.plan({"steps": 10**12, "cells": 64, "depth": 9, "cyclers": False, "translated": False}, "decide")
+    page.js("document.getElementById('backward').checked = false")
+    page.type("list", "%s\n" % LONG)
+    page.run()
+    time.sleep(3)
+    held.hold("it isn't any more", page.text("again") != "Stop")
+    held.hold("nothing is said of it: " + page.text("live"), "halts" not in page.text("live"))
+    page.click("stop")
+    page.plan({}, "auto", True)
+
+
+def hold_left(held: Held) -> None:
+    """A list that is given while the undecided lines of another one are gathered isn't replaced by them."""
+    page = held.page
+    page.plan({"steps": 50}, "decide")
+    page.open_list("%s\n" % CHAMPION_OF_FOUR * 150_000)
+    page.click("left")
+    page.type("list", "1RA1RA\n")
+    page.run()
+    time.sleep(3)
+    shown = "return document.getElementById('file-shown').hidden"
+    held.hold("the list given last: " + page.text("status"), "1 decided" in page.text("status"))
+    held.hold("no file in its place", page.js(shown))
+    page.plan({}, "auto", True)
+
+
+def hold_next_button(held: Held) -> None:
+    """Where the page scrolls to a machine, the button that opened it keeps the focus."""
+    page = held.page
+    page.driver.set_window_size(800, 900)
+    page.open_list("1RA1RA\n%s\n%s\n" % (HALT, LONG))
+    hold_active(held, "row-next", 1, "row-next")
+    key(page, "Enter")
+    held.hold("pressed again, the next one", soon(lambda: page.text("machine-text") == LONG))
+    page.driver.set_window_size(1280, 900)
+
+
 def hold_active(held: Held, name: str, times: int, wanted: str) -> None:
     """A button that is pressed so often gives its focus to what is wanted."""
     page = held.page
@@ -144,6 +190,9 @@ def hold_workers(held: Held) -> None:
 def hold_leaving(held: Held) -> None:
     hold_next(held)
     hold_slow(held)
+    hold_again(held)
+    hold_left(held)
+    hold_next_button(held)
     hold_focus(held)
     hold_memory(held)
     hold_workers(held)

@@ -122,6 +122,30 @@ def hold_refused_rows(held: Held) -> None:
     held.hold("the caret", text == "1RB1LH_1LA1RZ" and caret == "     ^")
 
 
+def hold_unread(held: Held) -> None:
+    """Among verdict lines, those that are none are shown as such, and count as refused."""
+    page = held.page
+    page.plan({}, "check", True)
+    unread = ["foo bar", "hello world", "1RA1RA undecided foo", "1RB1LB_1LA1RZ halt 7"]
+    read = ["1RB1LB_1LA1RZ halt 6 4", "1RA1RA translated R 1 2"]
+    page.open_list("".join(line + "\n" for line in unread + read))
+    status = page.text("status")
+    held.hold("unread lines: " + status, "2 decided, 0 undecided, 4 refused" in status)
+    rows = page.js(ROWS)
+    held.hold("their checks: %s" % rows, [row[3] for row in rows] == ["unread"] * 4 + ["ok"] * 2)
+    for row, line in enumerate(unread):
+        page.js("document.querySelectorAll('#shown .row')[arguments[0]].click()", row)
+        head, says, text = [page.text("machine-" + name) for name in ("text", "says", "caret")]
+        is_said = head == "Line %d is no verdict line" % (row + 1) and says.startswith("Unread:")
+        held.hold("%s: %s %s %s" % (line, head, says, text), is_said and text == line)
+    page.js("document.querySelectorAll('#shown .row')[5].click()")
+    page.drawn()
+    behind = page.text("behind")
+    is_bare = "which cells agree" in behind and "0 cells" not in behind and "show it" not in behind
+    held.hold("records without their extent: " + behind, is_bare)
+    page.plan({}, "auto", True)
+
+
 def counted(page: Any) -> Dict[str, int]:
     """The kinds with their counts, as the buttons tell them."""
     script = "return [...document.querySelectorAll('#kinds button')].map((one) => one.textContent)"
@@ -264,6 +288,7 @@ def hold_lists(held: Held, quick: bool, seed: int) -> None:
     hold_disguised(held.tally, 1_000 if quick else 20_000, seed)
     hold_list_of_forms(held)
     hold_refused_rows(held)
+    hold_unread(held)
     hold_counts(held)
     hold_modes(held)
     hold_settings(held)

@@ -6,6 +6,10 @@ from machines import CHAMPION_OF_FOUR
 from page_held import Held
 
 HASH = "return location.hash"
+EXAMPLE = (
+    "return [...document.getElementById('examples').options].find((one) => one.textContent === "
+    "arguments[0]).value"
+)
 
 
 def value(page: Any, name: str) -> str:
@@ -72,8 +76,29 @@ def hold_left(held: Held) -> None:
         held.hold("the file before what was left: " + shown, shown.startswith("The file list isn"))
 
 
+def hold_example(held: Held) -> None:
+    """An example's settings go with its list after a reload too; what is said of a list that is gone goes."""
+    page = held.page
+    page.open()
+    page.choose_option("examples", page.js(EXAMPLE, "small limits"))
+    page.ended()
+    reload(page)
+    held.hold("its settings stay: " + page.text("limits-text"), page.text("limits-text") != "")
+    page.type("list", "1RA1RA\n")
+    held.hold("and go: " + page.text("limits-text"), page.text("limits-text") == "")
+    page.file(b"1RA1RA\n")
+    page.ended()
+    page.driver.refresh()
+    page.until(lambda: page.text("list-gone"))
+    page.type("list", "1RA1RA\n")
+    held.hold("no word of a gone list", page.js("return document.getElementById('list-gone').hidden"))
+    page.type("steps", "1e6")
+    held.hold("the default, written otherwise: " + page.text("limits-text"), page.text("limits-text") == "")
+
+
 def hold_reload(held: Held) -> None:
     hold_link_left(held)
     hold_typed(held)
     hold_left(held)
+    hold_example(held)
     held.page.open()

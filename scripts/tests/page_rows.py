@@ -2,7 +2,7 @@
 another order, and where kinds are hidden."""
 
 import time
-from typing import Any, List
+from typing import Any
 
 from machines import CHAMPION
 from page_held import Held
@@ -78,15 +78,25 @@ def hold_sorted(held: Held) -> None:
     held.hold("the list's order: %s" % page.js(MACHINES), page.js(MACHINES) == LINES)
 
 
+def hold_ordered(held: Held) -> None:
+    """Where an order by steps is chosen, the first line of a list is opened and highlighted all the same."""
+    page = held.page
+    page.js(ORDERS, ["down"])
+    page.open_list("1RA1RA\n%s\n" % HALT)
+    is_first = soon(lambda: page.js(MACHINES) == [HALT, "1RA1RA"] and is_marked(page, "1RA1RA"))
+    held.hold("the first line of a sorted list: %s" % page.js(CHOSEN), is_first)
+    page.js(ORDERS, ["list"])
+
+
 def hold_comments(held: Held) -> None:
     """Of a list without a machine none is shown."""
     page = held.page
     page.open_list("1RA1RA\n")
     page.open_list("# nothing\n")
-    hidden: List[bool] = page.js("return [document.getElementById('machine').hidden]")
-    held.hold("no machine of a list of comments", hidden == [True])
+    hidden = "return document.getElementById('machine').hidden"
+    held.hold("no machine of a list of comments", soon(lambda: page.js(hidden)))
     page.open_list("1RA1RA\n")
-    held.hold("and one again", not page.js("return document.getElementById('machine').hidden"))
+    held.hold("and one again", not page.js(hidden))
 
 
 def hold_rows(held: Held) -> None:
@@ -94,4 +104,5 @@ def hold_rows(held: Held) -> None:
     hold_chosen(held)
     hold_chips(held)
     hold_sorted(held)
+    hold_ordered(held)
     hold_comments(held)
