@@ -197,7 +197,10 @@ export class Tape {
     part("tape-play").textContent = words;
   }
 
+  /** Does what a key asks, but for those of a field and of a button that has the focus. */
   pressed(/** @type {KeyboardEvent} */ event) {
+    const keeps = event.key === " " ? "input, button" : "input";
+    const isOwn = /** @type {HTMLElement} */ (event.target).matches(keeps);
     const far = event.shiftKey ? 10 : 1;
     /** @type {Record<string, () => void>} */
     const keys = {
@@ -207,7 +210,7 @@ export class Tape {
       End: () => this.go(this.about?.last ?? 0),
       " ": () => this.play(),
     };
-    if (event.key in keys && !event.ctrlKey && !event.metaKey && !event.altKey) {
+    if (!isOwn && event.key in keys && !event.ctrlKey && !event.metaKey && !event.altKey) {
       event.preventDefault();
       keys[event.key]();
     }
