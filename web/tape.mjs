@@ -28,6 +28,8 @@ export class Tape {
     this.rows = [];
     this.isEnd = false;
     this.closes = false;
+    // How often a step was gone to: an answer to what was asked for before is too late.
+    this.gone = 0;
     this.timer = 0;
     this.calm = matchMedia("(prefers-reduced-motion: reduce)");
     this.box = part("tape");
@@ -60,6 +62,7 @@ export class Tape {
   /** Leaves a machine: nothing of it plays on. */
   close() {
     this.pause();
+    this.gone += 1;
     Object.assign(this, { about: null, rows: [] });
     part("tape-text").textContent = "…";
   }
@@ -97,6 +100,7 @@ export class Tape {
       return;
     }
     const from = this.step;
+    this.gone += 1;
     this.step = Math.max(0, Math.min(step, this.about.last));
     this.closes = closes;
     if (this.row !== undefined) {
@@ -114,19 +118,28 @@ export class Tape {
     const back = this.step < from ? many - 4 : Math.min(4, many / 4);
     const begin = Math.max(0, this.step - Math.floor(back));
     const question = { what: "trace", machine, cells, from: begin, every: 1, upto: begin + many };
-    this.asker.ask({ ...question, between: [-FAR, FAR] }, (answer) => this.take(answer));
+    this.inquire({ ...question, between: [-FAR, FAR] }, ({ traced }) => this.take(traced.rows));
   }
 
-  take(/** @type {any} */ answer) {
-    if (this.about === null) {
-      return;
-    }
-    if (answer.error) {
-      part("tape-text").textContent = `The tape can’t be shown: ${answer.message}.`;
-      return;
-    }
-    /** @type {Row[]} */
-    const rows = answer.traced.rows;
+  /**
+   * Asks the worker, and hands over what it says, unless somebody went elsewhere since.
+   * @param {Record<string, any>} question @param {(answer: any) => void} take
+   */
+  inquire(question, take) {
+    const { gone } = this;
+    this.asker.ask(question, (answer) => {
+      if (gone !== this.gone) {
+        return;
+      }
+      if (answer.error) {
+        part("tape-text").textContent = `The tape can’t be shown: ${answer.message}.`;
+        return;
+      }
+      take(answer);
+    });
+  }
+
+  take(/** @type {Row[]} */ rows) {
     this.rows = rows;
     const last = rows[rows.length - 1];
     if (last !== undefined && this.row === undefined) {
@@ -142,11 +155,7 @@ export class Tape {
   lookForEnd() {
     const { machine, cells } = /** @type {About} */ (this.about);
     const question = { what: "last", machine, cells, upto: this.step };
-    this.asker.ask(question, (answer) => {
-      if (this.about !== null && !answer.error && answer.last < this.step) {
-        this.go(answer.last, this.closes);
-      }
-    });
+    this.inquire(question, ({ last }) => last < this.step && this.go(last, this.closes));
   }
 
   arrive() {

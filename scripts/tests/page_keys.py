@@ -6,7 +6,7 @@ from typing import Any, List
 from selenium.webdriver.common.by import By
 from selenium.webdriver.common.keys import Keys
 
-from machines import CHAMPION_OF_FOUR
+from machines import CHAMPION, CHAMPION_OF_FOUR
 from page_held import Held
 from page_input import key, soon, write
 
@@ -125,6 +125,7 @@ def hold_keys(held: Held) -> None:
         "the page is left before its first element", page.js(FOCUS)["is_body"] or name_of(page) in BEHIND
     )
     hold_own(held)
+    hold_late(held)
 
 
 def hold_rest(held: Held) -> None:
@@ -161,3 +162,17 @@ def hold_own(held: Held) -> None:
     page.press("tape", Keys.SPACE)
     held.hold("Space in the tape plays", soon(lambda: page.text("tape-play") == "Pause"))
     page.press("tape", Keys.SPACE)
+
+
+def hold_late(held: Held) -> None:
+    """Where a step is gone to while another one is asked for, the answer is too late."""
+    page = held.page
+    page.open("#machine=%s&steps=50000000" % CHAMPION)
+    page.drawn()
+    soon(lambda: page.text("tape-text").startswith("Step 0:"))
+    page.press("tape", Keys.END, Keys.HOME)
+    is_elsewhere = soon(lambda: not page.text("tape-text").startswith("Step 0:"), 2)
+    held.hold("the last key counts: " + page.text("tape-text"), not is_elsewhere)
+    page.press("tape", Keys.END)
+    is_last = soon(lambda: page.text("tape-text").startswith("Step 47,176,870: halted"))
+    held.hold("the last step, asked for again: " + page.text("tape-text"), is_last)
