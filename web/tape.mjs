@@ -1,8 +1,9 @@
 /** The tape at one step: its cells about the head, the entry that is used next, and moving on by one step. */
 import { Asker } from "./asker.mjs";
 import { numberOf } from "./fields.mjs";
-import { machineOf, shown, stateLetter } from "./machine.mjs";
-import { made, part, setAside, signed, tellLive } from "./parts.mjs";
+import { shown } from "./machine.mjs";
+import { part, setAside, tellLive } from "./parts.mjs";
+import { cellOf, entryAt, markEntry, wordsOf } from "./taperow.mjs";
 
 /**
  * @typedef {import("./traced.mjs").Row} Row
@@ -170,18 +171,8 @@ export class Tape {
   /** Whether the run goes on after this step. */
   get goesOn() {
     const { row, about } = this;
-    return row !== undefined && about !== null && this.entry() !== null && this.step < about.last;
-  }
-
-  /** The entry of the table that is used next; null where there is none. */
-  entry() {
-    const { row, about } = this;
-    if (row === undefined || about === null || row.state === "Z") {
-      return null;
-    }
-    const machine = machineOf(about.machine);
-    const symbol = row.cells[row.head - row.low] ?? 0;
-    return machine.rules[(row.state.charCodeAt(0) - 65) * machine.symbols + symbol].entry;
+    const isKnown = row !== undefined && about !== null;
+    return isKnown && this.step < about.last && entryAt(row, about.machine) !== null;
   }
 
   play() {
@@ -236,7 +227,7 @@ export class Tape {
       cells.push(cellOf(row, at));
     }
     part("tape-cells").replaceChildren(...cells);
-    const words = this.words(row);
+    const words = wordsOf(row, about.machine);
     part("tape-text").textContent = words;
     this.box.setAttribute("aria-label", `Tape. ${words}`);
     const field = /** @type {HTMLInputElement} */ (part("tape-step"));
@@ -248,49 +239,6 @@ export class Tape {
     setAside("tape-back", "disabled", row.step === 0, "tape");
     setAside("tape-on", "disabled", !this.goesOn, "tape");
     setAside("tape-play", "disabled", !this.goesOn && this.timer === 0, "tape");
-    this.markEntry(row);
+    markEntry(row);
   }
-
-  /** Marks the entry in the machine's table. */
-  markEntry(/** @type {Row} */ row) {
-    const symbol = row.cells[row.head - row.low] ?? 0;
-    document.querySelectorAll("#machine-table td[data-entry]").forEach((cell) => {
-      const isUsed = /** @type {HTMLElement} */ (cell).dataset.entry === `${row.state}${symbol}`;
-      cell.classList.toggle("used", isUsed);
-      isUsed ? cell.setAttribute("aria-current", "true") : cell.removeAttribute("aria-current");
-    });
-  }
-
-  /** The step, the state, and what comes next, in words. */
-  words(/** @type {Row} */ row) {
-    const symbol = row.cells[row.head - row.low] ?? 0;
-    const head = `Step ${shown(row.step)}: `;
-    if (row.state === "Z") {
-      return `${head}halted, at position ${signed(row.head)}.`;
-    }
-    const entry = this.entry();
-    const now = `${head}state ${row.state} reads ${symbol} at position ${signed(row.head)}`;
-    if (entry === null) {
-      return `${now}; no entry is defined there, so it halts.`;
-    }
-    const { write, move, next } = entry;
-    const code = `${write}${move > 0 ? "R" : "L"}${stateLetter(next)}`;
-    const goes = next < 0 ? "halts" : `goes to ${stateLetter(next)}`;
-    return `${now}; ${code}: it writes ${write}, moves ${move > 0 ? "right" : "left"} and ${goes}.`;
-  }
-}
-
-/** A cell of the tape with its symbol's colour; the head's has the state above it. */
-function cellOf(/** @type {Row} */ row, /** @type {number} */ at) {
-  const isSeen = at >= row.low && at < row.low + row.cells.length;
-  const symbol = isSeen ? row.cells[at - row.low] : 0;
-  const isHead = at === row.head;
-  const state = made("span", { class: "state" }, isHead ? row.state : "");
-  const cell = made("span", { class: isSeen || isHead ? "symbol" : "symbol blank" }, String(symbol));
-  if (isSeen || isHead) {
-    cell.style.background = `var(--s${symbol})`;
-    cell.style.color = `var(--on${symbol})`;
-  }
-  const position = made("span", { class: "position" }, at % 5 === 0 ? signed(at) : "");
-  return made("span", { class: isHead ? "cell head" : "cell", "data-at": at }, state, cell, position);
 }
