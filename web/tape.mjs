@@ -27,7 +27,6 @@ export class Tape {
     this.step = 0;
     /** @type {Row[]} */
     this.rows = [];
-    this.isEnd = false;
     this.closes = false;
     // How often a step was gone to: an answer to what was asked for before is too late.
     this.gone = 0;
@@ -56,7 +55,7 @@ export class Tape {
   /** Shows a machine's tape at a step. */
   open(/** @type {About} */ about, step = 0) {
     this.pause();
-    Object.assign(this, { about, rows: [], isEnd: false });
+    Object.assign(this, { about, rows: [] });
     this.go(step);
   }
 
@@ -118,8 +117,9 @@ export class Tape {
     const many = Math.round(Math.max(FEWEST, Math.min(MOST, STRETCH_CELLS / Math.max(1, wide))));
     const back = this.step < from ? many - 4 : Math.min(4, many / 4);
     const begin = Math.max(0, this.step - Math.floor(back));
-    const question = { what: "trace", machine, cells, from: begin, every: 1, upto: begin + many };
-    this.inquire({ ...question, between: [-FAR, FAR] }, ({ traced }) => this.take(traced.rows));
+    const upto = begin + many;
+    const question = { what: "trace", machine, cells, from: begin, every: 1, upto };
+    this.inquire({ ...question, between: [-FAR, FAR] }, ({ traced }) => this.take(traced.rows, upto));
   }
 
   /**
@@ -133,6 +133,7 @@ export class Tape {
         return;
       }
       if (answer.error) {
+        this.pause();
         part("tape-text").textContent = `The tape can’t be shown: ${answer.message}.`;
         return;
       }
@@ -140,23 +141,37 @@ export class Tape {
     });
   }
 
-  take(/** @type {Row[]} */ rows) {
+  /** Takes rows; where they end before the last step that was asked for, the run has no more. */
+  take(/** @type {Row[]} */ rows, /** @type {number} */ upto) {
     this.rows = rows;
-    const last = rows[rows.length - 1];
-    if (last !== undefined && this.row === undefined) {
-      this.step = last.step;
-    } else if (last === undefined) {
-      this.lookForEnd();
-      return;
+    const [first, last] = [rows[0], rows[rows.length - 1]];
+    // Of very wide rows only some come.
+    if (rows.length > 1 && last.step - first.step === rows.length - 1 && last.step < upto) {
+      this.endAt(last.step);
     }
-    this.arrive();
+    this.row === undefined ? this.lookForEnd() : this.arrive();
   }
 
-  /** Beyond the run's last step: the worker says which that is. */
+  /** Knows that the run goes no farther than a step. */
+  endAt(/** @type {number} */ step) {
+    const about = /** @type {About} */ (this.about);
+    this.about = { ...about, last: Math.min(about.last, step) };
+    this.step = Math.min(this.step, step);
+  }
+
+  /** Where a row didn't come: the worker says which the run's last step is. */
   lookForEnd() {
     const { machine, cells } = /** @type {About} */ (this.about);
-    const question = { what: "last", machine, cells, upto: this.step };
-    this.inquire(question, ({ last }) => last < this.step && this.go(last, this.closes));
+    this.inquire({ what: "last", machine, cells, upto: this.step }, ({ last }) => {
+      if (last < this.step) {
+        this.endAt(last);
+        this.go(last, this.closes);
+        return;
+      }
+      this.pause();
+      this.step = this.rows[this.rows.length - 1]?.step ?? this.step;
+      this.arrive();
+    });
   }
 
   arrive() {
@@ -180,10 +195,18 @@ export class Tape {
       this.timer === 0 ? this.go(this.step + 1) : this.pause();
       return;
     }
-    this.timer = setInterval(() => {
-      this.goesOn ? this.go(this.step + 1) : this.pause();
-    }, PACE_MILLISECONDS);
+    this.timer = setInterval(() => this.tick(), PACE_MILLISECONDS);
     this.showPlay();
+  }
+
+  /** Plays on by a step, once the row before has come. */
+  tick() {
+    if (this.goesOn) {
+      this.go(this.step + 1);
+    } else if (this.row !== undefined || !this.asker.isBusy) {
+      this.pause();
+      this.draw();
+    }
   }
 
   pause() {
