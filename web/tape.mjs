@@ -56,6 +56,7 @@ export class Tape {
   open(/** @type {About} */ about, step = 0) {
     this.pause();
     Object.assign(this, { about, rows: [] });
+    this.forgive();
     this.go(step);
   }
 
@@ -82,16 +83,22 @@ export class Tape {
   goToAsked() {
     const field = /** @type {HTMLInputElement} */ (part("tape-step"));
     const number = numberOf(field.value);
-    field.setAttribute("aria-invalid", String(number === null));
-    const last = this.about?.last ?? 0;
-    const words = number === null ? `A step is a whole number, 0 to ${shown(last)}.` : "";
-    part("tape-refused").textContent = words;
-    if (number === null) {
-      tellLive(words);
-    } else {
-      this.pause();
+    this.pause();
+    if (number !== null) {
+      this.forgive();
       this.go(Number(number), true);
+      return;
     }
+    const words = `A step is a whole number, 0 to ${shown(this.about?.last ?? 0)}.`;
+    field.setAttribute("aria-invalid", "true");
+    part("tape-refused").textContent = words;
+    tellLive(words);
+  }
+
+  /** Takes back that what is in the field was refused. */
+  forgive() {
+    part("tape-step").removeAttribute("aria-invalid");
+    part("tape-refused").textContent = "";
   }
 
   /** Goes to a step; where the run ends before, to its last one. */
@@ -178,9 +185,19 @@ export class Tape {
     this.draw();
     const { row } = this;
     if (row !== undefined) {
+      this.fill(row.step);
       this.went({ step: row.step, position: row.head }, this.closes);
     }
     this.closes = false;
+  }
+
+  /** Puts the step that is shown into the field, but while somebody writes there. */
+  fill(/** @type {number} */ step) {
+    const field = /** @type {HTMLInputElement} */ (part("tape-step"));
+    if (document.activeElement !== field) {
+      field.value = String(step);
+      this.forgive();
+    }
   }
 
   /** Whether the run goes on after this step. */
@@ -253,10 +270,6 @@ export class Tape {
     const words = wordsOf(row, about.machine);
     part("tape-text").textContent = words;
     this.box.setAttribute("aria-label", `Tape. ${words}`);
-    const field = /** @type {HTMLInputElement} */ (part("tape-step"));
-    if (document.activeElement !== field) {
-      field.value = String(row.step);
-    }
     // The focus goes from a button that does nothing here to the tape, whose keys do the same.
     setAside("tape-first", "disabled", row.step === 0, "tape");
     setAside("tape-back", "disabled", row.step === 0, "tape");
