@@ -16,7 +16,7 @@ import { Asker } from "./asker.mjs";
 import { forgetColours, palette } from "./colours.mjs";
 import { paintAll, sheetOf } from "./paint.mjs";
 import { part } from "./parts.mjs";
-import { LEGIBLE, areaOf, isSeen, kept, middleOf, moved, placeAt, strideOf, wayTo } from "./places.mjs";
+import { LEGIBLE, areaOf, isSeen, kept, middleOf, moved, nextPlace, placeAt, wayTo } from "./places.mjs";
 import { closeTo, isSame, zoomed } from "./scale.mjs";
 import { pictureWords, placeWords } from "./telling.mjs";
 
@@ -172,6 +172,7 @@ export class Diagram {
     if (isLast) {
       const { asked } = this;
       this.ahead.take(data.ahead, () => asked === this.asked);
+      this.canvas.dispatchEvent(new Event("taken"));
     }
   }
 
@@ -247,10 +248,8 @@ export class Diagram {
     if (scene === null || shown === null) {
       return;
     }
-    const { cells, steps } = strideOf(scene.view, far);
     const from = this.place ?? (isSeen(scene, this.chosen) ? this.chosen : this.placeOfMiddle(scene));
-    const step = Math.max(0, Math.min(shown.upto, from.step + down * steps));
-    this.place = { position: from.position + right * cells, step };
+    this.place = nextPlace(scene, from, { right, down, far }, shown.upto);
     this.follow(scene, this.place);
     this.drawSoon();
   }

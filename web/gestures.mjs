@@ -1,4 +1,6 @@
 /** Moving and zooming a diagram by wheel, keys, mouse and fingers, and pointing at its cells. */
+import { part } from "./parts.mjs";
+import { beside } from "./places.mjs";
 import { ZOOM } from "./scale.mjs";
 
 const DOUBLE = 8;
@@ -26,7 +28,21 @@ export function listen(diagram, tell) {
     diagram.place = null;
     diagram.drawSoon();
   });
+  canvas.addEventListener("taken", () => {
+    // What keys point at wasn't in the picture before.
+    if (diagram.place !== null && part("place-text").textContent === "") {
+      diagram.place = beside(diagram.data, diagram.place);
+      tell(pointed(diagram), true);
+    }
+  });
   new Fingers(diagram, tell);
+}
+
+/** What keys point at, in words; nothing where the picture has no row of that very step. */
+function pointed(/** @type {import("./diagram.mjs").Diagram} */ diagram) {
+  const { place, data } = diagram;
+  const isShown = place !== null && beside(data, place).step === place.step;
+  return isShown ? diagram.placeWords(place) : "";
 }
 
 /**
@@ -163,7 +179,7 @@ function wheeled(/** @type {import("./diagram.mjs").Diagram} */ diagram, /** @ty
 function pressed(diagram, event, tell) {
   const point = (/** @type {number} */ right, /** @type {number} */ down) => () => {
     diagram.point(right, down, event.shiftKey);
-    tell(diagram.place === null ? "" : diagram.placeWords(diagram.place), true);
+    tell(pointed(diagram), true);
   };
   const choose = () => diagram.place !== null && diagram.choose(diagram.place);
   /** @type {Record<string, () => void>} */

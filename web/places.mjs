@@ -9,7 +9,7 @@
  * @typedef {{view: View, area: Area, data: Picture | null}} Scene a view, where it stands in the canvas, and
  *   the last picture that was made, which may be of another view
  */
-import { cellsOf, stepsOf } from "./scale.mjs";
+import { cellsOf, isSame, stepsOf } from "./scale.mjs";
 
 // The room of the axes: where the canvas is narrow less, but for the digits of as many steps as these.
 const TOP = 22;
@@ -56,6 +56,12 @@ export function rowOf(/** @type {Picture} */ { sample, every }, /** @type {numbe
   return k >= 0 && k < sample.steps.length ? k : -1;
 }
 
+/** The place at the step of the row that shows it; itself where no row does. @returns {Place} */
+export function beside(/** @type {Picture | null} */ data, /** @type {Place} */ place) {
+  const k = data === null ? -1 : rowOf(data, place.step);
+  return data === null || k < 0 ? place : { ...place, step: data.sample.steps[k] };
+}
+
 /** The number of the row at a place of the canvas; -1 where there is none. */
 function rowNear(/** @type {Scene} */ { view, area, data }, /** @type {number} */ y) {
   if (data === null || data.sample.steps.length === 0) {
@@ -97,12 +103,29 @@ export function middleOf(scene, places) {
 }
 
 /** By how many cells and steps keys move what they point at. */
-export function strideOf(/** @type {View} */ view, /** @type {boolean} */ far) {
+function strideOf(/** @type {View} */ view, /** @type {boolean} */ far) {
   const least = far ? FAR_PIXELS : POINT_PIXELS;
   const isOne = view.wide >= LEGIBLE && view.high >= LEGIBLE && !far;
   const cells = isOne ? 1 : Math.max(1, Math.round(least / view.wide)) * view.across;
   const steps = isOne ? 1 : Math.max(1, Math.round(least / view.high)) * view.every;
   return { cells, steps };
+}
+
+/**
+ * What keys point at next: it is farther by cells that are seen, or by so much of the view, and at a row.
+ * @param {Scene} scene @param {Place} from what they point at
+ * @param {{right: number, down: number, far: boolean}} way @param {number} upto the last step
+ * @returns {Place}
+ */
+export function nextPlace({ view, data }, from, { right, down, far }, upto) {
+  const { cells, steps } = strideOf(view, far);
+  const apart = data?.every ?? 1;
+  const isOlder = data !== null && !isSame(data.view, view);
+  const stride = isOlder ? steps : Math.max(steps, apart);
+  const step = Math.max(0, Math.min(upto, from.step + down * stride));
+  const place = { position: from.position + right * cells, step };
+  // Where rows of an older picture are farther apart than keys go, they would stay at the same one.
+  return apart > stride ? place : beside(data, place);
 }
 
 /** A view moved by so many pixels, by whole columns and rows. @returns {View} */

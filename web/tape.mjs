@@ -1,8 +1,9 @@
 /** The tape at one step: its cells about the head, the entry that is used next, and moving on by one step. */
 import { Asker } from "./asker.mjs";
 import { numberOf } from "./fields.mjs";
-import { machineOf, shown, stateLetter } from "./machine.mjs";
-import { made, part, setAside, signed, tellLive } from "./parts.mjs";
+import { shown } from "./machine.mjs";
+import { part, setAside, tellLive } from "./parts.mjs";
+import { cellOf, entryAt, markEntry, wordsOf } from "./taperow.mjs";
 
 /**
  * @typedef {import("./traced.mjs").Row} Row
@@ -26,8 +27,9 @@ export class Tape {
     this.step = 0;
     /** @type {Row[]} */
     this.rows = [];
-    this.isEnd = false;
     this.closes = false;
+    // How often a step was gone to: an answer to what was asked for before is too late.
+    this.gone = 0;
     this.timer = 0;
     this.calm = matchMedia("(prefers-reduced-motion: reduce)");
     this.box = part("tape");
@@ -53,13 +55,15 @@ export class Tape {
   /** Shows a machine's tape at a step. */
   open(/** @type {About} */ about, step = 0) {
     this.pause();
-    Object.assign(this, { about, rows: [], isEnd: false });
+    Object.assign(this, { about, rows: [] });
+    this.forgive();
     this.go(step);
   }
 
   /** Leaves a machine: nothing of it plays on. */
   close() {
     this.pause();
+    this.gone += 1;
     Object.assign(this, { about: null, rows: [] });
     part("tape-text").textContent = "…";
   }
@@ -79,16 +83,22 @@ export class Tape {
   goToAsked() {
     const field = /** @type {HTMLInputElement} */ (part("tape-step"));
     const number = numberOf(field.value);
-    field.setAttribute("aria-invalid", String(number === null));
-    const last = this.about?.last ?? 0;
-    const words = number === null ? `A step is a whole number, 0 to ${shown(last)}.` : "";
-    part("tape-refused").textContent = words;
-    if (number === null) {
-      tellLive(words);
-    } else {
-      this.pause();
+    this.pause();
+    if (number !== null) {
+      this.forgive();
       this.go(Number(number), true);
+      return;
     }
+    const words = `A step is a whole number, 0 to ${shown(this.about?.last ?? 0)}.`;
+    field.setAttribute("aria-invalid", "true");
+    part("tape-refused").textContent = words;
+    tellLive(words);
+  }
+
+  /** Takes back that what is in the field was refused. */
+  forgive() {
+    part("tape-step").removeAttribute("aria-invalid");
+    part("tape-refused").textContent = "";
   }
 
   /** Goes to a step; where the run ends before, to its last one. */
@@ -97,6 +107,7 @@ export class Tape {
       return;
     }
     const from = this.step;
+    this.gone += 1;
     this.step = Math.max(0, Math.min(step, this.about.last));
     this.closes = closes;
     if (this.row !== undefined) {
@@ -113,39 +124,60 @@ export class Tape {
     const many = Math.round(Math.max(FEWEST, Math.min(MOST, STRETCH_CELLS / Math.max(1, wide))));
     const back = this.step < from ? many - 4 : Math.min(4, many / 4);
     const begin = Math.max(0, this.step - Math.floor(back));
-    const question = { what: "trace", machine, cells, from: begin, every: 1, upto: begin + many };
-    this.asker.ask({ ...question, between: [-FAR, FAR] }, (answer) => this.take(answer));
+    const upto = begin + many;
+    const question = { what: "trace", machine, cells, from: begin, every: 1, upto };
+    this.inquire({ ...question, between: [-FAR, FAR] }, ({ traced }) => this.take(traced.rows, upto));
   }
 
-  take(/** @type {any} */ answer) {
-    if (this.about === null) {
-      return;
-    }
-    if (answer.error) {
-      part("tape-text").textContent = `The tape can’t be shown: ${answer.message}.`;
-      return;
-    }
-    /** @type {Row[]} */
-    const rows = answer.traced.rows;
+  /**
+   * Asks the worker, and hands over what it says, unless somebody went elsewhere since.
+   * @param {Record<string, any>} question @param {(answer: any) => void} take
+   */
+  inquire(question, take) {
+    const { gone } = this;
+    this.asker.ask(question, (answer) => {
+      if (gone !== this.gone) {
+        return;
+      }
+      if (answer.error) {
+        this.pause();
+        part("tape-text").textContent = `The tape can’t be shown: ${answer.message}.`;
+        return;
+      }
+      take(answer);
+    });
+  }
+
+  /** Takes rows; where they end before the last step that was asked for, the run has no more. */
+  take(/** @type {Row[]} */ rows, /** @type {number} */ upto) {
     this.rows = rows;
-    const last = rows[rows.length - 1];
-    if (last !== undefined && this.row === undefined) {
-      this.step = last.step;
-    } else if (last === undefined) {
-      this.lookForEnd();
-      return;
+    const [first, last] = [rows[0], rows[rows.length - 1]];
+    // Of very wide rows only some come.
+    if (rows.length > 1 && last.step - first.step === rows.length - 1 && last.step < upto) {
+      this.endAt(last.step);
     }
-    this.arrive();
+    this.row === undefined ? this.lookForEnd() : this.arrive();
   }
 
-  /** Beyond the run's last step: the worker says which that is. */
+  /** Knows that the run goes no farther than a step. */
+  endAt(/** @type {number} */ step) {
+    const about = /** @type {About} */ (this.about);
+    this.about = { ...about, last: Math.min(about.last, step) };
+    this.step = Math.min(this.step, step);
+  }
+
+  /** Where a row didn't come: the worker says which the run's last step is. */
   lookForEnd() {
     const { machine, cells } = /** @type {About} */ (this.about);
-    const question = { what: "last", machine, cells, upto: this.step };
-    this.asker.ask(question, (answer) => {
-      if (this.about !== null && !answer.error && answer.last < this.step) {
-        this.go(answer.last, this.closes);
+    this.inquire({ what: "last", machine, cells, upto: this.step }, ({ last }) => {
+      if (last < this.step) {
+        this.endAt(last);
+        this.go(last, this.closes);
+        return;
       }
+      this.pause();
+      this.step = this.rows[this.rows.length - 1]?.step ?? this.step;
+      this.arrive();
     });
   }
 
@@ -153,26 +185,26 @@ export class Tape {
     this.draw();
     const { row } = this;
     if (row !== undefined) {
+      this.fill(row.step);
       this.went({ step: row.step, position: row.head }, this.closes);
     }
     this.closes = false;
   }
 
+  /** Puts the step that is shown into the field, but while somebody writes there. */
+  fill(/** @type {number} */ step) {
+    const field = /** @type {HTMLInputElement} */ (part("tape-step"));
+    if (document.activeElement !== field) {
+      field.value = String(step);
+      this.forgive();
+    }
+  }
+
   /** Whether the run goes on after this step. */
   get goesOn() {
     const { row, about } = this;
-    return row !== undefined && about !== null && this.entry() !== null && this.step < about.last;
-  }
-
-  /** The entry of the table that is used next; null where there is none. */
-  entry() {
-    const { row, about } = this;
-    if (row === undefined || about === null || row.state === "Z") {
-      return null;
-    }
-    const machine = machineOf(about.machine);
-    const symbol = row.cells[row.head - row.low] ?? 0;
-    return machine.rules[(row.state.charCodeAt(0) - 65) * machine.symbols + symbol].entry;
+    const isKnown = row !== undefined && about !== null;
+    return isKnown && this.step < about.last && entryAt(row, about.machine) !== null;
   }
 
   play() {
@@ -180,10 +212,18 @@ export class Tape {
       this.timer === 0 ? this.go(this.step + 1) : this.pause();
       return;
     }
-    this.timer = setInterval(() => {
-      this.goesOn ? this.go(this.step + 1) : this.pause();
-    }, PACE_MILLISECONDS);
+    this.timer = setInterval(() => this.tick(), PACE_MILLISECONDS);
     this.showPlay();
+  }
+
+  /** Plays on by a step, once the row before has come. */
+  tick() {
+    if (this.goesOn) {
+      this.go(this.step + 1);
+    } else if (this.row !== undefined || !this.asker.isBusy) {
+      this.pause();
+      this.draw();
+    }
   }
 
   pause() {
@@ -197,7 +237,10 @@ export class Tape {
     part("tape-play").textContent = words;
   }
 
+  /** Does what a key asks, but for those of a field and of a button that has the focus. */
   pressed(/** @type {KeyboardEvent} */ event) {
+    const keeps = event.key === " " ? "input, button" : "input";
+    const isOwn = /** @type {HTMLElement} */ (event.target).matches(keeps);
     const far = event.shiftKey ? 10 : 1;
     /** @type {Record<string, () => void>} */
     const keys = {
@@ -207,7 +250,7 @@ export class Tape {
       End: () => this.go(this.about?.last ?? 0),
       " ": () => this.play(),
     };
-    if (event.key in keys && !event.ctrlKey && !event.metaKey && !event.altKey) {
+    if (!isOwn && event.key in keys && !event.ctrlKey && !event.metaKey && !event.altKey) {
       event.preventDefault();
       keys[event.key]();
     }
@@ -224,61 +267,14 @@ export class Tape {
       cells.push(cellOf(row, at));
     }
     part("tape-cells").replaceChildren(...cells);
-    const words = this.words(row);
+    const words = wordsOf(row, about.machine);
     part("tape-text").textContent = words;
     this.box.setAttribute("aria-label", `Tape. ${words}`);
-    const field = /** @type {HTMLInputElement} */ (part("tape-step"));
-    if (document.activeElement !== field) {
-      field.value = String(row.step);
-    }
     // The focus goes from a button that does nothing here to the tape, whose keys do the same.
     setAside("tape-first", "disabled", row.step === 0, "tape");
     setAside("tape-back", "disabled", row.step === 0, "tape");
     setAside("tape-on", "disabled", !this.goesOn, "tape");
     setAside("tape-play", "disabled", !this.goesOn && this.timer === 0, "tape");
-    this.markEntry(row);
+    markEntry(row);
   }
-
-  /** Marks the entry in the machine's table. */
-  markEntry(/** @type {Row} */ row) {
-    const symbol = row.cells[row.head - row.low] ?? 0;
-    document.querySelectorAll("#machine-table td[data-entry]").forEach((cell) => {
-      const isUsed = /** @type {HTMLElement} */ (cell).dataset.entry === `${row.state}${symbol}`;
-      cell.classList.toggle("used", isUsed);
-      isUsed ? cell.setAttribute("aria-current", "true") : cell.removeAttribute("aria-current");
-    });
-  }
-
-  /** The step, the state, and what comes next, in words. */
-  words(/** @type {Row} */ row) {
-    const symbol = row.cells[row.head - row.low] ?? 0;
-    const head = `Step ${shown(row.step)}: `;
-    if (row.state === "Z") {
-      return `${head}halted, at position ${signed(row.head)}.`;
-    }
-    const entry = this.entry();
-    const now = `${head}state ${row.state} reads ${symbol} at position ${signed(row.head)}`;
-    if (entry === null) {
-      return `${now}; no entry is defined there, so it halts.`;
-    }
-    const { write, move, next } = entry;
-    const code = `${write}${move > 0 ? "R" : "L"}${stateLetter(next)}`;
-    const goes = next < 0 ? "halts" : `goes to ${stateLetter(next)}`;
-    return `${now}; ${code}: it writes ${write}, moves ${move > 0 ? "right" : "left"} and ${goes}.`;
-  }
-}
-
-/** A cell of the tape with its symbol's colour; the head's has the state above it. */
-function cellOf(/** @type {Row} */ row, /** @type {number} */ at) {
-  const isSeen = at >= row.low && at < row.low + row.cells.length;
-  const symbol = isSeen ? row.cells[at - row.low] : 0;
-  const isHead = at === row.head;
-  const state = made("span", { class: "state" }, isHead ? row.state : "");
-  const cell = made("span", { class: isSeen || isHead ? "symbol" : "symbol blank" }, String(symbol));
-  if (isSeen || isHead) {
-    cell.style.background = `var(--s${symbol})`;
-    cell.style.color = `var(--on${symbol})`;
-  }
-  const position = made("span", { class: "position" }, at % 5 === 0 ? signed(at) : "");
-  return made("span", { class: isHead ? "cell head" : "cell", "data-at": at }, state, cell, position);
 }

@@ -1,9 +1,12 @@
-"""The axes of a diagram, whose numbers stand where the view has them, and what is shown at the pointer."""
+"""The axes of a diagram, whose numbers stand where the view has them, and what is shown at the pointer and of
+what keys point at."""
 
 import re
 from typing import Any, Dict, List, NamedTuple, Tuple
 
-from machines import CHAMPION
+from selenium.webdriver.common.keys import Keys
+
+from machines import CHAMPION, CHAMPION_OF_FOUR
 from page_gestures import GO, INTO_VIEW, SIZE
 from page_held import HEAD, Held, Row, colour, palette, pixels, symbol_of, traced
 from page_input import in_window, mouse, soon
@@ -176,3 +179,48 @@ def hold_axes(held: Held) -> None:
     hold_rows(held, "single cells", rows)
     hold_place(held, "single cells", rows)
     page.driver.execute_cdp_cmd("Page.removeScriptToEvaluateOnNewDocument", made)
+    hold_keyed_row(held)
+    hold_keyed_beyond(held)
+
+
+def step_shown(text: str) -> int:
+    """The step that a text begins with; -1 where there is none."""
+    found = re.match(r"Step ([\d,]+)", text)
+    return number_of(found[1]) if found else -1
+
+
+def hold_keyed_row(held: Held) -> None:
+    """Where a row stands for many steps, keys point at the step that is told: Enter shows its tape."""
+    page = held.page
+    page.open("#machine=%s&steps=50000000" % CHAMPION)
+    page.drawn()
+    page.js(GO, "1000000")
+    held.hold("a step", soon(lambda: step_shown(page.text("tape-text")) == 1_000_000))
+    page.press("diagram", "0")
+    soon(lambda: page.drawn()["every"] > 10_000)
+    every = page.drawn()["every"]
+    for way in ((Keys.ARROW_DOWN,), (Keys.ARROW_DOWN, Keys.ARROW_RIGHT), (Keys.ARROW_UP,) * 3):
+        page.press("diagram", *way)
+        told = step_shown(page.text("place-text"))
+        held.hold("a row's step is told: %d" % told, told >= 0 and told % every == 0)
+        page.press("diagram", Keys.ENTER)
+        is_same = soon(lambda: step_shown(page.text("tape-text")) == told)
+        held.hold("its tape: %d, %s" % (told, page.text("tape-text")), is_same)
+
+
+def hold_keyed_beyond(held: Held) -> None:
+    """Where keys go beyond what is seen, their place is told once the picture has it."""
+    page = held.page
+    page.open("#machine=%s" % CHAMPION_OF_FOUR)
+    page.drawn()
+    page.press("diagram", "+", "+")
+    top = page.drawn()["top"]
+    for _ in range(3):
+        page.press("diagram", *[Keys.ARROW_DOWN] * 13)
+        is_told = soon(lambda: page.text("place-text") != "", 2)
+        held.hold("the place is told", is_told)
+    held.hold("the view has followed: %s" % page.drawn(), page.drawn()["top"] > top)
+    told = step_shown(page.text("place-text"))
+    page.press("diagram", Keys.ENTER)
+    is_same = soon(lambda: step_shown(page.text("tape-text")) == told)
+    held.hold("its tape: %d, %s" % (told, page.text("tape-text")), is_same)

@@ -2,7 +2,7 @@
 
 import os
 import time
-from typing import Any, Optional
+from typing import Any, Callable, Dict, Optional
 
 from machines import CHAMPION
 from page_held import Held
@@ -82,6 +82,25 @@ def hold_step(held: Held) -> None:
     held.hold("a step as 1e2", soon(lambda: page.text("tape-text").startswith("Step 100:")))
     page.js(GO, "many")
     held.hold("a refused step is said", soon(lambda: "whole number" in page.text("live")))
+    hold_forgiven(held)
+
+
+def hold_forgiven(held: Held) -> None:
+    """The refusal of a step stays until another step is shown, or another machine."""
+    page = held.page
+    shows: Dict[str, Callable[[], object]] = {
+        "a step on": lambda: page.click("tape-on"),
+        "a step that is a number": lambda: page.js(GO, "7"),
+        "another machine": lambda: page.open_list("1RB1LB_1LA1RZ\n"),
+    }
+    for what, show in shows.items():
+        page.js(GO, "many")
+        time.sleep(0.1)
+        is_refused = "whole number" in page.text("tape-refused") and invalid(page, "tape-step") == "true"
+        held.hold("a step is refused: " + page.text("tape-refused"), is_refused)
+        show()
+        is_forgiven = soon(lambda: page.text("tape-refused") == "", 2)
+        held.hold("%s takes it back" % what, is_forgiven and invalid(page, "tape-step") != "true")
 
 
 def hold_unread(held: Held) -> None:

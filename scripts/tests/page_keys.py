@@ -1,7 +1,12 @@
-"""The page by keys alone: a way from its opening to a verdict, through all that it shows, and back."""
+"""The page by keys alone: a way from its opening to a verdict, through all that it shows, and back; the keys
+of the tape."""
 
 from typing import Any, List
 
+from selenium.webdriver.common.by import By
+from selenium.webdriver.common.keys import Keys
+
+from machines import CHAMPION, CHAMPION_OF_FOUR
 from page_held import Held
 from page_input import key, soon, write
 
@@ -119,6 +124,8 @@ def hold_keys(held: Held) -> None:
     held.hold(
         "the page is left before its first element", page.js(FOCUS)["is_body"] or name_of(page) in BEHIND
     )
+    hold_own(held)
+    hold_late(held)
 
 
 def hold_rest(held: Held) -> None:
@@ -133,3 +140,39 @@ def hold_rest(held: Held) -> None:
         key(page, "Tab", True)
     held.hold("and come to again: " + name_of(page), name_of(page) == BEHIND[-1])
     key(page, "Tab")
+
+
+def hold_own(held: Held) -> None:
+    """Of the tape's keys a field has its own, and a button its Space."""
+    page = held.page
+    page.open("#machine=%s" % CHAMPION_OF_FOUR)
+    soon(lambda: page.text("tape-text").startswith("Step 0:"))
+    field = page.driver.find_element(By.ID, "tape-step")
+    field.clear()
+    field.send_keys("1 000", Keys.HOME, "9")
+    written = page.js("return document.getElementById('tape-step').value")
+    held.hold("a field has its keys: %r" % written, written == "91 000")
+    held.hold("its spaces don't play", page.text("tape-play") == "Play")
+    page.press("tape-on", Keys.SPACE)
+    is_on = soon(lambda: not page.text("tape-text").startswith("Step 0:"))
+    held.hold(
+        "a button's Space presses it", is_on and not soon(lambda: page.text("tape-play") != "Play", 0.6)
+    )
+    held.hold("it goes on by a step: " + page.text("tape-text"), page.text("tape-text").startswith("Step 1:"))
+    page.press("tape", Keys.SPACE)
+    held.hold("Space in the tape plays", soon(lambda: page.text("tape-play") == "Pause"))
+    page.press("tape", Keys.SPACE)
+
+
+def hold_late(held: Held) -> None:
+    """Where a step is gone to while another one is asked for, the answer is too late."""
+    page = held.page
+    page.open("#machine=%s&steps=50000000" % CHAMPION)
+    page.drawn()
+    soon(lambda: page.text("tape-text").startswith("Step 0:"))
+    page.press("tape", Keys.END, Keys.HOME)
+    is_elsewhere = soon(lambda: not page.text("tape-text").startswith("Step 0:"), 2)
+    held.hold("the last key counts: " + page.text("tape-text"), not is_elsewhere)
+    page.press("tape", Keys.END)
+    is_last = soon(lambda: page.text("tape-text").startswith("Step 47,176,870: halted"))
+    held.hold("the last step, asked for again: " + page.text("tape-text"), is_last)

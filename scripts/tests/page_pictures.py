@@ -15,7 +15,9 @@ from selenium.webdriver.common.keys import Keys
 from built import MODULE
 from machines import CHAMPION, CHAMPION_OF_FOUR, mixed, seldom_halting
 from node import Engine
+from page_gestures import GO
 from page_held import HEAD, Held, Row, colour, palette, pixels, symbol_of, traced
+from page_input import soon
 from page_times import PAUSE, end, steps_seen, traced_views, views
 from program import ended
 from tally import TOP
@@ -26,6 +28,8 @@ TRANSLATED = "1LB0LA_1RA---"
 # The champion of four states, which goes to the right for ever in place of its halt.
 LATE = "1RB1LB_1LA0LC_1RE1LD_1RD0RA_1RE1RE"
 TREE = "1RB1LB_1LA0RC_0LD1RC_---1LA"
+# A machine without a verdict that visits more cells than it may.
+FEW_CELLS = "&steps=1000&cells=8&depth=2&cyclers=off&translated=off&backward=off"
 # A view within so many seconds up to step 10^7, on a quiet machine, and of the last steps of the champion.
 VIEW, LAST_VIEW = 0.1, 1.5
 STILL = 0.1
@@ -353,6 +357,42 @@ def hold_tape(held: Held) -> None:
     page.media()
 
 
+def is_off(page: Any, name: str) -> bool:
+    """Whether a button is disabled."""
+    return bool(page.js("return document.getElementById(arguments[0]).disabled", name))
+
+
+def hold_tape_end(held: Held) -> None:
+    """The tape plays no farther than the limit of cells lets a run go."""
+    page = held.page
+    page.open("#machine=1RA1RA" + FEW_CELLS)
+    page.drawn()
+    for way in ((Keys.END,), (Keys.HOME, *[Keys.ARROW_RIGHT] * 7), (Keys.HOME, Keys.END)):
+        page.press("tape", *way)
+        is_last = soon(lambda: page.text("tape-text").startswith("Step 7:"))
+        held.hold("the last step is 7: " + page.text("tape-text"), is_last)
+        held.hold("it goes no farther", soon(lambda: is_off(page, "tape-on")))
+        page.press("tape", Keys.SPACE)
+        held.hold("it doesn't play", soon(lambda: page.text("tape-play") == "Play", 1.5))
+        held.hold("nor can it be told to", is_off(page, "tape-play"))
+        held.hold("it stays: " + page.text("tape-text"), page.text("tape-text").startswith("Step 7:"))
+
+
+def hold_tape_waits(held: Held) -> None:
+    """Where the tape is to play from a step whose row takes long, it plays once the row is there."""
+    page = held.page
+    page.open("#machine=%s&steps=50000000" % CHAMPION)
+    page.drawn()
+    page.until(lambda: page.text("tape-text").startswith("Step 0:"))
+    page.js(GO + "; document.getElementById('tape-play').click()", "47000000")
+    held.hold("the row isn't there yet", page.text("tape-text").startswith("Step 0:"))
+    held.hold("it plays", page.text("tape-play") == "Pause")
+    is_there = soon(lambda: page.text("tape-text").startswith("Step 47,000,003:"))
+    held.hold("it plays on: " + page.text("tape-text"), is_there)
+    page.click("tape-play")
+    held.hold("it pauses", page.text("tape-play") == "Play")
+
+
 def hold_pointed(held: Held) -> None:
     """What is shown at the pointer, and of what keys point at: step, state, position, symbol."""
     page = held.page
@@ -457,6 +497,7 @@ def hold_pictures(held: Held, quick: bool, seed: int) -> None:
     hold_stretch(held)
     hold_png(held)
     hold_tree(held)
+    hold_tape_end(held)
     hold_pointed(held)
     hold_resized(held)
     hold_wheel(held)
@@ -466,4 +507,5 @@ def hold_pictures(held: Held, quick: bool, seed: int) -> None:
         hold_times(held)
         hold_goto(held)
         hold_tape(held)
+        hold_tape_waits(held)
         hold_marks_in_view(held)
