@@ -33,6 +33,7 @@ let begun = 0;
 async function begin(isOfLink = false) {
   const plan = planOrRefused();
   if (plan === null) {
+    source.nameRun();
     return;
   }
   tell("");
@@ -47,7 +48,7 @@ async function begin(isOfLink = false) {
     }
     source.keep();
     lines.begin();
-    work.begin(given.blob, { mode: given.mode, clean: source.clean.checked, plan });
+    work.begin(given.blob, given.first, { mode: given.mode, clean: source.clean.checked, plan });
   }
 }
 

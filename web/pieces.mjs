@@ -3,25 +3,31 @@ import { BYTES_KEPT } from "./lengths.mjs";
 import { countLines } from "./newlines.mjs";
 
 const NEWLINE = 10;
-// A read has so many bytes at first, enough that each of four workers begins at once, then twice as many each
-// time.
-const FIRST_READ_BYTES = 2_097_152;
 const MOST_READ_BYTES = 4_194_304;
 const LEAST_BYTES = 64;
 const MOST_BYTES = 262_144;
 
+/**
+ * A read has so many bytes at first, enough that each of four workers begins at once, then twice as many each
+ * time.
+ */
+export const FIRST_BYTES = 2_097_152;
+
 export class Pieces {
-  /** @param {Blob} blob @param {number} workers that share it */
-  constructor(blob, workers) {
+  /**
+   * @param {Blob} blob @param {ArrayBuffer} first its first bytes, as many as a first read has
+   * @param {number} workers that share it
+   */
+  constructor(blob, first, workers) {
     this.blob = blob;
     this.size = Math.max(LEAST_BYTES, Math.min(MOST_BYTES, Math.ceil(blob.size / (12 * workers))));
-    this.offset = 0;
-    this.wanted = FIRST_READ_BYTES;
+    this.offset = first.byteLength;
+    this.wanted = 2 * FIRST_BYTES;
     /**
      * What is read while the bytes before it are given out; null where nothing is.
      * @type {Promise<ArrayBuffer> | null}
      */
-    this.ahead = null;
+    this.ahead = Promise.resolve(first);
     this.held = new Uint8Array(0);
     this.skips = false;
     this.line = 0;

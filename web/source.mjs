@@ -2,6 +2,7 @@
 import { planWords, setPlan } from "./fields.mjs";
 import { counted } from "./machine.mjs";
 import { part, setAside } from "./parts.mjs";
+import { FIRST_BYTES } from "./pieces.mjs";
 import { BEGIN_BYTES, hasVerdicts } from "./prepare.mjs";
 import { keep } from "./session.mjs";
 
@@ -43,19 +44,23 @@ export class Source {
       nameRun(this.modeOf(new TextEncoder().encode(this.list.value.slice(0, BEGIN_BYTES))));
     } else {
       // A file that can't be read is told where it is run.
-      this.given().catch(() => undefined);
+      this.given(BEGIN_BYTES).catch(() => undefined);
     }
   }
 
-  /** What is to be answered, and whether it is decided or checked; the button says so. */
-  async given() {
+  /**
+   * What is to be answered, its first bytes, and whether it is decided or checked; the button says so.
+   * @param {number} [bytes] how many first ones
+   */
+  async given(bytes = FIRST_BYTES) {
     const blob = this.file ?? new Blob([this.list.value]);
     const { file } = this;
-    const mode = this.modeOf(new Uint8Array(await blob.slice(0, BEGIN_BYTES).arrayBuffer()));
+    const first = await blob.slice(0, bytes).arrayBuffer();
+    const mode = this.modeOf(new Uint8Array(first, 0, Math.min(first.byteLength, BEGIN_BYTES)));
     if (file === this.file) {
       nameRun(mode);
     }
-    return { blob, mode };
+    return { blob, first, mode };
   }
 
   /** Puts a text into the list. */
@@ -65,8 +70,8 @@ export class Source {
   }
 
   /**
-   * Takes a file in place of the text; null takes it away again. One that the page made stands for the list
-   * that was there before.
+   * Takes a file in place of the text, which is named when it is run; null takes it away again. One that the
+   * page made stands for the list that was there before.
    * @param {File | null} file @param {boolean} [isOwn]
    */
   hold(file, isOwn = false) {
@@ -77,10 +82,11 @@ export class Source {
     part("file-shown").hidden = file === null;
     part("list-gone").hidden = true;
     setAside("list", "hidden", file !== null, "file-remove");
-    if (file !== null) {
+    if (file === null) {
+      this.nameRun();
+    } else {
       part("file-name").textContent = `${file.name}, ${counted(file.size, "byte")}`;
     }
-    this.nameRun();
   }
 
   /** Says that a list is gone. */

@@ -41,6 +41,11 @@ function mostWorkers() {
   return Math.min(MOST_WORKERS, navigator.hardwareConcurrency || 1);
 }
 
+/** How many workers a list has. */
+function workersFor(/** @type {Blob} */ { size }) {
+  return Math.max(1, Math.min(mostWorkers(), Math.ceil(size / LEAST_BYTES)));
+}
+
 export class Work {
   /** @param {() => void} shows what else is shown, when more of the list is answered */
   constructor(shows) {
@@ -62,24 +67,26 @@ export class Work {
     return this.pool !== null;
   }
 
-  /** Has workers answer a list. */
-  begin(/** @type {Blob} */ blob, /** @type {Asked} */ asked) {
+  /**
+   * Has workers answer a list.
+   * @param {Blob} blob @param {ArrayBuffer} first its first bytes, as `Pieces` takes them
+   * @param {Asked} asked
+   */
+  begin(blob, first, asked) {
     const { mode, plan } = asked;
     this.run = { mode, plan, size: blob.size, begun: performance.now(), taken: 0 };
     this.saidAt = this.run.begun;
     this.results = new Results();
     this.isShown = false;
     part("results").hidden = false;
-    this.beginPool(blob, asked);
+    this.beginPool(new Pieces(blob, first, workersFor(blob)), asked);
     this.clock = setInterval(() => this.showClock(), REFRESH_MILLISECONDS);
     this.showSoon();
   }
 
-  beginPool(/** @type {Blob} */ blob, /** @type {Asked} */ asked) {
-    const workers = Math.max(1, Math.min(mostWorkers(), Math.ceil(blob.size / LEAST_BYTES)));
-    const source = new Pieces(blob, workers);
+  beginPool(/** @type {Pieces} */ source, /** @type {Asked} */ asked) {
     /** @type {HTMLButtonElement} */ (part("stop")).disabled = false;
-    this.pool = new Pool(workers, asked, {
+    this.pool = new Pool(workersFor(source.blob), asked, {
       piece: () => source.next(),
       part: (one, read) => {
         this.results.add(one, read);
