@@ -84,10 +84,10 @@ module _ {grows : Bool} {table : Table} {bounds : Bounds} {old : Runner} {view :
 
   pub refused : {new : Runner} {view_new : TapeView} {meter_new : Meter} {fault : Memory}
       → Answers table bounds old.steps moved.Stepped → view_new.limit ≡ view.limit
-      → IsTrue grows → meter_new ≡ meter → steps_of new ≡ steps_of old
+      → IsTrue grows → meter_new ≡ meter → steps_of new ≡ steps_of old → view_new.content ≡ view.content
       → cells_between (low_of new) (high_of new) ≡ span table (steps_of old + 1)
       → Advances grows table bounds old new view view_new meter meter_new (Err fault)
-  refused wanted limit memory uncounted unmade window = search rules
+  refused wanted limit memory uncounted unmade unwritten window = search rules
 
 module _ {table : Table} {old : Runner} {view : TapeView} {write : ℕ} {dir : Dir} {next : Next}
     (stands : Stands table old view)

@@ -3,6 +3,7 @@ use Rattle.std.specs.Prelude.{◌≡◌, ℕ, ◌+◌, ◌≤◌, max}
 use Rattle.bb_sim.specs.declared.meter.Meter.{Meter}
 use Rattle.bb_machine.specs.Limits.{Bounds}
 use Rattle.bb_machine.specs.Machine.{Table}
+use Rattle.bb_tape.specs.Content.{Content}
 use Rattle.bb_sim.specs.Span.{span, Inside, IsLastInside}
 
 -- nothing counted
@@ -28,13 +29,15 @@ pub record CountsRun (table : Table) (bounds : Bounds) (old new : Meter) : Type 
   pub is_last : IsLastInside table bounds last
   pub counts : CountsTo table last old new
 
--- a run that was refused memory was counted up to there: the steps of one that is inside, and cells no fewer
--- than its span
-pub record CountsPart (table : Table) (bounds : Bounds) (old new : Meter) : Type 0 where
+-- a run was refused memory: the tape has the cells of a configuration inside, the steps up to it were counted,
+-- and the widest window that was counted lies between its span and that of the next step
+pub record CountsPart (table : Table) (bounds : Bounds) (tape : Content) (old new : Meter) : Type 0 where
   pub at : ℕ
   pub inside : Inside table bounds at
+  pub on_tape : tape ≡ inside.here.tape
   pub steps : new.steps ≡ old.steps + at
   pub cells : max old.most_cells (span table at) ≤ new.most_cells
+  pub few_cells : new.most_cells ≤ max old.most_cells (span table (at + 1))
 
 -- no more than a run within bounds was counted
 pub record IsWithinRun (bounds : Bounds) (old new : Meter) : Type 0 where

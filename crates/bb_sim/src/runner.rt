@@ -71,7 +71,7 @@ impl Runner {
     /// Makes one step of the machine, if it doesn't halt here and the limits allow it.
     ///
     /// After an error the runner must be started again; it comes only where a step would have been made. Its
-    /// steps are as they were then, and its window is that which the step needed.
+    /// steps and the tape's cells are as they were then, and its window is the one that the step needed.
     #[inline]
     pub fn advance<T: Tape>(
         &mut self,
@@ -95,6 +95,7 @@ impl Runner {
         ensures wanted { OnErr result (Answers machine.now limits.now (steps_of self.old) Moved.Stepped) }
         ensures uncounted { OnErr result (meter.new ≡ meter.old) }
         ensures unmade { OnErr result (steps_of self.new ≡ steps_of self.old) }
+        ensures unwritten { OnErr result ((T.view tape.new).content ≡ (T.view tape.old).content) }
         ensures window { OnErr result (cells_between (low_of self.new) (high_of self.new)
             ≡ span machine.now (steps_of self.old + 1)) }
     {
@@ -214,6 +215,7 @@ impl Runner {
         ensures limit { (T.view tape.new).limit ≡ (T.view tape.old).limit }
         ensures memory { OnErr result (IsTrue T.GROWS) }
         ensures uncounted { OnErr result (meter.new ≡ meter.old) }
+        ensures unwritten { OnErr result ((T.view tape.new).content ≡ (T.view tape.old).content) }
         ensures unmoved { OnErr result (self.new ≡ self.old) }
     {
         let Ok(()) = tape.write(self.position, write) else {

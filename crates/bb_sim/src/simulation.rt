@@ -22,8 +22,7 @@ pub enum Outcome {
 
 /// Runs a machine from its start until it halts or a limit is met.
 ///
-/// After an error nothing is said of what the tape holds; the next run resets it. The steps that were made
-/// are counted then too.
+/// After an error the tape holds the configuration up to which steps were counted; the next run resets it.
 #[inline(never)]
 pub fn simulate<T: Tape>(
     machine: &Machine,
@@ -35,7 +34,8 @@ pub fn simulate<T: Tape>(
     requires room { meter.old.steps + limits.now.steps + 1 < 2 ^ 64 }
     ensures outcome { IfOk result (IsOutcome machine.now limits.now) }
     ensures counted { OnOk result (CountsRun machine.now limits.now meter.old meter.new) }
-    ensures cut { OnErr result (CountsPart machine.now limits.now meter.old meter.new) }
+    ensures cut { OnErr result (CountsPart machine.now limits.now (T.view tape.new).content
+        meter.old meter.new) }
     ensures within { IsWithinRun limits.now meter.old meter.new }
     ensures limit { (T.view tape.new).limit ≡ (T.view tape.old).limit }
     ensures memory { OnErr result (IsTrue T.GROWS) }

@@ -1,12 +1,12 @@
 //! A tape kept as an ordered map of the cells that aren't 0.
 
-ghost use Rattle.std.specs.Prelude.{◌≡◌, ◌≤◌, ◌<◌, true, OnOk, pos, ◌+ℤ◌, ◌≤ℤ◌};
+ghost use Rattle.std.specs.Prelude.{◌≡◌, ◌≤◌, ◌<◌, true, OnErr, OnOk, pos, ◌+ℤ◌, ◌≤ℤ◌};
 ghost use Rattle.bb_tape.specs.Content.{cell};
-ghost use Rattle.bb_tape.specs.TapeView.{fresh, IsSound};
+ghost use Rattle.bb_tape.specs.TapeView.{fresh, written, IsInside, IsSound};
 ghost use Rattle.bb_tape.specs.Windowed.{view_of};
 ghost use Rattle.bb_tape.specs.Entries.{content_of};
 
-use crate::tape::{MAX_CELLS, Tape, TapeFault};
+use crate::tape::{MAX_CELLS, MAX_SYMBOL, Tape, TapeFault};
 use crate::window::Window;
 use std::alloc::{AllocError, Allocator, Global};
 use std::collections::BTreeMap;
@@ -102,7 +102,17 @@ impl<A: Allocator + Clone + Drop> Tape for MapTape<A> {
         }
     }
 
-    fn write(&mut self, p: i64, v: u8) -> Result<(), TapeFault> {
+    /// A 0 takes no memory.
+    fn write(&mut self, p: i64, v: u8) -> Result<(), TapeFault>
+        requires inside { IsInside (view_of (content_of self.old.cells.entries) self.old.window) p }
+        requires symbol { v ≤ MAX_SYMBOL }
+        ensures ok { OnOk result (view_of (content_of self.new.cells.entries) self.new.window
+            ≡ written (view_of (content_of self.old.cells.entries) self.old.window) p v) }
+        ensures zero { v ≡ 0 → OnErr result ⊥ }
+        ensures err { OnErr result (view_of (content_of self.new.cells.entries) self.new.window
+            ≡ view_of (content_of self.old.cells.entries) self.old.window) }
+        ensures only_memory { OnErr result (result ≡ Err TapeFault.Memory) }
+    {
         if v == 0 {
             self.cells.remove(&p);
             return Ok(());

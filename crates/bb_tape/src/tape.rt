@@ -86,12 +86,11 @@ pub trait Tape: Drop {
         self.read(p)
     }
 
-    /// Puts a symbol into a cell of the window. It never needs more cells, and a 0 no memory.
+    /// Puts a symbol into a cell of the window. It never needs more cells.
     fn write(&mut self, p: i64, v: u8) -> Result<(), TapeFault>
         requires inside { IsInside (view self.old) p }
         requires symbol { v ≤ MAX_SYMBOL }
         ensures ok { OnOk result (view self.new ≡ written (view self.old) p v) }
-        ensures zero { v ≡ 0 → OnErr result ⊥ }
         ensures err { OnErr result (view self.new ≡ view self.old) }
         ensures only_memory { OnErr result ((result ≡ Err TapeFault.Memory) × IsTrue GROWS) };
 

@@ -14,7 +14,8 @@ use Rattle.bb_sim.specs.Runner.{Answers, Moves, Reaches, Stands, high_of, low_of
 use Rattle.bb_sim.specs.Span.{span}
 
 -- what it answers, what that changes, and where the runner stands then; no memory is left only on a tape that
--- grows, where a step would have been made: then none was, and the window is the one that it needed
+-- grows, where a step would have been made: then none was, no cell has changed, and the window is the one that
+-- it needed
 pub record Advances (grows : Bool) (table : Table) (bounds : Bounds) (old new : Runner)
     (view_old view_new : TapeView) (meter_old meter_new : Meter) (result : Result Moved Memory)
     : Type 0 where
@@ -27,4 +28,5 @@ pub record Advances (grows : Bool) (table : Table) (bounds : Bounds) (old new : 
   pub wanted : OnErr result (Answers table bounds (steps_of old) Stepped)
   pub uncounted : OnErr result (meter_new ≡ meter_old)
   pub unmade : OnErr result (steps_of new ≡ steps_of old)
+  pub unwritten : OnErr result (view_new.content ≡ view_old.content)
   pub window : OnErr result (cells_between (low_of new) (high_of new) ≡ span table (steps_of old + 1))

@@ -15,7 +15,7 @@ pub record Simulates (grows : Bool) (table : Table) (bounds : Bounds) (old new :
     (meter_old meter_new : Meter) (result : Result Outcome Memory) : Type 0 where
   pub outcome : IfOk result (IsOutcome table bounds)
   pub counted : OnOk result (CountsRun table bounds meter_old meter_new)
-  pub cut : OnErr result (CountsPart table bounds meter_old meter_new)
+  pub cut : OnErr result (CountsPart table bounds new.content meter_old meter_new)
   pub within : IsWithinRun bounds meter_old meter_new
   pub limit : new.limit ≡ old.limit
   pub memory : OnErr result (IsTrue grows)

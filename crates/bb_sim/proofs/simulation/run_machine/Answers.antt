@@ -1,10 +1,11 @@
-use Rattle.std.proofs.Common.{◌∙◌, ap, sym}
+use Rattle.std.proofs.Common.{◌∙◌, ap, rules, sym}
 use Rattle.bb_tape.specs.Content.{score}
 use Rattle.bb_tape.specs.TapeView.{TapeView}
 use Rattle.bb_sim.specs.Runner.{steps_of}
-use Rattle.bb_sim.proofs.Counting.{has_stepped}
+use Rattle.bb_sim.proofs.Counting.{cut_here, has_stepped}
 use Rattle.bb_sim.proofs.Endings.{simulated}
 use Rattle.bb_sim.proofs.Outcomes.{halted_end, no_halt_inside, wide_at_end}
+use Rattle.bb_sim.proofs.RunLaws.{count_is_within}
 use Rattle.bb_sim.proofs.simulation.run_machine.Goals as goal
 
 pub loop-runner-preserved : goal.loop-runner-preserved
@@ -44,3 +45,17 @@ returns-in-NoCells g c =
     simulated here.run call.stands _ _ (λ stepped. cc) call.reaches call.moves
     (call.limit ∙ here.limit ∙ sym c.requires.limit)
     (λ last. (no_halt_inside _ _ _ last.inside last asked.0, wide_at_end _ _ _ last.inside asked.2 asked.1))
+
+pub returns-in_err-advance : goal.returns-in_err-advance
+returns-in_err-advance g c =
+    let here = c.loop-runner.invariant in
+    let call = c.in_err-advance.ensures in
+    let part = cut_here here.run call.before call.unwritten call.uncounted in
+    record {
+      outcome = search rules;
+      counted = search rules;
+      cut = search (rules, part);
+      within = count_is_within _ _ _ _ _ call.before (call.uncounted ∙ here.run.counts);
+      limit = call.limit ∙ here.limit ∙ sym c.requires.limit;
+      memory = search rules;
+    }

@@ -61,7 +61,7 @@ returns-in_default-step_to g c =
     c.requires.limit fits in
     let unmoved = c.in_default-step_to.ensures.unmoved in
     refused wanted_here c.step_to.ensures.limit c.in_default-step_to.ensures.memory
-    c.in_default-step_to.ensures.uncounted (ap steps_of unmoved)
+    c.in_default-step_to.ensures.uncounted (ap steps_of unmoved) c.in_default-step_to.ensures.unwritten
     (ap (λ r. cells_between (low_of r) (high_of r)) unmoved
     ∙ span_in_Z table old view c.in-Go.write c.in-Go.dir c.in-Go.next c.requires.stands here
     (g.met.T.Tape.sound c.args.tape.now) nowhere)
