@@ -1,7 +1,8 @@
 -- What a run has counted, where the runner counts and a meter takes it over at the end.
-use Rattle.std.proofs.Common.{◌≡◌, ◌≢◌, ◌+◌, ◌≤◌, max, ap, ◌∙◌, arith}
+use Rattle.std.proofs.Common.{◌≡◌, ◌≢◌, ◌+◌, ◌≤◌, max, ap, ◌∙◌, arith, refl}
 use Rattle.bb_machine.specs.Limits.{Bounds}
 use Rattle.bb_machine.specs.Machine.{Table}
+use Rattle.bb_tape.specs.Content.{Content}
 use Rattle.bb_tape.specs.TapeView.{TapeView}
 use Rattle.bb_sim.specs.declared.meter.Meter.{Meter}
 use Rattle.bb_sim.specs.declared.runner.Moved.{Moved}
@@ -9,7 +10,8 @@ use Rattle.bb_sim.specs.declared.runner.Moved.TheVariants.{Stepped}
 use Rattle.bb_sim.specs.declared.runner.Runner.{Runner}
 use Rattle.bb_sim.specs.CellsBetween.{cells_between}
 use Rattle.bb_sim.specs.Meter.{CountsPart, CountsTo, IsWithinRun, counted}
-use Rattle.bb_sim.specs.Runner.{Answers, Moves, Reaches, Stands, high_of, low_of, state_of, steps_of}
+use Rattle.bb_sim.specs.Runner.{Answers, Moves, Reaches, Stands, high_of, low_of, position_of, state_of}
+use Rattle.bb_sim.specs.Runner.{steps_of}
 use Rattle.bb_sim.specs.Span.{counted_head, least, span, Inside}
 use Rattle.bb_sim.proofs.Facts.{count_is_within, span_grows}
 use Rattle.bb_machine.specs.declared.entry.Next.TheVariants.{Halt}
@@ -29,18 +31,30 @@ pub few_steps : (table : Table) (bounds : Bounds) (runner : Runner) (view : Tape
 few_steps table bounds runner view Stepped reaches = reaches.0.within_steps
 few_steps table bounds runner view moved last = last.inside.within_steps
 
+-- the step inside where a runner stands, with the configuration that its tape shows
+abbrev inside_where : {table : Table} {bounds : Bounds} {runner : Runner} {view : TapeView}
+    → Stands table runner view → Inside table bounds (steps_of runner) → Inside table bounds (steps_of runner)
+inside_where {runner = runner} {view = view} stands inside = record {
+  here = record { state = state_of runner; head = position_of runner; tape = view.content };
+  exists = stands.at;
+  within_steps = inside.within_steps;
+  within_cells = inside.within_cells;
+}
+
 -- a run that was refused memory was counted up to where it stands, within bounds
-pub record HasCut (table : Table) (bounds : Bounds) (first meter : Meter) : Type 0 where
-  pub part : CountsPart table bounds first meter
+pub record HasCut (table : Table) (bounds : Bounds) (tape : Content) (first meter : Meter) : Type 0 where
+  pub part : CountsPart table bounds tape first meter
   pub within : IsWithinRun bounds first meter
 
 -- in a step that was to be made, for which the window was widened
 pub cut_at_step : {table : Table} {bounds : Bounds} {first meter : Meter} (old new : Runner)
+    {view : TapeView} → Stands table old view
     → Inside table bounds (steps_of old) → Answers table bounds (steps_of old) Stepped
     → steps_of new ≡ steps_of old
-    → cells_between (low_of new) (high_of new) ≡ span table (steps_of old + 1) → TakesOver new first meter
-    → HasCut table bounds first meter
-cut_at_step {table} {bounds} {first} {meter} old new inside wanted unmade window is =
+    → cells_between (low_of new) (high_of new) ≡ span table (steps_of old + 1)
+    → {tape : Content} → tape ≡ view.content → TakesOver new first meter
+    → HasCut table bounds tape first meter
+cut_at_step {table} {bounds} {first} {meter} old new stands inside wanted unmade window kept is =
     let counts : meter ≡ counted first (steps_of old) (span table (steps_of old + 1)) =
     is ∙ ap (λ n. counted first n (cells_between (low_of new) (high_of new))) unmade
     ∙ ap (counted first (steps_of old)) window in
@@ -51,9 +65,11 @@ cut_at_step {table} {bounds} {first} {meter} old new inside wanted unmade window
     record {
       part = record {
         at = steps_of old;
-        inside = inside;
+        inside = inside_where stands inside;
+        on_tape = kept;
         steps = steps;
         cells = omega arith;
+        few_cells = omega (arith, cells);
       };
       within = record {
         steps = omega (arith, steps, inside.within_steps);
@@ -66,7 +82,7 @@ cut_at_step {table} {bounds} {first} {meter} old new inside wanted unmade window
 -- after a step that was made
 pub cut_after_step : {table : Table} {bounds : Bounds} {runner : Runner} {view : TapeView}
     {first meter : Meter} → Stands table runner view → Inside table bounds (steps_of runner)
-    → TakesOver runner first meter → HasCut table bounds first meter
+    → TakesOver runner first meter → HasCut table bounds view.content first meter
 cut_after_step {table} {bounds} {runner} {first = first} {meter = meter} stands inside is =
     let counts = taken_over stands first is in
     let cells : meter.most_cells ≡ max first.most_cells (span table (steps_of runner)) =
@@ -74,9 +90,13 @@ cut_after_step {table} {bounds} {runner} {first = first} {meter = meter} stands 
     record {
       part = record {
         at = steps_of runner;
-        inside = inside;
+        inside = inside_where stands inside;
+        on_tape = refl;
         steps = ap (λ (m : Meter). m.steps) counts;
         cells = omega (arith, cells);
+        few_cells =
+            let grows = span_grows table (steps_of runner) (steps_of runner + 1) (omega arith) in
+            omega (arith, cells, grows);
       };
       within = count_is_within table bounds (steps_of runner) first meter inside counts;
     }

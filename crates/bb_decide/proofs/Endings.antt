@@ -86,7 +86,7 @@ module _ {grows : Bool} {table : Table} {bounds : Bounds} {old new : Runner} {vi
       → StepsOn grows table bounds old new view_old view first meter (Ok moved)
   step_goes_on moved on = record { goes_on = on; cut = tt; within = tt; memory = tt; limit = limit }
 
-  pub step_is_cut : {fault : Memory} → HasCut table bounds first meter → IsTrue grows
+  pub step_is_cut : {fault : Memory} → HasCut table bounds view.content first meter → IsTrue grows
       → StepsOn grows table bounds old new view_old view first meter (Err fault)
   step_is_cut cut memory =
       record { goes_on = tt; cut = cut.part; within = cut.within; memory = memory; limit = limit }
@@ -141,7 +141,7 @@ module _ {T : Type 0} {view : T → TapeView} {grows : Bool} {table : Table} {bo
     seeks_and_finds found = let is = rw lent.meter at found in assumption
 
     pub seeks_until_cut : {Finds : Option Verdict → Type 0} {fault : Memory}
-        → HasCut table bounds here meter → IsTrue grows
+        → HasCut table bounds (view new.run).content here meter → IsTrue grows
         → Seeks Finds grows view table bounds old new first meter (Err fault)
     seeks_until_cut cut memory = let is = rw lent.meter at cut in assumption
 
@@ -174,6 +174,7 @@ module _ {T : Type 0} {view : T → TapeView} {grows : Bool} {table : Table} {bo
           path = lent.path;
         }
 
-    pub watches_until_cut : {key : ℤ → ℕ} {fault : Memory} → HasCut table bounds here meter → IsTrue grows
+    pub watches_until_cut : {key : ℤ → ℕ} {fault : Memory}
+        → HasCut table bounds (view new.run).content here meter → IsTrue grows
         → WatchesRun grows view table bounds key old new first meter (Err fault)
     watches_until_cut cut memory = let is = rw lent.meter at cut in assumption

@@ -23,7 +23,7 @@ use Rattle.bb_decide.specs.declared.ending.Ending.TheVariants.{Found, Ran}
 use Rattle.bb_decide.specs.Cycle.{CountsSearch, FindsCycle, HasNoCycle, IsCycle}
 use Rattle.bb_decide.specs.Fingerprint.{AgreesByChance, LooksAsPartner, most_steps, named_step}
 use Rattle.bb_decide.specs.Translation.{FindsTranslation, HasNoTranslation, IsFirstTranslation}
-use Rattle.bb_decide.specs.inside.Ending.{EndingCosts, EndsBoth, EndsSearches, RanAs, Watches}
+use Rattle.bb_decide.specs.inside.Ending.{CostsAlone, EndingCosts, EndsBoth, EndsSearches, RanAs, Watches}
 use Rattle.bb_decide.specs.OneRun.{IsStoppedAt}
 use Rattle.bb_decide.specs.inside.Ending.{found_of, is_settled, verdict_of_outcome}
 use Rattle.bb_decide.specs.Backward.{CountsTree, FindsTree}
@@ -60,22 +60,22 @@ module _ (table : Table) (bounds : Bounds) where
 
 module _ (table : Table) (bounds : Bounds) (key : ℤ → ℕ) (old new : Meter) (zero : old.steps ≡ 0) where
   pub run_costs : CountsRun table bounds old new → (outcome : Outcome) → IsOutcome table bounds outcome
-      → EndingCosts key table bounds new.steps (Ran outcome)
-  run_costs counts outcome is none =
+      → CostsAlone bounds new.steps (Ran outcome)
+  run_costs counts outcome is =
       let steps : new.steps ≡ old.steps + counts.last = ap (λ (m : Meter). m.steps) counts.counts in
       omega (arith, (named_by_outcome table bounds outcome is counts.last counts.is_last.inside).1)
 
   -- one search alone
   pub cycle_costs : (ending : Ending) → RanAs table bounds ending
-      → CountsSearch table bounds old new (found_of ending) → EndingCosts key table bounds new.steps ending
-  cycle_costs (Ran outcome) ran counts none = run_costs counts outcome ran none
-  cycle_costs (Found (Cycler first second)) ran counts none =
+      → CountsSearch table bounds old new (found_of ending) → CostsAlone bounds new.steps ending
+  cycle_costs (Ran outcome) ran counts = run_costs counts outcome ran
+  cycle_costs (Found (Cycler first second)) ran counts =
       let steps : new.steps ≡ old.steps + second = ap (λ (m : Meter). m.steps) counts in
       omega (arith, steps, zero)
-  cycle_costs (Found (Translated side first second extent)) ran counts none =
+  cycle_costs (Found (Translated side first second extent)) ran counts =
       let steps : new.steps ≡ old.steps + second = ap (λ (m : Meter). m.steps) counts in
       omega (arith, steps, zero)
-  cycle_costs (Found verdict) ran counts none = absurd counts
+  cycle_costs (Found verdict) ran counts = absurd counts
 
   -- the watched run
   pub watched_ends : (ending : Ending) → Watches table bounds key old new (Some ending)
@@ -87,8 +87,8 @@ module _ (table : Table) (bounds : Bounds) (key : ℤ → ℕ) (old new : Meter)
 
   pub watched_costs : (ending : Ending) → Watches table bounds key old new (Some ending)
       → EndingCosts key table bounds new.steps ending
-  watched_costs (Ran outcome) watched = run_costs watched.1 outcome watched.2
-  watched_costs (Found verdict) watched = cycle_costs (Found verdict) tt watched.1
+  watched_costs (Ran outcome) watched none = run_costs watched.1 outcome watched.2
+  watched_costs (Found verdict) watched none = cycle_costs (Found verdict) tt watched.1
 
 -- a cycle looks as its partner does, whatever the keys
 pub cycle_looks : {table : Table} {bounds : Bounds} (key : ℤ → ℕ) {a t : ℕ} → IsCycle table bounds a t

@@ -1,56 +1,81 @@
 -- What one decision has counted where one of its runs is refused memory.
-use Rattle.std.proofs.Common.{◌≡◌, ℕ, ◌+◌, Bool, true, false, inl, inr, ℤ, refl, ap, arith}
+use Rattle.std.proofs.Common.{◌≡◌, ℕ, ◌+◌, ◌≤◌, max, Bool, true, false, inl, inr, ℤ, refl, ap, arith}
 use Rattle.bb_machine.specs.Limits.{Bounds}
 use Rattle.bb_machine.specs.Machine.{Table}
 use Rattle.bb_sim.specs.declared.meter.Meter.{Meter}
 use Rattle.bb_sim.specs.Meter.{CountsPart, CountsTo}
+use Rattle.bb_sim.specs.Span.{span}
+use Rattle.bb_sim.proofs.Facts.{span_grows}
+use Rattle.bb_tape.specs.Content.{Content}
 use Rattle.bb_decide.specs.Cycle.{CountsSearch, FindsCycle}
 use Rattle.bb_decide.specs.OneRun.{BreaksOff, IsStoppedAt, RunsBefore}
 use Rattle.bb_decide.specs.declared.ending.Ending.{Ending}
 use Rattle.bb_decide.specs.inside.Ending.{RanAs, found_of, is_settled}
 use Rattle.bb_decide.proofs.Costs.{makes_cycles}
-use Rattle.bb_decide.proofs.RunsMade.{both_open}
+use Rattle.bb_decide.proofs.RunsMade.{both_open, widest}
 
 module _ {key : ℤ → ℕ} {table : Table} {bounds : Bounds} where
   -- after runs that made so many steps
-  breaks : {cyclers translated : Bool} (before : ℕ) → RunsBefore key table bounds cyclers translated before
-      → (old new : Meter) → old.steps ≡ before → CountsPart table bounds old new
-      → BreaksOff key table bounds cyclers translated new.steps
-  breaks before runs old new is part = record {
-    before = before;
-    runs = runs;
-    part = part.at;
-    inside = part.inside;
-    sum = omega arith;
-  }
+  breaks : {cyclers translated : Bool} (before latest : ℕ) {tape : Content}
+      → RunsBefore key table bounds cyclers translated before latest
+      → (old mid new : Meter) → mid.steps ≡ old.steps + before
+      → max old.most_cells (span table 0) ≤ max mid.most_cells (span table 0)
+      → max mid.most_cells (span table 0) ≡ max old.most_cells (span table latest)
+      → CountsPart table bounds tape mid new
+      → BreaksOff key table bounds cyclers translated tape old new
+  breaks before latest runs old mid new is grown counted part =
+      let wide = span_grows table 0 part.at (omega arith) in
+      let wider = span_grows table part.at (part.at + 1) (omega arith) in
+      let first = span_grows table 0 latest (omega arith) in
+      record {
+        before = before;
+        latest = latest;
+        runs = runs;
+        part = part.at;
+        inside = part.inside;
+        on_tape = part.on_tape;
+        steps = let steps = part.steps in omega (arith, steps, is);
+        cells = let cells = part.cells in omega (arith, cells, wide, first, counted);
+        few_cells = let cells = part.few_cells in omega (arith, cells, wide, wider, first, counted);
+      }
 
   -- in the first run, whichever searches are on
-  pub breaks_at_once : (cyclers translated : Bool) (old new : Meter) → old.steps ≡ 0
-      → CountsPart table bounds old new → BreaksOff key table bounds cyclers translated new.steps
-  breaks_at_once true true old new zero part = breaks 0 (inl refl) old new zero part
-  breaks_at_once cyclers translated old new zero part = breaks 0 refl old new zero part
+  pub breaks_at_once : {tape : Content} (cyclers translated : Bool) (old new : Meter)
+      → CountsPart table bounds tape old new → BreaksOff key table bounds cyclers translated tape old new
+  breaks_at_once true true old new part =
+      breaks 0 0 (inl (refl, refl)) old old new (omega arith) (omega arith) refl part
+  breaks_at_once cyclers translated old new part =
+      breaks 0 0 (refl, refl) old old new (omega arith) (omega arith) refl part
 
   -- after the watched run was stopped
   module _ {n : ℕ} (stopped : IsStoppedAt key table bounds n) (old : Meter) {first : Meter}
-      (zero : old.steps ≡ 0) (counts : CountsTo table n old first) where
-    stop_counted : first.steps ≡ n
-    stop_counted =
-        let steps : first.steps ≡ old.steps + n = ap (λ (m : Meter). m.steps) counts in
-        omega (arith, steps, zero)
+      (counts : CountsTo table n old first) where
+    stop_steps : first.steps ≡ old.steps + n
+    stop_steps = ap (λ (m : Meter). m.steps) counts
+
+    stop_cells : first.most_cells ≡ max old.most_cells (span table n)
+    stop_cells = ap (λ (m : Meter). m.most_cells) counts
 
     -- in the search for cycles
-    pub breaks_in_cycles : (new : Meter) → CountsPart table bounds first new
-        → BreaksOff key table bounds true true new.steps
-    breaks_in_cycles new part = breaks n (inr (inl stopped)) first new stop_counted part
+    pub breaks_in_cycles : {tape : Content} (new : Meter) → CountsPart table bounds tape first new
+        → BreaksOff key table bounds true true tape old new
+    breaks_in_cycles new part =
+        let least = span_grows table 0 n (omega arith) in
+        breaks n n (inr (inl (stopped, refl))) old first new stop_steps (omega (arith, stop_cells))
+        (omega (arith, stop_cells, least)) part
 
     -- in the search for records
-    pub breaks_in_records : (second : Meter) (ending : Ending) → is_settled ending ≡ false
+    pub breaks_in_records : {tape : Content} (second : Meter) (ending : Ending) → is_settled ending ≡ false
         → FindsCycle table bounds (found_of ending) → RanAs table bounds ending
         → CountsSearch table bounds first second (found_of ending) → (new : Meter)
-        → CountsPart table bounds second new → BreaksOff key table bounds true true new.steps
+        → CountsPart table bounds tape second new → BreaksOff key table bounds true true tape old new
     breaks_in_records second ending unsettled finds ran searched new part =
         let made = makes_cycles table bounds (found_of ending) finds searched in
         let none = both_open ending unsettled finds ran in
-        let counted : second.steps ≡ first.steps + made.steps = ap (λ (m : Meter). m.steps) made.counts in
-        breaks (n + made.steps) (inr (inr (n, made.steps, stopped, none.0, none.1, made.is_steps, refl)))
-        second new (omega (arith, counted, stop_counted)) part
+        let steps : second.steps ≡ first.steps + made.steps = ap (λ (m : Meter). m.steps) made.counts in
+        let cells : second.most_cells ≡ max first.most_cells (span table made.steps) =
+        ap (λ (m : Meter). m.most_cells) made.counts in
+        let least = span_grows table 0 n (omega arith) in
+        breaks (n + made.steps) (max n made.steps) (inr (inr (n, made.steps, stopped, none.0, none.1, made.is_steps, refl, refl))) old second new
+        (omega (arith, steps, stop_steps)) (omega (arith, cells, stop_cells))
+        (omega (arith, cells, stop_cells, least, widest table n made.steps)) part

@@ -5,6 +5,7 @@ use Rattle.std.proofs.lemmas.Bool.{cases_lt}
 use Rattle.bb_machine.specs.Limits.{Bounds}
 use Rattle.bb_machine.specs.Machine.{Table}
 use Rattle.bb_machine.specs.declared.plan.Plan.{Plan}
+use Rattle.bb_tape.specs.Content.{Content}
 use Rattle.bb_sim.specs.declared.meter.Meter.{Meter}
 use Rattle.bb_sim.specs.declared.simulation.Outcome.TheVariants as outcomes
 use Rattle.bb_sim.specs.Meter.{CountsRun, CountsTo, zero_meter}
@@ -17,7 +18,7 @@ use Rattle.bb_decide.specs.Backward.{CountsTree}
 use Rattle.bb_decide.specs.Cost.{CycleSteps, StepsIfMade, TranslationSteps}
 use Rattle.bb_decide.specs.Cycle.{CountsSearch, FindsCycle, HasNoCycle}
 use Rattle.bb_decide.specs.Translation.{FindsTranslation}
-use Rattle.bb_decide.specs.OneRun.{CountsRefused, CountsRuns, IsStoppedAt, MakesRuns}
+use Rattle.bb_decide.specs.OneRun.{BreaksOff, CountsRefused, CountsRuns, IsStoppedAt, MakesRuns}
 use Rattle.bb_decide.specs.declared.ending.Ending.{Ending}
 use Rattle.bb_decide.specs.declared.ending.Ending.TheVariants.{Found, Ran}
 use Rattle.bb_decide.specs.inside.Ending.{AddsRuns, RanAs, Watches, found_of, is_settled}
@@ -29,7 +30,7 @@ use Rattle.bb_decide.proofs.Verdicts.{cycle_steps_are_one, steps_if_made_are_one
 -- ---- what runs add
 
 -- the later step has the wider span
-widest : (table : Table) (n m : ℕ) → max (span table n) (span table m) ≡ span table (max n m)
+pub widest : (table : Table) (n m : ℕ) → max (span table n) (span table m) ≡ span table (max n m)
 widest table n m = elim (cases_lt n m) [
   | inl less ↦
       let is : max n m ≡ m = omega (arith, less) in
@@ -201,7 +202,20 @@ runs_are_unique key table bounds plan a b first second =
 
 -- where all runs were made, and then the tree was refused memory
 pub runs_before_tree : {key : ℤ → ℕ} {table : Table} {bounds : Bounds} (plan : Plan) {begin mid : Meter}
-    → begin ≡ zero_meter → AddsRuns key table bounds plan.cyclers plan.translated begin mid → (new : Meter)
-    → new.steps ≡ mid.steps → CountsRefused key table bounds plan new.steps
-runs_before_tree plan zero adds new same =
-    let runs = runs_counted plan zero adds in inr (runs.latest, rw same runs.runs)
+    → begin ≡ zero_meter → AddsRuns key table bounds plan.cyclers plan.translated begin mid
+    → {tape : Content} (new : Meter) → new.steps ≡ mid.steps → new.most_cells ≡ mid.most_cells
+    → CountsRefused key table bounds plan tape new
+runs_before_tree plan zero adds new same cells =
+    let runs = runs_counted plan zero adds in
+    inr (record { latest = runs.latest; runs = rw same runs.runs; most_cells = cells ∙ runs.most_cells })
+
+-- where a run was refused memory, before the tree
+pub runs_broken_off : {key : ℤ → ℕ} {table : Table} {bounds : Bounds} (plan : Plan) {begin : Meter}
+    {tape : Content} {new : Meter} → begin ≡ zero_meter
+    → BreaksOff key table bounds plan.cyclers plan.translated tape begin new → new.nodes ≡ begin.nodes
+    → new.most_levels ≡ begin.most_levels → CountsRefused key table bounds plan tape new
+runs_broken_off plan zero breaks nodes levels = inl (
+  rw zero at breaks,
+  nodes ∙ ap (λ (m : Meter). m.nodes) zero,
+  levels ∙ ap (λ (m : Meter). m.most_levels) zero,
+)

@@ -1,8 +1,9 @@
 -- The fingerprint of a tape: a number that two equal tapes share, and two others hardly ever do
 -- (R. M. Karp and M. O. Rabin, "Efficient randomized pattern-matching algorithms", 1987).
-use Rattle.std.specs.Prelude.{◌≡◌, ℕ, zero, suc, ◌+◌, ◌*◌, ◌≤◌, ◌%◌, ◌^◌, Some, ℤ, pos, ◌-ℤ◌}
+use Rattle.std.specs.Prelude.{◌≡◌, ℕ, zero, suc, ◌+◌, ◌*◌, ◌≤◌, ◌%◌, ◌^◌, Some, ℤ, pos, ◌-ℤ◌, IsTrue}
 use Rattle.bb_machine.specs.Limits.{Bounds}
 use Rattle.bb_machine.specs.Machine.{Table}
+use Rattle.bb_machine.specs.declared.plan.Plan.{Plan}
 use Rattle.bb_tape.specs.declared.tape.TheConstants.{MAX_CELLS}
 use Rattle.bb_tape.specs.Content.{Content, cell}
 use Rattle.bb_sim.specs.Configuration.{Configuration}
@@ -63,7 +64,13 @@ most_steps bounds (Cycler first second) = 2 * second
 most_steps bounds (Translated side first second extent) = second
 most_steps bounds verdict = bounds.steps
 
--- a verdict cost no more steps than what it names allows, unless configurations up to there agree by chance
-abbrev pub CostsWhatItNames : (ℤ → ℕ) → Table → Bounds → ℕ → Verdict → Type 0
-CostsWhatItNames key table bounds steps verdict =
-    (AgreesByChance key table bounds (named_step bounds verdict) → ⊥) → steps ≤ most_steps bounds verdict
+-- both searches are on, and configurations up to a step have a fingerprint collision
+abbrev pub SearchesCollide : (ℤ → ℕ) → Table → Bounds → Plan → ℕ → Type 0
+SearchesCollide key table bounds plan latest =
+    IsTrue plan.cyclers × IsTrue plan.translated × AgreesByChance key table bounds latest
+
+-- a verdict cost no more steps than what it names allows, unless both searches are on and collide
+abbrev pub CostsWhatItNames : (ℤ → ℕ) → Table → Bounds → Plan → ℕ → Verdict → Type 0
+CostsWhatItNames key table bounds plan steps verdict =
+    (SearchesCollide key table bounds plan (named_step bounds verdict) → ⊥)
+    → steps ≤ most_steps bounds verdict

@@ -3,7 +3,9 @@ use Rattle.std.specs.Prelude.{◌≡◌, ℕ, ◌+◌, ◌<◌, ◌≤◌, ◌�
 use Rattle.bb_machine.specs.Limits.{Bounds}
 use Rattle.bb_machine.specs.Machine.{Table}
 use Rattle.bb_machine.specs.declared.plan.Plan.{Plan}
+use Rattle.bb_tape.specs.Content.{Content}
 use Rattle.bb_sim.specs.declared.meter.Meter.{Meter}
+use Rattle.bb_sim.specs.Meter.{zero_meter}
 use Rattle.bb_sim.specs.Outcome.{HaltsNowhere}
 use Rattle.bb_sim.specs.Span.{span, Inside, IsLastInside}
 use Rattle.bb_cert.specs.declared.verdict.Side.{Side}
@@ -58,30 +60,39 @@ pub record CountsRuns (key : ℤ → ℕ) (table : Table) (bounds : Bounds) (pla
     pub runs : MakesRuns key table bounds plan.cyclers plan.translated meter.steps latest
     pub most_cells : meter.most_cells ≡ span table latest
 
--- so many steps were made before the run that was refused memory, where both searches are on: none, if it is
--- the watched run; those up to where that was stopped, if it is the search for cycles; and those of that
--- search too, which found nothing, if it is the one for records
-abbrev pub StepsBefore : (ℤ → ℕ) → Table → Bounds → ℕ → Type 0
-StepsBefore key table bounds before = (before ≡ 0) ⊎ IsStoppedAt key table bounds before
+-- so many steps were made before the run that was refused memory, where both searches are on, the last of any
+-- run being `latest`: none, if it is the watched run; those up to where that was stopped, if it is the search
+-- for cycles; and those of that search too, which found nothing, if it is the one for records
+abbrev pub StepsBefore : (ℤ → ℕ) → Table → Bounds → ℕ → ℕ → Type 0
+StepsBefore key table bounds before latest = ((before ≡ 0) × (latest ≡ 0))
+    ⊎ (IsStoppedAt key table bounds before × (latest ≡ before))
     ⊎ ((stop cycles : ℕ) × IsStoppedAt key table bounds stop × HaltsNowhere table bounds
     × HasNoCycle table bounds
-    × CycleSteps table bounds cycles × (before ≡ stop + cycles))
+    × CycleSteps table bounds cycles × (before ≡ stop + cycles) × (latest ≡ max stop cycles))
 
 -- the same with these searches on: a run of one search alone is the first
-abbrev pub RunsBefore : (ℤ → ℕ) → Table → Bounds → (cyclers translated : Bool) → ℕ → Type 0
-RunsBefore key table bounds true true before = StepsBefore key table bounds before
-RunsBefore key table bounds cyclers translated before = before ≡ 0
+abbrev pub RunsBefore : (ℤ → ℕ) → Table → Bounds → (cyclers translated : Bool) → ℕ → ℕ → Type 0
+RunsBefore key table bounds true true before latest = StepsBefore key table bounds before latest
+RunsBefore key table bounds cyclers translated before latest = (before ≡ 0) × (latest ≡ 0)
 
--- where a run is refused memory, the steps before it are counted and its own, the last of which is inside
-pub record BreaksOff (key : ℤ → ℕ) (table : Table) (bounds : Bounds) (cyclers translated : Bool) (steps : ℕ)
-    : Type 0 where
+-- a run was refused memory: the tape has the cells of a configuration inside; the steps of the runs before it
+-- were counted, and its own up to there; the widest window that was counted is that of these runs, which may
+-- have taken in the cell of the refused step
+pub record BreaksOff (key : ℤ → ℕ) (table : Table) (bounds : Bounds) (cyclers translated : Bool)
+    (tape : Content) (old new : Meter) : Type 0 where
   pub before : ℕ
-  pub runs : RunsBefore key table bounds cyclers translated before
+  pub latest : ℕ
+  pub runs : RunsBefore key table bounds cyclers translated before latest
   pub part : ℕ
   pub inside : Inside table bounds part
-  pub sum : steps ≡ before + part
+  pub on_tape : tape ≡ inside.here.tape
+  pub steps : new.steps ≡ old.steps + (before + part)
+  pub cells : max old.most_cells (max (span table latest) (span table part)) ≤ new.most_cells
+  pub few_cells : new.most_cells ≤ max old.most_cells (max (span table latest) (span table (part + 1)))
 
--- where deciding is refused memory: in a run, or in the tree, after all runs
-abbrev pub CountsRefused : (ℤ → ℕ) → Table → Bounds → Plan → ℕ → Type 0
-CountsRefused key table bounds plan steps = BreaksOff key table bounds plan.cyclers plan.translated steps
-    ⊎ ((latest : ℕ) × MakesRuns key table bounds plan.cyclers plan.translated steps latest)
+-- deciding was refused memory: in a run, before any node was entered; or in the tree, after all runs
+abbrev pub CountsRefused : (ℤ → ℕ) → Table → Bounds → Plan → Content → Meter → Type 0
+CountsRefused key table bounds plan tape meter =
+    (BreaksOff key table bounds plan.cyclers plan.translated tape zero_meter meter
+    × (meter.nodes ≡ 0) × (meter.most_levels ≡ 0))
+    ⊎ CountsRuns key table bounds plan meter

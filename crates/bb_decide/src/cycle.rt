@@ -22,8 +22,8 @@ use bb_tape::{Memory, Tape, TapeFault};
 /// The pair of the first step, from step 2 on, whose configuration is that of its partner, the greatest power
 /// of two below it. None where there is none inside the limits.
 ///
-/// After an error nothing is said of what the tapes hold; the next call resets them. The steps that were made
-/// are counted then too.
+/// After an error the run's tape holds the configuration up to which steps were counted; the next call resets
+/// all tapes.
 #[inline(never)]
 pub fn cyclers<T: Tape>(
     machine: &Machine,
@@ -37,7 +37,8 @@ pub fn cyclers<T: Tape>(
     ensures sure { IfOk result (FindsRepeats machine.now limits.now) }
     ensures few_cells { IfOk result (FindsInFewCells machine.now limits.now) }
     ensures counted { IfOk result (CountsSearch machine.now limits.now meter.old meter.new) }
-    ensures cut { OnErr result (CountsPart machine.now limits.now meter.old meter.new) }
+    ensures cut { OnErr result (CountsPart machine.now limits.now (T.view bench.new.run).content
+        meter.old meter.new) }
     ensures within { IsWithinRun limits.now meter.old meter.new }
     ensures never { IfOk result (λ found. IfSome found (λ verdict. Never machine.now)) }
     ensures claim { IfOk result (λ found. IfSome found (Claim machine.now)) }

@@ -12,7 +12,7 @@ ghost use Rattle.bb_decide.specs.Bench.{BenchHasCells};
 ghost use Rattle.bb_decide.specs.FewCells.{DecidesFewCells};
 ghost use Rattle.bb_decide.specs.Fingerprint.{CostsWhatItNames};
 ghost use Rattle.bb_decide.specs.OneRun.{BreaksOff, CountsRefused, CountsRuns};
-ghost use Rattle.bb_decide.specs.inside.Ending.{AddsRuns, EndingCosts, EndsBoth, EndsSearches, found_of};
+ghost use Rattle.bb_decide.specs.inside.Ending.{AddsRuns, EndingCosts, EndsBoth, EndsSearches, PlanCosts, found_of};
 ghost use Rattle.bb_decide.specs.inside.Search.{IsPromised, IsWithinRuns};
 ghost use Rattle.bb_decide.specs.Sure.{KeepsEarlier};
 ghost use Rattle.bb_decide.specs.Verdict.{IsVerdict};
@@ -36,8 +36,7 @@ use bb_tape::{Memory, Tape};
 /// halt costs the steps that it names, a pair at most twice its second step, and what stays undecided one run
 /// and the tree; more only where the fingerprints of two different configurations agree by chance.
 ///
-/// After an error nothing is said of what the tapes hold; the next call resets them. The steps that were made
-/// are counted then too.
+/// After an error the meter has counted every step that was made; the next call resets all tapes.
 #[inline(always)]
 pub fn decide_in_one_run<T: Tape, K: Keys>(
     machine: &Machine,
@@ -60,11 +59,11 @@ pub fn decide_in_one_run<T: Tape, K: Keys>(
     ensures line { IfOk result (λ verdict.
         IsLineOf (Line.Claim machine.now verdict) (line_text machine.now verdict)) }
     ensures bound { IfOk result
-        (CostsWhatItNames (K.key_of keys.now) machine.now limits.now meter.new.steps) }
+        (CostsWhatItNames (K.key_of keys.now) machine.now limits.now plan meter.new.steps) }
     ensures counted { OnOk result
         (CountsRuns (K.key_of keys.now) machine.now limits.now plan meter.new) }
-    ensures cut { OnErr result
-        (CountsRefused (K.key_of keys.now) machine.now limits.now plan meter.new.steps) }
+    ensures cut { OnErr result (CountsRefused (K.key_of keys.now) machine.now limits.now plan
+        (T.view bench.new.run).content meter.new) }
     ensures walk { OnOk result
         (CountsWalk (MakesWalk machine.now limits.now plan) machine.now limits.now meter.new) }
     ensures within { IsWithinCost limits.now meter.new }
@@ -92,11 +91,11 @@ fn verdict_in_one_run<T: Tape, K: Keys>(
     ensures verdict { IfOk result (IsVerdict machine.now limits.now plan) }
     ensures numbers { IfOk result HasNumbers }
     ensures bound { IfOk result
-        (CostsWhatItNames (K.key_of keys.now) machine.now limits.now meter.new.steps) }
+        (CostsWhatItNames (K.key_of keys.now) machine.now limits.now plan meter.new.steps) }
     ensures counted { OnOk result
         (CountsRuns (K.key_of keys.now) machine.now limits.now plan meter.new) }
-    ensures cut { OnErr result
-        (CountsRefused (K.key_of keys.now) machine.now limits.now plan meter.new.steps) }
+    ensures cut { OnErr result (CountsRefused (K.key_of keys.now) machine.now limits.now plan
+        (T.view bench.new.run).content meter.new) }
     ensures walk { OnOk result
         (CountsWalk (MakesWalk machine.now limits.now plan) machine.now limits.now meter.new) }
     ensures within { IsWithinCost limits.now meter.new }
@@ -139,9 +138,9 @@ fn search_by_plan<T: Tape, K: Keys>(
     ensures adds { OnOk result (AddsRuns (K.key_of keys.now) machine.now limits.now plan.cyclers
         plan.translated meter.old meter.new) }
     ensures cut { OnErr result (BreaksOff (K.key_of keys.now) machine.now limits.now plan.cyclers
-        plan.translated meter.new.steps) }
+        plan.translated (T.view bench.new.run).content meter.old meter.new) }
     ensures costs { IfOk result
-        (EndingCosts (K.key_of keys.now) machine.now limits.now meter.new.steps) }
+        (PlanCosts (K.key_of keys.now) machine.now limits.now plan meter.new.steps) }
     ensures within { IsWithinRuns 3 limits.now meter.old meter.new }
     ensures promised { IsPromised found_of machine.now T.GROWS result }
     ensures tapes { BenchHasCells T.view limits.now.cells bench.new }
@@ -175,8 +174,8 @@ fn search_both<T: Tape, K: Keys>(
     ensures ended { IfOk result (EndsBoth machine.now limits.now) }
     ensures adds { OnOk result
         (AddsRuns (K.key_of keys.now) machine.now limits.now true true meter.old meter.new) }
-    ensures cut { OnErr result
-        (BreaksOff (K.key_of keys.now) machine.now limits.now true true meter.new.steps) }
+    ensures cut { OnErr result (BreaksOff (K.key_of keys.now) machine.now limits.now true true
+        (T.view bench.new.run).content meter.old meter.new) }
     ensures costs { IfOk result
         (EndingCosts (K.key_of keys.now) machine.now limits.now meter.new.steps) }
     ensures within { IsWithinRuns 3 limits.now meter.old meter.new }

@@ -22,8 +22,8 @@ use bb_tape::{Memory, Tape};
 /// The first record of either side, from record 2 on, that agrees with its partner, the record of that side
 /// whose number is the greatest power of two below its own. None where there is none inside the limits.
 ///
-/// After an error nothing is said of what the tapes hold; the next call resets them. The steps that were made
-/// are counted then too.
+/// After an error the run's tape holds the configuration up to which steps were counted; the next call resets
+/// all tapes.
 #[inline(never)]
 pub fn translated<T: Tape>(
     machine: &Machine,
@@ -36,7 +36,8 @@ pub fn translated<T: Tape>(
     ensures found { IfOk result (FindsTranslation machine.now limits.now) }
     ensures sure { IfOk result (FindsAgreeingRecords machine.now limits.now) }
     ensures counted { IfOk result (CountsSearch machine.now limits.now meter.old meter.new) }
-    ensures cut { OnErr result (CountsPart machine.now limits.now meter.old meter.new) }
+    ensures cut { OnErr result (CountsPart machine.now limits.now (T.view bench.new.run).content
+        meter.old meter.new) }
     ensures within { IsWithinRun limits.now meter.old meter.new }
     ensures never { IfOk result (λ found. IfSome found (λ verdict. Never machine.now)) }
     ensures claim { IfOk result (λ found. IfSome found (Claim machine.now)) }

@@ -1,5 +1,5 @@
 -- How a search ends, as the functions of this crate tell one another; no public contract cites it.
-use Rattle.std.specs.Prelude.{◌≡◌, ℕ, ◌+◌, max, Bool, true, false, IfOk, IfSome, OnErr}
+use Rattle.std.specs.Prelude.{◌≡◌, ℕ, ◌+◌, ◌≤◌, max, Bool, true, false, IfOk, IfSome, OnErr}
 use Rattle.std.specs.Prelude.{Option, Some, None}
 use Rattle.std.specs.Prelude.{Result, ℤ}
 use Rattle.bb_tape.specs.TapeView.{TapeView}
@@ -23,7 +23,7 @@ use Rattle.bb_decide.specs.declared.bench.Bench.{Bench}
 use Rattle.bb_decide.specs.declared.ending.Ending.{Ending}
 use Rattle.bb_decide.specs.declared.ending.Ending.TheVariants.{Found, Ran}
 use Rattle.bb_decide.specs.Cycle.{CountsSearch, HasNoCycle, IsFirstCycle}
-use Rattle.bb_decide.specs.Fingerprint.{CostsWhatItNames}
+use Rattle.bb_decide.specs.Fingerprint.{AgreesByChance, CostsWhatItNames, most_steps, named_step}
 use Rattle.bb_decide.specs.OneRun.{IsStoppedAt, MakesRuns}
 use Rattle.bb_decide.specs.Translation.{FindsTranslation, HasNoTranslation, IsFirstTranslation}
 use Rattle.bb_decide.specs.inside.Search.{IsPromised, SearchesFind}
@@ -68,7 +68,7 @@ pub record Seeks {T : Type 0} (Finds : Option Verdict → Type 0) (grows : Bool)
   pub found : IfOk result (λ ending. Finds (found_of ending))
   pub ran : IfOk result (RanAs table bounds)
   pub counted : IfOk result (λ ending. CountsSearch table bounds old new (found_of ending))
-  pub cut : OnErr result (CountsPart table bounds old new)
+  pub cut : OnErr result (CountsPart table bounds (view bench_new.run).content old new)
   pub within : IsWithinRun bounds old new
   pub never : IfOk result (λ ending. IfSome (found_of ending) (λ verdict. Never table))
   pub promised : IsPromised found_of table grows result
@@ -80,7 +80,7 @@ pub record WatchesRun {T : Type 0} (grows : Bool) (view : T → TapeView) (table
     (key : ℤ → ℕ) (bench_old bench_new : Bench T) (old new : Meter) (result : Result (Option Ending) Memory)
     : Type 0 where
   pub watched : IfOk result (Watches table bounds key old new)
-  pub cut : OnErr result (CountsPart table bounds old new)
+  pub cut : OnErr result (CountsPart table bounds (view bench_new.run).content old new)
   pub within : IsWithinRun bounds old new
   pub promised : IsPromised found_watching table grows result
   pub tapes : BenchHasCells view bounds.cells bench_new
@@ -123,6 +123,17 @@ abbrev pub verdict_of : Ending → Verdict
 verdict_of (Found verdict) = verdict
 verdict_of (Ran outcome) = verdict_of_outcome outcome
 
--- the searches cost what their verdict names
+-- a search alone costs what its verdict names
+abbrev pub CostsAlone : Bounds → ℕ → Ending → Type 0
+CostsAlone bounds steps ending = steps ≤ most_steps bounds (verdict_of ending)
+
+-- so do both, unless configurations up to the step that it names agree by chance
 abbrev pub EndingCosts : (ℤ → ℕ) → Table → Bounds → ℕ → Ending → Type 0
-EndingCosts key table bounds steps ending = CostsWhatItNames key table bounds steps (verdict_of ending)
+EndingCosts key table bounds steps ending =
+    (AgreesByChance key table bounds (named_step bounds (verdict_of ending)) → ⊥)
+    → CostsAlone bounds steps ending
+
+-- so do those that are on
+abbrev pub PlanCosts : (ℤ → ℕ) → Table → Bounds → Plan → ℕ → Ending → Type 0
+PlanCosts key table bounds plan steps ending =
+    CostsWhatItNames key table bounds plan steps (verdict_of ending)

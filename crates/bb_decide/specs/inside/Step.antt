@@ -66,7 +66,7 @@ pub record StepsOn (grows : Bool) (table : Table) (bounds : Bounds) (old new : R
     (view_old view_new : TapeView) (meter_old meter_new : Meter) (result : Result Moved Memory)
     : Type 0 where
   pub goes_on : IfOk result (GoesOn table bounds old new view_new meter_old meter_new)
-  pub cut : OnErr result (CountsPart table bounds meter_old meter_new)
+  pub cut : OnErr result (CountsPart table bounds view_new.content meter_old meter_new)
   pub within : OnErr result (IsWithinRun bounds meter_old meter_new)
   pub memory : OnErr result (IsTrue grows)
   pub limit : view_new.limit ≡ view_old.limit

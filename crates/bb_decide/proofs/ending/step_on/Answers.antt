@@ -23,8 +23,8 @@ pub returns-in_default : goal.returns-in_default
 returns-in_default g c =
     let call = c.in_default.ensures in
     step_is_cut c.advance.ensures.limit
-    (cut_at_step c.args.runner.now c.advance.new.self c.advance.ensures.before call.wanted call.unmade
-    call.window c.count_run.ensures) call.memory
+    (cut_at_step c.args.runner.now c.advance.new.self c.requires.stands c.advance.ensures.before call.wanted
+    call.unmade call.window call.unwritten c.count_run.ensures) call.memory
 
 -- a step into Z ends the run
 pub returns-in_default-state : goal.returns-in_default-state

@@ -1,10 +1,10 @@
-use Rattle.std.proofs.Common.{sym, ◌∙◌}
+use Rattle.std.proofs.Common.{sym, ◌∙◌, true}
 use Rattle.std.proofs.lemmas.Result.{err_from_is_err_and, on_err_weaker}
 use Rattle.bb_decide.proofs.OneRun.{both_end, chance_costs, exact_costs}
 use Rattle.bb_decide.proofs.OneRun.{settled_ends, watched_costs, watched_ends}
 use Rattle.bb_decide.proofs.Costs.{if_ok_both}
 use Rattle.bb_decide.proofs.RunsMade.{both_open, open_adds, settled_adds, watched_adds}
-use Rattle.bb_decide.proofs.Refused.{breaks_in_cycles, breaks_in_records}
+use Rattle.bb_decide.proofs.Refused.{breaks_at_once, breaks_in_cycles, breaks_in_records}
 use Rattle.bb_decide.proofs.one_run.search_both.Goals as goal
 
 pub returns-in-Some-clause-ended : goal.returns-in-Some-clause-ended
@@ -68,13 +68,18 @@ returns-in_err-ending-2-clause-cut g c =
     let watched = rw c.in-None.is at c.in_ok-ending.ensures.watched in
     let fault = err_from_is_err_and c.from_residual-in_err-ending-2.result
     c.from_residual-in_err-ending-2.ensures.1 in
-    rw fault.1 (breaks_in_cycles watched.1 _ c.requires.steps watched.2 _ c.in_err-ending-2.ensures.cut)
+    rw fault.1 (breaks_in_cycles watched.1 _ watched.2 _ c.in_err-ending-2.ensures.cut)
 
 pub returns-clause-cut : goal.returns-clause-cut
 returns-clause-cut g c =
     let watched = rw c.in-None.is at c.in_ok-ending.ensures.watched in
     on_err_weaker c.seek_translation.result
-    (breaks_in_records watched.1 _ c.requires.steps watched.2 _ c.in_ok-ending-2.ending
+    (breaks_in_records watched.1 _ watched.2 _ c.in_ok-ending-2.ending
     (sym c.is_settled.ensures ∙ c.if-is_settled.false) c.in_ok-ending-2.ensures.found
     c.in_ok-ending-2.ensures.ran c.in_ok-ending-2.ensures.counted _)
     c.seek_translation.ensures.cut
+
+pub returns-in_err-ending-clause-cut : goal.returns-in_err-ending-clause-cut
+returns-in_err-ending-clause-cut g c =
+    let fault = err_from_is_err_and c.from_residual.result c.from_residual.ensures.1 in
+    rw fault.1 (breaks_at_once true true _ _ c.in_err-ending.ensures.cut)

@@ -1,7 +1,9 @@
 use Rattle.std.proofs.lemmas.Bool.{not-true, not-false}
+use Rattle.std.proofs.lemmas.Result.{err_from_is_err_and, on_err_weaker}
 use Rattle.std.proofs.Common.{arith}
 use Rattle.bb_decide.proofs.Costs.{if_ok_both}
 use Rattle.bb_decide.proofs.OneRun.{cycle_costs, run_costs}
+use Rattle.bb_decide.proofs.Refused.{breaks_at_once}
 use Rattle.bb_decide.proofs.RunsMade.{cycles_add, no_search_adds, translations_add}
 use Rattle.bb_decide.proofs.one_run.search_by_plan.Goals as goal
 
@@ -12,19 +14,42 @@ simulate-requires-clause-room g c =
     omega (arith, zero, most)
 
 pub returns-then-not-plan-2-clause-costs : goal.returns-then-not-plan-2-clause-costs
-returns-then-not-plan-2-clause-costs g c =
-    run_costs _ _ _ _ _ c.requires.steps c.in_ok-outcome.ensures.counted c.in_ok-outcome.outcome
-    c.in_ok-outcome.ensures.outcome
+returns-then-not-plan-2-clause-costs g c none =
+    run_costs _ _ (g.K.Keys.key_of c.args.keys.now) _ _ c.requires.steps c.in_ok-outcome.ensures.counted
+    c.in_ok-outcome.outcome c.in_ok-outcome.ensures.outcome
 
 pub returns-then-not-plan-clause-costs : goal.returns-then-not-plan-clause-costs
 returns-then-not-plan-clause-costs g c =
-    if_ok_both c.seek_cycle.result _ _ _ (cycle_costs _ _ _ _ _ c.requires.steps) c.seek_cycle.ensures.ran
-    c.seek_cycle.ensures.counted
+    if_ok_both c.seek_cycle.result _ _ _ (λ ending ran counts none.
+    cycle_costs _ _ (g.K.Keys.key_of c.args.keys.now) _ _ c.requires.steps ending ran counts)
+    c.seek_cycle.ensures.ran c.seek_cycle.ensures.counted
 
 pub returns-then-not-plan-3-clause-costs : goal.returns-then-not-plan-3-clause-costs
 returns-then-not-plan-3-clause-costs g c =
-    if_ok_both c.seek_translation.result _ _ _ (cycle_costs _ _ _ _ _ c.requires.steps)
+    if_ok_both c.seek_translation.result _ _ _ (λ ending ran counts none.
+    cycle_costs _ _ (g.K.Keys.key_of c.args.keys.now) _ _ c.requires.steps ending ran counts)
     c.seek_translation.ensures.ran c.seek_translation.ensures.counted
+
+pub returns-clause-costs : goal.returns-clause-costs
+returns-clause-costs g c =
+    if_ok_both c.search_both.result _ _ _ (λ ending costs again none. costs (λ chance.
+    none (not-false _ c.if-not-plan-3.false, not-false _ c.if-not-plan.false, chance)))
+    c.search_both.ensures.costs c.search_both.ensures.costs
+
+pub returns-in_err-outcome-clause-cut : goal.returns-in_err-outcome-clause-cut
+returns-in_err-outcome-clause-cut g c =
+    let fault = err_from_is_err_and c.from_residual.result c.from_residual.ensures.1 in
+    rw fault.1 (breaks_at_once c.args.plan.cyclers c.args.plan.translated _ _ c.in_err-outcome.ensures.cut)
+
+pub returns-then-not-plan-clause-cut : goal.returns-then-not-plan-clause-cut
+returns-then-not-plan-clause-cut g c =
+    on_err_weaker c.seek_cycle.result (breaks_at_once c.args.plan.cyclers c.args.plan.translated _ _)
+    c.seek_cycle.ensures.cut
+
+pub returns-then-not-plan-3-clause-cut : goal.returns-then-not-plan-3-clause-cut
+returns-then-not-plan-3-clause-cut g c =
+    on_err_weaker c.seek_translation.result (breaks_at_once c.args.plan.cyclers c.args.plan.translated _ _)
+    c.seek_translation.ensures.cut
 
 pub returns-then-not-plan-2-clause-adds : goal.returns-then-not-plan-2-clause-adds
 returns-then-not-plan-2-clause-adds g c =

@@ -4,7 +4,7 @@ use Rattle.std.proofs.lemmas.Result.{err_from_is_err_and}
 use Rattle.bb_sim.specs.declared.meter.Meter.{Meter}
 use Rattle.bb_decide.proofs.OneRun.{found_is_verdict, no_walk_at_halt, no_walk_beside}
 use Rattle.bb_decide.proofs.OneRun.{walk_counted}
-use Rattle.bb_decide.proofs.RunsMade.{runs_before_tree, runs_counted, runs_counted_beside}
+use Rattle.bb_decide.proofs.RunsMade.{runs_before_tree, runs_broken_off, runs_counted, runs_counted_beside}
 use Rattle.bb_sim.specs.Outcome.{HaltsNowhere}
 use Rattle.bb_decide.specs.inside.Search.{SearchesFind}
 use Rattle.bb_decide.proofs.one_run.verdict_in_one_run.Given as given
@@ -93,4 +93,13 @@ returns-in_err-verdict-2-clause-cut g c =
     let fault = err_from_is_err_and c.from_residual-in_err-verdict-2.result
     c.from_residual-in_err-verdict-2.ensures.1 in
     rw fault.1 (runs_before_tree c.args.plan c.new.ensures c.in_ok-verdict.ensures.adds
-    c.backward.new.meter c.backward.ensures.within.steps)
+    c.backward.new.meter c.backward.ensures.within.steps c.backward.ensures.within.most_cells)
+
+pub returns-in_err-verdict-clause-cut : goal.returns-in_err-verdict-clause-cut
+returns-in_err-verdict-clause-cut g c =
+    let call = c.in_err-verdict.ensures in
+    let fault = err_from_is_err_and c.from_residual.result c.from_residual.ensures.1 in
+    rw fault.1 (runs_broken_off c.args.plan c.new.ensures call.cut call.within.nodes call.within.most_levels)
+
+pub returns-in-Found-clause-bound : goal.returns-in-Found-clause-bound
+returns-in-Found-clause-bound g c = rw c.in-Found.is at c.in_ok-verdict.ensures.costs

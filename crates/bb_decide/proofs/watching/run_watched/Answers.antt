@@ -42,8 +42,9 @@ pub returns-in_default : goal.returns-in_default
 returns-in_default g c =
     let call = c.in_default.ensures in
     watches_until_cut (lent_on c.advance.ensures.limit refl refl c.loop-moved.invariant.lent)
-    (cut_at_step c.loop-moved.runner c.advance.new.self c.advance.ensures.before call.wanted call.unmade
-    call.window c.count_run.ensures) call.memory
+    (cut_at_step c.loop-moved.runner c.advance.new.self c.loop-moved.invariant.search.stands
+    c.advance.ensures.before call.wanted call.unmade call.window call.unwritten c.count_run.ensures)
+    call.memory
 
 pub returns-in_default-moved : goal.returns-in_default-moved
 returns-in_default-moved g c =
