@@ -1,5 +1,6 @@
 pub mod inside
 pub mod Fault
+pub mod Numbers
 pub mod Watched
 pub mod Lines
 pub mod Cost

@@ -5,3 +5,4 @@ pub mod Rows
 pub mod Column
 pub mod Limits
 pub mod Laws
+pub mod Numbers

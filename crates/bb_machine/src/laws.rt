@@ -1,10 +1,26 @@
-//! Laws of texts and columns, as contracts: a call of each does nothing.
+//! Laws of texts, columns and limits, as contracts: a call of each does nothing.
+ghost use Rattle.std.specs.Prelude.{◌≡◌};
 ghost use Rattle.bb_machine.specs.Laws.{
   ColumnIsUnique,
   LongPrefixesAreEnough,
   SmallerMachinesAreMachines,
   TextsDiffer,
 };
+ghost use Rattle.bb_machine.specs.Numbers.{NumbersAreStated, fault_number};
+
+use crate::limits::LimitFault;
+
+/// The greatest limits, states, symbols and bytes of a machine's text are the stated numbers.
+pub fn numbers_are_stated()
+    ensures { NumbersAreStated }
+{}
+
+/// The number of a refusal of limits.
+pub fn fault_number(fault: LimitFault) -> u8
+    ensures { result ≡ fault_number fault }
+{
+    fault as u8
+}
 
 /// Different machines have different texts.
 pub fn texts_differ()

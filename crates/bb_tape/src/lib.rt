@@ -2,6 +2,7 @@
 #![tactic(auto)]
 
 mod kernels;
+pub mod laws;
 pub mod map;
 pub mod ring;
 pub mod tape;
