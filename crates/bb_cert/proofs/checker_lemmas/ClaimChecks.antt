@@ -1,5 +1,5 @@
 -- Why each kind of claim is answered as it is.
-use Rattle.std.proofs.Common.{◌≡◌, ℕ, ◌+◌, ◌<◌, ◌≤◌, Option, ap, sym, subst, ◌∙◌, arith}
+use Rattle.std.proofs.Common.{◌≡◌, ℕ, ◌+◌, ◌<◌, ◌≤◌, Option, Some, inl, inr, ap, sym, subst, ◌∙◌, arith}
 use Rattle.std.specs.Prelude.{◌≢◌}
 use Rattle.bb_machine.specs.Limits.{Bounds}
 use Rattle.bb_machine.specs.Machine.{Table}
@@ -17,8 +17,10 @@ use Rattle.bb_cert.specs.declared.verdict.Extent.{Extent}
 use Rattle.bb_cert.specs.declared.verdict.Side.{Side}
 use Rattle.bb_cert.specs.declared.verdict.Verdict.{Verdict}
 use Rattle.bb_cert.specs.declared.verdict.Verdict.TheVariants.{Halt, Cycler, Translated}
-use Rattle.bb_cert.specs.inside.Checks.{Checks, IsAtStep, IsCut}
-use Rattle.bb_cert.specs.checker.ClaimMeter.{CountsClaim, last_step, levels_of, nodes_of}
+use Rattle.bb_cert.specs.checker.Answer.{IsSettled}
+use Rattle.bb_cert.specs.inside.Checks.{Checks, IsAtStep, IsCut, Settles}
+use Rattle.bb_cert.specs.checker.ClaimMeter.{CountsClaim, CountsWindow, IsReplayed, last_step}
+use Rattle.bb_cert.specs.checker.ClaimMeter.{levels_of, nodes_of}
 
 -- the bounds of a run that is to come to a step
 abbrev pub up_to : Bounds → ℕ → Bounds
@@ -92,3 +94,18 @@ run_counts table verdict meter no_levels no_nodes is =
     let levels_is : meter.most_levels ≡ 0 = ap (λ (m : Meter). m.most_levels) is in
     let nodes_is : meter.nodes ≡ 0 = ap (λ (m : Meter). m.nodes) is in
     record { steps = omega arith; levels = levels_is ∙ sym no_levels; nodes = nodes_is ∙ sym no_nodes }
+
+-- ---- the widest window
+
+-- a claim that isn't replayed counts none
+pub no_window : (table : Table) (bounds : Bounds) (verdict : Verdict) {width : ℕ}
+    → (IsReplayed bounds verdict → ⊥) → width ≡ 0 → CountsWindow table bounds verdict width
+no_window table bounds verdict not_replayed none = inr (not_replayed, none)
+
+-- where nothing has to be run, a rule says so
+pub settled_so : (bounds : Bounds) (verdict : Verdict) (given : Answer) → Settles bounds verdict (Some given)
+    → IsSettled bounds verdict
+settled_so bounds verdict answer.Open settles = inl settles
+settled_so bounds verdict answer.Over settles = inr (inl settles)
+settled_so bounds verdict answer.Bad settles = inr (inr settles.1)
+settled_so bounds verdict answer.Ok settles = absurd settles

@@ -1,14 +1,14 @@
 -- How the run of a claim begins, goes on and ends.
-use Rattle.std.proofs.Common.{◌≡◌, ℕ, ◌<◌, ◌≤◌, max, sym, subst, arith}
+use Rattle.std.proofs.Common.{◌≡◌, ℕ, ◌<◌, ◌≤◌, max, ap, sym, subst, ◌∙◌, arith}
 use Rattle.bb_machine.specs.Limits.{Bounds}
 use Rattle.bb_machine.specs.Machine.{Table}
 use Rattle.bb_tape.specs.TapeView.{TapeView}
 use Rattle.bb_sim.specs.declared.meter.Meter.{Meter}
 use Rattle.bb_sim.specs.declared.runner.Runner.{Runner}
-use Rattle.bb_sim.specs.Meter.{CountsTo, IsWithinRun, zero_meter}
+use Rattle.bb_sim.specs.Meter.{CountsRun, CountsTo, IsWithinRun, zero_meter}
 use Rattle.bb_sim.specs.Run.{HaltsAt}
-use Rattle.bb_sim.specs.Runner.{Stands, steps_of}
-use Rattle.bb_sim.specs.Span.{Inside, span}
+use Rattle.bb_sim.specs.Runner.{Stands, Stays, steps_of}
+use Rattle.bb_sim.specs.Span.{Inside, IsLastInside, span}
 use Rattle.bb_sim.proofs.Facts.{count_is_within, counts_start, fits_at_halt, halt_is_last, span-start}
 use Rattle.bb_cert.specs.declared.checker.answer.Answer.TheVariants as answer
 use Rattle.bb_cert.specs.inside.Checks.{IsAtStep, IsCut, IsUnderWay}
@@ -59,3 +59,24 @@ cut_by_halt {table} {bounds} {n} inside halts before = (
       (arith, few, before),
   fits_at_halt table bounds n inside halts,
 )
+
+-- a run that ends where a call of `advance` doesn't step was counted whole
+pub counts_whole : {table : Table} {bounds : Bounds} {old new : Runner} {view view_new : TapeView}
+    {meter_old meter : Meter} → IsUnderWay table bounds old view meter_old
+    → IsLastInside table bounds (steps_of new) → Stays old new view view_new meter_old meter
+    → CountsRun table bounds zero_meter meter
+counts_whole {old = old} {new = new} is last stays =
+    let same : steps_of new ≡ steps_of old = ap steps_of stays.runner in
+    record { last = steps_of old; is_last = rw same at last; counts = stays.meter ∙ is.counts }
+
+-- one that came to the limit of steps was counted whole too
+pub counts_to_limit : {table : Table} {bounds : Bounds} {runner : Runner} {view : TapeView} {meter : Meter}
+    → IsAtStep table bounds bounds.steps runner view meter → CountsRun table bounds zero_meter meter
+counts_to_limit {runner = runner} is = record {
+  last = steps_of runner;
+  is_last = record {
+    inside = is.under_way.inside;
+    greatest = λ m other. omega (arith, other.within_steps, is.at);
+  };
+  counts = is.under_way.counts;
+}

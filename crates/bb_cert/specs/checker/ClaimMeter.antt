@@ -1,7 +1,10 @@
 -- What checking a claim counts: this project's own.
-use Rattle.std.specs.Prelude.{◌≡◌, ℕ, ◌≤◌}
+use Rattle.std.specs.Prelude.{◌≡◌, ℕ, ◌≤◌, ◌⊎◌}
 use Rattle.bb_machine.specs.Limits.{Bounds}
+use Rattle.bb_machine.specs.Machine.{Table}
 use Rattle.bb_sim.specs.declared.meter.Meter.{Meter}
+use Rattle.bb_sim.specs.Span.{IsLastInside, span}
+use Rattle.bb_cert.specs.checker.Answer.{IsSettled}
 use Rattle.bb_cert.specs.declared.verdict.Verdict.{Verdict}
 use Rattle.bb_cert.specs.declared.verdict.Verdict.TheVariants.{Halt, Cycler, Translated, Backward, Undecided}
 
@@ -44,3 +47,31 @@ pub record IsWithinClaim (bounds : Bounds) (verdict : Verdict) (meter : Meter) :
   pub nodes : meter.nodes ≤ bounds.nodes
   pub named_nodes : meter.nodes ≤ nodes_of verdict
   pub cells : meter.most_cells ≤ bounds.cells
+
+-- a claim of a halt or of a pair is replayed
+abbrev pub IsOfRun : Verdict → Type 0
+IsOfRun (Halt steps score) = Unit {0}
+IsOfRun (Cycler first second) = Unit {0}
+IsOfRun (Translated side first second extent) = Unit {0}
+IsOfRun (Backward levels nodes) = ⊥
+IsOfRun (Undecided why) = ⊥
+
+-- unless a rule applies for which nothing has to be run
+abbrev pub IsReplayed : Bounds → Verdict → Type 0
+IsReplayed bounds verdict = (IsSettled bounds verdict → ⊥) × IsOfRun verdict
+
+-- the bounds of the replay, which goes no farther than the last step that the verdict names
+abbrev pub replay_bounds : Bounds → Verdict → Bounds
+replay_bounds bounds verdict = record bounds { steps = last_step verdict }
+
+-- the window of a replay is so wide: as the span of its last step
+pub record IsReplaySpan (table : Table) (bounds : Bounds) (verdict : Verdict) (width : ℕ) : Type 0 where
+  pub is_replayed : IsReplayed bounds verdict
+  pub last : ℕ
+  pub is_last : IsLastInside table (replay_bounds bounds verdict) last
+  pub is_span : width ≡ span table last
+
+-- the widest window that checking a claim counts: that of the replay, 0 where none is made
+abbrev pub CountsWindow : Table → Bounds → Verdict → ℕ → Type 0
+CountsWindow table bounds verdict width = IsReplaySpan table bounds verdict width
+    ⊎ ((IsReplayed bounds verdict → ⊥) × (width ≡ 0))

@@ -1,13 +1,13 @@
 //! The checker: whether what a verdict claims of a machine holds, whoever found it.
 ghost use Rattle.std.specs.Prelude.{◌≡◌, ◌<◌, ◌≤◌, ◌↔◌, IfOk, IfSome, IsTrue, OnErr};
-ghost use Rattle.bb_sim.specs.Meter.{zero_meter};
+ghost use Rattle.bb_sim.specs.Meter.{CountsRun, zero_meter};
 ghost use Rattle.bb_sim.specs.Run.{Never};
 ghost use Rattle.bb_cert.specs.declared.checker.answer.Answer.{Answer};
 ghost use Rattle.bb_cert.specs.declared.verdict.Verdict.{Verdict};
 ghost use Rattle.bb_cert.specs.checker.Answer.{IsAnswer, IsSettled};
 ghost use Rattle.bb_cert.specs.inside.Checks.{Checks, Settles};
 ghost use Rattle.bb_cert.specs.claims.Claim.{Claim, SaysNever};
-ghost use Rattle.bb_cert.specs.checker.ClaimMeter.{CountsClaim, IsWithinClaim};
+ghost use Rattle.bb_cert.specs.checker.ClaimMeter.{CountsClaim, CountsWindow, IsWithinClaim};
 ghost use Rattle.bb_cert.specs.checker.Pair.{PairHasCells};
 ghost use Rattle.bb_cert.specs.tree.Path.{depth_of};
 
@@ -49,6 +49,8 @@ pub fn check<T: Tape>(
     ensures never { IfOk result (λ answer. answer ≡ Answer.Ok → SaysNever verdict.now → Never machine.now) }
     ensures counted { IfOk result (λ answer. answer ≡ Answer.Ok → CountsClaim verdict.now meter.new) }
     ensures within { IsWithinClaim limits.now verdict.now meter.new }
+    ensures window { IfOk result (λ answer.
+        CountsWindow machine.now limits.now verdict.now meter.new.most_cells) }
     ensures settled { IsSettled limits.now verdict.now → meter.new ≡ zero_meter }
     ensures tapes { PairHasCells T.view limits.now.cells pair.new }
     ensures depth { depth_of path.new ≡ depth_of path.old }
@@ -120,6 +122,8 @@ fn check_claim<T: Tape>(
     ensures checks { IfOk result (Checks machine.now limits.now verdict) }
     ensures counted { IfOk result (λ answer. answer ≡ Answer.Ok → CountsClaim verdict meter.new) }
     ensures within { IsWithinClaim limits.now verdict meter.new }
+    ensures window { IfOk result (λ answer.
+        CountsWindow machine.now limits.now verdict meter.new.most_cells) }
     ensures tapes { PairHasCells T.view limits.now.cells pair.new }
     ensures depth { depth_of path.new ≡ depth_of path.old }
     ensures memory { OnErr result (IsTrue T.GROWS) }
@@ -171,6 +175,8 @@ fn check_halt<T: Tape>(
     ensures counted { IfOk result (λ answer. answer ≡ Answer.Ok
         → CountsClaim (Verdict.Halt steps score) meter.new) }
     ensures within { IsWithinClaim limits.now (Verdict.Halt steps score) meter.new }
+    ensures replayed { IfOk result (λ answer.
+        CountsRun machine.now (record limits.now { steps = steps }) zero_meter meter.new) }
     ensures limit { (T.view tape.new).limit ≡ (T.view tape.old).limit }
     ensures memory { OnErr result (IsTrue T.GROWS) }
 {
@@ -210,6 +216,8 @@ fn check_cycler<T: Tape>(
     ensures counted { IfOk result (λ answer. answer ≡ Answer.Ok
         → CountsClaim (Verdict.Cycler first second) meter.new) }
     ensures within { IsWithinClaim limits.now (Verdict.Cycler first second) meter.new }
+    ensures replayed { IfOk result (λ answer.
+        CountsRun machine.now (record limits.now { steps = second }) zero_meter meter.new) }
     ensures tapes { PairHasCells T.view limits.now.cells pair.new }
     ensures memory { OnErr result (IsTrue T.GROWS) }
 {
@@ -253,6 +261,8 @@ fn check_translated<T: Tape>(
     ensures counted { IfOk result (λ answer. answer ≡ Answer.Ok
         → CountsClaim (Verdict.Translated side first second extent) meter.new) }
     ensures within { IsWithinClaim limits.now (Verdict.Translated side first second extent) meter.new }
+    ensures replayed { IfOk result (λ answer.
+        CountsRun machine.now (record limits.now { steps = second }) zero_meter meter.new) }
     ensures tapes { PairHasCells T.view limits.now.cells pair.new }
     ensures memory { OnErr result (IsTrue T.GROWS) }
 {
@@ -329,6 +339,7 @@ fn check_backward<T: Tape>(
     ensures counted { IfOk result (λ answer. answer ≡ Answer.Ok
         → CountsClaim (Verdict.Backward levels nodes) meter.new) }
     ensures within { IsWithinClaim limits.now (Verdict.Backward levels nodes) meter.new }
+    ensures no_window { meter.new.most_cells ≡ 0 }
     ensures limit { (T.view tape.new).limit ≡ (T.view tape.old).limit }
     ensures depth { depth_of path.new ≡ depth_of path.old }
     ensures memory { OnErr result (IsTrue T.GROWS) }

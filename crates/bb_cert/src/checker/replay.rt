@@ -1,6 +1,6 @@
 //! The run of a claim, up to the steps that the claim names.
-ghost use Rattle.std.specs.Prelude.{◌≡◌, ◌<◌, ◌≤◌, IfOk, IsTrue, MatchBool, MatchOption, OnErr};
-ghost use Rattle.bb_sim.specs.Meter.{IsWithinRun, zero_meter};
+ghost use Rattle.std.specs.Prelude.{◌≡◌, ◌<◌, ◌≤◌, IfOk, IfSome, IsTrue, MatchBool, MatchOption, OnErr};
+ghost use Rattle.bb_sim.specs.Meter.{CountsRun, IsWithinRun, zero_meter};
 ghost use Rattle.bb_sim.specs.Runner.{steps_of};
 ghost use Rattle.bb_cert.specs.inside.Checks.{GoesOn, IsAtStep, IsCut, IsOneOn, IsUnderWay, Passes};
 ghost use Rattle.bb_cert.specs.records.Follow.{AgreesWithKept, IsComparable, IsKeptInStateOf, LiesAs};
@@ -104,6 +104,8 @@ fn step_on<T: Tape>(
         (IsOneOn machine.now limits.now runner.old runner.new (T.view tape.new) meter.new)
         (IsCut machine.now limits.now)) }
     ensures within { IsWithinRun limits.now zero_meter meter.new }
+    ensures whole { IfOk result (λ cut. IfSome cut (λ answer.
+        CountsRun machine.now limits.now zero_meter meter.new)) }
     ensures limit { (T.view tape.new).limit ≡ (T.view tape.old).limit }
     ensures memory { OnErr result (IsTrue T.GROWS) }
 {
@@ -134,6 +136,8 @@ pub(crate) fn run_to<T: Tape>(
         (IsAtStep machine.now limits.now step runner.new (T.view tape.new) meter.new)
         (IsCut machine.now limits.now)) }
     ensures within { IsWithinRun limits.now zero_meter meter.new }
+    ensures whole { IfOk result (λ cut. IfSome cut (λ answer.
+        CountsRun machine.now limits.now zero_meter meter.new)) }
     ensures limit { (T.view tape.new).limit ≡ (T.view tape.old).limit }
     ensures memory { OnErr result (IsTrue T.GROWS) }
 {
@@ -167,6 +171,8 @@ pub(crate) fn follow_to<T: Tape>(
         (GoesOn machine.now (steps_of runner.old) step course.old course.new)
         (λ answer. Unit {0})) }
     ensures within { IsWithinRun limits.now zero_meter meter.new }
+    ensures whole { IfOk result (λ cut. IfSome cut (λ answer.
+        CountsRun machine.now limits.now zero_meter meter.new)) }
     ensures limit { (T.view tape.new).limit ≡ (T.view tape.old).limit }
     ensures memory { OnErr result (IsTrue T.GROWS) }
 {

@@ -1,4 +1,5 @@
-use Rattle.std.proofs.Common.{◌≡◌, subst}
+use Rattle.std.proofs.Common.{◌≡◌, ap, subst}
+use Rattle.bb_sim.specs.declared.meter.Meter.{Meter}
 use Rattle.bb_sim.specs.Run.{Never}
 use Rattle.bb_cert.specs.declared.checker.answer.Answer.{Answer}
 use Rattle.bb_cert.specs.declared.checker.answer.Answer.TheVariants as answer
@@ -6,6 +7,7 @@ use Rattle.bb_cert.specs.checker.Answer.{IsAnswer}
 use Rattle.bb_cert.specs.inside.Checks.{Checks}
 use Rattle.bb_cert.specs.claims.Claim.{SaysNever}
 use Rattle.bb_cert.proofs.checker_lemmas.AnswerRules.{checked_answer, settled_answer, where_ok}
+use Rattle.bb_cert.proofs.checker_lemmas.ClaimChecks.{no_window, settled_so}
 use Rattle.bb_cert.proofs.claim_lemmas.Claims.{claims_never_halt}
 use Rattle.bb_cert.proofs.checker.checking.check.Goals as goal
 
@@ -13,6 +15,13 @@ pub returns-in-Some-clause-answer : goal.returns-in-Some-clause-answer
 returns-in-Some-clause-answer g c =
     let settled = rw c.in-Some.is at c.settle.ensures in
     settled_answer c.args.machine.now c.args.limits.now c.args.verdict.now c.in-Some.answer settled
+
+pub returns-in-Some-clause-window : goal.returns-in-Some-clause-window
+returns-in-Some-clause-window g c =
+    let settled = rw c.in-Some.is at c.settle.ensures in
+    no_window c.args.machine.now c.args.limits.now c.args.verdict.now
+    (λ made. made.0 (settled_so c.args.limits.now c.args.verdict.now c.in-Some.answer settled))
+    (ap (λ (m : Meter). m.most_cells) c.new.ensures)
 
 pub returns-in-None-clause-answer : goal.returns-in-None-clause-answer
 returns-in-None-clause-answer g c =

@@ -2,6 +2,7 @@ use Rattle.std.proofs.Common.{sym, subst}
 use Rattle.bb_sim.specs.Runner.{Stands}
 use Rattle.bb_cert.proofs.checker_lemmas.ClaimChecks.{cycler_cut, fits_there}
 use Rattle.bb_cert.proofs.claim_lemmas.Standing.{alike_of_same, same_of_alike}
+use Rattle.bb_cert.proofs.record_lemmas.UnderWay.{counts_to_limit}
 use Rattle.bb_cert.proofs.checker.checking.check_cycler.Goals as goal
 
 pub returns-in-Some-clause-checks : goal.returns-in-Some-clause-checks
@@ -36,3 +37,11 @@ returns-clause-checks g c =
           let no = c.if-is_same.false in
           cc,
     )
+
+pub returns-then-is_same-clause-replayed : goal.returns-then-is_same-clause-replayed
+returns-then-is_same-clause-replayed g c =
+    counts_to_limit (rw (c.in-None-2.is, c.with_steps-limits.ensures) at c.in_ok-answer-2.ensures.runs)
+
+pub returns-clause-replayed : goal.returns-clause-replayed
+returns-clause-replayed g c =
+    counts_to_limit (rw (c.in-None-2.is, c.with_steps-limits.ensures) at c.in_ok-answer-2.ensures.runs)

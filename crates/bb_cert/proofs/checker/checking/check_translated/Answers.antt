@@ -1,5 +1,6 @@
 use Rattle.std.proofs.Common.{◌≡◌, Bool, true, false, sym}
 use Rattle.bb_cert.proofs.checker_lemmas.ClaimChecks.{fits_there, translated_cut, up_to}
+use Rattle.bb_cert.proofs.record_lemmas.UnderWay.{counts_to_limit}
 use Rattle.bb_cert.proofs.verdict_lemmas.Extents.{said_as_found}
 use Rattle.bb_cert.proofs.record_lemmas.KeptCourses.{IsPairRun, comparable_at, extent_at, kept_at, no_pair_at}
 use Rattle.bb_cert.proofs.record_lemmas.KeptCourses.{pair_at}
@@ -63,3 +64,15 @@ returns-clause-checks g c =
       fits_there c.args.limits.now is.there,
       (pair_at is agree.0 agree.1, said.0 (c.is_as_told.ensures.0 c.if-not-is_as_told.false)),
     )
+
+pub returns-in_default-agreement-clause-replayed : goal.returns-in_default-agreement-clause-replayed
+returns-in_default-agreement-clause-replayed g c =
+    counts_to_limit (rw (c.in-None-2.is, c.with_steps-limits.ensures) at c.in_ok-answer-2.ensures.runs)
+
+pub returns-then-not-is_as_told-clause-replayed : goal.returns-then-not-is_as_told-clause-replayed
+returns-then-not-is_as_told-clause-replayed g c =
+    counts_to_limit (rw (c.in-None-2.is, c.with_steps-limits.ensures) at c.in_ok-answer-2.ensures.runs)
+
+pub returns-clause-replayed : goal.returns-clause-replayed
+returns-clause-replayed g c =
+    counts_to_limit (rw (c.in-None-2.is, c.with_steps-limits.ensures) at c.in_ok-answer-2.ensures.runs)

@@ -36,6 +36,7 @@ returns g c =
       runs = there;
       follows = rw there.at at here.goes_on;
       within = under_way_within here.under_way;
+      whole = tt;
       limit = here.limit;
       memory = tt;
     }

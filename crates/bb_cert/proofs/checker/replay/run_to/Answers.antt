@@ -29,6 +29,7 @@ returns g c =
     record {
       runs = comes_to here.under_way here.ahead c.steps.ensures c.loop-runner-test.false;
       within = under_way_within here.under_way;
+      whole = tt;
       limit = here.limit;
       memory = tt;
     }
