@@ -4,3 +4,4 @@ pub mod records
 pub mod tree
 pub mod inside
 pub mod checker
+pub mod Numbers

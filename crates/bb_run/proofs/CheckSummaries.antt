@@ -7,19 +7,22 @@ use Rattle.std.proofs.lemmas.Bool.{and_from, and_parts}
 use Rattle.std.proofs.lemmas.Fn.{chained_keeps}
 use Rattle.bb_machine.specs.Limits.{Bounds}
 use Rattle.bb_sim.specs.declared.meter.Meter.{Meter}
+use Rattle.bb_sim.specs.Span.{span}
+use Rattle.bb_sim.proofs.Facts.{last_step_is_unique}
 use Rattle.bb_cert.specs.declared.checker.answer.Answer.{Answer}
 use Rattle.bb_cert.specs.declared.checker.answer.Answer.TheVariants as answer
 use Rattle.bb_cert.specs.declared.verdict.reader.Line.TheVariants.{Claim}
 use Rattle.bb_cert.specs.checker.Answer.{answer_text, is_fine}
-use Rattle.bb_cert.specs.checker.ClaimMeter.{last_step, levels_of, nodes_of}
+use Rattle.bb_cert.specs.checker.ClaimMeter.{IsReplaySpan, IsReplayed, last_step, levels_of}
+use Rattle.bb_cert.specs.checker.ClaimMeter.{nodes_of, replay_bounds}
 use Rattle.bb_run.specs.declared.summary.Summary.{Summary}
 use Rattle.bb_run.specs.CheckReply.{IsCheckReply, unread_text}
 use Rattle.bb_run.specs.CheckSeen.{CheckSaw, SawAnswer, SawOpen, SawUnread}
 use Rattle.bb_run.specs.Seen.{none_seen}
-use Rattle.bb_run.specs.CheckSummary.{IsCheckSummary, IsFine, IsOkOf}
-use Rattle.bb_run.proofs.Peaks.{all_more, clean_more}
-use Rattle.bb_run.proofs.CheckReplies.{answered, check_reply_is_unique, never_both, one_answer, one_verdict}
-use Rattle.bb_run.proofs.CheckReplies.{opened}
+use Rattle.bb_run.specs.CheckSummary.{IsCheckSummary, IsFine, IsOkOf, IsWindowOf}
+use Rattle.bb_run.proofs.Peaks.{IsPeak-over, IsPeak-past, all_more, clean_more}
+use Rattle.bb_run.proofs.CheckReplies.{answered, check_reply_is_unique, never_both, one_answer, one_table}
+use Rattle.bb_run.proofs.CheckReplies.{one_verdict, opened}
 
 -- the words of answers that leave a run clean, and of those that don't
 word_if_fine : (given : Answer) → is_fine given ≡ true
@@ -62,9 +65,14 @@ module _ (bounds : Bounds) (lines : List (List ℕ)) (line : List ℕ) (old new 
     oks = all_more (λ other within n l k ok. let few = within n l k ok in
         (omega (arith, few.0, steps), omega (arith, few.1, levels), omega (arith, few.2, nodes)))
         lines before.oks is_within;
+    cells = elim saw.window [
+      | inl window ↦
+          IsPeak-over (IsWindowOf bounds) before.cells (window_of window) (only_window window) cells
+      | inr none ↦ IsPeak-past (IsWindowOf bounds) before.cells (no_window none.0) (omega (arith, cells, none.1))
+    ];
     within = let w = before.within in record {
       steps = omega (arith, w.steps, saw.within.steps, steps);
-      cells = omega (arith, w.cells, saw.within.cells, ap (λ (m : Meter). m.most_cells) saw.peak);
+      cells = omega (arith, w.cells, saw.within.cells, cells);
       levels = omega (arith, w.levels, saw.within.levels, levels);
       nodes = omega (arith, w.nodes, saw.within.nodes, nodes);
     };
@@ -77,6 +85,32 @@ module _ (bounds : Bounds) (lines : List (List ℕ)) (line : List ℕ) (old new 
 
     nodes : new.peak.nodes ≡ max old.peak.nodes saw.meter.nodes
     nodes = ap (λ (m : Meter). m.nodes) saw.peak
+
+    cells : new.peak.most_cells ≡ max old.peak.most_cells saw.meter.most_cells
+    cells = ap (λ (m : Meter). m.most_cells) saw.peak
+
+    window_of : IsReplaySpan saw.table bounds saw.verdict saw.meter.most_cells
+        → IsWindowOf bounds line saw.meter.most_cells
+    window_of window = record { table = saw.table; verdict = saw.verdict; of = saw.of; is_width = window }
+
+    -- each window of the line is one of the claim that was read
+    same_claim : (n : ℕ) → IsWindowOf bounds line n → IsReplaySpan saw.table bounds saw.verdict n
+    same_claim n other =
+        let verdict = one_verdict line other.table saw.table other.verdict saw.verdict other.of saw.of in
+        let table = one_table line other.table saw.table other.verdict saw.verdict other.of saw.of in
+        subst (λ v. IsReplaySpan saw.table bounds v n) verdict
+        (subst (λ t. IsReplaySpan t bounds other.verdict n) table other.is_width)
+
+    only_window : IsReplaySpan saw.table bounds saw.verdict saw.meter.most_cells → (n : ℕ)
+        → IsWindowOf bounds line n → n ≡ saw.meter.most_cells
+    only_window window n other =
+        let same = same_claim n other in
+        let last = last_step_is_unique saw.table (replay_bounds bounds saw.verdict) same.last window.last
+        same.is_last window.is_last in
+        same.is_span ∙ ap (λ k. span saw.table k) last ∙ sym window.is_span
+
+    no_window : (IsReplayed bounds saw.verdict → ⊥) → (n : ℕ) → IsWindowOf bounds line n → ⊥
+    no_window none n other = none (same_claim n other).is_replayed
 
     replied : IsCheckReply bounds line (answer_text saw.given)
     replied = answered bounds line saw.table saw.verdict saw.given saw.of saw.is_answer
@@ -104,6 +138,8 @@ module _ (bounds : Bounds) (lines : List (List ℕ)) (line : List ℕ) (old new 
     clean = clean_more (IsFine bounds) lines before.clean (λ e. (e, fine), λ are. are.0);
     oks = all_more (λ other within. within) lines before.oks
         (λ n l k ok. absurd (never_both line ok.table ok.verdict saw.column ok.of saw.of));
+    cells = IsPeak-past (IsWindowOf bounds) before.cells
+        (λ n other. never_both line other.table other.verdict saw.column other.of saw.of) refl;
     within = before.within;
   }) where
     fine : IsFine bounds line
@@ -121,6 +157,9 @@ module _ (bounds : Bounds) (lines : List (List ℕ)) (line : List ℕ) (old new 
     );
     oks = rw saw.peak (all_more (λ other within. within) lines before.oks
         (λ n l k ok. absurd (saw.no_line (Claim ok.table ok.verdict) ok.of)));
+    cells = IsPeak-past (IsWindowOf bounds) before.cells
+        (λ n other. saw.no_line (Claim other.table other.verdict) other.of)
+        (ap (λ (m : Meter). m.most_cells) saw.peak);
     within = rw saw.peak before.within;
   } where
     unread : IsCheckReply bounds line unread_text
@@ -145,6 +184,7 @@ module _ {D : Type 0} (bounds : D → Bounds) (summary : D → Summary) (cost : 
       none = record {
         clean = (λ e. tt, λ all. refl);
         oks = tt;
+        cells = record { bound = tt; reached = inl refl };
         within = grind arith;
       }
 

@@ -8,10 +8,11 @@ use Rattle.bb_cert.specs.declared.checker.answer.Answer.TheVariants.{Ok, Open}
 use Rattle.bb_cert.specs.declared.verdict.reader.Line.TheVariants.{Claim}
 use Rattle.bb_cert.specs.declared.verdict.Verdict.{Verdict}
 use Rattle.bb_cert.specs.checker.Answer.{IsAnswer, answer_text}
-use Rattle.bb_cert.specs.checker.ClaimMeter.{last_step, levels_of, nodes_of}
+use Rattle.bb_cert.specs.checker.ClaimMeter.{IsReplaySpan, last_step, levels_of, nodes_of}
 use Rattle.bb_cert.specs.verdict.Line.{IsLineOf}
 use Rattle.bb_run.specs.declared.summary.Summary.{Summary}
 use Rattle.bb_run.specs.CheckReply.{IsCheckReply}
+use Rattle.bb_run.specs.Summary.{IsPeak}
 
 -- the reply to the line is `ok` or `open`: it is not `bad`, `over` or `unread`
 pub record IsFine (bounds : Bounds) (line : List ℕ) : Type 0 where
@@ -35,6 +36,13 @@ AreOksWithin bounds lines peak = AllByRecursion (λ line. (steps levels nodes : 
     → IsOkOf bounds line steps levels nodes
     → (steps ≤ peak.steps) × (levels ≤ peak.most_levels) × (nodes ≤ peak.nodes)) lines
 
+-- the line's claim is replayed, in a window of this width
+pub record IsWindowOf (bounds : Bounds) (line : List ℕ) (width : ℕ) : Type 0 where
+  pub table : Table
+  pub verdict : Verdict
+  pub of : IsLineOf (Claim table verdict) line
+  pub is_width : IsReplaySpan table bounds verdict width
+
 -- no count is greater than its bound
 pub record IsWithinBounds (bounds : Bounds) (peak : Meter) : Type 0 where
   pub steps : peak.steps ≤ bounds.steps
@@ -43,8 +51,9 @@ pub record IsWithinBounds (bounds : Bounds) (peak : Meter) : Type 0 where
   pub nodes : peak.nodes ≤ bounds.nodes
 
 -- `clean` says that each reply is `ok` or `open`; the peaks are within the bounds, and no less than what each
--- claim that is answered ok has
+-- claim that is answered ok has; that of cells is the widest window of a replay
 pub record IsCheckSummary (bounds : Bounds) (lines : List (List ℕ)) (summary : Summary) : Type 0 where
   pub clean : IsTrue summary.clean ↔ AllByRecursion (IsFine bounds) lines
   pub oks : AreOksWithin bounds lines summary.peak
+  pub cells : IsPeak (IsWindowOf bounds) lines summary.peak.most_cells
   pub within : IsWithinBounds bounds summary.peak

@@ -27,6 +27,22 @@ ghost use Rattle.bb_cert.specs.claims.Laws.{
   SmallerLinesAreLines,
   TreeHasOneEnd,
 };
+ghost use Rattle.std.specs.Prelude.{◌≡◌};
+ghost use Rattle.bb_cert.specs.Numbers.{NumbersAreStated, answer_number};
+
+use crate::checker::answer::Answer;
+
+/// The longest verdict line and the buffer that holds one have the stated numbers of bytes.
+pub fn numbers_are_stated()
+    ensures { NumbersAreStated }
+{}
+
+/// The number of an answer.
+pub fn answer_number(answer: Answer) -> u8
+    ensures { result ≡ answer_number answer }
+{
+    answer as u8
+}
 
 /// A verdict line says one thing only: it is the line of one machine and one verdict, or of one column.
 pub fn lines_differ()
