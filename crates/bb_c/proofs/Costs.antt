@@ -7,7 +7,7 @@ use Rattle.bb_machine.specs.declared.plan.Plan.{Plan}
 use Rattle.bb_sim.specs.declared.meter.Meter.{Meter}
 use Rattle.bb_cert.specs.declared.verdict.Verdict.{Verdict}
 use Rattle.bb_cert.specs.declared.verdict.Verdict.TheVariants.{Backward, Undecided}
-use Rattle.bb_decide.specs.Fingerprint.{AgreesByChance, CostsWhatItNames, most_steps, named_step}
+use Rattle.bb_decide.specs.Fingerprint.{CostsWhatItNames, SearchesCollide, most_steps, named_step}
 use Rattle.bb_decide.specs.Keys.{spread}
 use Rattle.bb_decide.specs.OneRun.{CountsRuns}
 use Rattle.bb_decide.specs.Sure.{IsFoundByRun, NoneIsSmaller}
@@ -17,25 +17,30 @@ use Rattle.bb_c.specs.Cost.{CostsInTwoTries, CountsTries, FindsNothing, few_boun
 use Rattle.bb_c.specs.Cost.{AreRunSteps, without_trees}
 
 -- what agrees up to a step within limits agrees up to a later one within larger limits
-later : {key : ℤ → ℕ} {table : Table} {lower upper : Bounds} {n : ℕ} (m : ℕ) → n ≤ m
-    → NoneIsSmaller lower upper → AgreesByChance key table lower n → AgreesByChance key table upper m
-later m more bounds chance = record {
-  first = chance.first;
-  second = chance.second;
-  alike = chance.alike;
-  inside = inside_upper _ _ _ bounds _ chance.inside;
-  no_later = let early = chance.no_later in omega (arith, early, more);
-  differ = chance.differ;
-}
+later : {key : ℤ → ℕ} {table : Table} {lower upper : Bounds} (plan : Plan) {n : ℕ} (m : ℕ) → n ≤ m
+    → NoneIsSmaller lower upper → SearchesCollide key table lower plan n
+    → SearchesCollide key table upper plan m
+later plan m more bounds (cyclers, translated, chance) = (
+  cyclers,
+  translated,
+  record {
+    first = chance.first;
+    second = chance.second;
+    alike = chance.alike;
+    inside = inside_upper _ _ _ bounds _ chance.inside;
+    no_later = let early = chance.no_later in omega (arith, early, more);
+    differ = chance.differ;
+  },
+)
 
 same_bounds : (bounds : Bounds) → NoneIsSmaller bounds bounds
 same_bounds bounds = search rules
 
 -- one try costs no more than two may
 pub costs_one_try : (table : Table) (bounds : Bounds) (plan : Plan) (steps : ℕ) (verdict : Verdict)
-    → CostsWhatItNames spread table bounds steps verdict → CostsInTwoTries table bounds plan steps verdict
+    → CostsWhatItNames spread table bounds plan steps verdict → CostsInTwoTries table bounds plan steps verdict
 costs_one_try table bounds plan steps verdict costs none =
-    inl (costs (λ chance. none (later (max (named_step bounds verdict) (first_steps bounds)) (omega arith)
+    inl (costs (λ chance. none (later plan (max (named_step bounds verdict) (first_steps bounds)) (omega arith)
     (same_bounds bounds) chance)))
 
 module _ (table : Table) (lower upper : Bounds) (plan : Plan) (smaller : NoneIsSmaller lower upper) where
@@ -48,16 +53,17 @@ module _ (table : Table) (lower upper : Bounds) (plan : Plan) (smaller : NoneIsS
 
   -- what a run finds names the same step within all limits
   pub costs_first_try : (steps : ℕ) (verdict : Verdict) → IsFoundByRun verdict
-      → CostsWhatItNames spread table lower steps verdict → CostsInTwoTries table upper plan steps verdict
+      → CostsWhatItNames spread table lower (without_trees plan) steps verdict
+      → CostsInTwoTries table upper plan steps verdict
   costs_first_try steps verdict found costs none =
       let same = named_alike verdict found in
-      inl (rw (← same.1) (costs (λ chance. none (later (max (named_step upper verdict) (first_steps upper))
+      inl (rw (← same.1) (costs (λ chance. none (later plan (max (named_step upper verdict) (first_steps upper))
       (omega (arith, same.0)) smaller chance))))
 
   -- a try in which a run finds nothing costs no more than its limit
   costs_limit : (steps : ℕ) (verdict : Verdict) → (IsFoundByRun verdict → ⊥)
-      → CostsWhatItNames spread table lower steps verdict
-      → (AgreesByChance spread table lower lower.steps → ⊥)
+      → CostsWhatItNames spread table lower (without_trees plan) steps verdict
+      → (SearchesCollide spread table lower plan lower.steps → ⊥)
       → steps ≤ lower.steps
   costs_limit steps (Backward levels nodes) apart costs none = costs none
   costs_limit steps (Undecided why) apart costs none = costs none
@@ -74,15 +80,15 @@ module _ (table : Table) (lower upper : Bounds) (plan : Plan) (smaller : NoneIsS
 
   pub costs_both_tries : (tried steps : ℕ) (first verdict : Verdict) → lower ≡ few_bounds upper
       → IsVerdict table lower (without_trees plan) first → (IsFoundByRun first → ⊥)
-      → CostsWhatItNames spread table lower tried first
-      → CostsWhatItNames spread table upper steps verdict
+      → CostsWhatItNames spread table lower (without_trees plan) tried first
+      → CostsWhatItNames spread table upper plan steps verdict
       → CostsInTwoTries table upper plan (steps + tried) verdict
   costs_both_tries tried steps first verdict few is nothing costs_first costs none =
       let latest = max (named_step upper verdict) (first_steps upper) in
       let small : lower.steps ≡ first_steps upper = ap (λ (b : Bounds). b.steps) few in
       let one = costs_limit tried first nothing costs_first
-      (λ chance. none (later latest (omega (arith, small)) smaller chance)) in
-      let other = costs (λ chance. none (later latest (omega arith) (same_bounds upper) chance)) in
+      (λ chance. none (later plan latest (omega (arith, small)) smaller chance)) in
+      let other = costs (λ chance. none (later plan latest (omega arith) (same_bounds upper) chance)) in
       inr (finds_nothing first few is nothing, omega (arith, one, other, small))
 
 -- ---- how many steps were counted

@@ -4,7 +4,7 @@ use Rattle.bb_machine.specs.Limits.{Bounds}
 use Rattle.bb_machine.specs.Machine.{Table}
 use Rattle.bb_machine.specs.declared.plan.Plan.{Plan}
 use Rattle.bb_cert.specs.declared.verdict.Verdict.{Verdict}
-use Rattle.bb_decide.specs.Fingerprint.{AgreesByChance, most_steps, named_step}
+use Rattle.bb_decide.specs.Fingerprint.{SearchesCollide, most_steps, named_step}
 use Rattle.bb_decide.specs.Keys.{spread}
 use Rattle.bb_decide.specs.OneRun.{MakesRuns}
 use Rattle.bb_decide.specs.Sure.{IsFoundByRun}
@@ -56,10 +56,10 @@ CountsTries table bounds plan steps = ((bounds.cells ≤ 1024) × AreRunSteps ta
     ⊎ ((1024 < bounds.cells) × CountsBoth table bounds plan steps)
 
 -- a verdict cost no more steps than what it names allows, or, where the first try finds nothing, than that
--- and the first try's steps, unless configurations up to there agree by chance
+-- and the first try's steps, unless both searches are on and collide up to there
 abbrev pub CostsInTwoTries : Table → Bounds → Plan → ℕ → Verdict → Type 0
 CostsInTwoTries table bounds plan steps verdict =
-    (AgreesByChance spread table bounds (max (named_step bounds verdict) (first_steps bounds)) → ⊥)
+    (SearchesCollide spread table bounds plan (max (named_step bounds verdict) (first_steps bounds)) → ⊥)
     → (steps ≤ most_steps bounds verdict)
     ⊎ (FindsNothing table (few_bounds bounds) (without_trees plan)
     × (steps ≤ most_steps bounds verdict + first_steps bounds))

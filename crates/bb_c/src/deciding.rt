@@ -256,7 +256,7 @@ fn verdict_within(
     requires machine { IsMachine machine.now }
     ensures verdict { IfOk result (IsVerdict machine.now limits.now plan) }
     ensures numbers { IfOk result HasNumbers }
-    ensures bound { IfOk result (CostsWhatItNames spread machine.now limits.now meter.new.steps) }
+    ensures bound { IfOk result (CostsWhatItNames spread machine.now limits.now plan meter.new.steps) }
     ensures counted { OnOk result (CountsRuns spread machine.now limits.now plan meter.new) }
     ensures within { OnOk result (IsWithinCost limits.now meter.new) }
 {
