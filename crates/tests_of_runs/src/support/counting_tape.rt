@@ -3,8 +3,8 @@ ghost use Rattle.std.specs.Prelude.{◌≡◌};
 
 use bb_tape::{Tape, TapeFault};
 
-/// A tape that hands each call on to another. To take over a whole tape, or to reset it, isn't counted as a
-/// write; to write a 0 takes no memory.
+/// A tape that passes each call to another. Copying a whole tape and resetting it are not counted as writes. A
+/// write of any symbol may be refused, a 0 too.
 #[derive(Drop)]
 pub(crate) struct CountingTape<T> {
     inner: T,
@@ -73,7 +73,7 @@ impl<T: Tape> Tape for CountingTape<T> {
 
     fn write(&mut self, p: i64, v: u8) -> Result<(), TapeFault> {
         self.writes = self.writes.saturating_add(1);
-        if v > 0 && self.refuses() {
+        if self.refuses() {
             return Err(TapeFault::Memory);
         }
         self.inner.write(p, v)
