@@ -5,6 +5,7 @@ ghost use Rattle.std.specs.Prelude.{◌≡◌, IfErr, IfOk, map};
 ghost use Rattle.std.specs.String.{string_bytes};
 ghost use Rattle.bb_command.specs.Command.{AreGivenBy, IsAskedBy, IsStopOf, words_meant};
 
+mod hints;
 mod progress;
 mod serve;
 mod streams;
@@ -15,6 +16,7 @@ use bb_command::{Advice, Asked, Numbers, Stop, ask, numbers_given};
 use bb_lines::fault::Fault;
 use bb_lines::watched::Watched;
 use bb_run::Summary;
+use hints::{InputHint, plain_number};
 use progress::{Counts, Progress};
 use serve::{serve_in_one_run, status};
 use std::alloc::{AllocError, Global};
@@ -32,7 +34,11 @@ fn main(rt: HostRuntime) -> ExitCode {
         Ok(asked) => answer_request(&rt, &asked),
         Err(stop) => {
             let numbers = given(rt.alloc(), arguments.as_slice()).ok();
-            tell_stop(&rt, &stop, numbers)
+            let status = tell_stop(&rt, &stop, numbers);
+            if let Stop::Words(_) = stop {
+                let _ = tell_plain_numbers(&rt, arguments.as_slice());
+            }
+            status
         }
     };
     ExitCode::from(status)
@@ -76,16 +82,19 @@ fn given(alloc: Global, arguments: &[String]) -> Result<Numbers, Stop>
 /// read.
 fn answer_request(rt: &HostRuntime, asked: &Asked) -> u8 {
     let counts = Counts::default();
-    let (end, error) = match &asked.file {
+    let (end, error, hint) = match &asked.file {
         Some(file) => match fs::open(rt, file) {
             Ok(file) => {
                 let size = file.metadata().ok().filter(|data| data.is_file());
                 serve_input(rt, asked, size.map(|data| data.len()), file, &counts)
             }
-            Err(error) => (Err(Fault::Read), Some(error)),
+            Err(error) => (Err(Fault::Read), Some(error), None),
         },
         None => serve_input(rt, asked, None, rt.stdin(), &counts),
     };
+    if let Some(hint) = hint {
+        let _ = tell_hint(rt, hint);
+    }
     if let Err(fault) = &end {
         let _ = eprintln!(rt; "{fault}");
         if let Some(error) = error {
@@ -96,14 +105,15 @@ fn answer_request(rt: &HostRuntime, asked: &Asked) -> u8 {
 }
 
 /// Does what is asked for with this input, which has so many bytes where that is known, and shows the
-/// progress. Beside the end comes the error that made it a fault, where there is one.
+/// progress. Beside the end come the error that made it a fault and what the input's first bytes show, where
+/// there are such.
 fn serve_input<'a, R: Read + Drop>(
     rt: &'a HostRuntime,
     asked: &Asked,
     size: Option<u64>,
     input: R,
     counts: &'a Counts,
-) -> (Result<Summary, Fault>, Option<io::Error>) {
+) -> (Result<Summary, Fault>, Option<io::Error>, Option<InputHint>) {
     let progress = Progress::of(rt, &asked.work, size, counts);
     let shown = progress.as_ref();
     let mut reader = Watched::new(Observed::new(input, shown));
@@ -112,14 +122,37 @@ fn serve_input<'a, R: Read + Drop>(
     if let Some(progress) = shown {
         progress.end();
     }
-    let read_error = reader.into_inner().into_error();
+    let reader = reader.into_inner();
+    let hint = reader.hint();
+    let read_error = reader.into_error();
     let write_error = writer.into_inner().into_error();
     let error = match &end {
         Err(Fault::Read) => read_error,
         Err(Fault::Write) => write_error,
         _ => None,
     };
-    (end, error)
+    (end, error, hint)
+}
+
+/// Prints on a terminal what the input's first bytes show.
+fn tell_hint(rt: &HostRuntime, hint: InputHint) -> io::Result<()> {
+    if !rt.stderr().is_terminal() {
+        return Ok(());
+    }
+    rt.eprintln(hint)
+}
+
+/// Prints on a terminal how the numbers among the arguments are written that have separators.
+fn tell_plain_numbers(rt: &HostRuntime, arguments: &[String]) -> io::Result<()> {
+    if !rt.stderr().is_terminal() {
+        return Ok(());
+    }
+    for word in arguments {
+        if let Some(number) = plain_number(word.as_str()) {
+            eprintln!(rt; "{word}: write the number as {number}")?;
+        }
+    }
+    Ok(())
 }
 
 /// Says on a terminal what failed and why. Of a pipe that nobody reads any more it says nothing.

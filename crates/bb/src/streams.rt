@@ -1,15 +1,18 @@
 //! Streams that hand each call on as it is, keep the last error, and tell how far they have come.
 ghost use Rattle.std.specs.Prelude.{◌≡◌, None};
 
+use crate::hints::{InputHint, input_hint};
 use crate::progress::Progress;
 use std::io::{Error, Read, Result, Write};
 
-/// A reader or a writer that hands each call on as it is. It keeps the error of the last call that failed,
-/// and tells the progress, where there is one, of each call that didn't.
+/// A reader or a writer that hands each call on as it is. It keeps the error of the last call that failed and
+/// what the first bytes read show, and tells the progress, where there is one, of each call that didn't fail.
 #[derive(Drop)]
 pub struct Observed<'p, 'r, X> {
     inner: X,
     error: Option<Error>,
+    hint: Option<InputHint>,
+    has_read: bool,
     progress: Option<&'p Progress<'r>>,
 }
 
@@ -22,8 +25,15 @@ impl<'p, 'r, X> Observed<'p, 'r, X> {
         Observed {
             inner,
             error: None,
+            hint: None,
+            has_read: false,
             progress,
         }
+    }
+
+    /// What the first bytes read show, if they show what to do.
+    pub fn hint(&self) -> Option<InputHint> {
+        self.hint
     }
 
     /// Why the last call that failed did, if one did.
@@ -41,6 +51,11 @@ impl<R: Read> Read for Observed<'_, '_, R> {
 
     fn read(&mut self, buf: &mut [u8]) -> Result<usize> {
         let result = self.inner.read(buf);
+        if !self.has_read {
+            self.has_read = true;
+            let count = *result.as_ref().unwrap_or(&0);
+            self.hint = input_hint(&buf[..count.min(buf.len())]);
+        }
         match (&result, self.progress) {
             (Ok(count), Some(progress)) => progress.add_read(*count),
             (Ok(_), None) => {}

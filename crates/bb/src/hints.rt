@@ -1,0 +1,83 @@
+//! Hints that a terminal gets beside an answer: what the input is, where it is no list of lines, and how a
+//! number is written.
+
+use arrayvec::ArrayString;
+use std::fmt;
+use std::fmt::{Display, Formatter};
+
+/// What the first bytes of an input show, where its first line can't be a machine's or a verdict line.
+#[derive(Clone, Copy, Debug, PartialEq, Eq)]
+pub enum InputHint {
+    /// They are those of a gzip file.
+    Gzip,
+    /// They are the byte order mark of UTF-16.
+    Utf16,
+    /// The first line ends in a carriage return.
+    CarriageReturn,
+}
+
+/// The hint that the first bytes of an input give, if they give one.
+#[cold]
+#[inline(never)]
+pub fn input_hint(bytes: &[u8]) -> Option<InputHint> {
+    if bytes.starts_with(b"\x1f\x8b") {
+        return Some(InputHint::Gzip);
+    }
+    if bytes.starts_with(b"\xff\xfe") || bytes.starts_with(b"\xfe\xff") {
+        return Some(InputHint::Utf16);
+    }
+    let mut before = b' ';
+    for byte in bytes {
+        if *byte == b'\n' {
+            break;
+        }
+        before = *byte;
+    }
+    if before == b'\r' {
+        return Some(InputHint::CarriageReturn);
+    }
+    None
+}
+
+impl Display for InputHint {
+    fn fmt<W: fmt::Write>(&self, f: &mut Formatter<W>) -> fmt::Result {
+        f.write_str(match self {
+            InputHint::Gzip => "the input is compressed by gzip: unpack it first, by gzip -dc",
+            InputHint::Utf16 =>
+                "the input is UTF-16: convert it first, by iconv -f UTF-16 -t UTF-8",
+            InputHint::CarriageReturn => {
+                "line 1 ends in a carriage return: remove them all first, by tr -d '\\r'"
+            }
+        })
+    }
+}
+
+/// A number without separators, for a word such as `1,000,000`, `--steps=1_000_000` or `1e6`. None for other
+/// words, and where the number has more than 20 digits.
+#[cold]
+#[inline(never)]
+pub fn plain_number(word: &str) -> Option<ArrayString<20>> {
+    let number = match word.split_once('=') {
+        Some((_, number)) => number,
+        None => word,
+    };
+    let (digits, zeros) = match number.split_once('e') {
+        Some((digits, zeros)) => (digits, zeros.parse::<u8>().ok()?),
+        None => (number, 0),
+    };
+    let mut plain = ArrayString::new();
+    for letter in digits.chars() {
+        if letter.is_ascii_digit() {
+            plain.try_push(letter).ok()?;
+        } else if plain.is_empty() || !matches!(letter, ',' | '_' | '\'') {
+            return None;
+        }
+    }
+    for _ in 0..zeros {
+        plain.try_push('0').ok()?;
+    }
+    if plain.is_empty() || plain.as_str() == number {
+        return None;
+    }
+    Some(plain)
+}
