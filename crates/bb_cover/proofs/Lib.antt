@@ -2,6 +2,7 @@ mod Asks
 mod Halting
 mod Judging
 mod Lefts
+mod Reasons
 mod Steps
 mod Tables
 mod Tallies
