@@ -6,5 +6,6 @@ mod Reasons
 mod Steps
 mod Tables
 mod Tallies
+mod Uniqueness
 mod Useds
 mod Wholes

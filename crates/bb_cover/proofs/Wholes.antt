@@ -76,7 +76,7 @@ each_true bounds (b ∷ bytes) (l ∷ lines) are line has = elim (contains_cases
 ]
 
 -- the same bytes say the same lines
-same_true : (bounds : Bounds) (bytes : List (List ℕ)) (a b : List VerdictLine) → AreTrueLines bounds bytes a
+pub same_true : (bounds : Bounds) (bytes : List (List ℕ)) (a b : List VerdictLine) → AreTrueLines bounds bytes a
     → AreTrueLines bounds bytes b → a ≡ b
 same_true bounds [] [] [] one two = refl
 same_true bounds [] [] (y ∷ b) one two = absurd two
@@ -88,14 +88,14 @@ same_true bounds (c ∷ bytes) (x ∷ a) (y ∷ b) one two =
     ∙ ap (λ l. y ∷ l) (same_true bounds bytes a b one.1 two.1)
 
 -- the line behind those of the first bytes
-record Behind (bounds : Bounds) (first : List VerdictLine) (bytes : List ℕ) (all : List VerdictLine)
+pub record Behind (bounds : Bounds) (first : List VerdictLine) (bytes : List ℕ) (all : List VerdictLine)
     : Type 0 where
-  line : VerdictLine
-  later : List VerdictLine
-  is_true : IsTrueLine bounds bytes line
-  whole : all ≡ first ++ line ∷ later
+  pub line : VerdictLine
+  pub later : List VerdictLine
+  pub is_true : IsTrueLine bounds bytes line
+  pub whole : all ≡ first ++ line ∷ later
 
-behind : (bounds : Bounds) (before : List (List ℕ)) (bytes : List ℕ) (after : List (List ℕ))
+pub behind : (bounds : Bounds) (before : List (List ℕ)) (bytes : List ℕ) (after : List (List ℕ))
     (first all : List VerdictLine) → AreTrueLines bounds before first
     → AreTrueLines bounds (before ++ bytes ∷ after) all → Behind bounds first bytes all
 behind bounds [] bytes after [] [] one two = absurd two
@@ -303,11 +303,11 @@ walked_left bounds past course going more n k walk size is =
     (subst (λ i. IsWalk (all_gaps i k ∷ []) (going.lines ++ more)) (sym same.0) walk))
 
 -- so a line of it is the next one
-record IsNextLine (size : Option Size) (left : List Table) (table : Table) : Type 0 where
-  rest : List Table
-  asked : IsAsked size left table rest
+pub record IsNextLine (size : Option Size) (left : List Table) (table : Table) : Type 0 where
+  pub rest : List Table
+  pub asked : IsAsked size left table rest
 
-head_asked : (left : List Table) (line : VerdictLine) (more : List VerdictLine) → IsWalk left (line ∷ more)
+pub head_asked : (left : List Table) (line : VerdictLine) (more : List VerdictLine) → IsWalk left (line ∷ more)
     → (size : Size) → IsNextLine (Some size) left line.table
 head_asked [] line more walk size = absurd walk
 head_asked (t ∷ ts) line more walk size = record { rest = ts; asked = ap (λ x. x ∷ ts) (sym walk.0) }
@@ -329,7 +329,7 @@ next_asked bounds past course going line more n k walk (Some size) is =
     (walked_left bounds past course going (line ∷ more) n k walk size is) size
 
 -- so no reason to stop applies to it
-none_applies : (bounds : Bounds) (size : Option Size) (left : List Table) (bytes : List ℕ)
+pub none_applies : (bounds : Bounds) (size : Option Size) (left : List Table) (bytes : List ℕ)
     (line : VerdictLine) (why : Why) → IsTrueLine bounds bytes line → IsNextLine size left line.table
     → Applies bounds size left bytes why → ⊥
 none_applies bounds size left bytes line Unread is next applies = applies line.table line.verdict is.is_line

@@ -85,3 +85,8 @@ pub record IsCover (bounds : Bounds) (bytes : List (List ℕ)) (cover : Cover) :
 abbrev pub CoverEnds : Bounds → Option (List ℕ) → Option (List ℕ) → Result Cover Fault → Type 0
 CoverEnds bounds left left_then end = (taken : List ℕ) × Consumes left left_then taken
     × IfOk end (λ cover. IsAtEnd left_then × IsCover bounds (lines taken) cover)
+
+-- no list comes to two things: size or stop, and counts, are settled by its bytes
+abbrev pub CoverIsUnique : Type 0
+CoverIsUnique = (bounds : Bounds) (bytes : List (List ℕ)) (one two : Cover) → IsCover bounds bytes one
+    → IsCover bounds bytes two → (one.found ≡ two.found) × (one.counts ≡ two.counts)
