@@ -21,6 +21,7 @@ import os
 import random
 import re
 import shutil
+import signal
 import subprocess
 import sys
 import tempfile
@@ -231,17 +232,25 @@ def hold_assumptions(tally: Tally) -> None:
             tally.hold("%s: %s" % (what, done.error.decode()), b"assumes" in done.error)
 
 
+def ended_within(command: Sequence[str], seconds: float) -> Ended:
+    """How a command ends; where it takes longer, it is killed with all that it started."""
+    pipe = subprocess.PIPE
+    with subprocess.Popen(command, stdout=pipe, stderr=pipe, start_new_session=True) as process:
+        try:
+            output, error = process.communicate(timeout=seconds)
+        except subprocess.TimeoutExpired:
+            os.killpg(process.pid, signal.SIGKILL)
+            output, error = process.communicate()
+    return Ended(process.returncode, output, error)
+
+
 def hold_large_trees(tally: Tally) -> None:
     """`coq/theorem` refuses trees that the kernel can't walk, at once."""
     for numbers in ("100000000000 4", "1000001 4", "2 100000001", "18446744073709551615 1"):
-        command = [os.path.join(FOLDER, "theorem"), "0RB---_0LA--- backward " + numbers]
-        try:
-            done = subprocess.run(command, capture_output=True, timeout=10)
-        except subprocess.TimeoutExpired:
-            tally.hold("a tree of %s: no answer in 10 s" % numbers, False)
-            continue
-        tally.hold("a tree of %s: status %d" % (numbers, done.returncode), done.returncode == 2)
-        tally.hold("a tree of %s: %r" % (numbers, done.stderr), b"this tree has more than" in done.stderr)
+        line = "0RB---_0LA--- backward " + numbers
+        done = ended_within([os.path.join(FOLDER, "theorem"), line], 10)
+        tally.hold("%s: status %d" % (line, done.status), done.status == 2)
+        tally.hold("%s: %r" % (line, done.error), b"this tree has more than" in done.error)
 
 
 def hold_words(tally: Tally, program: str) -> None:
