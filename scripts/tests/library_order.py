@@ -46,15 +46,15 @@ def parameters(text: str) -> List[str]:
 
 
 def exchanged(text: str, one: str, two: str) -> str:
-    """A header with two words exchanged in `bb_trace`'s declaration, or two counts' numbers."""
-    if one in KINDS:
-        names = {one: two, two: one}
-        return re.sub(r"(?<=#define )(%s|%s)\b" % (one, two), lambda found: names[found[1]], text)
-    begin = text.index("uint32_t bb_trace(")
-    end = text.index(")", begin)
+    """A header with two words exchanged: parameters in `bb_trace`'s declaration, or the numbers of counts."""
+    begin, end = 0, len(text)
+    if one not in KINDS:
+        begin = text.index("uint32_t bb_trace(")
+        end = text.index(")", begin)
     names = {one: two, two: one}
-    swapped = re.sub(r"\b(%s|%s)\b" % (one, two), lambda found: names[found[1]], text[begin:end])
-    return text[:begin] + swapped + text[end:]
+    before = "(?<=#define )" if one in KINDS else r"\b"
+    changed = re.sub(r"%s(%s|%s)\b" % (before, one, two), lambda found: names[found[1]], text[begin:end])
+    return text[:begin] + changed + text[end:]
 
 
 def made(folder: str, text: str, archive: str) -> "subprocess.CompletedProcess[bytes]":
@@ -68,10 +68,10 @@ def made(folder: str, text: str, archive: str) -> "subprocess.CompletedProcess[b
     )
 
 
-def look_input() -> Tuple[bytes, bytes]:
+def look_input() -> Tuple[str, str]:
     """A list and replies to it: the first kind once, the second twice, and so on."""
     pairs = [pair for count, pair in enumerate(KINDS.values(), 1) for pair in [pair] * count]
-    return tuple("".join(line + "\n" for line in lines).encode() for lines in zip(*pairs))  # type: ignore
+    return "".join(line + "\n" for line, _ in pairs), "".join(reply + "\n" for _, reply in pairs)
 
 
 def wanted(program: str) -> bytes:
@@ -89,8 +89,7 @@ def printed(folder: str, text: str, archive: str) -> Ended:
     if compiled.returncode != 0:
         return Ended(compiled.returncode, b"", compiled.stderr)
     numbers = [str(number) for number in GIVEN.values()]
-    lists = [given.decode() for given in look_input()]
-    return ended([os.path.join(folder, "order"), MACHINE, *numbers, *lists])
+    return ended([os.path.join(folder, "order"), MACHINE, *numbers, *look_input()])
 
 
 def exchanges() -> Iterator[Tuple[str, str]]:
