@@ -55,6 +55,15 @@
 /* `out` is too short. The work was done, and is lost. */
 #define BB_SHORT 4
 
+/* Where the array `counts` of bb_look has the number of replies of each kind. */
+#define BB_COUNT_HALT 0
+#define BB_COUNT_CYCLER 1
+#define BB_COUNT_TRANSLATED 2
+#define BB_COUNT_BACKWARD 3
+#define BB_COUNT_UNDECIDED_STEPS 4
+#define BB_COUNT_UNDECIDED_CELLS 5
+#define BB_COUNT_REFUSED 6
+
 /* Bytes of `out` with which BB_SHORT never comes, for a list of so many bytes and lines, and for one line of
  * so many bytes. A list has a line more than newlines, unless it ends in one or is empty. Lengths and lines
  * may be of any integer type, and aren't negative; the room is a `size_t`. */
@@ -75,7 +84,8 @@ uint32_t bb_decide(uint64_t steps, uint64_t cells, uint64_t depth, uint64_t node
 
 /* The reply to one line, without a newline. A line that is refused costs no tapes. Where more than 1,024
  * cells are allowed, up to 4,096 steps are tried on small tapes first: so it makes at most
- * 3 * steps + 3 * min(steps, 4096) steps. */
+ * 3 * steps + 3 * min(steps, 4096) steps. That bound is proved of the function inside that decides; the
+ * contract of this call doesn't speak of steps. */
 uint32_t bb_decide_line(uint64_t steps, uint64_t cells, uint64_t depth, uint64_t nodes, bool cyclers,
                         bool translated, bool backward, const uint8_t *line, size_t line_len, uint8_t *out,
                         size_t out_len, size_t *count);
@@ -84,7 +94,7 @@ uint32_t bb_decide_line(uint64_t steps, uint64_t cells, uint64_t depth, uint64_t
 uint32_t bb_check(uint64_t steps, uint64_t cells, uint64_t depth, uint64_t nodes, const uint8_t *list,
                   size_t list_len, uint8_t *out, size_t out_len, size_t *count);
 
-/* The answer to one verdict line, without a newline. A line that is `unread` costs no tapes. */
+/* The answer to one verdict line, without a newline. A line that is `unread`, or a refusal, costs no tapes. */
 uint32_t bb_check_line(uint64_t steps, uint64_t cells, uint64_t depth, uint64_t nodes, const uint8_t *line,
                        size_t line_len, uint8_t *out, size_t out_len, size_t *count);
 
@@ -99,7 +109,7 @@ uint32_t bb_trace(uint64_t steps, uint64_t cells, uint64_t from, uint64_t every,
  * newline, and whether there are no more. A reply has its form where it is the line's bytes, a space and a
  * verdict, together a verdict line; or `refused` and the line's column, where the line is no machine. Then
  * `counts` tells how many there are of halt, cycler, translated, backward, undecided steps, undecided cells
- * and refused, in this order, and `*lines` is their sum. Else `counts` is as it was, and `*lines` is the
+ * and refused, in this order (BB_COUNT_HALT to BB_COUNT_REFUSED), and `*lines` is their sum. Else `counts` is as it was, and `*lines` is the
  * first line that has none, from 0: the number of lines where each has one. Whether a verdict is right isn't
  * looked at: no step is made. It takes no memory. */
 uint32_t bb_look(const uint8_t *list, size_t list_len, const uint8_t *replies, size_t replies_len,

@@ -3,10 +3,11 @@
 
     scripts/tests/coq.py crates/bb/out/bb [--quick] [--part PART] [--seed S]
 
-It builds `coq/`, holds that every statement there is proved from no assumption, and gives both checkers the
-worked lines of `coq/Rows.v`, verdicts of the list of four states, forged ones, pairs of which the cells alone
-tell whether they hold, trees of machines that halt, and tight limits. Answers and statuses must be the same,
-byte for byte; so must be the statuses for wrong words and faults.
+It builds `coq/`, and holds that every statement there is proved from no assumption, that the build fails
+where one isn't, and that `coq/theorem` refuses trees that are too large. It gives both checkers the worked
+lines of `coq/Rows.v`, verdicts of the list of four states, forged ones, pairs of which the cells alone tell
+whether they hold, trees of machines that halt, and tight limits. Answers and statuses must be the same, byte
+for byte; so must be the statuses for wrong words and faults.
 
 Without `--quick` it also has `coqchk` look at all proofs, builds a copy of the folder elsewhere, takes the
 whole list at three sets of limits, five states, more symbols, a million forged lines, and a thousand
@@ -20,6 +21,7 @@ import os
 import random
 import re
 import shutil
+import signal
 import subprocess
 import sys
 import tempfile
@@ -202,11 +204,53 @@ def hold_built(tally: Tally) -> bool:
     names = statements()
     closed = output.decode().splitlines().count("Closed under the global context")
     tally.hold("%d theorems, %d of no assumption" % (len(names), closed), len(names) == closed > 0)
+    last = output.decode().splitlines()[-1:]
+    tally.hold("coq/build ends with %s" % last, last == ["checker: " + CHECKER])
     for path in sources():
         with open(path, encoding="utf-8") as file:
             left = NO_PROOFS.search(file.read())
         tally.hold("%s has %s" % (path, left and left[0]), not left)
     return status == 0
+
+
+def hold_assumptions(tally: Tally) -> None:
+    """A theorem that is left unproved fails the build, again where all else is up to date, and is named."""
+    proof = re.compile(r"(Theorem reply_ok .*?)\nProof\..*?Qed\.", re.S)
+    with copied(built=True) as folder:
+        path = os.path.join(folder, "Statements.v")
+        with open(path, encoding="utf-8") as file:
+            text, count = proof.subn(r"\1\nAdmitted.", file.read())
+        with open(path, "w", encoding="utf-8") as file:
+            file.write(text)
+        tally.hold("the proof of reply_ok is there", count == 1)
+        for time in ("first", "second"):
+            done = ended([os.path.join(folder, "build")])
+            what = "reply_ok assumed, %s build: status %d" % (time, done.status)
+            tally.hold(what, done.status == 1)
+            printed = done.output.decode()
+            tally.hold("%s: %s" % (what, printed), "Axioms:\nreply_ok" in printed)
+            tally.hold("%s: %s" % (what, done.error.decode()), b"assumes" in done.error)
+
+
+def ended_within(command: Sequence[str], seconds: float) -> Ended:
+    """How a command ends; where it takes longer, it is killed with all that it started."""
+    pipe = subprocess.PIPE
+    with subprocess.Popen(command, stdout=pipe, stderr=pipe, start_new_session=True) as process:
+        try:
+            output, error = process.communicate(timeout=seconds)
+        except subprocess.TimeoutExpired:
+            os.killpg(process.pid, signal.SIGKILL)
+            output, error = process.communicate()
+    return Ended(process.returncode, output, error)
+
+
+def hold_large_trees(tally: Tally) -> None:
+    """`coq/theorem` refuses trees that the kernel can't walk, at once."""
+    for numbers in ("100000000000 4", "1000001 4", "2 100000001", "18446744073709551615 1"):
+        line = "0RB---_0LA--- backward " + numbers
+        done = ended_within([os.path.join(FOLDER, "theorem"), line], 10)
+        tally.hold("%s: status %d" % (line, done.status), done.status == 2)
+        tally.hold("%s: %r" % (line, done.error), b"this tree has more than" in done.error)
 
 
 def hold_words(tally: Tally, program: str) -> None:
@@ -315,11 +359,11 @@ def hold_elsewhere(tally: Tally, _: Both, __: int) -> None:
 
 
 @contextlib.contextmanager
-def copied() -> Iterator[str]:
-    """A copy of `coq/`, without what is built, that goes with what is in it."""
+def copied(built: bool = False) -> Iterator[str]:
+    """A copy of `coq/`, with or without what is built, that goes with what is in it."""
     with tempfile.TemporaryDirectory() as top:
         folder = os.path.join(top, "coq")
-        shutil.copytree(FOLDER, folder, ignore=shutil.ignore_patterns("out"))
+        shutil.copytree(FOLDER, folder, ignore=None if built else shutil.ignore_patterns("out"))
         yield folder
 
 
@@ -401,6 +445,8 @@ def hold_theorems(tally: Tally, both: Both, seed: int) -> None:
 
 def hold_quick(tally: Tally, both: Both, seed: int) -> None:
     """All that takes less than a minute."""
+    hold_assumptions(tally)
+    hold_large_trees(tally)
     hold_words(tally, both.program)
     for what, claims in quick_claims(both, seed):
         both.hold(what, claims)

@@ -3,9 +3,10 @@
 
     scripts/tests/library.py crates/bb/out/bb [--part PART]...
 
-The parts, both of which are run where none is named: `calls`, and `room`, the room that the header's macros
-give for a reply, which takes a second. For `calls` it runs `scripts/library`, and gcc, g++, rustc and
-valgrind beside; what isn't installed is skipped. The lists are the first 100,000 machines of four states in
+The parts, all of which are run where none is named: `calls`; `order`, the order of parameters and counts in
+the header and the library, which takes some seconds; and `room`, the room that the header's macros give for
+a reply, which takes a second. `calls` and `order` run `scripts/library`; gcc, g++, rustc and valgrind are
+used beside, and what isn't installed is skipped. The lists are the first 100,000 machines of four states in
 tree normal form, all of two states, and claims that someone made up; the traces those of a hundred of the
 machines, at every first step and every distance up to 50. It takes two minutes, after the proof. The last
 line is `N passed, M failed, K skipped`; the status is 1 where any failed.
@@ -16,10 +17,11 @@ import re
 import subprocess
 import sys
 import tempfile
-from typing import Sequence, Tuple
+from typing import Optional, Sequence, Tuple
 
 sys.path.insert(0, os.path.join(os.path.dirname(os.path.dirname(os.path.abspath(__file__))), "lib"))
 
+import library_order  # noqa: E402
 import library_room  # noqa: E402
 from built import has_lister, listed  # noqa: E402
 from program import as_lines, begins_modulo_64, ended, replies  # noqa: E402
@@ -184,15 +186,20 @@ def is_no_machine(text: str) -> bool:
     return False
 
 
-def hold_calls(tally: Tally, program: str) -> None:
-    """The library, and what calls it in each language."""
+def library(tally: Tally) -> Optional[Tuple[str, str]]:
+    """Builds the library: the paths of `libbb.a` and `libbb.so`, or None where it can't be built."""
     if not tally.has("the library", "rt", "cc", "ar", "ld", "objcopy", "nm"):
-        return
+        return None
     status, printed = output([os.path.join(TOP, "scripts", "library")])
     tally.hold("scripts/library: status %d" % status, status == 0)
     if status != 0:
-        return
+        return None
     archive, shared, _ = printed.decode().splitlines()
+    return archive, shared
+
+
+def hold_calls(tally: Tally, program: str, archive: str, shared: str) -> None:
+    """The library, and what calls it in each language."""
     symbols = output(["nm", "-D", "--defined-only", shared])[1].decode().split()[2::3]
     tally.hold("libbb.so has %s" % symbols, sorted(symbols) == CALLS)
     begins = begins_modulo_64(shared)
@@ -203,7 +210,7 @@ def hold_calls(tally: Tally, program: str) -> None:
     hold_python(tally, program, shared)
 
 
-PARTS = ("calls", "room")
+PARTS = ("calls", "order", "room")
 
 
 def main() -> int:
@@ -212,8 +219,11 @@ def main() -> int:
     parts = asked.part or PARTS
     if "room" in parts:
         library_room.hold(tally)
-    if "calls" in parts:
-        hold_calls(tally, asked.program)
+    built = library(tally) if {"calls", "order"} & set(parts) else None
+    if built and "order" in parts:
+        library_order.hold(tally, asked.program, built[0])
+    if built and "calls" in parts:
+        hold_calls(tally, asked.program, *built)
     return tally.end()
 
 

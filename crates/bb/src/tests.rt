@@ -3,7 +3,7 @@
 use crate::progress::Counts;
 use crate::serve::{serve, serve_in_one_run, status};
 use arrayvec::ArrayString;
-use bb_command::{Asked, Stop, ask};
+use bb_command::{Asked, Numbers, Stop, ask, numbers_given};
 use bb_lines::fault::Fault;
 use bb_lines::watched::Watched;
 use bb_machine::limits::{MAX_CELLS, MAX_LEVELS, MAX_NODES, MAX_STEPS};
@@ -296,6 +296,47 @@ fn refuses_limits(rt: HostRuntime) {
             other => panic!(rt; "{other:?}"),
         }
     }
+}
+
+/// Words, the numbers that they give for steps, cells, levels and nodes, accepted or not, and whether they ask
+/// for a trace.
+static GIVEN: [(&[&str], [u64; 4], bool); 4] = [
+    (
+        &["decide", "--cells=4", "--depth=3"],
+        [1_000_000, 4, 3, 1_000_000],
+        false,
+    ),
+    (
+        &["check", "--steps=1000000000001", "--nodes", "7"],
+        [1_000_000_000_001, 65_536, 300, 7],
+        false,
+    ),
+    (
+        &["trace", "--upto", "5", "--cells=0", "1RA1RA"],
+        [5, 0, 0, 0],
+        true,
+    ),
+    (&["decide"], [1_000_000, 65_536, 300, 1_000_000], false),
+];
+
+/// With ample memory the numbers are given: no clause says that memory is left.
+#[test]
+fn gives_the_numbers_of_limits(rt: HostRuntime) {
+    for (words, given, is_of_trace) in &GIVEN {
+        let numbers = numbers_of(&rt, words);
+        assert_eq!(rt;
+            [numbers.steps, numbers.cells, numbers.depth, numbers.nodes],
+            *given
+        );
+        assert_eq!(rt; numbers.is_of_trace, *is_of_trace);
+    }
+}
+
+/// The numbers that these words give.
+fn numbers_of(rt: &(impl Abort + AllocGlobal), words: &[&'static str]) -> Numbers {
+    let mut all: Vec<&str> = ["bb"].to_vec(rt.alloc()).expect(rt, "memory");
+    all.extend_from_slice(words).expect(rt, "memory");
+    numbers_given(rt.alloc(), all.as_slice()).expect(rt, "numbers")
 }
 
 /// Words that are no command line, and what the text that refuses them names.

@@ -1,4 +1,5 @@
 pub mod Buffer
 pub mod Call
 pub mod Cost
+pub mod Numbers
 pub mod Sample

@@ -7,7 +7,7 @@ ghost use Rattle.bb_cert.specs.checker.Answer.{IsAnswer};
 ghost use Rattle.bb_run.specs.CheckReply.{IsCheckReply};
 ghost use Rattle.bb_run.specs.CheckSummary.{IsFine};
 ghost use Rattle.bb_c.specs.Buffer.{IsFilled, IsTooShort, IsUntouched};
-ghost use Rattle.bb_c.specs.Call.{bounds_of};
+ghost use Rattle.bb_c.specs.Call.{IsVerdictLine, bounds_of};
 
 use crate::buffer::{CLEAN, LIMITS, MEMORY, NOT_CLEAN, SHORT, give};
 use bb_cert::{Answer, Line, Verdict, check, read_line};
@@ -93,6 +93,7 @@ pub extern "C" fn bb_check_line(
     ensures clean { result ≡ CLEAN → IsFine (bounds_of steps cells depth nodes) line.now }
     ensures not_fine { result ≡ NOT_CLEAN → IsFine (bounds_of steps cells depth nodes) line.now → ⊥ }
     ensures limits { (result ≡ LIMITS) ↔ (IsAccepted (bounds_of steps cells depth nodes) → ⊥) }
+    ensures memory { result ≡ MEMORY → IsVerdictLine line.now }
     ensures untouched { (result ≡ LIMITS) ⊎ (result ≡ MEMORY) → IsUntouched out.old out.new count.new }
     ensures short { result ≡ SHORT
         → IsTooShort (IsCheckReply (bounds_of steps cells depth nodes) line.now) out.old out.new count.new }

@@ -7,5 +7,8 @@
 mod buffer;
 mod checking;
 mod deciding;
+pub mod laws;
 mod looking;
+#[cfg(test)]
+mod tests;
 mod tracing;

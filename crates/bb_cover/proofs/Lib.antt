@@ -2,8 +2,10 @@ mod Asks
 mod Halting
 mod Judging
 mod Lefts
+mod Reasons
 mod Steps
 mod Tables
 mod Tallies
+mod Uniqueness
 mod Useds
 mod Wholes

@@ -1,5 +1,5 @@
 -- What the lines of a list come to, from what each line did.
-use Rattle.std.proofs.Common.{◌≡◌, ℕ, zero, suc, ◌+◌, ◌<◌, List, [], ◌∷◌, ◌++◌}
+use Rattle.std.proofs.Common.{◌≡◌, ◌≢◌, ℕ, zero, suc, ◌+◌, ◌<◌, List, [], ◌∷◌, ◌++◌}
 use Rattle.std.proofs.Common.{Option, Some, None, length, replicate, inl, inr, refl, ap, ap₂, sym, subst, ◌∙◌}
 use Rattle.std.proofs.Common.{arith, ◌↔◌}
 use Rattle.std.proofs.Common.{append_assoc}
@@ -29,7 +29,7 @@ use Rattle.bb_cover.specs.declared.list.Cover.{Cover}
 use Rattle.bb_cover.specs.declared.list.Size.{Size}
 use Rattle.bb_cover.specs.Claims.{AreTrueLines, IsTrueLine}
 use Rattle.bb_cover.specs.Counts.{AreCounts, no_counts, saturated}
-use Rattle.bb_cover.specs.Course.{EndsTooSoon, IsAsked, IsFoundBy, IsWrong, Stopped, TookBy, Visited}
+use Rattle.bb_cover.specs.Course.{Applies, EndsTooSoon, IsAsked, IsFoundBy, IsWrong, Stopped, TookBy, Visited}
 use Rattle.bb_cover.specs.Course.{size_after}
 use Rattle.bb_cover.specs.Covering.{CoversSize, DecidesSize, HasLeft, IsCover, IsFound, IsWholeWalk}
 use Rattle.bb_cover.specs.Covering.{IsWrongAt, StopsAt}
@@ -39,6 +39,10 @@ use Rattle.bb_cover.proofs.Tables.{empty_is}
 use Rattle.bb_cover.proofs.Tallies.{next_line, none_counted, one_counted}
 
 -- true lines
+
+some_pushed : (lines : List VerdictLine) (line : VerdictLine) → lines ++ line ∷ [] ≢ []
+some_pushed [] line none = cc
+some_pushed (l ∷ lines) line none = cc
 
 true_push : (bounds : Bounds) (bytes : List (List ℕ)) (lines : List VerdictLine) (b : List ℕ)
     (l : VerdictLine) → AreTrueLines bounds bytes lines → IsTrueLine bounds b l
@@ -72,7 +76,7 @@ each_true bounds (b ∷ bytes) (l ∷ lines) are line has = elim (contains_cases
 ]
 
 -- the same bytes say the same lines
-same_true : (bounds : Bounds) (bytes : List (List ℕ)) (a b : List VerdictLine) → AreTrueLines bounds bytes a
+pub same_true : (bounds : Bounds) (bytes : List (List ℕ)) (a b : List VerdictLine) → AreTrueLines bounds bytes a
     → AreTrueLines bounds bytes b → a ≡ b
 same_true bounds [] [] [] one two = refl
 same_true bounds [] [] (y ∷ b) one two = absurd two
@@ -84,14 +88,14 @@ same_true bounds (c ∷ bytes) (x ∷ a) (y ∷ b) one two =
     ∙ ap (λ l. y ∷ l) (same_true bounds bytes a b one.1 two.1)
 
 -- the line behind those of the first bytes
-record Behind (bounds : Bounds) (first : List VerdictLine) (bytes : List ℕ) (all : List VerdictLine)
+pub record Behind (bounds : Bounds) (first : List VerdictLine) (bytes : List ℕ) (all : List VerdictLine)
     : Type 0 where
-  line : VerdictLine
-  later : List VerdictLine
-  is_true : IsTrueLine bounds bytes line
-  whole : all ≡ first ++ line ∷ later
+  pub line : VerdictLine
+  pub later : List VerdictLine
+  pub is_true : IsTrueLine bounds bytes line
+  pub whole : all ≡ first ++ line ∷ later
 
-behind : (bounds : Bounds) (before : List (List ℕ)) (bytes : List ℕ) (after : List (List ℕ))
+pub behind : (bounds : Bounds) (before : List (List ℕ)) (bytes : List ℕ) (after : List (List ℕ))
     (first all : List VerdictLine) → AreTrueLines bounds before first
     → AreTrueLines bounds (before ++ bytes ∷ after) all → Behind bounds first bytes all
 behind bounds [] bytes after [] [] one two = absurd two
@@ -179,24 +183,30 @@ module _ (bounds : Bounds) (past : List (List ℕ)) (bytes : List ℕ) (old new 
       → IsAsked size walk visited.line.table visited.goes.rest → HasLeft size walk going.lines
       → HasLeft (size_after size visited.line.table) (visited.goes.more ++ visited.goes.rest)
       (going.lines ++ visited.line ∷ [])
-  visited_left visited None walk asked left = λ tail.
-      let line = visited.line in
-      let goes = goes_on line visited.gap visited.goes.more visited.goes.rest visited.to_fill
-      visited.goes.fills tail in
-      let root = ap₂ ◌∷◌ (empty_is line.table visited.is_true.is_line.0 asked.0) asked.1 in
-      subst (λ ts. IsWalk (visited.goes.more ++ visited.goes.rest) tail
-      ↔ IsWalk ts ((going.lines ++ line ∷ []) ++ tail)) root
-      (subst (λ l. IsWalk (visited.goes.more ++ visited.goes.rest) tail
-      ↔ IsWalk (line.table ∷ visited.goes.rest) ((l ++ line ∷ []) ++ tail)) (sym left.0) goes)
-  visited_left visited (Some size) walk asked left = λ tail.
-      let line = visited.line in
-      let goes = goes_on line visited.gap visited.goes.more visited.goes.rest visited.to_fill
-      visited.goes.fills tail in
-      let before = left (line ∷ tail) in
-      rw append_assoc (
-        λ now. before.0 (subst (λ t. IsWalk t (line ∷ tail)) (sym asked) (goes.0 now)),
-        λ now. goes.1 (subst (λ t. IsWalk t (line ∷ tail)) asked (before.1 now)),
-      )
+  visited_left visited None walk asked left = (
+    some_pushed going.lines visited.line,
+    λ tail.
+        let line = visited.line in
+        let goes = goes_on line visited.gap visited.goes.more visited.goes.rest visited.to_fill
+        visited.goes.fills tail in
+        let root = ap₂ ◌∷◌ (empty_is line.table visited.is_true.is_line.0 asked.0) asked.1 in
+        subst (λ ts. IsWalk (visited.goes.more ++ visited.goes.rest) tail
+        ↔ IsWalk ts ((going.lines ++ line ∷ []) ++ tail)) root
+        (subst (λ l. IsWalk (visited.goes.more ++ visited.goes.rest) tail
+        ↔ IsWalk (line.table ∷ visited.goes.rest) ((l ++ line ∷ []) ++ tail)) (sym left.0) goes),
+  )
+  visited_left visited (Some size) walk asked left = (
+    some_pushed going.lines visited.line,
+    λ tail.
+        let line = visited.line in
+        let goes = goes_on line visited.gap visited.goes.more visited.goes.rest visited.to_fill
+        visited.goes.fills tail in
+        let before = left.1 (line ∷ tail) in
+        rw append_assoc (
+          λ now. before.0 (subst (λ t. IsWalk t (line ∷ tail)) (sym asked) (goes.0 now)),
+          λ now. goes.1 (subst (λ t. IsWalk t (line ∷ tail)) asked (before.1 now)),
+        ),
+  )
 
   visited_begun : (visited : Visited bounds old bytes new) (size : Option Size) (walk : List Table)
       → IsAsked size walk visited.line.table visited.goes.rest → HasLeft size walk going.lines
@@ -289,15 +299,15 @@ walked_left : (bounds : Bounds) (past : List (List ℕ)) (course : Course) (goin
 walked_left bounds past course going more n k walk size is =
     let same = begun_size going.lines more size n k (going.begun size is) walk in
     let left : HasLeft (Some size) course.walk going.lines = left_of_size going is in
-    (left more).1 (subst (λ j. IsWalk (all_gaps size.states j ∷ []) (going.lines ++ more)) (sym same.1)
+    (left.1 more).1 (subst (λ j. IsWalk (all_gaps size.states j ∷ []) (going.lines ++ more)) (sym same.1)
     (subst (λ i. IsWalk (all_gaps i k ∷ []) (going.lines ++ more)) (sym same.0) walk))
 
 -- so a line of it is the next one
-record IsNextLine (size : Option Size) (left : List Table) (table : Table) : Type 0 where
-  rest : List Table
-  asked : IsAsked size left table rest
+pub record IsNextLine (size : Option Size) (left : List Table) (table : Table) : Type 0 where
+  pub rest : List Table
+  pub asked : IsAsked size left table rest
 
-head_asked : (left : List Table) (line : VerdictLine) (more : List VerdictLine) → IsWalk left (line ∷ more)
+pub head_asked : (left : List Table) (line : VerdictLine) (more : List VerdictLine) → IsWalk left (line ∷ more)
     → (size : Size) → IsNextLine (Some size) left line.table
 head_asked [] line more walk size = absurd walk
 head_asked (t ∷ ts) line more walk size = record { rest = ts; asked = ap (λ x. x ∷ ts) (sym walk.0) }
@@ -318,24 +328,24 @@ next_asked bounds past course going line more n k walk (Some size) is =
     head_asked course.walk line more
     (walked_left bounds past course going (line ∷ more) n k walk size is) size
 
--- and a line that is wrong isn't
-not_wrong : (bounds : Bounds) (size : Option Size) (left : List Table) (bytes : List ℕ) (line : VerdictLine)
-    (why : Why) → IsTrueLine bounds bytes line → IsNextLine size left line.table
-    → IsWrong bounds size left bytes why → ⊥
-not_wrong bounds size left bytes line Unread is next wrong = wrong line.table line.verdict is.is_line
-not_wrong bounds size left bytes line NotNext is next wrong =
-    let same = one_line bytes line wrong.0 is.is_line wrong.1 in
-    wrong.2 next.rest (subst (λ (l : VerdictLine). IsAsked size left l.table next.rest) same next.asked)
-not_wrong bounds size left bytes line (Refused given) is next wrong =
-    let same = one_line bytes wrong.0 line wrong.1 is.is_line in
+-- so no reason to stop applies to it
+pub none_applies : (bounds : Bounds) (size : Option Size) (left : List Table) (bytes : List ℕ)
+    (line : VerdictLine) (why : Why) → IsTrueLine bounds bytes line → IsNextLine size left line.table
+    → Applies bounds size left bytes why → ⊥
+none_applies bounds size left bytes line Unread is next applies = applies line.table line.verdict is.is_line
+none_applies bounds size left bytes line NotNext is next applies =
+    let same = one_line bytes line applies.0 is.is_line applies.1 in
+    applies.2 next.rest (subst (λ (l : VerdictLine). IsAsked size left l.table next.rest) same next.asked)
+none_applies bounds size left bytes line (Refused given) is next applies =
+    let same = one_line bytes applies.0 line applies.1 is.is_line in
     fine_or_not bounds line.table line.verdict is.is_fine given
-    (subst (λ (l : VerdictLine). IsAnswer l.table bounds l.verdict given) same wrong.2.is_answer)
-    wrong.2.not_fine
-not_wrong bounds size left bytes line TooSoon is next wrong = wrong
-not_wrong bounds None left bytes line Beyond is next wrong = wrong.0 refl
-not_wrong bounds (Some size) left bytes line Beyond is next wrong =
+    (subst (λ (l : VerdictLine). IsAnswer l.table bounds l.verdict given) same applies.2.is_answer)
+    applies.2.not_fine
+none_applies bounds size left bytes line TooSoon is next applies = applies
+none_applies bounds None left bytes line Beyond is next applies = applies.0 refl
+none_applies bounds (Some size) left bytes line Beyond is next applies =
     let some = next.asked in
-    let none = wrong.1 in
+    let none = applies.1 in
     let both : line.table ∷ next.rest ≡ [] = sym some ∙ none in
     cc
 
@@ -370,10 +380,10 @@ module _ (bounds : Bounds) (all : List (List ℕ)) (course : Course) where
   no_whole stop ended n k whole =
       let there = behind bounds ended.before ended.bytes ended.after ended.going.lines whole.lines
       ended.going.are_true (subst (λ l. AreTrueLines bounds l whole.lines) ended.whole whole.are_true) in
-      not_wrong bounds ended.course.size ended.course.walk ended.bytes there.line stop.why there.is_true
+      none_applies bounds ended.course.size ended.course.walk ended.bytes there.line stop.why there.is_true
       (next_asked bounds ended.before ended.course ended.going there.line there.later n k
       (subst (IsWalk (all_gaps n k ∷ [])) there.whole whole.walk) ended.course.size refl)
-      ended.wrong
+      ended.wrong.applies
 
   -- the list ended too soon
   ends_at : (stop : Stop) → EndsTooSoon course stop → Going bounds all course
@@ -413,7 +423,7 @@ module _ (bounds : Bounds) (all : List (List ℕ)) (course : Course) where
       let left : HasLeft (Some here) [] going.lines =
       subst (λ t. HasLeft (Some here) t going.lines) done
       (left_of_size going size) in
-      subst (IsWalk (all_gaps n k ∷ [])) (append-nil going.lines) ((left []).0 tt)
+      subst (IsWalk (all_gaps n k ∷ [])) (append-nil going.lines) ((left.1 []).0 tt)
 
   covers_of : (n k : ℕ) (whole : IsWholeWalk bounds all n k) → closed.Covers whole.lines n k
   covers_of n k whole =

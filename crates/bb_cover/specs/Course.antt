@@ -1,5 +1,5 @@
 -- How a walk goes along a list, line by line.
-use Rattle.std.specs.Prelude.{◌≡◌, ◌≢◌, ◌⊎◌, ℕ, ◌+◌, List, [], ◌∷◌, ◌++◌, length, Option, Some, None}
+use Rattle.std.specs.Prelude.{◌≡◌, ◌≢◌, ◌⊎◌, ℕ, ◌+◌, ◌≤◌, List, [], ◌∷◌, ◌++◌, length, Option, Some, None}
 use Rattle.bb_machine.specs.Limits.{Bounds}
 use Rattle.bb_machine.specs.Machine.{Table, symbols_of}
 use Rattle.bb_cert.specs.declared.verdict.reader.Line.TheVariants as said
@@ -49,18 +49,32 @@ pub record Visited (bounds : Bounds) (old : Course) (bytes : List ℕ) (new : Co
   pub goes : GoesOn old line.table gap new
   pub counts : new.counts ≡ counted old.counts line
 
--- why a line isn't as the walk asks that has still to visit these machines
-abbrev pub IsWrong : Bounds → Option Size → List Table → List ℕ → Why → Type 0
-IsWrong bounds size left bytes Unread =
+-- where each reason to stop at a line applies, whatever others do
+abbrev pub Applies : Bounds → Option Size → List Table → List ℕ → Why → Type 0
+Applies bounds size left bytes Beyond = (size ≢ None) × (left ≡ [])
+Applies bounds size left bytes Unread =
     (table : Table) (verdict : Verdict) → IsLineOf (said.Claim table verdict) bytes → ⊥
-IsWrong bounds size left bytes NotNext = (line : VerdictLine)
+Applies bounds size left bytes NotNext = (line : VerdictLine)
     × IsLineOf (said.Claim line.table line.verdict) bytes
     × ((rest : List Table) → IsAsked size left line.table rest → ⊥)
-IsWrong bounds size left bytes (Refused given) = (line : VerdictLine)
+Applies bounds size left bytes (Refused given) = (line : VerdictLine)
     × IsLineOf (said.Claim line.table line.verdict) bytes
     × IsRefusedClaim bounds line.table line.verdict given
-IsWrong bounds size left bytes TooSoon = ⊥
-IsWrong bounds size left bytes Beyond = (size ≢ None) × (left ≡ [])
+Applies bounds size left bytes TooSoon = ⊥
+
+-- in this order
+abbrev pub rank : Why → ℕ
+rank Beyond = 1
+rank Unread = 2
+rank NotNext = 3
+rank (Refused given) = 4
+rank TooSoon = 5
+
+-- the first reason that applies, while the walk has still to visit these machines
+pub record IsWrong (bounds : Bounds) (size : Option Size) (left : List Table) (bytes : List ℕ) (why : Why)
+    : Type 0 where
+  pub applies : Applies bounds size left bytes why
+  pub first : (other : Why) → Applies bounds size left bytes other → rank why ≤ rank other
 
 -- the line wasn't as the walk asks
 pub record Stopped (bounds : Bounds) (old : Course) (bytes : List ℕ) (new : Course) : Type 0 where

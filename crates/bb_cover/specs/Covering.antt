@@ -44,12 +44,12 @@ pub record CoversSize (bounds : Bounds) (bytes : List (List ℕ)) (counts : Coun
   pub decides : DecidesSize whole.lines states symbols
   pub counted : AreCounts whole.lines counts
 
--- the machines that a walk along these lines has still to visit: before the first, that with no entry, of
--- whichever size
+-- the machines that a walk along these lines has still to visit. Before the first line there is no size; then
+-- it is that of the first line's machine, which has no entry.
 abbrev pub HasLeft : Option Size → List Table → List VerdictLine → Type 0
 HasLeft None left verdicts = (verdicts ≡ []) × (left ≡ [])
-HasLeft (Some size) left verdicts = (tail : List VerdictLine) → IsWalk left tail
-    ↔ IsWalk (all_gaps size.states size.symbols ∷ []) (verdicts ++ tail)
+HasLeft (Some size) left verdicts = (verdicts ≢ []) × ((tail : List VerdictLine) → IsWalk left tail
+    ↔ IsWalk (all_gaps size.states size.symbols ∷ []) (verdicts ++ tail))
 
 -- at a line, or at the end of all, the walk has still to visit these machines, and the line isn't as it asks
 abbrev pub IsWrongAt : Bounds → Option Size → List Table → List (List ℕ) → Why → Type 0
@@ -85,3 +85,8 @@ pub record IsCover (bounds : Bounds) (bytes : List (List ℕ)) (cover : Cover) :
 abbrev pub CoverEnds : Bounds → Option (List ℕ) → Option (List ℕ) → Result Cover Fault → Type 0
 CoverEnds bounds left left_then end = (taken : List ℕ) × Consumes left left_then taken
     × IfOk end (λ cover. IsAtEnd left_then × IsCover bounds (lines taken) cover)
+
+-- no list comes to two things: size or stop, and counts, are settled by its bytes
+abbrev pub CoverIsUnique : Type 0
+CoverIsUnique = (bounds : Bounds) (bytes : List (List ℕ)) (one two : Cover) → IsCover bounds bytes one
+    → IsCover bounds bytes two → (one.found ≡ two.found) × (one.counts ≡ two.counts)

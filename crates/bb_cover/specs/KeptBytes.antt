@@ -5,6 +5,7 @@ use Rattle.std.proofs.Common.{Some, None}
 use Rattle.std.proofs.lemmas.Bool.{cases_lt}
 use Rattle.std.proofs.lemmas.List.{take_all, length-take}
 use Rattle.bb_machine.specs.Limits.{Bounds}
+use Rattle.bb_machine.specs.Machine.{Table}
 use Rattle.bb_cert.specs.declared.verdict.line.TheConstants.{LINE_BUFFER}
 use Rattle.bb_cert.specs.declared.verdict.reader.Line.{Line}
 use Rattle.bb_cert.specs.declared.verdict.reader.Line.TheVariants.{Claim}
@@ -14,7 +15,8 @@ use Rattle.bb_cover.specs.declared.found.Stop.{Stop}
 use Rattle.bb_cover.specs.declared.found.Why.{Why}
 use Rattle.bb_cover.specs.declared.found.Why.TheVariants.{Unread, NotNext, Refused}
 use Rattle.bb_cover.specs.declared.list.Course.{Course}
-use Rattle.bb_cover.specs.Course.{IsWrong, TookBy}
+use Rattle.bb_cover.specs.declared.list.Size.{Size}
+use Rattle.bb_cover.specs.Course.{Applies, IsWrong, TookBy}
 
 module _ (line : List ℕ) where
   -- either all bytes of a line are kept, or neither they nor the line are a verdict line
@@ -34,15 +36,34 @@ module _ (line : List ℕ) where
     | inr fits ↦ subst P (take_all (LINE_BUFFER + 1) line (omega (arith, fits))) holds
   ]
 
+  -- a reason applies to the line where it does to the kept bytes, and the other way round
+
+  applies_to_line : (bounds : Bounds) (size : Option Size) (left : List Table) (why : Why) → IsTooLong
+      → Applies bounds size left (take (LINE_BUFFER + 1) line) why → Applies bounds size left line why
+  applies_to_line bounds size left Unread long applies = λ table verdict of. long.whole (Claim table verdict) of
+  applies_to_line bounds size left NotNext long applies =
+      absurd (long.kept (Claim applies.0.table applies.0.verdict) applies.1)
+  applies_to_line bounds size left (Refused given) long applies =
+      absurd (long.kept (Claim applies.0.table applies.0.verdict) applies.1)
+  applies_to_line bounds size left why long applies = applies
+
+  applies_to_kept : (bounds : Bounds) (size : Option Size) (left : List Table) (why : Why) → IsTooLong
+      → Applies bounds size left line why → Applies bounds size left (take (LINE_BUFFER + 1) line) why
+  applies_to_kept bounds size left Unread long applies = λ table verdict of. long.kept (Claim table verdict) of
+  applies_to_kept bounds size left NotNext long applies =
+      absurd (long.whole (Claim applies.0.table applies.0.verdict) applies.1)
+  applies_to_kept bounds size left (Refused given) long applies =
+      absurd (long.whole (Claim applies.0.table applies.0.verdict) applies.1)
+  applies_to_kept bounds size left why long applies = applies
+
   wrong_of_long : (bounds : Bounds) (old : Course) (why : Why) → IsTooLong
       → IsWrong bounds old.size old.walk (take (LINE_BUFFER + 1) line) why
       → IsWrong bounds old.size old.walk line why
-  wrong_of_long bounds old Unread long wrong = λ table verdict of. long.whole (Claim table verdict) of
-  wrong_of_long bounds old NotNext long wrong =
-      absurd (long.kept (Claim wrong.0.table wrong.0.verdict) wrong.1)
-  wrong_of_long bounds old (Refused given) long wrong =
-      absurd (long.kept (Claim wrong.0.table wrong.0.verdict) wrong.1)
-  wrong_of_long bounds old why long wrong = wrong
+  wrong_of_long bounds old why long wrong = record {
+    applies = applies_to_line bounds old.size old.walk why long wrong.applies;
+    first = λ other applies.
+        wrong.first other (applies_to_kept bounds old.size old.walk other long applies);
+  }
 
   took_of_long : (stop : Option Stop) (bounds : Bounds) (old new : Course) → IsTooLong
       → TookBy stop bounds old (take (LINE_BUFFER + 1) line) new → TookBy stop bounds old line new

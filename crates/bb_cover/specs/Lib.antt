@@ -7,4 +7,5 @@ pub mod Gaps
 pub mod Halts
 pub mod KeptBytes
 pub mod Left
+pub mod Numbers
 pub mod Used

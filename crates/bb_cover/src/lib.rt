@@ -8,6 +8,7 @@ mod counts;
 mod found;
 mod gap;
 mod halt;
+pub mod laws;
 mod list;
 mod table;
 mod text;

@@ -71,7 +71,7 @@ struct Checker<'a, T> {
     path: &'a mut Path,
     // The machine of the last line that had one. Each is read in its place.
     machine: Machine,
-    course: Course,
+    course: &'a mut Course,
     // How many lines were visited, to be looked at meanwhile.
     seen: &'a Cell<u64>,
 }
@@ -175,13 +175,14 @@ impl<T: Tape> Taker for Checker<'_, T> {
     ghost use Rattle.bb_cover.specs.Course.{Took};
     ghost use Rattle.bb_cover.specs.KeptBytes.{took_of_kept};
 
-    ghost took = { λ a line b. (b.limits ≡ a.limits) × Took a.limits a.course line b.course };
+    ghost took = { λ a line b. (b.limits ≡ a.limits) × Took a.limits a.course.now line b.course.now };
 
     ghost keeps = { λ a b. (b.limits ≡ a.limits) × (b.pair.ghost_name ≡ a.pair.ghost_name)
-        × (b.path.ghost_name ≡ a.path.ghost_name) × (depth_of b.path.now ≡ depth_of a.path.now) };
+        × (b.path.ghost_name ≡ a.path.ghost_name) × (depth_of b.path.now ≡ depth_of a.path.now)
+        × (b.course.ghost_name ≡ a.course.ghost_name) };
 
     ghost is_ready = { λ c. PairHasCells T.view c.limits.cells c.pair.now
-        × (c.limits.depth ≤ depth_of c.path.now) × (c.course.size ≡ None → c.course.walk ≡ []) };
+        × (c.limits.depth ≤ depth_of c.path.now) × (c.course.now.size ≡ None → c.course.now.walk ≡ []) };
 
     ghost GROWS = { T.GROWS };
 
@@ -195,7 +196,7 @@ impl<T: Tape> Taker for Checker<'_, T> {
 
     ghost keeps_few = { Prim.search rules };
 
-    ghost took_by_kept = { λ a line b took. (took.0, took_of_kept a.limits line a.course b.course took.1) };
+    ghost took_by_kept = { λ a line b took. (took.0, took_of_kept a.limits line a.course.now b.course.now took.1) };
 
     fn bytes_kept(&self) -> usize {
         LINE_BUFFER + 1
@@ -271,21 +272,25 @@ pub fn run_cover<R: Read, T: Tape>(
     ensures memory { result ≡ Err Fault.Memory → IsTrue T.GROWS ⊎ (reader.new ≡ reader.old) }
     ensures read { (result ≡ Err Fault.Read) ↔ (is_marked reader.new ≡ true) }
     ensures no_write { result ≢ Err Fault.Write }
+
+    ensures tapes { PairHasCells T.view limits.now.cells pair.new }
+    ensures path { depth_of path.new ≡ depth_of path.old }
 {
     let Ok(walk) = Walk::new(alloc) else {
         return Err(Fault::Memory);
+    };
+    let mut course = Course {
+        size: None,
+        walk,
+        stop: None,
+        counts: Counts::new(),
     };
     let mut checker = Checker {
         limits: *limits,
         pair,
         path,
         machine: Machine::blank(),
-        course: Course {
-            size: None,
-            walk,
-            stop: None,
-            counts: Counts::new(),
-        },
+        course: &mut course,
         seen,
     };
     take_lines(reader, &mut checker)?;

@@ -1,0 +1,271 @@
+-- No list comes to two things: where it stops, why, and what is counted up to there are settled by its bytes.
+use Rattle.std.proofs.Common.{◌≡◌, ◌≢◌, ℕ, ◌+◌, ◌⊎◌, List, [], ◌∷◌, ◌++◌, length, map, Option}
+use Rattle.std.proofs.Common.{Some, None, inl, inr, refl, ap, ap₂, sym, subst, ◌∙◌, arith, append_assoc}
+use Rattle.bb_machine.specs.Limits.{Bounds}
+use Rattle.bb_machine.specs.Machine.{Table}
+use Rattle.bb_cert.specs.declared.verdict.Why.TheVariants as reason
+use Rattle.bb_cert.specs.declared.verdict.Verdict.TheVariants.{Undecided}
+use Rattle.bb_cert.specs.checker.Answer.{IsAnswer}
+use Rattle.bb_cert.proofs.Facts.{answer_is_unique}
+use Rattle.laws_of_verdicts.specs.Closed.{VerdictLine, all_gaps}
+use Rattle.laws_of_verdicts.specs.NormalForm.{IsEmpty}
+use Rattle.laws_of_verdicts.specs.Walk.{HaltsOnOneOf, IsWalk}
+use Rattle.laws_of_verdicts.proofs.Facts.{all_gaps-none}
+use Rattle.bb_cover.specs.declared.counts.Counts.{Counts}
+use Rattle.bb_cover.specs.declared.found.Found.{Found}
+use Rattle.bb_cover.specs.declared.found.Found.TheVariants.{Covers, Stops}
+use Rattle.bb_cover.specs.declared.found.Stop.{Stop}
+use Rattle.bb_cover.specs.declared.found.Why.{Why}
+use Rattle.bb_cover.specs.declared.found.Why.TheVariants.{Unread, NotNext, Refused, TooSoon, Beyond}
+use Rattle.bb_cover.specs.declared.list.Size.{Size}
+use Rattle.bb_cover.specs.Claims.{AreTrueLines}
+use Rattle.bb_cover.specs.Counts.{AreCounts, saturated}
+use Rattle.bb_cover.specs.Course.{Applies, IsWrong, rank}
+use Rattle.bb_cover.specs.Covering.{CoverIsUnique, HasLeft, IsFound, IsWholeWalk, IsWrongAt, StopsAt}
+use Rattle.bb_cover.proofs.Steps.{one_line}
+use Rattle.bb_cover.proofs.Wholes.{IsNextLine, behind, head_asked, none_applies, same_true}
+
+-- two ways to part a list
+
+record IsLonger {A : Type 0} (a after b after_too : List A) : Type 0 where
+  item : A
+  more : List A
+  longer : b ≡ a ++ item ∷ more
+  rest : after ≡ item ∷ (more ++ after_too)
+
+part_twice : {A : Type 0} (a after b after_too : List A) → a ++ after ≡ b ++ after_too
+    → ((a ≡ b) × (after ≡ after_too)) ⊎ (IsLonger a after b after_too ⊎ IsLonger b after_too a after)
+part_twice [] after [] after_too same = inl (refl, same)
+part_twice [] after (y ∷ b) after_too same =
+    inr (inl (record { item = y; more = b; longer = refl; rest = same }))
+part_twice (x ∷ a) after [] after_too same =
+    inr (inr (record { item = x; more = a; longer = refl; rest = sym same }))
+part_twice (x ∷ a) after (y ∷ b) after_too same =
+    let head : x ≡ y = cc in
+    let tail : a ++ after ≡ b ++ after_too = cc in
+    elim (part_twice a after b after_too tail) [
+      | inl both ↦ inl (ap₂ ◌∷◌ head both.0, both.1)
+      | inr (inl long) ↦ inr (inl (record {
+        item = long.item;
+        more = long.more;
+        longer = ap₂ ◌∷◌ (sym head) long.longer;
+        rest = long.rest;
+      }))
+      | inr (inr long) ↦ inr (inr (record {
+        item = long.item;
+        more = long.more;
+        longer = ap₂ ◌∷◌ head long.longer;
+        rest = long.rest;
+      }))
+    ]
+
+-- the walk that visits these machines alone, each undecided
+
+abbrev undecided : Table → VerdictLine
+undecided table = record { table = table; verdict = Undecided reason.Steps }
+
+no_halt : (table : Table) (q s : ℕ) → HaltsOnOneOf (undecided table) q s → ⊥
+no_halt table q s halts = let says = halts.says in cc
+
+undecided_walk : (left : List Table) → IsWalk left (map undecided left)
+undecided_walk [] = tt
+undecided_walk (table ∷ left) = (
+  refl,
+  (
+    [],
+    record { filled = λ q s halts. absurd (no_halt table q s halts); none = λ _. refl },
+    undecided_walk left,
+  ),
+)
+
+walked_undecided : (left other : List Table) → IsWalk left (map undecided other) → left ≡ other
+walked_undecided [] [] walk = refl
+walked_undecided [] (o ∷ other) walk = absurd walk
+walked_undecided (t ∷ left) [] walk = absurd walk
+walked_undecided (t ∷ left) (o ∷ other) walk =
+    let none = walk.1.1.none (no_halt o) in
+    ap₂ ◌∷◌ (sym walk.0)
+    (walked_undecided left other (subst (λ more. IsWalk (more ++ left) (map undecided other)) none walk.1.2))
+
+-- a walk goes along these lines, which are some, and so their first machine is that with no entry
+
+first_is_root : (n k : ℕ) (lines tail : List VerdictLine) → lines ≢ []
+    → IsWalk (all_gaps n k ∷ []) (lines ++ tail) → (i j : ℕ) (tail_too : List VerdictLine)
+    → IsWalk (all_gaps i j ∷ []) (lines ++ tail_too) → all_gaps n k ≡ all_gaps i j
+first_is_root n k [] tail some walk i j tail_too walk_too = absurd (some refl)
+first_is_root n k (line ∷ lines) tail some walk i j tail_too walk_too = sym walk.0 ∙ walk_too.0
+
+walk_from : (size : Size) (left : List Table) (lines : List VerdictLine) → HasLeft (Some size) left lines
+    → IsWalk (all_gaps size.states size.symbols ∷ []) (lines ++ map undecided left)
+walk_from size left lines has = (has.1 (map undecided left)).0 (undecided_walk left)
+
+-- what is left after these lines, where a walk of some size goes along them
+next_line_of : (size : Option Size) (left : List Table) (lines : List VerdictLine) → HasLeft size left lines
+    → (n k : ℕ) (line : VerdictLine) (tail : List VerdictLine)
+    → IsWalk (all_gaps n k ∷ []) (lines ++ line ∷ tail) → IsNextLine size left line.table
+next_line_of None left lines has n k line tail walk =
+    let first : IsWalk (all_gaps n k ∷ []) (line ∷ tail) =
+    subst (λ l. IsWalk (all_gaps n k ∷ []) (l ++ line ∷ tail)) has.0 walk in
+    record { rest = []; asked = (subst IsEmpty (sym first.0) (all_gaps-none n k), refl) }
+next_line_of (Some size) left lines has n k line tail walk =
+    let root = first_is_root n k lines (line ∷ tail) has.0 walk size.states size.symbols
+    (map undecided left) (walk_from size left lines has) in
+    head_asked left line tail
+    ((has.1 (line ∷ tail)).1 (subst (λ t. IsWalk (t ∷ []) (lines ++ line ∷ tail)) root walk)) size
+
+-- a list that goes on rightly after these lines doesn't stop there
+module _ (bounds : Bounds) (bytes : List (List ℕ)) where
+  not_sooner : (c d : Counts) (one two : Stop) (first : StopsAt bounds bytes c one)
+      (second : StopsAt bounds bytes d two) → IsLonger first.before first.after second.before second.after
+      → (size : Option Size) → second.size ≡ size → ⊥
+  not_sooner c d one two first second long None is =
+      let none = (subst (λ s. HasLeft s second.left second.verdicts) is second.has_left).0 in
+      let true_too : AreTrueLines bounds (first.before ++ long.item ∷ long.more) second.verdicts =
+      subst (λ b. AreTrueLines bounds b second.verdicts) long.longer second.are_true in
+      let there = behind bounds first.before long.item long.more first.verdicts second.verdicts
+      first.are_true true_too in
+      not_none first.verdicts there.line there.later (sym there.whole ∙ none)
+    where
+      not_none : (a : List VerdictLine) (l : VerdictLine) (b : List VerdictLine) → a ++ l ∷ b ≡ [] → ⊥
+      not_none [] l b none = cc
+      not_none (x ∷ a) l b none = cc
+  not_sooner c d one two first second long (Some size) is =
+      let has = subst (λ s. HasLeft s second.left second.verdicts) is second.has_left in
+      let true_too : AreTrueLines bounds (first.before ++ long.item ∷ long.more) second.verdicts =
+      subst (λ b. AreTrueLines bounds b second.verdicts) long.longer second.are_true in
+      let there = behind bounds first.before long.item long.more first.verdicts second.verdicts
+      first.are_true true_too in
+      let tail = map undecided second.left in
+      let walk : IsWalk (all_gaps size.states size.symbols ∷ [])
+      (first.verdicts ++ there.line ∷ (there.later ++ tail)) =
+      subst (IsWalk (all_gaps size.states size.symbols ∷ []))
+      (ap (λ l. l ++ tail) there.whole
+      ∙ append_assoc first.verdicts (there.line ∷ there.later) tail)
+      (walk_from size second.left second.verdicts has) in
+      let next = next_line_of first.size first.left first.verdicts first.has_left size.states size.symbols
+      there.line (there.later ++ tail) walk in
+      let wrong : IsWrong bounds first.size first.left long.item one.why =
+      subst (λ a. IsWrongAt bounds first.size first.left a one.why) long.rest first.wrong in
+      none_applies bounds first.size first.left long.item there.line one.why there.is_true next wrong.applies
+
+  -- at one line there is one reason
+
+  same_why : (size : Option Size) (left : List Table) (line : List ℕ) (a b : Why)
+      → Applies bounds size left line a → Applies bounds size left line b → rank a ≡ rank b → a ≡ b
+  same_why size left line TooSoon b one two e = absurd one
+  same_why size left line a TooSoon one two e = absurd two
+  same_why size left line Beyond Beyond one two e = refl
+  same_why size left line Beyond Unread one two e = absurd (omega (arith, e))
+  same_why size left line Beyond NotNext one two e = absurd (omega (arith, e))
+  same_why size left line Beyond (Refused given) one two e = absurd (omega (arith, e))
+  same_why size left line Unread Beyond one two e = absurd (omega (arith, e))
+  same_why size left line Unread Unread one two e = refl
+  same_why size left line Unread NotNext one two e = absurd (omega (arith, e))
+  same_why size left line Unread (Refused given) one two e = absurd (omega (arith, e))
+  same_why size left line NotNext Beyond one two e = absurd (omega (arith, e))
+  same_why size left line NotNext Unread one two e = absurd (omega (arith, e))
+  same_why size left line NotNext NotNext one two e = refl
+  same_why size left line NotNext (Refused given) one two e = absurd (omega (arith, e))
+  same_why size left line (Refused given) Beyond one two e = absurd (omega (arith, e))
+  same_why size left line (Refused given) Unread one two e = absurd (omega (arith, e))
+  same_why size left line (Refused given) NotNext one two e = absurd (omega (arith, e))
+  same_why size left line (Refused given) (Refused other) one two e =
+      let same = one_line line two.0 one.0 two.1 one.1 in
+      ap Refused (answer_is_unique one.0.table bounds one.0.verdict given other one.2.is_answer
+      (subst (λ (l : VerdictLine). IsAnswer l.table bounds l.verdict other) same two.2.is_answer))
+
+  one_why : (size : Option Size) (left : List Table) (after : List (List ℕ)) (a b : Why)
+      → IsWrongAt bounds size left after a → IsWrongAt bounds size left after b → a ≡ b
+  one_why size left [] a b one two = one.0 ∙ sym two.0
+  one_why size left (line ∷ after) a b one two =
+      let below = one.first b two.applies in
+      let above = two.first a one.applies in
+      same_why size left line a b one.applies two.applies (omega (arith, below, above))
+
+  -- which size it is says nothing of the reason, but that there is one
+
+  any_size : (s t : Size) (left : List Table) (line : List ℕ) (why : Why)
+      → Applies bounds (Some s) left line why → Applies bounds (Some t) left line why
+  any_size s t left line Beyond applies = (λ none. cc, applies.1)
+  any_size s t left line why applies = applies
+
+  wrong_any : (s t : Size) (left : List Table) (after : List (List ℕ)) (why : Why)
+      → IsWrongAt bounds (Some s) left after why → IsWrongAt bounds (Some t) left after why
+  wrong_any s t left [] why wrong = (wrong.0, λ some. wrong.1 (λ none. cc))
+  wrong_any s t left (line ∷ after) why wrong = record {
+    applies = any_size s t left line why wrong.applies;
+    first = λ other applies. wrong.first other (any_size t s left line other applies);
+  }
+
+  why_there : (size size_too : Option Size) (left left_too : List Table) (lines : List VerdictLine)
+      (after : List (List ℕ)) (a b : Why) → HasLeft size left lines → HasLeft size_too left_too lines
+      → IsWrongAt bounds size left after a → IsWrongAt bounds size_too left_too after b → a ≡ b
+  why_there None None left left_too lines after a b has has_too wrong wrong_too =
+      one_why None left after a b wrong
+      (subst (λ l. IsWrongAt bounds None l after b) (has_too.1 ∙ sym has.1) wrong_too)
+  why_there None (Some t) left left_too lines after a b has has_too wrong wrong_too =
+      absurd (has_too.0 has.0)
+  why_there (Some s) None left left_too lines after a b has has_too wrong wrong_too =
+      absurd (has.0 has_too.0)
+  why_there (Some s) (Some t) left left_too lines after a b has has_too wrong wrong_too =
+      let walk = walk_from s left lines has in
+      let root = first_is_root s.states s.symbols lines (map undecided left) has.0 walk t.states t.symbols
+      (map undecided left_too) (walk_from t left_too lines has_too) in
+      let same : left_too ≡ left = walked_undecided left_too left ((has_too.1 (map undecided left)).1
+      (subst (λ r. IsWalk (r ∷ []) (lines ++ map undecided left)) root walk)) in
+      one_why (Some s) left after a b wrong
+      (wrong_any t s left after b (subst (λ l. IsWrongAt bounds (Some t) l after b) same wrong_too))
+
+  -- so it stops once
+
+  one_count : (lines : List VerdictLine) (c d : Counts) → AreCounts lines c → AreCounts lines d → c ≡ d
+  one_count lines c d one two = λ i. record {
+    lines = (one.all ∙ sym two.all) i;
+    halt = (one.halt ∙ sym two.halt) i;
+    cycler = (one.cycler ∙ sym two.cycler) i;
+    translated = (one.translated ∙ sym two.translated) i;
+    backward = (one.backward ∙ sym two.backward) i;
+    undecided = (one.undecided ∙ sym two.undecided) i;
+    wide = (one.wide ∙ sym two.wide) i;
+  }
+
+  one_stop : (c d : Counts) (one two : Stop) → StopsAt bounds bytes c one → StopsAt bounds bytes d two
+      → (Stops one ≡ Stops two) × (c ≡ d)
+  one_stop c d one two first second =
+      elim (part_twice first.before first.after second.before second.after (sym first.all ∙ second.all)) [
+        | inl both ↦
+            let true_too : AreTrueLines bounds first.before second.verdicts =
+            subst (λ b. AreTrueLines bounds b second.verdicts) (sym both.0) second.are_true in
+            let lines : second.verdicts ≡ first.verdicts =
+            same_true bounds first.before second.verdicts first.verdicts true_too first.are_true in
+            let why = why_there first.size second.size first.left second.left first.verdicts first.after
+            one.why two.why first.has_left
+            (subst (HasLeft second.size second.left) lines second.has_left) first.wrong
+            (subst (λ a. IsWrongAt bounds second.size second.left a two.why) (sym both.1) second.wrong) in
+            let line : one.line ≡ two.line =
+            first.line ∙ ap (λ b. saturated (length b + 1)) both.0 ∙ sym second.line in (
+              λ i. Stops (record { line = line i; why = why i }),
+              one_count first.verdicts c d first.counted (subst (λ l. AreCounts l d) lines second.counted),
+            )
+        | inr (inl long) ↦ absurd (not_sooner c d one two first second long second.size refl)
+        | inr (inr long) ↦ absurd (not_sooner d c two one second first long first.size refl)
+      ]
+
+  one_found : (f g : Found) (c d : Counts) → IsFound bounds bytes c f → IsFound bounds bytes d g
+      → ((n k : ℕ) → IsWholeWalk bounds bytes n k → f ≡ Covers n k)
+      → ((n k : ℕ) → IsWholeWalk bounds bytes n k → g ≡ Covers n k) → (f ≡ g) × (c ≡ d)
+  one_found (Covers n k) (Covers i j) c d one two exact exact_too = (
+    sym (exact_too n k one.whole),
+    one_count one.whole.lines c d one.counted
+        (subst (λ l. AreCounts l d) (same_true bounds bytes two.whole.lines one.whole.lines
+        two.whole.are_true one.whole.are_true) two.counted),
+  )
+  one_found (Covers n k) (Stops t) c d one two exact exact_too =
+      let same = exact_too n k one.whole in absurd cc
+  one_found (Stops s) (Covers i j) c d one two exact exact_too =
+      let same = exact i j two.whole in absurd cc
+  one_found (Stops s) (Stops t) c d one two exact exact_too = one_stop c d s t one two
+
+pub cover_is_unique : CoverIsUnique
+cover_is_unique bounds bytes one two is is_too =
+    one_found bounds bytes one.found two.found one.counts two.counts is.found is_too.found is.exact is_too.exact
