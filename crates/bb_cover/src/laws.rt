@@ -9,6 +9,6 @@ pub fn cover_is_unique()
 {}
 
 /// A walk has room for 250 frames.
-pub fn numbers()
+pub fn numbers_are_stated()
     ensures frames { FramesAre }
 {}
