@@ -94,8 +94,9 @@ def summary(states: int, symbols: int, lines: Sequence[str]) -> str:
     undecided = [line for line in lines if " undecided " in line]
     wide = sum(line.count("---") > 1 for line in undecided)
     size = "%d %s %d symbols" % (states, "state" if states == 1 else "states", symbols)
-    counts = "%d lines, %d undecided, %d of them with more than one ---" % (len(lines), len(undecided), wide)
-    return "covers %s: %s" % (size, counts)
+    word = "line" if len(lines) == 1 else "lines"
+    counts = "%d undecided, %d of them with more than one ---" % (len(undecided), wide)
+    return "covers %s: %d %s, %s" % (size, len(lines), word, counts)
 
 
 def hold_output(
@@ -205,6 +206,8 @@ def main() -> int:
         return tally.end()
     subprocess.run([os.path.join(TOP, "cover"), "--version"], stdout=subprocess.DEVNULL, check=True)
     lists = {size: hold_whole(tally, asked.program, *size) for size in SMALL}
+    root = "------ undecided steps"
+    hold_output(tally, "a list of one line", [COVER], as_lines([root]), 0, summary(1, 2, [root]))
     hold_sentences(tally, lists[2, 2])
     hold_terminal(tally, lists[3, 2])
     count = asked.machines // 10 if asked.quick else asked.machines

@@ -8,6 +8,7 @@ how far a list has come; and that output and status are the same without it. It 
 line is `N passed, M failed`; the status is 1 where any failed. Needs Linux.
 """
 
+import gzip
 import os
 import pty
 import re
@@ -69,6 +70,35 @@ def causes(folder: str) -> Iterator[Tuple[str, List[str], Optional[str], int, st
     reason = "standard output: No space left on device (os error 28)"
     yield "a full device", ["check"], "/dev/full", 3, "bb: write failed\n%s\n" % reason
     yield "help for a full device", ["--help"], "/dev/full", 3, "bb: write failed\n"
+
+
+def hints(program: str) -> Held:
+    """What the first bytes of an input show, and how a number with separators is written."""
+    return_line = "line 1 ends in a carriage return: remove them all first, by tr -d '\\r'\n"
+    compressed = "the input is compressed by gzip: unpack it first, by gzip -dc\n"
+    utf_16 = "the input is UTF-16: convert it first, by iconv -f UTF-16 -t UTF-8\n"
+    machine = "1RB1LB_1LA1RZ"
+    for name, command, given, hint in [
+        ("gzip", "decide", gzip.compress(machine.encode()), compressed),
+        ("UTF-16", "decide", machine.encode("utf-16"), utf_16),
+        ("a machine and a carriage return", "decide", machine.encode() + b"\r\n", return_line),
+        ("a claim and a carriage return", "check", machine.encode() + b" halt 6 4\r\n", return_line),
+        ("a line without one", "decide", machine.encode() + b"\n1RA1RA\r\n", ""),
+    ]:
+        with open(os.devnull, "wb") as output:
+            status, shown = on_terminal([program, command], given, output)
+        yield "%s: status %d, %r" % (name, status, shown), (status, shown.rpartition("\x1b[K")[2]) == (1, hint)
+        plain = subprocess.run([program, command], input=given, capture_output=True)
+        yield "%s is named on a terminal alone" % name, plain.stderr == b""
+    for word, number in [("1,000,000", "1000000"), ("1_000", "1000"), ("1'000", "1000"), ("1e6", "1000000")]:
+        with open(os.devnull, "wb") as output:
+            status, shown = on_terminal([program, "decide", "--steps", word], b"", output)
+        hint = "%s: write the number as %s\n" % (word, number)
+        yield "%s: status %d, %r" % (word, status, shown), status == 2 and shown.endswith(hint)
+    for word in [",1", "1x", "e6", "1e99"]:
+        with open(os.devnull, "wb") as output:
+            status, shown = on_terminal([program, "decide", "--steps", word], b"", output)
+        yield "%s has no such form" % word, status == 2 and "write the number" not in shown
 
 
 def broken_pipe(program: str) -> bool:
@@ -235,7 +265,7 @@ def main() -> int:
             tally.hold("%s: %r" % (name, ended), (ended[0], printed) == (status, error))
         for name, holds in progress(program, folder):
             tally.hold(name, holds)
-    for part in (piped, large_counts, elsewhere):
+    for part in (piped, large_counts, elsewhere, hints):
         for name, holds in part(program):
             tally.hold(name, holds)
     tally.hold("a broken pipe", broken_pipe(program))

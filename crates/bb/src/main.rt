@@ -92,7 +92,7 @@ fn answer_request(rt: &HostRuntime, asked: &Asked) -> u8 {
         },
         None => serve_input(rt, asked, None, rt.stdin(), &counts),
     };
-    if let Some(hint) = hint {
+    if let (Ok(_), Some(hint)) = (&end, hint) {
         let _ = tell_hint(rt, hint);
     }
     if let Err(fault) = &end {

@@ -19,10 +19,11 @@ impl Display for Report<'_> {
         match self.cover.found {
             Found::Covers { states, symbols } => {
                 let word = if states == 1 { "state" } else { "states" };
+                let lines = if counts.lines == 1 { "line" } else { "lines" };
                 write!(f, "covers {states} {word} {symbols} symbols: ")?;
                 write!(
                     f,
-                    "{} lines, {} undecided, {} of them with more than one ---",
+                    "{} {lines}, {} undecided, {} of them with more than one ---",
                     counts.lines, counts.undecided, counts.wide
                 )
             }
