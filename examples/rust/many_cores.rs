@@ -112,12 +112,31 @@ fn work(limits: &[u64; 4], threads: usize, input: &Mutex<Input>, output: &Mutex<
     }
 }
 
+/// What `--help` prints.
+const USAGE: &str = "\
+Usage: many_cores [--threads N] [--steps N] [--cells N] [--depth N] [--nodes N] < LIST
+
+Decides the machines of standard input, one a line, and writes what `bb decide` does.
+
+  --threads N  threads [default: one a core]
+  --steps N    steps of one simulation [default: 1000000]
+  --cells N    cells of one tape [default: 65536]
+  --depth N    levels of the backward tree [default: 300]
+  --nodes N    nodes of the backward tree [default: 1000000]
+
+Status: 0 every line was a machine, 1 a line was refused, 2 the command line or the limits were refused,
+3 memory, reading or writing failed.";
+
 /// The limits and the number of threads that the words ask for.
 fn asked() -> ([u64; 4], usize) {
     let names = ["--steps", "--cells", "--depth", "--nodes", "--threads"];
     let cores = thread::available_parallelism().map_or(1, |count| count.get());
     let mut numbers = [1_000_000, 65_536, 300, 1_000_000, cores as u64];
     let words: Vec<String> = env::args().skip(1).collect();
+    if words.iter().any(|word| word == "--help" || word == "-h") {
+        println!("{USAGE}");
+        process::exit(0);
+    }
     for pair in words.chunks(2) {
         let place = names.iter().position(|name| *name == pair[0]);
         match (place, pair.get(1).and_then(|word| word.parse().ok())) {

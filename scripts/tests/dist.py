@@ -26,9 +26,11 @@ ALWAYS = [
     "bb.1",
     "bb.h",
     "cover",
+    "decide.c",
     "libbb.a",
     "libbb.so",
     "many_cores",
+    "tree_normal_form",
     "bb.wasm",
     "bb.html",
     "bb.mjs",
@@ -73,6 +75,19 @@ def hold_contents(tally: Tally, folder: pathlib.Path) -> None:
     tally.hold("the command that holds the files: %s" % command, command and check.returncode == 0)
 
 
+def hold_programs(tally: Tally, folder: pathlib.Path) -> None:
+    """Each program prints its usage; the sample in C builds with the library, and the list maker feeds cover."""
+    for name in ("bb", "cover", "many_cores", "tree_normal_form"):
+        ended = subprocess.run([folder / name, "--help"], capture_output=True, text=True)
+        tally.hold("%s --help: %r" % (name, ended), ended.returncode == 0 and name in ended.stdout)
+    command = "cc -I. decide.c libbb.a -o ../decide && ../decide 1RB1LB_1LA1RZ"
+    sample = subprocess.run(command, shell=True, cwd=folder, capture_output=True, text=True)
+    tally.hold("%s: %r" % (command, sample), sample.stdout == "1RB1LB_1LA1RZ halt 6 4\n")
+    command = "./tree_normal_form --states 2 | ./bb decide | ./cover"
+    whole = subprocess.run(command, shell=True, cwd=folder, capture_output=True, text=True)
+    tally.hold("%s: %r" % (command, whole), whole.stdout.startswith("covers 2 states 2 symbols: "))
+
+
 def main() -> int:
     words(__doc__, needs_program=False).parse_args()
     tally = Tally()
@@ -83,6 +98,7 @@ def main() -> int:
         other = built(tally, commit, pathlib.Path(name) / "another folder")
         if not tally.failed:
             hold_contents(tally, one)
+            hold_programs(tally, one)
             hold_same(tally, one, other)
     return tally.end()
 

@@ -87,7 +87,10 @@ def hints(program: str) -> Held:
     ]:
         with open(os.devnull, "wb") as output:
             status, shown = on_terminal([program, command], given, output)
-        yield "%s: status %d, %r" % (name, status, shown), (status, shown.rpartition("\x1b[K")[2]) == (1, hint)
+        yield "%s: status %d, %r" % (name, status, shown), (status, shown.rpartition("\x1b[K")[2]) == (
+            1,
+            hint,
+        )
         plain = subprocess.run([program, command], input=given, capture_output=True)
         yield "%s is named on a terminal alone" % name, plain.stderr == b""
     for word, number in [("1,000,000", "1000000"), ("1_000", "1000"), ("1'000", "1000"), ("1e6", "1000000")]:
