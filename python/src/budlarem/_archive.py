@@ -6,7 +6,6 @@ from __future__ import annotations
 import collections
 import contextlib
 import dataclasses
-import errno
 import hashlib
 import io
 import json
@@ -17,9 +16,9 @@ import tarfile
 import textwrap
 from typing import Any, BinaryIO, Counter, Dict, Iterator, List, Optional, Tuple
 
-from ._errors import naming
 from .limits import Limits
-from .runner.folder import PART, settle_folder, words_of
+from .runner.directory import Directory, write_at
+from .runner.folder import words_of
 from .runner.source import Lines, ListFile
 from .runner.tasks import Identity, identity
 
@@ -245,35 +244,25 @@ def _member(name: str, size: int) -> tarfile.TarInfo:
     return member
 
 
-def _put(part: str, path: str) -> None:
-    """Gives a file its name, where no file has it. Raises FileExistsError, OSError."""
-    try:
-        os.link(part, path)
-    except OSError as error:
-        # Some file systems have no second names.
-        if error.errno not in (errno.EPERM, errno.EOPNOTSUPP, errno.ENOSYS):
-            raise
-        if os.path.lexists(path):
-            raise FileExistsError(errno.EEXIST, "is there", path) from None
-        os.rename(part, path)
-
-
 def write_new(path: str, contents: Contents) -> str:
-    """Writes an archive whole or not at all, where no file is; gives its sha256. Raises FileExistsError, and
-    what `Contents.write` does."""
-    part = path + PART
-    try:
-        with naming(path), open(part, "w+b") as file:
+    """Writes an archive whole or not at all, where no file is; gives its sha256. Raises FileExistsError,
+    MovedError where its folder was moved or removed meanwhile, and what `Contents.write` does."""
+    folder, name = os.path.split(path)
+    digest = hashlib.sha256()
+
+    def fill(number: int) -> None:
+        with open(number, "w+b", closefd=False) as file:
             contents.write(file)
             file.flush()
-            os.fsync(file.fileno())
             file.seek(0)
-            digest = hashlib.sha256()
             for block in iter(lambda: file.read(_BYTES), b""):
                 digest.update(block)
-        _put(part, path)
-        settle_folder(os.path.dirname(path) or ".")
-        return digest.hexdigest()
-    finally:
-        with contextlib.suppress(FileNotFoundError):
-            os.unlink(part)
+        directory.require_named()
+
+    try:
+        directory = Directory.open(folder or os.curdir)
+    except OSError as error:
+        raise OSError(error.errno, error.strerror, path) from None
+    with contextlib.closing(directory):
+        write_at(directory, name, fill, None)
+    return digest.hexdigest()

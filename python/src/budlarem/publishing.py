@@ -14,8 +14,8 @@ from ._lengths import LONGEST_SHOWN
 from .checking import why
 from .engine import checking, decide_bytes
 from .limits import Limits, in_range
-from .runner.folder import RUN, SUMMARY
-from .runner.folder import VERDICTS as RUN_VERDICTS
+from .runner.own_files import RUN, SUMMARY
+from .runner.own_files import VERDICTS as RUN_VERDICTS
 from .runner.keeping import Keep
 from .runner.tasks import Identity
 from .verdicts import Answer

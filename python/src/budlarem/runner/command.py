@@ -17,11 +17,12 @@ from typing import List, Optional
 
 from ..limits import Limits
 from .cutting import HERE, SENT
-from .errors import CheckError, FolderError, ListError, RunError, WordsError
-from .folder import VERDICTS, Folder, hold_apart, limits_of
+from .errors import CheckError, FolderError, ListError, MovedError, RunError, WordsError
+from .folder import Folder, hold_apart, limits_of
 from .forms import hold_form
 from .keeping import keep_of
 from .list_run import run
+from .own_files import VERDICTS
 from .passes import Manner, sentence_of
 from .progress import Progress
 from .source import ListFile
@@ -186,6 +187,8 @@ def do_run(asked: argparse.Namespace) -> int:
         progress.print_line(str(error))
         return 1
     except ListError as error:
+        progress.print_line(str(error))
+    except MovedError as error:
         progress.print_line(str(error))
     except RunError as error:
         progress.print_line("%s; the same command goes on after what stands" % error)

@@ -201,6 +201,7 @@ class PassRun:
                 self._folder.journal.put(piece.index, piece.record)
         if changed:
             self._folder.journal.settle()
+            self._folder.require_named()
         for piece in pieces:
             if piece.record is not None:
                 self._result.add(piece.record)
