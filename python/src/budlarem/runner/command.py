@@ -15,6 +15,7 @@ import sys
 from types import FrameType
 from typing import List, Optional
 
+from ..escaping import escape_controls
 from ..limits import Limits
 from .cutting import HERE, SENT
 from .errors import CheckError, FolderError, ListError, MovedError, RunError, WordsError
@@ -92,7 +93,7 @@ def end_at_interruption(progress: Progress, folder: str) -> None:
     }
 
     def end(number: int, frame: Optional[FrameType]) -> None:
-        line = text % (progress.cleared(), words[signal.Signals(number)], folder)
+        line = text % (progress.cleared(), words[signal.Signals(number)], escape_controls(folder))
         with contextlib.suppress(OSError):
             os.write(2, line.encode("utf-8", "replace"))
         os._exit(128 + number)

@@ -111,6 +111,10 @@ class Directory:
         status = self.status(name)
         return None if status is None else id_of(status)
 
+    def require_file(self, name: str) -> None:
+        """Raises KindError where a name leads to no regular file; it may lead nowhere."""
+        self._require_kind(self.status(name), name, stat.S_IFREG)
+
     def open_file(self, name: str, flags: int) -> int:
         """Opens a file that is there. Raises FileNotFoundError where it isn't."""
         with _errors_at(self.at(name)):
@@ -233,9 +237,41 @@ def write_at(directory: Directory, name: str, fill: Callable[[int], None], over:
     return written
 
 
+class FileTarget:
+    """A path at which a file is to be written, in the directory that it leads to now. The regular file that
+    is there now gives way, no other one. Raises KindError where something else is there, OSError."""
+
+    def __init__(self, path: str) -> None:
+        self._path = path
+        folder, self._name = os.path.split(path)
+        with _errors_at(path):
+            self._directory = Directory.open(folder or os.curdir)
+        try:
+            self.over = self._directory.id_at(self._name)
+            self._directory.require_file(self._name)
+        except BaseException:
+            self.close()
+            raise
+
+    def close(self) -> None:
+        self._directory.close()
+
+    def write(self, fill: Callable[[int], None]) -> None:
+        """Writes the file whole or not at all: `fill` writes to the open file. Raises FileExistsError where
+        another file has its name by then, what `fill` does, OSError, as where its folder was moved or removed
+        meanwhile; nothing is left then."""
+
+        def fill_here(number: int) -> None:
+            fill(number)
+            if not self._directory.is_named():
+                why = "its folder was moved, removed or replaced meanwhile"
+                raise OSError(errno.ENOENT, why, self._path)
+
+        write_at(self._directory, self._name, fill_here, self.over)
+
+
 def write_whole(path: str, blocks: Iterable[bytes]) -> None:
     """Writes a file whole or not at all, whatever ends the process. A file that is there gives way. Raises
     OSError; nothing is left then."""
-    folder, name = os.path.split(path)
-    with contextlib.closing(Directory.open(folder or os.curdir)) as directory:
-        write_at(directory, name, lambda number: write_blocks(number, blocks), directory.id_at(name))
+    with contextlib.closing(FileTarget(path)) as target:
+        target.write(lambda number: write_blocks(number, blocks))
