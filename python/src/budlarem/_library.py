@@ -8,7 +8,6 @@ import mmap
 import os
 import pathlib
 import struct
-import threading
 from typing import Any, BinaryIO, Callable, List, NamedTuple, Sequence, Tuple
 
 from ._version import LIBRARY_BYTES
@@ -146,33 +145,6 @@ def look(lines: bytes, replies: bytes) -> Looked:
     call = call_named("bb_look")
     status = call(lines, len(lines), replies, len(replies), ctypes.byref(counts), ctypes.byref(count))
     return Looked(status == CLEAN, count.value, tuple(counts))
-
-
-class Fork:
-    """Whether this process was forked from one that had threads; the library may not be called then."""
-
-    had_threads = False
-    forbidden = False
-
-    @classmethod
-    def before(cls) -> None:
-        cls.had_threads = threading.active_count() > 1
-
-    @classmethod
-    def in_child(cls) -> None:
-        cls.forbidden = cls.forbidden or cls.had_threads
-
-
-os.register_at_fork(before=Fork.before, after_in_child=Fork.in_child)
-
-
-def forbid_fork() -> None:
-    """Raises RuntimeError in a process that was forked from one with threads."""
-    if Fork.forbidden:
-        raise RuntimeError(
-            "the library can't be called in a process that was forked from one with threads;"
-            " start the process by multiprocessing.get_context('spawn')"
-        )
 
 
 class Reply(NamedTuple):
