@@ -11,7 +11,7 @@ import os
 import re
 import shlex
 import string
-from typing import Any, Callable, Dict, Iterator, List, Optional, Sequence
+from typing import Any, Callable, Dict, Iterable, Iterator, List, Optional, Sequence
 
 from ..limits import Limits
 from .checksums import Checksum
@@ -20,7 +20,8 @@ from .errors import FolderError, RunError
 from .joining import joined
 from .keeping import Keep, keep_of
 from .own_files import LOCK, PAGE_BEGIN, README, RUN, RUN_BEGIN, SUMMARY, VERDICTS
-from .own_files import known_files, remove_leftovers, require_other_list, require_own, require_regular
+from .own_files import known_files, pass_name, remove_leftovers
+from .own_files import require_other_list, require_own, require_own_pass, require_regular
 from .pieces import PassFolder
 from .source import STANDARD_INPUT
 from .tasks import Identity, hash_of
@@ -257,6 +258,12 @@ class Folder:
                 return Begun.read(file.read())
             except FolderError as error:
                 raise FolderError("%s: %s" % (self.at(RUN), error)) from None
+
+    def require_free(self, numbers: Iterable[int]) -> None:
+        """Raises FolderError where the folder of one of these passes, which are new, is somebody else's."""
+        for name in map(pass_name, numbers):
+            if self._top.status(name) is not None:
+                require_own_pass(self._top, name)
 
     def begin(self, begun: Begun) -> None:
         """Writes down what it is begun with."""

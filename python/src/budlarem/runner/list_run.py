@@ -129,6 +129,7 @@ def begin(folder: Folder, source: ListFile, passes: Sequence[Limits], manner: Ma
             "%s isn't the list that %s was begun with; give that list, or another folder:"
             " it has %d bytes, and that one had %d" % (source.name, folder.path, size, begun.list_bytes)
         )
+    folder.require_free(range(len(begun.passes) + 1, len(passes) + 1))
     if list(passes) != begun.passes:
         begun.passes = list(passes)
         folder.begin(begun)

@@ -17,7 +17,8 @@ KEPT = "pieces"
 # The first lines of these files, in each version that writes this format.
 RUN_BEGIN, PAGE_BEGIN, SUMMARY_BEGIN = '{\n  "format": ', "Verdicts on the machines of ", '{\n  "list": '
 FILES = (RUN, README, VERDICTS, SUMMARY)
-PASS = re.compile("pass-([0-9]+)")
+_PASS_BEGIN = "pass-"
+PASS = re.compile(_PASS_BEGIN + "[0-9]+")
 _PART = re.compile("(%s)(?:[.][0-9]+)?[.]part" % "|".join((*FILES, KEPT)))
 # A piece as earlier versions of this package wrote it.
 _OLD_PIECE = "000000001.txt"
@@ -110,10 +111,11 @@ def require_own(top: Directory, known_passes: Optional[int]) -> None:
             raise FolderError("%s has other files in it, as %s; give an empty folder" % (top.path, foreign))
     require_regular(top, (*FILES, LOCK))
     for name in passes:
-        with _opened_pass(top, name) as inside:
-            require_regular(inside, (KEPT, JOURNAL))
-            if int(name[len("pass-") :]) > (known_passes or 0):
-                _require_own_pass(top, inside)
+        if known_passes is None:
+            require_own_pass(top, name)
+        elif int(name[len(_PASS_BEGIN) :]) <= known_passes:
+            with _opened_pass(top, name) as inside:
+                require_regular(inside, (KEPT, JOURNAL))
 
 
 def _foreign(top: Directory, names: Sequence[str], has_passes: bool) -> Iterator[str]:
@@ -129,18 +131,25 @@ def _foreign(top: Directory, names: Sequence[str], has_passes: bool) -> Iterator
             yield name
 
 
-def _require_own_pass(top: Directory, inside: Directory) -> None:
+def require_own_pass(top: Directory, name: str) -> None:
     """Raises FolderError where the folder of a pass has anything that no run left there."""
-    names = inside.names()
-    if _OLD_PIECE in names:
-        raise FolderError(
-            "%s has pieces that another version of this package wrote; give another folder" % top.path
-        )
+    with _opened_pass(top, name) as inside:
+        names = inside.names()
+        if _OLD_PIECE in names:
+            raise FolderError(
+                "%s has pieces that another version of this package wrote; give another folder" % top.path
+            )
+        require_regular(inside, (KEPT, JOURNAL))
+        _require_own_pieces(inside, names)
+
+
+def _require_own_pieces(inside: Directory, names: Sequence[str]) -> None:
+    """Raises FolderError where one of these names in the folder of a pass isn't a run's."""
     foreign = [name for name in names if name not in (KEPT, JOURNAL) and not _is_leftover(inside, name)]
-    if KEPT in names and not _is_journaled(inside):
-        foreign.append(KEPT)
-    elif JOURNAL in names and not has_records(inside):
+    if JOURNAL in names and not has_records(inside):
         foreign.append(JOURNAL)
+    elif KEPT in names and not _is_journaled(inside):
+        foreign.append(KEPT)
     if foreign:
         raise FolderError("%s has other files in it, as %s; give an empty folder" % (inside.path, foreign[0]))
 
@@ -176,6 +185,11 @@ def _require_other(directory: Directory, name: str, listed: FileId) -> None:
             raise FolderError(
                 "the list is %s, which a run in that folder writes; give another" % directory.at(name)
             )
+
+
+def pass_name(number: int) -> str:
+    """The name of the folder of a pass."""
+    return "%s%d" % (_PASS_BEGIN, number)
 
 
 def known_files(top: Directory) -> Dict[str, FileId]:

@@ -14,7 +14,7 @@ from .checksums import Checksum
 from .directory import Directory, FileId, id_of
 from .errors import RunError
 from .journal import Journal, Record
-from .own_files import KEPT, VERDICTS
+from .own_files import KEPT, VERDICTS, pass_name
 
 # How many threads read pieces ahead, and hold each against its checksum.
 _READERS = 3
@@ -31,7 +31,7 @@ class PassFolder:
 
     def __init__(self, top: Directory, number: int, key: str) -> None:
         self.number, self.pieces = number, 0
-        self._top, self._inside = top, top.subdirectory("pass-%d" % number)
+        self._top, self._inside = top, top.subdirectory(pass_name(number))
         top.sync()
         self.path, self.kept = self._inside.path, self._inside.at(KEPT)
         self.journal = Journal(self._inside, key)

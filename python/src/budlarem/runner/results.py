@@ -15,7 +15,7 @@ from .errors import FolderError
 from .folder import key_of
 from .journal import JOURNAL, Journal
 from .keeping import keep_of
-from .own_files import RUN, SUMMARY, VERDICTS
+from .own_files import RUN, SUMMARY, VERDICTS, pass_name
 from .reply_checks import KINDS, Counts
 from .tasks import Identity
 
@@ -110,7 +110,7 @@ class FinishedRun:
     @contextlib.contextmanager
     def _journal(self, number: int) -> Iterator[Optional[Journal]]:
         """The journal of a pass; None where its folder was removed."""
-        name = "pass-%d" % number
+        name = pass_name(number)
         if self._top.status(name) is None:
             yield None
             return
@@ -140,7 +140,7 @@ class FinishedRun:
             raise self._apart(number, "its pieces aren't the verdicts that the summary is of")
 
     def _apart(self, number: int, why: str) -> FolderError:
-        journal = os.path.join(self._top.at("pass-%d" % number), JOURNAL)
+        journal = os.path.join(self._top.at(pass_name(number)), JOURNAL)
         return FolderError("%s doesn't go with %s: %s; %s" % (journal, SUMMARY, why, _AGAIN))
 
     def require_verdicts(self, checksum: Checksum, counts: Dict[str, int]) -> None:
