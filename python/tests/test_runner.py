@@ -238,7 +238,7 @@ class WholeTest(RunnerTest):
         pieces, verdicts = self.out / "pass-1" / "pieces", self.out / "verdicts.txt"
         first = verdicts.stat()
         self.assertEqual((pieces.exists(), first.st_nlink), (False, 1))
-        self.assertEqual(self.opened([SMALL]).journal.renamed_at(), len(self.records([SMALL])))
+        self.assertEqual(self.opened([SMALL]).journal.rename_mark(), len(self.records([SMALL])))
         executor = Answering(lambda reply, before: reply)
         for _ in range(2):
             self.run_over(executor, limits=[SMALL], check=True)
@@ -274,7 +274,7 @@ class WholeTest(RunnerTest):
         self.assertEqual((kept.read_bytes(), self.verdicts()), (expected(LIST, [SMALL]), expected(LIST)))
         self.assertEqual((self.out / "pass-1" / "pieces").read_bytes(), expected(LIST, [SMALL]))
         self.assertEqual(executor.count, len(self.records(PASSES)))
-        self.assertIsNone(self.opened([SMALL]).journal.renamed_at())
+        self.assertIsNone(self.opened([SMALL]).journal.rename_mark())
         self.run_over(executor, limits=PASSES)
         self.assertEqual((executor.count, self.verdicts()), (len(self.records(PASSES)), expected(LIST)))
 

@@ -77,18 +77,21 @@ def require_whole(path: pathlib.Path) -> None:
     SIGBUS. That of a wheel has as many bytes as the wheel says, any other as many as its headers name."""
     try:
         with open(path, "rb") as file:
-            size, least = os.fstat(file.fileno()).st_size, _least_size(file)
+            size = os.fstat(file.fileno()).st_size
+            if path == _HERE / "libbb.so" and LIBRARY_BYTES is not None and size != LIBRARY_BYTES:
+                raise LibraryError(
+                    "%s has %d bytes, and that of this package has %d: it was cut or changed; install the"
+                    " package again" % (path, size, LIBRARY_BYTES)
+                )
+            least = _least_size(file)
     except struct.error:
         raise LibraryError(
             "%s was cut short: it ends in its headers; build or install it again" % path
         ) from None
+    except LibraryError:
+        raise
     except OSError as error:
         raise LibraryError("%s can't be loaded as libbb.so: %s" % (path, error)) from None
-    if path == _HERE / "libbb.so" and LIBRARY_BYTES is not None and size != LIBRARY_BYTES:
-        raise LibraryError(
-            "%s has %d bytes, and that of this package has %d: it was cut or changed; install the package again"
-            % (path, size, LIBRARY_BYTES)
-        )
     if size < least:
         raise LibraryError(
             "%s was cut short: it has %d bytes, and its headers name %d; build or install it again"

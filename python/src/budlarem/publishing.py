@@ -43,6 +43,12 @@ class Published:
     def __str__(self) -> str:
         return "%s  %s" % (self.sha256, self.path)
 
+    @classmethod
+    def of(cls, path: str, contents: Contents) -> Published:
+        """Writes an archive of these contents. Raises what `write_new` does."""
+        claims = contents.confirmed
+        return cls(path, write_new(path, contents), claims, sum(contents.seen.kinds.values()) - claims)
+
 
 def _confirmed(verdicts: Input, limits: Limits, threads: int, tell: Callable[[int], None]) -> Tuple[int, int]:
     """Has the checker confirm all verdicts; gives how many it confirmed, and how many claim nothing. Raises
@@ -121,7 +127,7 @@ def _hold_refused(machines: Input, verdicts: Input, refused: Sequence[Tuple[int,
             _raise_other(machines, verdicts, number, line)
 
 
-def _decided_by(run: FinishedRun) -> Decided:
+def _decision_of(run: FinishedRun) -> Decided:
     """How the verdicts of a run were decided. Raises PublishError where it kept only some, FolderError where
     its journals aren't of it."""
     if run.summary.kept != str(Keep()):
@@ -167,25 +173,35 @@ def publish(
     out, given = os.fspath(path), os.fspath(verdicts)
     in_range("threads", threads, 1, 1_024)
     _hold_out(out)
+    if os.path.isdir(given) and passes:
+        raise PublishError("%s says itself with which limits it was decided" % given)
     listed = None if machines is None else Input(os.fspath(machines), LIST)
     try:
-        with contextlib.ExitStack() as opened:
-            run = (
-                opened.enter_context(contextlib.closing(FinishedRun(given))) if os.path.isdir(given) else None
-            )
-            if run is not None and passes:
-                raise PublishError("%s says itself with which limits it was decided" % given)
-            decided = Decided(tuple(passes)) if run is None else _decided_by(run)
-            lines = Input(given if run is None else run.verdicts, VERDICTS)
-            contents = _contents(lines, listed, decided, limits, threads, tell)
-            if run is not None:
-                run.require_verdicts(lines.checksum, contents.seen.kinds)
-            digest = write_new(out, contents)
+        if os.path.isdir(given):
+            return _published_run(out, given, listed, limits, threads, tell)
+        contents = _contents(Input(given, VERDICTS), listed, Decided(tuple(passes)), limits, threads, tell)
+        return Published.of(out, contents)
     except FolderError as error:
         raise PublishError(str(error)) from None
     except FileExistsError:
         raise PublishError("%s was made by another meanwhile, and stays as it is" % out) from None
-    return Published(out, digest, contents.confirmed, sum(contents.seen.kinds.values()) - contents.confirmed)
+
+
+def _published_run(
+    out: str,
+    folder: str,
+    listed: Optional[Input],
+    limits: Limits,
+    threads: int,
+    tell: Callable[[int], None],
+) -> Published:
+    """Publishes the verdicts of a run. Raises PublishError, FolderError where summary, verdicts and journals
+    aren't of one run, OSError."""
+    with contextlib.closing(FinishedRun(folder)) as run:
+        lines = Input(run.verdicts, VERDICTS)
+        contents = _contents(lines, listed, _decision_of(run), limits, threads, tell)
+        run.require_verdicts(lines.checksum, contents.seen.kinds)
+        return Published.of(out, contents)
 
 
 def _contents(

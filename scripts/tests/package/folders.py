@@ -1,5 +1,5 @@
 #!/usr/bin/python3
-"""Holds which files `budlarem run`, `publish` and `report` write, as processes.
+"""Tests which files `budlarem run`, `publish` and `report` write, as processes.
 
     scripts/tests/package/folders.py crates/bb/out/bb [--quick]
 
@@ -37,7 +37,7 @@ MACHINE = b"1RB1LB_1LA1RZ\n"
 Fault = Callable[[Case], None]
 
 
-def kept(top: pathlib.Path) -> Dict[str, bytes]:
+def snapshot(top: pathlib.Path) -> Dict[str, bytes]:
     """All that a folder has, by path: the bytes of files, where links lead, and the kind of what else is
     there."""
     found: Dict[str, bytes] = {}
@@ -53,7 +53,7 @@ def kept(top: pathlib.Path) -> Dict[str, bytes]:
 
 
 @contextlib.contextmanager
-def stopped(case: Case) -> Iterator[Tuple["subprocess.Popen[bytes]", bool]]:
+def stopped_run(case: Case) -> Iterator[Tuple["subprocess.Popen[bytes]", bool]]:
     """A run that is stopped in the middle, and whether it was at work by then. It goes on afterwards, to its
     end."""
     with case.start() as process:
@@ -73,29 +73,29 @@ def slow_case(top: pathlib.Path, name: str, seed: int, passes: int = 1) -> Case:
     return case
 
 
-def require_moved(tally: Tally, what: str, case: Case, status: int, before: Dict[str, bytes]) -> None:
+def require_moved_error(tally: Tally, what: str, case: Case, status: int, before: Dict[str, bytes]) -> None:
     """The run ended with status 3 and a sentence, and what stands at its path is as it was."""
     said = case.said()
     tally.hold("%s: status %d: %s" % (what, status, said), status == 3 and MOVED in said)
-    after = kept(case.out) if case.out.exists() else {}
+    after = snapshot(case.out) if case.out.exists() else {}
     tally.hold("%s: written elsewhere: %s" % (what, sorted(after)), after == before)
 
 
-def hold_moved(tally: Tally, program: str, top: pathlib.Path, passes: int) -> None:
+def test_moved(tally: Tally, program: str, top: pathlib.Path, passes: int) -> None:
     """The folder is moved and another run begins in a new one; the first goes on in its folder later."""
     case = slow_case(top, "moved-%d" % passes, 21, passes)
     limits = [QUICK_PASS, (60, 64, 3, 10)][:passes]
     moved = case.out.with_name("out.old")
     second = Case(top / ("second-%d" % passes), random_list(2_000, 22), limits)
     second.out = case.out
-    with stopped(case) as (process, at_work):
+    with stopped_run(case) as (process, at_work):
         os.rename(case.out, moved)
         status = second.run()
-        before = kept(case.out)
+        before = snapshot(case.out)
     tally.hold("moved: it was at work: %s" % case.said(), at_work)
     right = second.verdicts() == expected(program, second.list.read_bytes(), limits)
     tally.hold("moved: a second run, status %d: %s" % (status, second.said()), status == 1 and right)
-    require_moved(tally, "moved, %d passes" % passes, case, process.returncode, before)
+    require_moved_error(tally, "moved, %d passes" % passes, case, process.returncode, before)
     tally.hold("moved: no verdicts in the old folder", not (moved / "verdicts.txt").exists())
     shutil.rmtree(case.out)
     os.rename(moved, case.out)
@@ -104,7 +104,7 @@ def hold_moved(tally: Tally, program: str, top: pathlib.Path, passes: int) -> No
     tally.hold("moved back: status %d: %s" % (status, case.said()), status == 1 and right)
 
 
-def hold_replaced(tally: Tally, top: pathlib.Path) -> None:
+def test_replaced(tally: Tally, top: pathlib.Path) -> None:
     """The folder is removed; files of somebody else stand in a new one; a link is pointed elsewhere."""
     mine = ("verdicts.txt", "summary.json", "README.txt", "run.json", "verdicts.txt.part", "pass-1", "pass-2")
 
@@ -131,18 +131,18 @@ def hold_replaced(tally: Tally, top: pathlib.Path) -> None:
             if "link" in what:
                 case.out.with_name("real").mkdir()
                 case.out.symlink_to(case.out.with_name("real"))
-            with stopped(case) as (process, at_work):
+            with stopped_run(case) as (process, at_work):
                 fault(case)
-                before = kept(case.out) if case.out.exists() else {}
+                before = snapshot(case.out) if case.out.exists() else {}
             tally.hold("%s: it was at work: %s" % (what, case.said()), at_work)
-            require_moved(tally, "%s, %d passes" % (what, passes), case, process.returncode, before)
+            require_moved_error(tally, "%s, %d passes" % (what, passes), case, process.returncode, before)
 
 
-def hold_lock(tally: Tally, program: str, top: pathlib.Path, tries: int) -> None:
+def test_lock(tally: Tally, program: str, top: pathlib.Path, tries: int) -> None:
     """All files at the top of a folder are removed while a run works in it: a second one is refused."""
     for number in range(tries):
         case = slow_case(top, "lock-%d" % number, 24 + number)
-        with stopped(case) as (process, at_work):
+        with stopped_run(case) as (process, at_work):
             second = Case(top / ("lock-second-%d" % number), random_list(300, 3), [QUICK_PASS])
             second.out = case.out
             (case.out / "lock").unlink(missing_ok=True)
@@ -155,11 +155,11 @@ def hold_lock(tally: Tally, program: str, top: pathlib.Path, tries: int) -> None
         tally.hold("lock: the first run: %s" % case.said(), right)
 
 
-def hold_made_meanwhile(tally: Tally, top: pathlib.Path) -> None:
+def test_made_meanwhile(tally: Tally, top: pathlib.Path) -> None:
     """Another makes a file of the run's name in its folder while it works: that file stays."""
     for name in ("verdicts.txt", "summary.json", "README.txt"):
         case = slow_case(top, "meanwhile-" + name, 31)
-        with stopped(case) as (process, at_work):
+        with stopped_run(case) as (process, at_work):
             (case.out / name).unlink(missing_ok=True)
             (case.out / name).write_text("mine\n")
         tally.hold("%s meanwhile: it was at work" % name, at_work)
@@ -168,7 +168,7 @@ def hold_made_meanwhile(tally: Tally, top: pathlib.Path) -> None:
         tally.hold("%s meanwhile: %d: %s" % (name, process.returncode, case.said()), is_right)
 
 
-def hold_verdicts(tally: Tally, program: str, top: pathlib.Path) -> None:
+def test_verdicts(tally: Tally, program: str, top: pathlib.Path) -> None:
     """Verdicts share no bytes with what a later run writes; a run that is begun again reads its pieces
     there."""
     case = Case(top / "verdicts", random_list(3_000, 41), [QUICK_PASS])
@@ -194,7 +194,7 @@ def hold_verdicts(tally: Tally, program: str, top: pathlib.Path) -> None:
     tally.hold("moved away: another run, status %d: %s" % (status, other.said()), status == 1 and is_right)
 
 
-def hold_added_pass(tally: Tally, program: str, top: pathlib.Path) -> None:
+def test_added_pass(tally: Tally, program: str, top: pathlib.Path) -> None:
     """A pass is added to a run of one, killed meanwhile, and run again."""
     case = slow_case(top, "added", 43)
     case.run()
@@ -211,9 +211,11 @@ def hold_added_pass(tally: Tally, program: str, top: pathlib.Path) -> None:
     tally.hold("its first pass isn't decided again", "decided again" not in case.said())
 
 
-def hold_unchanged(tally: Tally, what: str, case: Case, top: pathlib.Path, statuses: Tuple[int, ...]) -> None:
+def require_unchanged(
+    tally: Tally, what: str, case: Case, top: pathlib.Path, statuses: Tuple[int, ...]
+) -> None:
     """A run ends soon, with one of these statuses and a sentence, and all that was there is as it was."""
-    before = {name: data for name, data in kept(top).items() if name != "errors.txt"}
+    before = {name: data for name, data in snapshot(top).items() if name != "errors.txt"}
     began = time.monotonic()
     with case.start() as process:
         try:
@@ -221,7 +223,7 @@ def hold_unchanged(tally: Tally, what: str, case: Case, top: pathlib.Path, statu
         except subprocess.TimeoutExpired:
             process.kill()
             status = -1
-    after = {name: data for name, data in kept(top).items() if name != "errors.txt"}
+    after = {name: data for name, data in snapshot(top).items() if name != "errors.txt"}
     said = case.said()
     what = "%s: status %d after %.1f s: %s" % (what, status, time.monotonic() - began, said)
     tally.hold(what, status in statuses and "Traceback" not in said)
@@ -245,7 +247,7 @@ MINE: Dict[str, Dict[str, str]] = {
 }
 
 
-def hold_foreign(tally: Tally, top: pathlib.Path) -> None:
+def test_foreign(tally: Tally, top: pathlib.Path) -> None:
     """A folder of somebody else stays as it is, with links to files elsewhere, and with pipes."""
     for what, files in MINE.items():
         case = Case(top / ("foreign-" + what.replace(" ", "-")), MACHINE, [QUICK_PASS])
@@ -254,18 +256,18 @@ def hold_foreign(tally: Tally, top: pathlib.Path) -> None:
             (path if name.endswith("/") else path.parent).mkdir(parents=True, exist_ok=True)
             if not name.endswith("/"):
                 path.write_text(text)
-        hold_unchanged(tally, what, case, case.out, (2,))
+        require_unchanged(tally, what, case, case.out, (2,))
     names = ("run.json", "run.json.part", "README.txt", "verdicts.txt", "summary.json", "lock", "pass-1")
     for name in (*names, "pass-1/journal", "pass-1/pieces"):
         case = Case(top / ("link-" + name.replace("/", "-")), MACHINE, [QUICK_PASS])
-        hold_link(tally, case, name, (2,))
+        test_link(tally, case, name, (2,))
     case = Case(top / "pipe", MACHINE, [QUICK_PASS])
     case.out.mkdir()
     os.mkfifo(case.out / "run.json")
-    hold_unchanged(tally, "run.json is a pipe", case, case.out, (2,))
+    require_unchanged(tally, "run.json is a pipe", case, case.out, (2,))
 
 
-def hold_link(tally: Tally, case: Case, name: str, statuses: Tuple[int, ...]) -> None:
+def test_link(tally: Tally, case: Case, name: str, statuses: Tuple[int, ...]) -> None:
     """What a link of a run's name leads to, and the link, stay as they are; so where it leads nowhere yet."""
     top = case.out.parent
     precious = top / "precious"
@@ -280,7 +282,7 @@ def hold_link(tally: Tally, case: Case, name: str, statuses: Tuple[int, ...]) ->
         elif is_there:
             precious.write_text("mine")
         path.symlink_to(precious)
-        hold_unchanged(tally, "%s is a link, to something %s" % (name, is_there), case, top, statuses)
+        require_unchanged(tally, "%s is a link, to something %s" % (name, is_there), case, top, statuses)
         tally.hold("%s: the link's target: %s" % (name, is_there), precious.exists() == is_there)
         if precious.is_dir():
             shutil.rmtree(precious)
@@ -288,7 +290,7 @@ def hold_link(tally: Tally, case: Case, name: str, statuses: Tuple[int, ...]) ->
             precious.unlink(missing_ok=True)
 
 
-def hold_begun(tally: Tally, program: str, top: pathlib.Path) -> None:
+def test_begun(tally: Tally, program: str, top: pathlib.Path) -> None:
     """In a folder that a run began links and pipes are refused; a part of somebody else stays, and the run
     goes on."""
     case = Case(top / "begun", random_list(300, 51), [QUICK_PASS])
@@ -297,29 +299,29 @@ def hold_begun(tally: Tally, program: str, top: pathlib.Path) -> None:
         own = case.out / name
         away = case.out.parent / "away"
         os.rename(own, away)
-        hold_link(tally, case, name, (2,))
+        test_link(tally, case, name, (2,))
         own.unlink()
         os.rename(away, own)
     (case.out / "summary.json").unlink()
     os.mkfifo(case.out / "summary.json")
-    hold_unchanged(tally, "summary.json is a pipe", case, case.out, (2,))
+    require_unchanged(tally, "summary.json is a pipe", case, case.out, (2,))
     (case.out / "summary.json").unlink()
     (case.out.parent / "precious").write_text("mine")
     for name in ("verdicts.txt.part", "summary.json.part", "run.json.part", "README.txt.part"):
         (case.out / name).symlink_to(case.out.parent / "precious")
         (case.out / name.replace(".part", ".2.part")).write_text("mine, too\n")
-    parts = {name: data for name, data in kept(case.out).items() if name.endswith(".part")}
+    parts = {name: data for name, data in snapshot(case.out).items() if name.endswith(".part")}
     case.words += ["--pass", words_of((60, 64, 3, 10))]
     status = case.run()
     right = expected(program, case.list.read_bytes(), [QUICK_PASS, (60, 64, 3, 10)])
     tally.hold("parts of others: %d: %s" % (status, case.said()), status == 1 and case.verdicts() == right)
-    after = {name: data for name, data in kept(case.out).items() if name.endswith(".part")}
+    after = {name: data for name, data in snapshot(case.out).items() if name.endswith(".part")}
     tally.hold("parts of others stay: %s" % sorted(after), after == parts)
     tally.hold("what they lead to", (case.out.parent / "precious").read_text() == "mine")
     (case.out / "pass-3").mkdir()
     (case.out / "pass-3" / "pieces").write_text("mine")
     case.words += ["--pass", words_of((70, 64, 3, 10))]
-    hold_unchanged(tally, "a pass of somebody else", case, case.out, (2,))
+    require_unchanged(tally, "a pass of somebody else", case, case.out, (2,))
 
 
 def command(*more: str, given: Optional[pathlib.Path] = None) -> Tuple[int, str]:
@@ -335,7 +337,7 @@ def command(*more: str, given: Optional[pathlib.Path] = None) -> Tuple[int, str]
     return done.returncode, done.stdout.decode("utf-8", "replace")
 
 
-def hold_mixed(tally: Tally, top: pathlib.Path, passes: int) -> None:
+def test_mixed(tally: Tally, top: pathlib.Path, passes: int) -> None:
     """A summary, verdicts or journals of another run over as many machines of each kind are refused."""
     lines = random_list(2_000, 61).splitlines(keepends=True)
     cases = [
@@ -368,7 +370,7 @@ def hold_mixed(tally: Tally, top: pathlib.Path, passes: int) -> None:
     tally.hold("a run's folder without its passes: %d: %s" % (status, said), status == 0)
 
 
-def hold_other_counts(tally: Tally, top: pathlib.Path) -> None:
+def test_other_counts(tally: Tally, top: pathlib.Path) -> None:
     """The summary of one run beside the verdicts of another, as two runs of one name left them."""
     cases = [Case(top / ("counts-%d" % seed), random_list(500, seed), [QUICK_PASS]) for seed in (71, 72)]
     for case in cases:
@@ -382,7 +384,7 @@ def hold_other_counts(tally: Tally, top: pathlib.Path) -> None:
     tally.hold("other verdicts: %d: %s" % (status, said), is_refused)
 
 
-def hold_archive(tally: Tally, top: pathlib.Path) -> None:
+def test_archive(tally: Tally, top: pathlib.Path) -> None:
     """The archive is written beside a link and a file that have the names of its parts."""
     place = top / "archive"
     place.mkdir()
@@ -390,9 +392,9 @@ def hold_archive(tally: Tally, top: pathlib.Path) -> None:
     (place / "precious").write_text("mine")
     (place / "o.tar.part").symlink_to(place / "precious")
     (place / "o.tar.2.part").write_text("mine, too")
-    before = kept(place)
+    before = snapshot(place)
     status, said = command("publish", str(place / "o.tar"), "--verdicts", str(place / "verdicts.txt"))
-    after = kept(place)
+    after = snapshot(place)
     made = after.pop("o.tar", b"")
     tally.hold("publish beside a part: %d: %s" % (status, said), status == 0 and made[257:262] == b"ustar")
     tally.hold("publish beside a part: %s" % sorted(after), after == before)
@@ -402,7 +404,7 @@ def hold_archive(tally: Tally, top: pathlib.Path) -> None:
     tally.hold("an archive that is a link: %d: %s" % (status, said), is_refused)
 
 
-def hold_report(tally: Tally, top: pathlib.Path) -> None:
+def test_report(tally: Tally, top: pathlib.Path) -> None:
     """A report is written beside files that have the names of its parts, and never over its own list."""
     if not (tally.has_module("a report", "matplotlib") and tally.has_module("a report", "numpy")):
         return
@@ -413,9 +415,9 @@ def hold_report(tally: Tally, top: pathlib.Path) -> None:
     (place / "precious").write_text("mine")
     (place / "p.html.part").write_text("mine")
     (place / "p.html.2.part").symlink_to(place / "precious")
-    before = kept(place)
+    before = snapshot(place)
     status, said = command("report", str(listed), "--out", str(page))
-    after = kept(place)
+    after = snapshot(place)
     made = after.pop("p.html", b"")
     tally.hold("report beside a part: %d: %s" % (status, said), status == 0 and b"<html" in made)
     tally.hold("report beside a part: %s" % sorted(after), after == before)
@@ -441,19 +443,19 @@ def main() -> int:
     if not has_library(tally, "the runner's folder"):
         return tally.end()
     with folder() as top:
-        hold_foreign(tally, top)
-        hold_begun(tally, program, top)
-        hold_verdicts(tally, program, top)
-        hold_archive(tally, top)
-        hold_report(tally, top)
-        hold_other_counts(tally, top)
+        test_foreign(tally, top)
+        test_begun(tally, program, top)
+        test_verdicts(tally, program, top)
+        test_archive(tally, top)
+        test_report(tally, top)
+        test_other_counts(tally, top)
         for passes in (1,) if is_quick else (1, 2):
-            hold_mixed(tally, top, passes)
-            hold_moved(tally, program, top, passes)
-        hold_lock(tally, program, top, 1 if is_quick else 5)
-        hold_replaced(tally, top)
-        hold_made_meanwhile(tally, top)
-        hold_added_pass(tally, program, top)
+            test_mixed(tally, top, passes)
+            test_moved(tally, program, top, passes)
+        test_lock(tally, program, top, 1 if is_quick else 5)
+        test_replaced(tally, top)
+        test_made_meanwhile(tally, top)
+        test_added_pass(tally, program, top)
     return tally.end()
 
 

@@ -1,5 +1,5 @@
 #!/usr/bin/python3
-"""Holds how the command `budlarem` begins and what it prints, as processes.
+"""Tests how the command `budlarem` begins and what it prints, as processes.
 
     scripts/tests/package/startup.py crates/bb/out/bb [--quick]
 
@@ -62,7 +62,7 @@ def imports_in(text: str) -> int:
     return len(lines) - next(places, len(lines))
 
 
-def ended_after(
+def result_after_signal(
     more: List[str], number: int, imports: int, seconds: float, log: pathlib.Path
 ) -> Tuple[int, str]:
     """The status of a command that is sent a signal after so many imports, from the first one of the package
@@ -87,7 +87,7 @@ def ended_after(
     return process.returncode, "".join(line for line in lines if not line.startswith(_IMPORT))
 
 
-def hold_signals(tally: Tally, top: pathlib.Path, step: int) -> None:
+def test_signals(tally: Tally, top: pathlib.Path, step: int) -> None:
     """Signals among the imports, and some moments later."""
     moments = [(imports, 0.0) for imports in range(1, 160, step)]
     moments += [(1_000, 0.01 * hundredths) for hundredths in range(0, 20, max(step // 2, 1))]
@@ -95,20 +95,20 @@ def hold_signals(tally: Tally, top: pathlib.Path, step: int) -> None:
         for number, (imports, seconds) in [(number, one) for number in _STATUSES for one in moments]:
             if name == "check" and number != signal.SIGINT:
                 continue
-            status, said = ended_after(more, number, imports, seconds, top / "log")
+            status, said = result_after_signal(more, number, imports, seconds, top / "log")
             is_right = status == _STATUSES[number] and re.fullmatch(_SENTENCES[name], said)
             what = "%s, %s after %d imports and %.2f s" % (name, number.name, imports, seconds)
             tally.hold("%s: status %d: %s" % (what, status, said), is_right)
 
 
-def ended(more: List[str], library: Optional[pathlib.Path] = None) -> Tuple[int, bytes]:
+def result_of(more: List[str], library: Optional[pathlib.Path] = None) -> Tuple[int, bytes]:
     """The status of a command over a library, and what it says and writes."""
     variables = environment() if library is None else {**environment(), "BB_LIBRARY": str(library)}
     how = subprocess.run([sys.executable, "-m", "budlarem", *more], env=variables, capture_output=True)
     return how.returncode, how.stdout + how.stderr
 
 
-def hold_library(tally: Tally, top: pathlib.Path, step: int) -> None:
+def test_library(tally: Tally, top: pathlib.Path, step: int) -> None:
     """A library that was cut short is refused by each command, and never called."""
     cut, listed = top / "libbb.so", top / "machines.txt"
     listed.write_bytes(b"1RB1LB_1LA1RZ\n")
@@ -122,15 +122,15 @@ def hold_library(tally: Tally, top: pathlib.Path, step: int) -> None:
     lengths = [*range(64, len(whole), len(whole) // (4 * step)), len(whole) - 1]
     for length, (name, more) in [(length, one) for length in lengths for one in asked.items()]:
         cut.write_bytes(whole[:length])
-        status, said = ended(more, cut)
+        status, said = result_of(more, cut)
         what = "%s by a library of %d bytes: status %d: %r" % (name, length, status, said)
         tally.hold(what, status == 3 and b"was cut short" in said and said.count(b"\n") == 1)
     cut.write_bytes(whole)
-    status, said = ended(asked["decide"], cut)
+    status, said = result_of(asked["decide"], cut)
     tally.hold("a whole library: %d: %r" % (status, said), (status, said) == (0, b"1RB1LB_1LA1RZ halt 6 4\n"))
 
 
-def hold_controls(tally: Tally, top: pathlib.Path) -> None:
+def test_controls(tally: Tally, top: pathlib.Path) -> None:
     """Lines with control characters, in lists and in the names of files."""
     odd = b"\x1b[31mred\x07\x9b1m\xc2\x9b2m\x7f\x00\r"
     listed, verdicts, named = top / "odd.txt", top / "odd-verdicts.txt", top / "na\x1b[31mme.txt"
@@ -150,7 +150,7 @@ def hold_controls(tally: Tally, top: pathlib.Path) -> None:
         "report": ["report", str(verdicts), "--out", str(top / "no" / "na\x1b[31mme.html")],
     }
     for name, more in asked.items():
-        status, said = ended(more)
+        status, said = result_of(more)
         raw = [byte for byte in said if byte < 32 and byte != 10 or byte == 127]
         raw += [ord(sign) for sign in said.decode("utf-8", "replace") if "\x80" <= sign <= "\x9f"]
         what = "%s: status %d: %r" % (name, status, said)
@@ -163,9 +163,9 @@ def main() -> int:
     if not has_library(tally, "the command's begin"):
         return tally.end()
     with folder() as top:
-        hold_signals(tally, top, 40 if asked.quick else 15)
-        hold_library(tally, top, 1 if asked.quick else 4)
-        hold_controls(tally, top)
+        test_signals(tally, top, 40 if asked.quick else 15)
+        test_library(tally, top, 1 if asked.quick else 4)
+        test_controls(tally, top)
     return tally.end()
 
 

@@ -284,11 +284,11 @@ class Folder:
     def _put(self, name: str, fill: Callable[[int], None]) -> None:
         """Writes a file whole or not at all. Raises RunError where another made one of that name meanwhile,
         what `fill` does, OSError."""
-        with self._naming_others(name):
+        with self._error_for_others(name):
             self._known[name] = write_at(self._top, name, fill, self._known.get(name))
 
     @contextlib.contextmanager
-    def _naming_others(self, name: str) -> Iterator[None]:
+    def _error_for_others(self, name: str) -> Iterator[None]:
         """Raises RunError where a name was taken by another meanwhile."""
         try:
             yield
@@ -305,7 +305,7 @@ class Folder:
         only = passes[0]
         checksum, is_there = only.checksum(), only.is_at(self._top.id_at(VERDICTS))
         if only.is_in_order() and (is_there or not only.is_renamed):
-            with self._naming_others(VERDICTS):
+            with self._error_for_others(VERDICTS):
                 only.rename_to_verdicts(self._known.get(VERDICTS))
         else:
             self._put(VERDICTS, only.copy_whole)

@@ -153,20 +153,20 @@ class Journal:
                 line, place = line[count:], place + count
         self._length = max(self._length, index + 1)
 
-    def renamed_at(self) -> Optional[int]:
+    def rename_mark(self) -> Optional[int]:
         """Behind how many pieces it says that their file was renamed; None where it doesn't."""
         lines = (index for index in reversed(range(self._length)) if self._words(index)[:1] == [RENAMED])
         return next(lines, None)
 
-    def put_renamed(self, pieces: int) -> None:
+    def put_rename_mark(self, pieces: int) -> None:
         """Writes behind so many pieces that their file was renamed, and returns when that is on the disk."""
         self.make_room(pieces)
         self._write(pieces, self._sealed(pieces, _TEXT % (RENAMED, *_NOTHING[1:])).encode())
         self.settle()
 
-    def drop_renamed(self) -> None:
+    def drop_rename_mark(self) -> None:
         """Takes back that their file was renamed."""
-        index = self.renamed_at()
+        index = self.rename_mark()
         if index is not None:
             self._write(index, bytes(WIDTH))
             self.settle()

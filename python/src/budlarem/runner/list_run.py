@@ -49,14 +49,14 @@ def run(folder: Folder, source: ListFile, passes: Sequence[Limits], manner: Mann
     """Decides a list in a folder, and leaves verdicts and summary there. Raises FolderError, CheckError,
     RunError, MovedError where the folder's path leads elsewhere before a pass or at the end, OSError."""
     try:
-        return _run(folder, source, passes, manner)
+        return _run_passes(folder, source, passes, manner)
     except OSError:
         # Nothing can be made in a folder that was removed.
         folder.require_named()
         raise
 
 
-def _run(folder: Folder, source: ListFile, passes: Sequence[Limits], manner: Manner) -> Outcome:
+def _run_passes(folder: Folder, source: ListFile, passes: Sequence[Limits], manner: Manner) -> Outcome:
     began = time.time(), time.monotonic()
     begun = begin(folder, source, passes, manner)
     folder.explain(begun)

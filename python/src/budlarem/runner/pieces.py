@@ -44,7 +44,7 @@ class PassFolder:
         """The file of the pieces, and whether that is `verdicts.txt`."""
         with contextlib.suppress(FileNotFoundError):
             return self._inside.open_file(KEPT, os.O_RDWR), False
-        if self.journal.renamed_at() is not None:
+        if self.journal.rename_mark() is not None:
             with contextlib.suppress(FileNotFoundError):
                 return self._top.open_file(VERDICTS, os.O_RDONLY), True
         return self._inside.create_file(KEPT), False
@@ -89,7 +89,7 @@ class PassFolder:
             with contextlib.suppress(OSError):
                 self._inside.remove(part)
         self.is_renamed = False
-        self.journal.drop_renamed()
+        self.journal.drop_rename_mark()
 
     def write(self, place: int, kept: bytes) -> None:
         """Writes what is kept of a piece to its place; `settle` puts it onto the disk."""
@@ -188,7 +188,7 @@ class PassFolder:
         """Renames the file of the pieces to `verdicts.txt`, and the journal says so; only the file `over`
         gives way. Raises FileExistsError where another has that name, OSError."""
         if not self.is_renamed:
-            self.journal.put_renamed(self.pieces)
+            self.journal.put_rename_mark(self.pieces)
             self._top.install(KEPT, VERDICTS, over, self._inside)
         self.is_renamed, self._is_writable = True, False
 
@@ -199,6 +199,6 @@ class PassFolder:
         if self.is_at(self._top.id_at(VERDICTS)):
             self._inside.install(VERDICTS, KEPT, None, self._top)
             self.is_renamed = False
-            self.journal.drop_renamed()
+            self.journal.drop_rename_mark()
         else:
             self._copy_pieces()
