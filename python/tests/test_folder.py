@@ -30,6 +30,10 @@ def contents(top: pathlib.Path) -> Dict[str, bytes]:
     return {str(path): path.read_bytes() for path in top.rglob("*") if path.is_file()}
 
 
+def fill(number: int, text: bytes) -> None:
+    directory.write_blocks(number, [text])
+
+
 class DirectoryTest(unittest.TestCase):
     def setUp(self) -> None:
         kept = tempfile.TemporaryDirectory()
@@ -41,8 +45,11 @@ class DirectoryTest(unittest.TestCase):
 
     def write(self, name: str, text: bytes) -> None:
         """Writes a file whole, over the one that is there."""
-        over = self.directory.id_at(name)
-        directory.write_at(self.directory, name, lambda number: directory.write_blocks(number, [text]), over)
+        over = self.directory.pin(name)
+        written = directory.write_at(self.directory, name, lambda number: fill(number, text), over)
+        for pin in (over, written):
+            if pin is not None:
+                pin.close()
 
     def test_files_stay_in_the_directory_that_was_opened(self) -> None:
         os.rename(self.top / "in", self.top / "moved")
@@ -70,10 +77,11 @@ class DirectoryTest(unittest.TestCase):
 
     def test_a_file_of_another_is_not_replaced(self) -> None:
         self.write("a", b"1")
-        known = self.directory.id_at("a")
-        other = self.top / "in" / "b"
-        other.write_bytes(b"mine")
-        os.rename(other, self.top / "in" / "a")
+        known = self.directory.pin("a")
+        assert known is not None
+        self.addCleanup(known.close)
+        (self.top / "in" / "a").unlink()
+        (self.top / "in" / "a").write_bytes(b"mine")
         with self.assertRaises(FileExistsError) as raised:
             directory.write_at(self.directory, "a", lambda number: None, known)
         self.assertEqual(raised.exception.filename, str(self.top / "in" / "a"))
@@ -109,7 +117,7 @@ class DirectoryTest(unittest.TestCase):
         self.addCleanup(target.close)
         os.rename(self.top / "in", self.top / "moved")
         with self.assertRaisesRegex(OSError, "moved, removed or replaced"):
-            target.write(lambda number: directory.write_blocks(number, [b"page"]))
+            target.write(lambda number: fill(number, b"page"))
         self.assertEqual(contents(self.top), {})
 
 

@@ -3,6 +3,7 @@
 from __future__ import annotations
 
 import dataclasses
+import functools
 import zlib
 from typing import List
 
@@ -33,14 +34,22 @@ def _powers() -> List[int]:
 _POWERS = _powers()
 
 
-def _power(exponent: int) -> int:
-    """x to a power."""
-    power, place = _ONE, 0
-    while exponent:
-        if exponent & 1:
-            power = _product(_POWERS[place % 32], power)
-        exponent, place = exponent >> 1, place + 1
+@functools.lru_cache(maxsize=None)
+def _power(byte: int, place: int) -> int:
+    """x to the power of 8 times the number that has this byte at this place, the lowest first."""
+    power = _ONE
+    for bit in range(8):
+        if byte >> bit & 1:
+            power = _product(_POWERS[(8 * place + bit + 3) % 32], power)
     return power
+
+
+def _shifted(crc32: int, size: int) -> int:
+    """The share of bytes with this CRC-32 in that of the same bytes and `size` more."""
+    for place, byte in enumerate(size.to_bytes(8, "little")):
+        if byte:
+            crc32 = _product(_power(byte, place), crc32)
+    return crc32
 
 
 @dataclasses.dataclass(frozen=True)
@@ -61,5 +70,4 @@ class Checksum:
         >>> begin.joined_with(end) == Checksum().followed_by(b"1RB1LB_1LA1RZ")
         True
         """
-        crc32 = _product(_power(8 * other.size), self.crc32) ^ other.crc32
-        return Checksum(self.size + other.size, crc32)
+        return Checksum(self.size + other.size, _shifted(self.crc32, other.size) ^ other.crc32)

@@ -50,6 +50,18 @@ def _errors_at(path: str) -> Iterator[None]:
         raise OSError(error.errno, error.strerror, path) from None
 
 
+class Pin:
+    """A file that keeps its numbers while this is open: they are given to no other file. It takes over the open
+    file."""
+
+    def __init__(self, number: int) -> None:
+        self._number = number
+        self.id = id_of(os.fstat(number))
+
+    def close(self) -> None:
+        os.close(self._number)
+
+
 def write_blocks(number: int, blocks: Iterable[bytes]) -> None:
     """Writes all bytes to an open file. Raises OSError."""
     for block in blocks:
@@ -114,6 +126,12 @@ class Directory:
     def require_file(self, name: str) -> None:
         """Raises KindError where a name leads to no regular file; it may lead nowhere."""
         self._require_kind(self.status(name), name, stat.S_IFREG)
+
+    def pin(self, name: str) -> Optional[Pin]:
+        """The file that has a name; None where it isn't there."""
+        with _errors_at(self.at(name)), contextlib.suppress(FileNotFoundError):
+            return Pin(os.open(name, os.O_PATH | os.O_NOFOLLOW | os.O_CLOEXEC, dir_fd=self.handle))
+        return None
 
     def open_file(self, name: str, flags: int) -> int:
         """Opens a file that is there. Raises FileNotFoundError where it isn't."""
@@ -216,21 +234,19 @@ class Directory:
             os.fsync(self.handle)
 
 
-def write_at(directory: Directory, name: str, fill: Callable[[int], None], over: Optional[FileId]) -> FileId:
+def write_at(directory: Directory, name: str, fill: Callable[[int], None], over: Optional[Pin]) -> Pin:
     """Writes a file whole or not at all, whatever ends the process: `fill` writes to the open file. Only the
-    file `over` gives way. Gives which file it is. Raises FileExistsError where another has the name, what
-    `fill` does, OSError; nothing is left then."""
+    file `over` gives way. Gives the file that was written. Raises FileExistsError where another has the name,
+    what `fill` does, OSError; nothing is left then."""
     number, part = directory.create_part(name)
+    written = Pin(number)
     try:
-        try:
-            with naming(directory.at(name)):
-                fill(number)
-                os.fsync(number)
-            written = id_of(os.fstat(number))
-        finally:
-            os.close(number)
-        directory.install(part, name, over)
+        with naming(directory.at(name)):
+            fill(number)
+            os.fsync(number)
+        directory.install(part, name, None if over is None else over.id)
     except BaseException:
+        written.close()
         with contextlib.suppress(OSError):
             directory.remove(part)
         raise
@@ -246,14 +262,17 @@ class FileTarget:
         folder, self._name = os.path.split(path)
         with _errors_at(path):
             self._directory = Directory.open(folder or os.curdir)
+        self.over: Optional[Pin] = None
         try:
-            self.over = self._directory.id_at(self._name)
+            self.over = self._directory.pin(self._name)
             self._directory.require_file(self._name)
         except BaseException:
             self.close()
             raise
 
     def close(self) -> None:
+        if self.over is not None:
+            self.over.close()
         self._directory.close()
 
     def write(self, fill: Callable[[int], None]) -> None:
@@ -267,7 +286,7 @@ class FileTarget:
                 why = "its folder was moved, removed or replaced meanwhile"
                 raise OSError(errno.ENOENT, why, self._path)
 
-        write_at(self._directory, self._name, fill_here, self.over)
+        write_at(self._directory, self._name, fill_here, self.over).close()
 
 
 def write_whole(path: str, blocks: Iterable[bytes]) -> None:

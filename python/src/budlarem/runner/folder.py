@@ -15,12 +15,12 @@ from typing import Any, Callable, Dict, Iterable, Iterator, List, Optional, Sequ
 
 from ..limits import Limits
 from .checksums import Checksum
-from .directory import Directory, FileId, id_of, write_at, write_blocks
+from .directory import Directory, FileId, Pin, id_of, write_at, write_blocks
 from .errors import FolderError, RunError
 from .joining import joined
 from .keeping import Keep, keep_of
 from .own_files import LOCK, PAGE_BEGIN, README, RUN, RUN_BEGIN, SUMMARY, VERDICTS
-from .own_files import known_files, pass_name, remove_leftovers
+from .own_files import pass_name, pins_of, remove_leftovers
 from .own_files import require_other_list, require_own, require_own_pass, require_regular
 from .pieces import PassFolder
 from .source import STANDARD_INPUT
@@ -206,12 +206,14 @@ class Folder:
         os.makedirs(path, exist_ok=True)
         self._top = Directory.open(path)
         self._locked: List[int] = []
+        # Files that give way to what is written.
+        self._own: Dict[str, Pin] = {}
         try:
             self._lock()
             require_other_list(self._top, list_place)
             begun = self.begun()
             require_own(self._top, None if begun is None else len(begun.passes))
-            self._known = known_files(self._top)
+            self._own = pins_of(self._top)
         except BaseException:
             self.close()
             raise
@@ -285,7 +287,10 @@ class Folder:
         """Writes a file whole or not at all. Raises RunError where another made one of that name meanwhile,
         what `fill` does, OSError."""
         with self._error_for_others(name):
-            self._known[name] = write_at(self._top, name, fill, self._known.get(name))
+            written = write_at(self._top, name, fill, self._own.get(name))
+        if name in self._own:
+            self._own[name].close()
+        self._own[name] = written
 
     @contextlib.contextmanager
     def _error_for_others(self, name: str) -> Iterator[None]:
@@ -306,7 +311,7 @@ class Folder:
         checksum, is_there = only.checksum(), only.is_at(self._top.id_at(VERDICTS))
         if only.is_in_order() and (is_there or not only.is_renamed):
             with self._error_for_others(VERDICTS):
-                only.rename_to_verdicts(self._known.get(VERDICTS))
+                only.rename_to_verdicts(self._own.get(VERDICTS))
         else:
             self._put(VERDICTS, only.copy_whole)
         return checksum
@@ -331,6 +336,8 @@ class Folder:
         return PassFolder(self._top, len(passes), key)
 
     def close(self) -> None:
+        for pin in self._own.values():
+            pin.close()
         for number in self._locked:
             os.close(number)
         self._top.close()

@@ -8,7 +8,7 @@ import re
 import stat
 from typing import Callable, Dict, Iterator, Optional, Sequence
 
-from .directory import Directory, FileId, id_of, kind_of
+from .directory import Directory, FileId, Pin, id_of, kind_of
 from .errors import FolderError
 from .journal import JOURNAL, has_records
 
@@ -192,7 +192,7 @@ def pass_name(number: int) -> str:
     return "%s%d" % (_PASS_BEGIN, number)
 
 
-def known_files(top: Directory) -> Dict[str, FileId]:
+def pins_of(top: Directory) -> Dict[str, Pin]:
     """The files of a run that are there, by name."""
-    found = ((name, top.id_at(name)) for name in FILES)
-    return {name: file for name, file in found if file is not None}
+    found = ((name, top.pin(name)) for name in FILES)
+    return {name: pin for name, pin in found if pin is not None}

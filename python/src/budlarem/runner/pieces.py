@@ -11,7 +11,7 @@ from typing import Deque, Iterator, List, Optional, Tuple
 
 from .._errors import naming
 from .checksums import Checksum
-from .directory import Directory, FileId, id_of
+from .directory import Directory, FileId, Pin, id_of
 from .errors import RunError
 from .journal import Journal, Record
 from .own_files import KEPT, VERDICTS, pass_name
@@ -184,12 +184,12 @@ class PassFolder:
         """Whether a file is that of the pieces."""
         return file == id_of(os.fstat(self._file))
 
-    def rename_to_verdicts(self, over: Optional[FileId]) -> None:
+    def rename_to_verdicts(self, over: Optional[Pin]) -> None:
         """Renames the file of the pieces to `verdicts.txt`, and the journal says so; only the file `over`
         gives way. Raises FileExistsError where another has that name, OSError."""
         if not self.is_renamed:
             self.journal.put_rename_mark(self.pieces)
-            self._top.install(KEPT, VERDICTS, over, self._inside)
+            self._top.install(KEPT, VERDICTS, None if over is None else over.id, self._inside)
         self.is_renamed, self._is_writable = True, False
 
     def take_back(self) -> None:
