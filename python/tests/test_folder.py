@@ -2,6 +2,7 @@
 
 from __future__ import annotations
 
+import contextlib
 import errno
 import fcntl
 import itertools
@@ -13,10 +14,10 @@ import tempfile
 import unittest
 import unittest.mock
 import zlib
-from typing import Dict, Iterator
+from typing import Any, Callable, Dict, Iterator, List, Sequence, Tuple
 
 import budlarem
-from budlarem import _api, _library, publish
+from budlarem import Limits, _api, _library, publish
 from budlarem.runner import checksums, directory, results
 from budlarem.runner import folder as folders
 from budlarem.runner.errors import FolderError, MovedError, RunError
@@ -161,6 +162,58 @@ class LockTest(RunnerTest):
             (self.out / "lock").unlink()
             with self.assertRaisesRegex(RunError, "lock was removed or replaced"):
                 first.require_named()
+
+
+class Crash(BaseException):
+    """What ends a run at a call of the system."""
+
+
+class CrashTest(RunnerTest):
+    """A run that is ended at each of its calls that change names, or wait for the disk, goes on."""
+
+    CALLS = ("link", "rename", "unlink", "mkdir", "fsync", "fdatasync", "ftruncate")
+
+    def is_ended(self, after: int, limits: Sequence[Limits]) -> bool:
+        """Whether a run has more than so many of these calls, and is ended at the next."""
+        left = itertools.count(after, -1)
+
+        def ending(call: Callable[..., Any]) -> Callable[..., Any]:
+            def instead(*given: Any, **named: Any) -> Any:
+                if next(left) <= 0:
+                    raise Crash
+                return call(*given, **named)
+
+            return instead
+
+        with contextlib.ExitStack() as patched:
+            for name in self.CALLS:
+                patched.enter_context(unittest.mock.patch.object(os, name, ending(getattr(os, name))))
+            try:
+                self.run_over(limits=limits, most=100)
+            except Crash:
+                return True
+        return False
+
+    def test_each_call(self) -> None:
+        cases: List[Tuple[List[Limits], List[Limits]]] = [
+            ([], [SMALL]),
+            ([SMALL], [*PASSES]),
+            ([], [*PASSES]),
+        ]
+        for before, limits in cases:
+            after, is_ended = 0, True
+            while is_ended:
+                shutil.rmtree(self.out, ignore_errors=True)
+                if before:
+                    self.run_over(limits=before, most=100)
+                is_ended = self.is_ended(after, limits)
+                self.run_over(limits=limits, most=100)
+                self.assertEqual(self.verdicts(), expected(LIST, limits), (after, limits))
+                self.assertEqual([path.name for path in self.out.rglob("*.part")], [])
+                published = publish(self.top / ("%d-%d.tar" % (after, len(limits) + len(before))), self.out)
+                self.assertEqual(published.confirmed + published.open, 370)
+                after += 1
+            self.assertGreater(after, 20)
 
 
 class OwnFilesTest(RunnerTest):

@@ -397,10 +397,10 @@ class WriterTest(RunnerTest):
             assert piece.record is not None
             self.folder.journal.put(piece.index, piece.record)
         self.folder.pieces = len(order)
-        checksum = self.top_folder.write_verdicts([self.folder], True)
+        self.top_folder.write_verdicts(self.folder)
         whole = b"".join(kept)
         self.assertEqual(self.verdicts(), whole)
-        self.assertEqual(checksum, checksums.Checksum(len(whole), zlib.crc32(whole)))
+        self.assertEqual(self.folder.checksum(), checksums.Checksum(len(whole), zlib.crc32(whole)))
         return not os.path.exists(self.folder.kept)
 
     def test_a_little_out_of_order(self) -> None:

@@ -358,8 +358,7 @@ def test_mixed(tally: Tally, top: pathlib.Path, passes: int) -> None:
         out = top / ("mixed-%d-%s.tar" % (passes, name))
         status, said = command("publish", str(out), "--verdicts", str(mixed))
         what = "%s of another run, %d passes: %d: %s" % (name, passes, status, said)
-        is_alike = name == "pass-1" and passes == 2
-        tally.hold(what, (status == 2 and "doesn't go with" in said and not out.exists()) or is_alike)
+        tally.hold(what, status == 2 and "doesn't go with" in said and not out.exists())
     out = top / ("whole-%d.tar" % passes)
     status, said = command("publish", str(out), "--verdicts", str(first), "--list", str(cases[0].list))
     tally.hold("a run's folder: %d: %s" % (status, said), status == 0)

@@ -5,7 +5,7 @@ from __future__ import annotations
 import dataclasses
 import functools
 import zlib
-from typing import List
+from typing import Any, Dict, List, Mapping
 
 # The polynomial of CRC-32, its coefficients in the order in which zlib has them: x^0 is the highest bit.
 _POLYNOMIAL = 0xEDB88320
@@ -58,6 +58,15 @@ class Checksum:
 
     size: int = 0
     crc32: int = 0
+
+    @classmethod
+    def of_fields(cls, fields: Mapping[str, Any]) -> Checksum:
+        """That of the fields that `fields` gives. Raises KeyError, TypeError, ValueError."""
+        return cls(int(fields["bytes"]), int(fields["crc32"], 16))
+
+    def fields(self) -> Dict[str, Any]:
+        """The fields of a summary."""
+        return {"bytes": self.size, "crc32": "%08x" % self.crc32}
 
     def followed_by(self, data: bytes) -> Checksum:
         """That of these bytes and then others."""

@@ -13,6 +13,7 @@ import shlex
 import string
 from typing import Any, Callable, Dict, Iterable, Iterator, List, Optional, Sequence
 
+from ..escaping import escape_controls
 from ..limits import Limits
 from .checksums import Checksum
 from .directory import Directory, FileId, Pin, id_of, write_at, write_blocks
@@ -105,7 +106,7 @@ class Begun:
         if self.keep.only_left:
             words += ["--keep", str(self.keep)]
         fields = {
-            "list": self.list_name,
+            "list": escape_controls(self.list_name),
             "same": ", with the same list on standard input" if is_piped else "",
             "verdicts": "a verdict for each line of the list, in its order",
             "go_on": shlex.join(words),
@@ -303,21 +304,17 @@ class Folder:
                 % self.at(name)
             ) from None
 
-    def write_verdicts(self, passes: Sequence[PassFolder], is_all_kept: bool) -> Checksum:
-        """Writes the verdicts of whole passes, and gives their checksum. Raises RunError, OSError."""
-        if len(passes) > 1:
-            return self._join(passes, is_all_kept)
-        only = passes[0]
-        checksum, is_there = only.checksum(), only.is_at(self._top.id_at(VERDICTS))
+    def write_verdicts(self, only: PassFolder) -> None:
+        """Writes the verdicts of a run of one pass. Raises RunError, OSError."""
+        is_there = only.is_at(self._top.id_at(VERDICTS))
         if only.is_in_order() and (is_there or not only.is_renamed):
             with self._error_for_others(VERDICTS):
                 only.rename_to_verdicts(self._own.get(VERDICTS))
         else:
             self._put(VERDICTS, only.copy_whole)
-        return checksum
 
-    def _join(self, passes: Sequence[PassFolder], is_all_kept: bool) -> Checksum:
-        """Writes the verdicts of several passes."""
+    def join_verdicts(self, passes: Sequence[PassFolder], is_all_kept: bool) -> Checksum:
+        """Writes the verdicts of several passes, and gives their checksum. Raises RunError, OSError."""
         total = Checksum()
 
         def fill(number: int) -> None:

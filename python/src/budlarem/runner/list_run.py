@@ -75,7 +75,11 @@ def _run_passes(folder: Folder, source: ListFile, passes: Sequence[Limits], mann
                 begun.list_lines = results[0].lines
                 folder.begin(begun)
         folder.require_named()
-        checksum = folder.write_verdicts(folders, not manner.keep.only_left)
+        checksum = results[0].checksum
+        if len(folders) == 1:
+            folder.write_verdicts(folders[0])
+        else:
+            checksum = folder.join_verdicts(folders, not manner.keep.only_left)
     outcome = outcome_of(results)
     summary = summary_of(source, results, outcome, manner, began, checksum)
     folder.write_summary((json.dumps(summary, indent=2) + "\n").encode())
@@ -198,13 +202,14 @@ def summary_of(
         "lines": outcome.lines,
         "counts": _in_order(outcome.counts),
         "kept": str(manner.keep),
-        "verdicts": {"bytes": checksum.size, "crc32": "%08x" % checksum.crc32},
+        "verdicts": checksum.fields(),
         "passes": [
             {
                 "limits": dict(zip(Limits.RANGES, result.limits.numbers())),
                 "lines": result.lines,
                 "counts": _in_order(result.counts),
                 "pieces": result.pieces,
+                "verdicts": result.checksum.fields(),
                 "checked": result.is_checked,
                 "work_seconds": result.milliseconds / 1_000,
             }

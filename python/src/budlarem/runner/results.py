@@ -22,26 +22,32 @@ from .tasks import Identity
 _AGAIN = "run the command of that folder again, which writes both anew"
 
 
+def _checksum_of(fields: Dict[str, Any]) -> Optional[Checksum]:
+    """The checksum of verdicts that a summary says; None where an earlier version of this package wrote it."""
+    return None if "verdicts" not in fields else Checksum.of_fields(fields["verdicts"])
+
+
 @dataclasses.dataclass(frozen=True)
 class PassSummary:
-    """What a summary says of a pass."""
+    """What a summary says of a pass. `checksum` is that of what is kept of its pieces."""
 
     limits: Limits
     lines: int
     pieces: int
     counts: Counts
+    checksum: Optional[Checksum]
 
     @classmethod
     def of(cls, fields: Dict[str, Any]) -> PassSummary:
         """That of a pass's fields. Raises ValueError, KeyError, TypeError."""
         counts = {kind: int(fields["counts"][kind]) for kind in KINDS}
-        return cls(Limits(**fields["limits"]), int(fields["lines"]), int(fields["pieces"]), counts)
+        limits = Limits(**fields["limits"])
+        return cls(limits, int(fields["lines"]), int(fields["pieces"]), counts, _checksum_of(fields))
 
 
 @dataclasses.dataclass(frozen=True)
 class RunSummary:
-    """What a summary says of a whole run. `checksum` is that of the verdicts; earlier versions of this
-    package didn't write it."""
+    """What a summary says of a whole run. `checksum` is that of the verdicts."""
 
     passes: Tuple[PassSummary, ...]
     identity: Identity
@@ -57,9 +63,8 @@ class RunSummary:
         passes = tuple(map(PassSummary.of, fields["passes"]))
         by = Identity(*(str(fields[name]) for name in ("version", "commit", "library")))
         counts = {kind: int(fields["counts"][kind]) for kind in KINDS}
-        written = fields.get("verdicts")
-        checksum = written and Checksum(int(written["bytes"]), int(written["crc32"], 16))
-        return cls(passes, by, str(keep_of([fields["kept"]])), int(fields["lines"]), counts, checksum)
+        kept, lines = str(keep_of([fields["kept"]])), int(fields["lines"])
+        return cls(passes, by, kept, lines, counts, _checksum_of(fields))
 
 
 class FinishedRun:
@@ -136,8 +141,8 @@ class FinishedRun:
                 counts[kind] += count
         if (lines, counts) != (one.lines, one.counts):
             raise self._apart(number, "it has %d lines, and the summary says %d" % (lines, one.lines))
-        if len(self.summary.passes) == 1 and self.summary.checksum not in (None, checksum):
-            raise self._apart(number, "its pieces aren't the verdicts that the summary is of")
+        if one.checksum not in (None, checksum):
+            raise self._apart(number, "its pieces aren't those that the summary is of")
 
     def _apart(self, number: int, why: str) -> FolderError:
         journal = os.path.join(self._top.at(pass_name(number)), JOURNAL)
