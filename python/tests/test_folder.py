@@ -18,12 +18,11 @@ from typing import Any, Callable, Dict, Iterator, List, Sequence, Tuple
 
 import budlarem
 from budlarem import Limits, _api, _library, publish
-from budlarem.runner import checksums, directory, results
+from budlarem.runner import checksums, directory, results, tasks
 from budlarem.runner import folder as folders
 from budlarem.runner.errors import FolderError, MovedError, RunError
-from budlarem.runner.tasks import identity
 
-from .running import LIST, PASSES, SMALL, RunnerTest, expected
+from .running import LIST, PASSES, SMALL, Answering, RunnerTest, expected
 
 
 def contents(top: pathlib.Path) -> Dict[str, bytes]:
@@ -259,6 +258,39 @@ class OwnFilesTest(RunnerTest):
         self.assertEqual([name for name in os.listdir(self.out) if name.endswith(".part")], [])
         self.assertEqual(self.verdicts(), expected(LIST))
 
+    def test_a_copy_of_the_pieces_that_was_begun(self) -> None:
+        self.run_over(limits=[SMALL])
+        for name in ("pieces.part", "pieces.2.part"):
+            (self.out / "pass-1" / name).write_bytes(expected(LIST)[:100])
+        self.run_over(limits=[SMALL])
+        self.assertEqual(os.listdir(self.out / "pass-1"), ["journal"])
+
+    def test_pieces_and_passes_that_are_replaced_meanwhile(self) -> None:
+        def replace_pieces() -> None:
+            os.rename(self.out / "pass-1" / "pieces", self.top / "away")
+            (self.out / "pass-1" / "pieces").write_text("mine")
+
+        def replace_pass() -> None:
+            os.rename(self.out / "pass-1", self.top / "moved")
+            (self.out / "pass-1").mkdir()
+            (self.out / "pass-1" / "pieces").write_text("mine")
+
+        for number, replace in enumerate((replace_pieces, replace_pass)):
+            self.out = self.top / str(number)
+
+            def change(reply: tasks.PieceReply, before: int) -> tasks.PieceReply:
+                if before == 3:
+                    replace()
+                return reply
+
+            if number == 0:
+                self.run_over(Answering(change), limits=[SMALL])
+                self.assertEqual(self.verdicts(), expected(LIST, [SMALL]))
+            else:
+                with self.assertRaises(MovedError):
+                    self.run_over(Answering(change), limits=[SMALL])
+            self.assertEqual((self.out / "pass-1" / "pieces").read_text(), "mine")
+
     def test_folders_of_passes_that_are_not_asked_for(self) -> None:
         self.run_over(limits=[SMALL])
         (self.out / "pass-7").mkdir()
@@ -284,7 +316,7 @@ class ResultsTest(RunnerTest):
             for found in self.finished():
                 whole = checksums.Checksum().followed_by(self.verdicts())
                 self.assertEqual(found.summary.checksum, whole)
-                self.assertEqual((found.summary.identity, found.summary.lines), (identity(), 370))
+                self.assertEqual((found.summary.identity, found.summary.lines), (tasks.identity(), 370))
                 found.require_journals()
 
     def test_a_summary_of_an_earlier_version(self) -> None:

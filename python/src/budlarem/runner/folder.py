@@ -306,8 +306,7 @@ class Folder:
 
     def write_verdicts(self, only: PassFolder) -> None:
         """Writes the verdicts of a run of one pass. Raises RunError, OSError."""
-        is_there = only.is_at(self._top.id_at(VERDICTS))
-        if only.is_in_order() and (is_there or not only.is_renamed):
+        if only.is_in_order() and only.has_name():
             with self._error_for_others(VERDICTS):
                 only.rename_to_verdicts(self._own.get(VERDICTS))
         else:

@@ -11,10 +11,10 @@ from typing import Deque, Iterator, List, Optional, Tuple
 
 from .._errors import naming
 from .checksums import Checksum
-from .directory import Directory, FileId, Pin, id_of
+from .directory import Directory, Pin, id_of
 from .errors import RunError
 from .journal import Journal, Record
-from .own_files import KEPT, VERDICTS, pass_name
+from .own_files import KEPT, VERDICTS, pass_name, remove_leftovers
 
 # How many threads read pieces ahead, and hold each against its checksum.
 _READERS = 3
@@ -34,6 +34,7 @@ class PassFolder:
         self._top, self._inside = top, top.subdirectory(pass_name(number))
         top.sync()
         self.path, self.kept = self._inside.path, self._inside.at(KEPT)
+        remove_leftovers(self._inside)
         self.journal = Journal(self._inside, key)
         self._file, self.is_renamed = self._open_pieces()
         self._lock = threading.Lock()
@@ -55,8 +56,9 @@ class PassFolder:
         self._inside.close()
 
     def require_named(self) -> None:
-        """Raises MovedError where the run's folder was moved, removed or replaced."""
+        """Raises MovedError where the run's folder, or this one in it, was moved, removed or replaced."""
         self._top.require_named()
+        self._inside.require_named()
 
     def reserve(self, size: int) -> int:
         """A place for so many bytes, behind all others."""
@@ -180,9 +182,10 @@ class PassFolder:
                 raise RunError("%s was cut while it was copied; run again" % self.kept)
             place, size = place + count, size - count
 
-    def is_at(self, file: Optional[FileId]) -> bool:
-        """Whether a file is that of the pieces."""
-        return file == id_of(os.fstat(self._file))
+    def has_name(self) -> bool:
+        """Whether the file of the pieces still has its name."""
+        found = self._top.id_at(VERDICTS) if self.is_renamed else self._inside.id_at(KEPT)
+        return found == id_of(os.fstat(self._file))
 
     def rename_to_verdicts(self, over: Optional[Pin]) -> None:
         """Renames the file of the pieces to `verdicts.txt`, and the journal says so; only the file `over`
@@ -196,7 +199,7 @@ class PassFolder:
         """Has the file of the pieces in this folder again, where it is `verdicts.txt`. Raises OSError."""
         if not self.is_renamed:
             return
-        if self.is_at(self._top.id_at(VERDICTS)):
+        if self.has_name():
             self._inside.install(VERDICTS, KEPT, None, self._top)
             self.is_renamed = False
             self.journal.drop_rename_mark()
