@@ -21,13 +21,16 @@ The calls, of which `help(budlarem.decide)` and so on say more:
     publish                                 an archive of a list, which others can check
 """
 
+from __future__ import annotations
+
 import importlib
-from typing import TYPE_CHECKING, List
 
 from . import _fork  # noqa: F401
 from ._version import COMMIT
 from ._version import VERSION as __version__
 
+# `typing` takes long to import, and the command is to heed signals before.
+TYPE_CHECKING = False
 if TYPE_CHECKING:
     from ._api import *  # noqa: F401, F403
 else:
@@ -44,7 +47,7 @@ else:
         raise AttributeError("module %r has no attribute %r" % (__name__, name))
 
 
-def __dir__() -> List[str]:
+def __dir__() -> list[str]:
     return sorted({*globals(), *__all__})
 
 

@@ -4,25 +4,30 @@ long, so that one in its first moments ends it as a later one does."""
 from __future__ import annotations
 
 import os
-import signal
 import sys
-from types import FrameType
-from typing import Callable, NoReturn, Optional
 
+# `typing` takes longer to import than all that is done here.
+TYPE_CHECKING = False
+if TYPE_CHECKING:
+    from types import FrameType
+    from typing import Callable, NoReturn, Optional
+
+# Python's own module behind `signal`, which it has imported by now.
+_signal = sys.modules["_signal"]
+_NAMES = {_signal.SIGINT: "SIGINT", _signal.SIGTERM: "SIGTERM", _signal.SIGHUP: "SIGHUP"}
 # How these commands end by a signal.
 _ENDS = {
     "run": "budlarem: %s; the same command goes on after what stands\n",
     "publish": "budlarem: %s: no archive is written\n",
 }
-_SIGNALS = (signal.SIGINT, signal.SIGTERM, signal.SIGHUP)
 
 
 def _words_of(command: str, number: int) -> str:
     """How a command names the signal that ends it."""
-    name = signal.Signals(number).name
+    name = _NAMES[number]
     if command == "publish":
         return name
-    return "interrupted" if number == signal.SIGINT else "ended by %s" % name
+    return "interrupted" if name == "SIGINT" else "ended by %s" % name
 
 
 def _ending(command: str) -> Callable[[int, Optional[FrameType]], NoReturn]:
@@ -42,9 +47,9 @@ def _ending(command: str) -> Callable[[int, Optional[FrameType]], NoReturn]:
 def _heed_signals(command: str) -> None:
     """Has signals end the process until the command heeds them itself. Those that are ignored stay so; without
     a sentence of its own a command is ended by SIGTERM and SIGHUP as other programs are."""
-    for number in _SIGNALS if command in _ENDS else (signal.SIGINT,):
-        if signal.getsignal(number) is not signal.SIG_IGN:
-            signal.signal(number, _ending(command))
+    for number in _NAMES if command in _ENDS else (_signal.SIGINT,):
+        if _signal.getsignal(number) != _signal.SIG_IGN:
+            _signal.signal(number, _ending(command))
 
 
 def main() -> NoReturn:
@@ -53,8 +58,8 @@ def main() -> NoReturn:
     _heed_signals(command)
     from .commands import run
 
-    if command not in _ENDS and signal.getsignal(signal.SIGINT) is not signal.SIG_IGN:
-        signal.signal(signal.SIGINT, signal.default_int_handler)
+    if command not in _ENDS and _signal.getsignal(_signal.SIGINT) != _signal.SIG_IGN:
+        _signal.signal(_signal.SIGINT, _signal.default_int_handler)
     run()
 
 
