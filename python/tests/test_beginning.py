@@ -133,7 +133,8 @@ class PageTest(BeginningTest):
     def commands(self) -> List[List[str]]:
         """The commands of the folder's page."""
         lines = (self.out / "README.txt").read_text(encoding="utf-8").splitlines()
-        self.assertLess(max(map(len, lines[3:18])), 81)
+        first = next(place for place, line in enumerate(lines) if line.startswith("    budlarem "))
+        self.assertLess(max(map(len, lines[3:first])), 81)
         return [shlex.split(line)[1:] for line in lines if line.startswith("    budlarem ")]
 
     def test_it_names_all_files(self) -> None:
@@ -187,7 +188,7 @@ class PublishTest(BeginningTest):
     def test_a_folder(self) -> None:
         self.list.write_bytes(MACHINE * 3)
         self.run_over("--piece", "1")
-        self.assertTrue(os.path.samefile(self.out / "verdicts.txt", self.out / "pass-1" / "pieces"))
+        self.assertEqual(os.listdir(self.out / "pass-1"), ["journal"])
         made = publish(self.top / "new.tar", self.out, self.list)
         self.assertEqual((made.confirmed, made.open), (3, 0))
 

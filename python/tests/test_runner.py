@@ -4,23 +4,26 @@ from __future__ import annotations
 
 import contextlib
 import dataclasses
+import errno
 import gzip
 import io
 import itertools
 import json
 import os
 import random
+import shutil
 import unittest
 import unittest.mock
+import zlib
 from concurrent.futures import Executor, Future
 from typing import Any, Callable, List, Sequence, Tuple
 
 import budlarem
 from budlarem import Limits, commands
-from budlarem.runner import cutting
+from budlarem.runner import checksums, cutting
 from budlarem.runner import folder as folders
 from budlarem.runner import joining, journal, keeping, reply_checks, source, tasks, writing
-from budlarem.runner.errors import CheckError, FolderError, RunError, WordsError
+from budlarem.runner.errors import CheckError, FolderError, MovedError, RunError, WordsError
 
 from .running import (
     KINDS,
@@ -214,7 +217,7 @@ class WholeTest(RunnerTest):
 
     def test_a_changed_piece_while_passes_are_joined(self) -> None:
         def change(reply: tasks.PieceReply, before: int) -> tasks.PieceReply:
-            os.truncate(self.out / "pass-1" / "pieces", 100)
+            os.truncate(self.out / "verdicts.txt", 100)
             return reply
 
         self.run_over(limits=[SMALL])
@@ -230,17 +233,62 @@ class WholeTest(RunnerTest):
             self.run_over()
 
     def test_one_pass_is_written_once(self) -> None:
-        """The verdicts are the pieces; what is decided later doesn't write over them."""
+        """The file of the pieces becomes the verdicts, and a later run reads the pieces there."""
         self.run_over(limits=[SMALL])
-        self.assertTrue((self.out / "verdicts.txt").samefile(self.out / "pass-1" / "pieces"))
+        pieces, verdicts = self.out / "pass-1" / "pieces", self.out / "verdicts.txt"
+        first = verdicts.stat()
+        self.assertEqual((pieces.exists(), first.st_nlink), (False, 1))
+        self.assertEqual(self.opened([SMALL]).journal.rename_mark(), len(self.records([SMALL])))
+        executor = Answering(lambda reply, before: reply)
         for _ in range(2):
-            self.run_over(limits=[SMALL])
+            self.run_over(executor, limits=[SMALL], check=True)
             self.assertEqual(self.verdicts(), expected(LIST, [SMALL]))
-        self.assertEqual(sorted(self.out.glob("*.part")), [])
+            self.assertEqual((pieces.exists(), verdicts.stat().st_ino), (False, first.st_ino))
+        self.assertEqual(executor.count, len(self.records([SMALL])))
+        self.assertEqual(sorted(self.out.rglob("*.part")), [])
+
+    def test_verdicts_share_no_bytes_with_a_later_run(self) -> None:
+        """A second name of the verdicts, and verdicts that were moved away, stay as they are, whatever the
+        next run decides."""
+        for is_moved in (False, True):
+            self.out = self.top / str(is_moved)
+            kept = self.top / ("kept-%s" % is_moved)
+            self.run_over(limits=[SMALL])
+            os.link(self.out / "verdicts.txt", kept)
+            if is_moved:
+                (self.out / "verdicts.txt").unlink()
+            for path in self.out.rglob("*"):
+                if path.is_file() and (is_moved or path.name == "journal"):
+                    path.unlink()
+            self.run_over(limits=[SMALL], most=3)
+            self.assertEqual(self.verdicts(), expected(LIST, [SMALL]))
+            self.assertFalse(kept.samefile(self.out / "verdicts.txt"))
+            self.assertEqual(kept.read_bytes(), expected(LIST, [SMALL]))
+
+    def test_a_pass_is_added_to_verdicts_that_were_renamed(self) -> None:
+        self.run_over(limits=[SMALL])
         kept = self.top / "kept"
         os.link(self.out / "verdicts.txt", kept)
-        self.run_over(limits=PASSES)
+        executor = Answering(lambda reply, before: reply)
+        self.run_over(executor, limits=PASSES)
         self.assertEqual((kept.read_bytes(), self.verdicts()), (expected(LIST, [SMALL]), expected(LIST)))
+        self.assertEqual((self.out / "pass-1" / "pieces").read_bytes(), expected(LIST, [SMALL]))
+        self.assertEqual(executor.count, len(self.records(PASSES)))
+        self.assertIsNone(self.opened([SMALL]).journal.rename_mark())
+        self.run_over(executor, limits=PASSES)
+        self.assertEqual((executor.count, self.verdicts()), (len(self.records(PASSES)), expected(LIST)))
+
+    def test_verdicts_that_are_moved_away_while_a_pass_is_added(self) -> None:
+        def change(reply: tasks.PieceReply, before: int) -> tasks.PieceReply:
+            if before == 0:
+                os.rename(self.out / "verdicts.txt", self.top / "kept")
+            return reply
+
+        self.run_over(limits=[SMALL])
+        self.run_over(Answering(change))
+        self.assertEqual(self.verdicts(), expected(LIST))
+        for name in ("kept", "out/pass-1/pieces"):
+            self.assertEqual((self.top / name).read_bytes(), expected(LIST, [SMALL]))
 
     def test_verdicts_that_were_changed_in_place(self) -> None:
         self.run_over(limits=[SMALL])
@@ -249,7 +297,73 @@ class WholeTest(RunnerTest):
         self.run_over(limits=[SMALL])
         self.assertIn("is decided again: it was cut or changed", self.progress.kept.getvalue())
         self.assertEqual(self.verdicts(), expected(LIST, [SMALL]))
-        self.assertFalse((self.out / "verdicts.txt").samefile(self.out / "pass-1" / "pieces"))
+        self.run_over(limits=[SMALL])
+        self.assertEqual(self.verdicts(), expected(LIST, [SMALL]))
+
+    def test_a_folder_whose_verdicts_are_a_second_name(self) -> None:
+        """So an earlier version of this package left it."""
+        self.run_over(limits=[SMALL])
+        pieces, verdicts, kept = (
+            self.out / "pass-1" / "pieces",
+            self.out / "verdicts.txt",
+            self.top / "kept",
+        )
+        for change in (None, b"x" * 100):
+            os.link(verdicts, pieces)
+            os.link(verdicts, kept)
+            if change is not None:
+                with open(kept, "r+b") as file:
+                    file.write(change)
+            before = kept.read_bytes()
+            self.run_over(limits=[SMALL])
+            self.assertEqual((self.verdicts(), kept.read_bytes()), (expected(LIST, [SMALL]), before))
+            for path in (pieces, kept):
+                path.unlink(missing_ok=True)
+
+    def test_a_folder_that_is_moved_removed_or_replaced(self) -> None:
+        """Nothing is written where another folder is then, and what stands is gone on with."""
+        others = {"verdicts.txt": "mine", "run.json": "mine", "README.txt": "mine", "pass-2": "mine"}
+
+        def change(reply: tasks.PieceReply, before: int) -> tasks.PieceReply:
+            if before == 5:
+                os.rename(self.out, self.top / "moved")
+                self.out.mkdir()
+                for name, text in others.items():
+                    (self.out / name).write_text(text)
+            return reply
+
+        with self.assertRaisesRegex(MovedError, "isn't the folder that was opened any more"):
+            self.run_over(Answering(change))
+        self.assertEqual({path.name: path.read_text() for path in self.out.iterdir()}, others)
+        self.out = self.top / "moved"
+        executor = Answering(lambda reply, before: reply)
+        self.run_over(executor)
+        self.assertEqual(self.verdicts(), expected(LIST))
+        self.assertLess(executor.count, len(self.records([SMALL])) + len(self.records(PASSES)))
+
+    def test_a_folder_that_is_removed(self) -> None:
+        def change(reply: tasks.PieceReply, before: int) -> tasks.PieceReply:
+            shutil.rmtree(self.out, ignore_errors=True)
+            return reply
+
+        with self.assertRaises(MovedError):
+            self.run_over(Answering(change))
+        self.assertFalse(self.out.exists())
+
+    def test_a_file_that_another_makes_meanwhile(self) -> None:
+        for name in ("verdicts.txt", "summary.json"):
+
+            def change(reply: tasks.PieceReply, before: int) -> tasks.PieceReply:
+                (self.out / name).write_text("mine")
+                return reply
+
+            self.out = self.top / ("out-" + name)
+            with self.assertRaisesRegex(RunError, name + " was made or replaced by another"):
+                self.run_over(Answering(change))
+            self.assertEqual((self.out / name).read_text(), "mine")
+            (self.out / name).unlink()
+            self.run_over()
+            self.assertEqual(self.verdicts(), expected(LIST))
 
 
 class WriterTest(RunnerTest):
@@ -257,10 +371,10 @@ class WriterTest(RunnerTest):
 
     def setUp(self) -> None:
         super().setUp()
-        top = folders.Folder(str(self.out))
-        self.folder = top.open_pass([SMALL], keeping.Keep(), tasks.identity())
+        self.top_folder = folders.Folder(str(self.out))
+        self.addCleanup(self.top_folder.close)
+        self.folder = self.top_folder.open_pass([SMALL], keeping.Keep(), tasks.identity())
         self.addCleanup(self.folder.close)
-        top.close()
 
     def piece(self, index: int) -> cutting.Piece:
         text = b"%d\n" % index * (index % 7 + 1)
@@ -283,10 +397,11 @@ class WriterTest(RunnerTest):
             assert piece.record is not None
             self.folder.journal.put(piece.index, piece.record)
         self.folder.pieces = len(order)
-        path = self.out / "whole"
-        self.folder.put_whole(str(path))
-        self.assertEqual(path.read_bytes(), b"".join(kept))
-        return path.samefile(self.folder.kept)
+        self.top_folder.write_verdicts(self.folder)
+        whole = b"".join(kept)
+        self.assertEqual(self.verdicts(), whole)
+        self.assertEqual(self.folder.checksum(), checksums.Checksum(len(whole), zlib.crc32(whole)))
+        return not os.path.exists(self.folder.kept)
 
     def test_a_little_out_of_order(self) -> None:
         self.assertTrue(self.whole([2, 0, 1, 5, 4, 3, 6, 8, 7, 9], 50))
@@ -306,9 +421,9 @@ class WriterTest(RunnerTest):
             self.assertFalse(self.whole(order, 30))
 
     def test_no_second_name(self) -> None:
-        refused = unittest.mock.Mock(side_effect=OSError("it can't"))
+        refused = unittest.mock.Mock(side_effect=OSError(errno.EPERM, "it can't"))
         with unittest.mock.patch.object(os, "link", refused):
-            self.assertFalse(self.whole(list(range(20)), 20))
+            self.assertTrue(self.whole(list(range(20)), 20))
 
     def test_nothing(self) -> None:
         self.assertFalse(self.whole([], 20))

@@ -12,7 +12,7 @@ import unittest
 import unittest.mock
 from typing import Any, Iterator, List
 
-from budlarem.runner import cutting, journal, reply_checks, source, tasks
+from budlarem.runner import checksums, cutting, directory, journal, reply_checks, source, tasks
 from budlarem.runner.errors import ReplyError, RunError
 
 from .running import KINDS, LIST, MIDDLE, PASSES, SMALL, RunnerTest, expected
@@ -79,8 +79,10 @@ class JournalTest(RunnerTest):
     def setUp(self) -> None:
         super().setUp()
         self.path = str(self.top / "journal")
+        self.folder = directory.Directory.open(str(self.top))
+        self.addCleanup(self.folder.close)
         self.counts = reply_checks.counts_of(expected(KINDS), 10)
-        self.journal = journal.Journal(self.path, "key")
+        self.journal = journal.Journal(self.folder, "key")
         self.addCleanup(self.journal.close)
         self.known = [
             dataclasses.replace(
@@ -109,7 +111,7 @@ class JournalTest(RunnerTest):
 
     def test_gaps_of_a_foreign_journal(self) -> None:
         """Each line is read once, however often is asked what comes."""
-        foreign = journal.Journal(self.path, "other")
+        foreign = journal.Journal(self.folder, "other")
         self.addCleanup(foreign.close)
         with unittest.mock.patch.object(foreign, "read", wraps=foreign.read) as read:
             self.assertEqual([foreign.gap(index, index) for index in range(6)], [None] * 6)
@@ -131,7 +133,7 @@ class JournalTest(RunnerTest):
         pathlib.Path(self.path).write_bytes(data[:-1])
         self.assertIsNone(self.journal.read(5))
         self.assertEqual(self.journal.read(4), self.known[4])
-        other = journal.Journal(self.path, "other")
+        other = journal.Journal(self.folder, "other")
         self.addCleanup(other.close)
         self.assertIsNone(other.read(4))
 

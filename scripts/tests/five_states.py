@@ -133,7 +133,7 @@ def hold_pieces(tally: Tally, program: str, top: pathlib.Path) -> None:
         tally.hold("more than a piece: %d" % len(seen.pieces), len(seen.pieces) > 3)
         lines = b"".join(seen.pieces).splitlines(keepends=True)
         tally.hold("each verdict is seen", sorted(lines) == sorted(right.splitlines(keepends=True)))
-        kept = (task.run / "pass-1" / "pieces").read_bytes()
+        kept = (task.run / "verdicts.txt").read_bytes()
         tally.hold("what is left is kept: %d bytes of %d" % (len(kept), len(right)), kept == left != b"")
 
 

@@ -21,53 +21,35 @@ The calls, of which `help(budlarem.decide)` and so on say more:
     publish                                 an archive of a list, which others can check
 """
 
-from ._library import LibraryError
+from __future__ import annotations
+
+import importlib
+
+from . import _fork  # noqa: F401
 from ._version import COMMIT
 from ._version import VERSION as __version__
-from .engine import (
-    Configuration,
-    MachineError,
-    Trace,
-    check,
-    check_bytes,
-    decide,
-    decide_bytes,
-    trace,
-)
-from .claims import WORDS, Said, Word
-from .judging import Judged, Judgement, Judging, judge
-from .later import Place, at
-from .limits import Limits, LimitsError, Plan
-from .pictures import Picture, PictureError, picture
-from .lists import (
-    Agreement,
-    Carried,
-    Comparison,
-    Growth,
-    Normal,
-    Triage,
-    compare,
-    decide_carried,
-    distinct,
-    normal,
-    triage,
-)
-from .publishing import Published, PublishError, UnconfirmedError, publish
-from .reading import Reading, Reason, Rewriting, read
-from .reports import Report, ReportError, report
-from .verdicts import (
-    Answer,
-    Backward,
-    Cycler,
-    Extent,
-    Halt,
-    Refused,
-    Translated,
-    Undecided,
-    Verdict,
-    is_machine,
-    parse,
-)
+
+# `typing` takes long to import, and the command is to heed signals before.
+TYPE_CHECKING = False
+if TYPE_CHECKING:
+    from ._api import *  # noqa: F401, F403
+else:
+
+    def __getattr__(name: str) -> object:
+        """A call, a type or a module of the package. All are imported at the first use of any, so that the
+        command can heed signals before. Raises AttributeError."""
+        if name in __all__ or not name.startswith("_"):
+            api = importlib.import_module("budlarem._api")
+            if name in api.__all__:
+                return getattr(api, name)
+            if name in globals():
+                return globals()[name]
+        raise AttributeError("module %r has no attribute %r" % (__name__, name))
+
+
+def __dir__() -> list[str]:
+    return sorted({*globals(), *__all__})
+
 
 __all__ = [
     "Agreement",

@@ -17,9 +17,10 @@ import tarfile
 import textwrap
 from typing import Any, BinaryIO, Counter, Dict, Iterator, List, Optional, Tuple
 
-from ._errors import naming
 from .limits import Limits
-from .runner.folder import PART, settle_folder, words_of
+from .runner.checksums import Checksum
+from .runner.directory import FileTarget
+from .runner.folder import words_of
 from .runner.source import Lines, ListFile
 from .runner.tasks import Identity, identity
 
@@ -57,27 +58,27 @@ class PublishError(ValueError):
 
 
 class Input:
-    """A file that goes into the archive, as it is or out of its gzip; and what it was seen to have: bytes and
-    their sha256."""
+    """A file that goes into the archive, as it is or out of its gzip; and what it was seen to have: how many
+    bytes, their sha256 and their checksum."""
 
     def __init__(self, path: str, name: str) -> None:
         self.path, self.name = path, name
-        self.bytes, self.sha256 = 0, ""
+        self.sha256, self.checksum = "", Checksum()
 
     def blocks(self) -> Iterator[bytes]:
         """Its bytes, cut anywhere. Raises RunError, OSError, and PublishError where they aren't those that
         were seen first."""
-        size, digest = 0, hashlib.sha256()
+        checksum, digest = Checksum(), hashlib.sha256()
         with contextlib.closing(ListFile(self.path)) as source:
             if not source.is_regular:
                 raise PublishError("%s is read more than once, so it has to be a file" % source.name)
             for block in source.blocks():
-                size += len(block)
+                checksum = checksum.followed_by(block)
                 digest.update(block)
                 yield block
         if self.sha256 not in ("", digest.hexdigest()):
             raise PublishError("%s changed while it was read; publish it when it no longer does" % self.path)
-        self.bytes, self.sha256 = size, digest.hexdigest()
+        self.sha256, self.checksum = digest.hexdigest(), checksum
 
     def batches(self) -> Iterator[bytes]:
         """Its lines, some together, each with its newline."""
@@ -226,7 +227,8 @@ class Contents:
         with tarfile.open(fileobj=file, mode="w", format=tarfile.PAX_FORMAT) as archive:
             for name in [*names, SUMS]:
                 member = _member(
-                    "%s/%s" % (folder, name), inputs[name].bytes if name in inputs else len(small[name])
+                    "%s/%s" % (folder, name),
+                    inputs[name].checksum.size if name in inputs else len(small[name]),
                 )
                 blocks = inputs[name].blocks() if name in inputs else iter([small[name]])
                 reader = io.BufferedReader(_Reader(blocks), _BYTES)
@@ -245,35 +247,21 @@ def _member(name: str, size: int) -> tarfile.TarInfo:
     return member
 
 
-def _put(part: str, path: str) -> None:
-    """Gives a file its name, where no file has it. Raises FileExistsError, OSError."""
-    try:
-        os.link(part, path)
-    except OSError as error:
-        # Some file systems have no second names.
-        if error.errno not in (errno.EPERM, errno.EOPNOTSUPP, errno.ENOSYS):
-            raise
-        if os.path.lexists(path):
-            raise FileExistsError(errno.EEXIST, "is there", path) from None
-        os.rename(part, path)
-
-
 def write_new(path: str, contents: Contents) -> str:
-    """Writes an archive whole or not at all, where no file is; gives its sha256. Raises FileExistsError, and
-    what `Contents.write` does."""
-    part = path + PART
-    try:
-        with naming(path), open(part, "w+b") as file:
+    """Writes an archive whole or not at all, where no file is; gives its sha256. Raises FileExistsError,
+    OSError, as where its folder was moved or removed meanwhile, and what `Contents.write` does."""
+    digest = hashlib.sha256()
+
+    def fill(number: int) -> None:
+        with open(number, "w+b", closefd=False) as file:
             contents.write(file)
             file.flush()
-            os.fsync(file.fileno())
             file.seek(0)
-            digest = hashlib.sha256()
             for block in iter(lambda: file.read(_BYTES), b""):
                 digest.update(block)
-        _put(part, path)
-        settle_folder(os.path.dirname(path) or ".")
-        return digest.hexdigest()
-    finally:
-        with contextlib.suppress(FileNotFoundError):
-            os.unlink(part)
+
+    with contextlib.closing(FileTarget(path)) as target:
+        if target.over is not None:
+            raise FileExistsError(errno.EEXIST, "is there", path)
+        target.write(fill)
+    return digest.hexdigest()

@@ -9,7 +9,8 @@ import time
 from concurrent.futures import Future
 from typing import Callable, Deque, Generic, Iterable, Iterator, List, Optional, Tuple, TypeVar
 
-from ._library import Reply, Room, forbid_fork
+from ._fork import forbid_fork
+from ._library import Reply, Room
 
 Given = TypeVar("Given")
 

@@ -7,8 +7,10 @@ import functools
 import mmap
 import os
 import pathlib
-import threading
-from typing import Any, Callable, List, NamedTuple, Sequence, Tuple
+import struct
+from typing import Any, BinaryIO, Callable, List, NamedTuple, Sequence, Tuple
+
+from ._version import LIBRARY_BYTES
 
 VARIABLE = "BB_LIBRARY"
 CLEAN, NOT_CLEAN, LIMITS, MEMORY, SHORT = range(5)
@@ -16,6 +18,12 @@ CLEAN, NOT_CLEAN, LIMITS, MEMORY, SHORT = range(5)
 _HERE = pathlib.Path(__file__).resolve().parent
 _NUMBER, _SIZE, _SWITCH = ctypes.c_uint64, ctypes.c_size_t, ctypes.c_bool
 _BUFFERS = (ctypes.c_char_p, _SIZE, ctypes.c_void_p, _SIZE, ctypes.POINTER(_SIZE))
+# The begin of a 64-bit ELF file of little-endian numbers; its header, of which are read the places of the
+# program and section headers, and how long and how many they are; and of a program header the place and the
+# length of its part of the file.
+_ELF_BEGIN = b"\x7fELF\x02\x01"
+_ELF = struct.Struct("<24s8xQQ6xHHHH2x")
+_ELF_PROGRAM = struct.Struct("<8xQ16xQ")
 # How many kinds of replies a look counts.
 _KINDS = 7
 _CALLS = {
@@ -31,7 +39,8 @@ _CALLS = {
 
 
 class LibraryError(OSError):
-    """The library `libbb.so` isn't there, or can't be loaded. The text says where it was looked for."""
+    """The library `libbb.so` isn't there, was cut short, or can't be loaded. The text says where it was looked
+    for."""
 
 
 def places() -> List[pathlib.Path]:
@@ -56,10 +65,54 @@ def loaded() -> ctypes.CDLL:
             "libbb.so isn't at %s; a wheel of scripts/wheel has it, scripts/library builds it, and the "
             "variable %s says where it is" % (" nor at ".join(map(str, looked)), VARIABLE)
         )
+    require_whole(path)
     try:
         return ctypes.CDLL(str(path))
     except OSError as error:
         raise LibraryError("%s can't be loaded as libbb.so: %s" % (path, error)) from error
+
+
+def require_whole(path: pathlib.Path) -> None:
+    """Raises LibraryError where a library was cut short: a call into the missing part would end the process by
+    SIGBUS. That of a wheel has as many bytes as the wheel says, any other as many as its headers name."""
+    try:
+        with open(path, "rb") as file:
+            size = os.fstat(file.fileno()).st_size
+            if path == _HERE / "libbb.so" and LIBRARY_BYTES is not None and size != LIBRARY_BYTES:
+                raise LibraryError(
+                    "%s has %d bytes, and that of this package has %d: it was cut or changed; install the"
+                    " package again" % (path, size, LIBRARY_BYTES)
+                )
+            least = _least_size(file)
+    except struct.error:
+        raise LibraryError(
+            "%s was cut short: it ends in its headers; build or install it again" % path
+        ) from None
+    except LibraryError:
+        raise
+    except OSError as error:
+        raise LibraryError("%s can't be loaded as libbb.so: %s" % (path, error)) from None
+    if size < least:
+        raise LibraryError(
+            "%s was cut short: it has %d bytes, and its headers name %d; build or install it again"
+            % (path, size, least)
+        )
+
+
+def _least_size(file: BinaryIO) -> int:
+    """How many bytes a 64-bit ELF file has at least, by its headers; 0 for other files, which the system
+    refuses to load. Raises struct.error where the headers themselves were cut, OSError."""
+    head = file.read(_ELF.size)
+    if not head.startswith(_ELF_BEGIN):
+        return 0
+    fields = _ELF.unpack(head)
+    programs, sections, program_size, programs_count, section_size, sections_count = fields[1:]
+    least: int = max(sections + section_size * sections_count, programs + program_size * programs_count)
+    for place in range(programs_count):
+        file.seek(programs + place * program_size)
+        offset, size = _ELF_PROGRAM.unpack(file.read(_ELF_PROGRAM.size))
+        least = max(least, offset + size)
+    return least
 
 
 @functools.lru_cache(maxsize=None)
@@ -95,33 +148,6 @@ def look(lines: bytes, replies: bytes) -> Looked:
     call = call_named("bb_look")
     status = call(lines, len(lines), replies, len(replies), ctypes.byref(counts), ctypes.byref(count))
     return Looked(status == CLEAN, count.value, tuple(counts))
-
-
-class Fork:
-    """Whether this process was forked from one that had threads; the library may not be called then."""
-
-    had_threads = False
-    forbidden = False
-
-    @classmethod
-    def before(cls) -> None:
-        cls.had_threads = threading.active_count() > 1
-
-    @classmethod
-    def in_child(cls) -> None:
-        cls.forbidden = cls.forbidden or cls.had_threads
-
-
-os.register_at_fork(before=Fork.before, after_in_child=Fork.in_child)
-
-
-def forbid_fork() -> None:
-    """Raises RuntimeError in a process that was forked from one with threads."""
-    if Fork.forbidden:
-        raise RuntimeError(
-            "the library can't be called in a process that was forked from one with threads;"
-            " start the process by multiprocessing.get_context('spawn')"
-        )
 
 
 class Reply(NamedTuple):

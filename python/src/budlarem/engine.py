@@ -9,7 +9,8 @@ from . import _batches
 from ._batches import MOST_BYTES, MOST_LINES, Batch, BinaryReader, Blocks
 from ._crew import BatchPace, in_order
 from ._lengths import LONGEST_GIVEN, LONGEST_SHOWN, LONGEST_VALUE
-from ._library import NOT_CLEAN, SHORT, Reply, Room, forbid_fork, loaded
+from ._fork import forbid_fork
+from ._library import NOT_CLEAN, SHORT, Reply, Room, loaded
 from .limits import Limits, Plan, in_range, whole
 from .verdicts import VERDICTS, Answer, Refused, Verdict, hold_fields, verdict_of
 

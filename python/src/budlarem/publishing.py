@@ -2,9 +2,9 @@
 
 from __future__ import annotations
 
+import contextlib
 import dataclasses
 import itertools
-import json
 import os
 from typing import Callable, List, NoReturn, Optional, Sequence, Tuple, Union
 
@@ -14,10 +14,9 @@ from ._lengths import LONGEST_SHOWN
 from .checking import why
 from .engine import checking, decide_bytes
 from .limits import Limits, in_range
-from .runner.folder import RUN, SUMMARY
-from .runner.folder import VERDICTS as RUN_VERDICTS
+from .runner.errors import FolderError
 from .runner.keeping import Keep
-from .runner.tasks import Identity
+from .runner.results import FinishedRun
 from .verdicts import Answer
 
 __all__ = ["PublishError", "Published", "UnconfirmedError", "publish"]
@@ -43,6 +42,12 @@ class Published:
 
     def __str__(self) -> str:
         return "%s  %s" % (self.sha256, self.path)
+
+    @classmethod
+    def of(cls, path: str, contents: Contents) -> Published:
+        """Writes an archive of these contents. Raises what `write_new` does."""
+        claims = contents.confirmed
+        return cls(path, write_new(path, contents), claims, sum(contents.seen.kinds.values()) - claims)
 
 
 def _confirmed(verdicts: Input, limits: Limits, threads: int, tell: Callable[[int], None]) -> Tuple[int, int]:
@@ -122,33 +127,16 @@ def _hold_refused(machines: Input, verdicts: Input, refused: Sequence[Tuple[int,
             _raise_other(machines, verdicts, number, line)
 
 
-def _of_run(folder: str) -> Tuple[str, Decided]:
-    """The verdicts of a run's folder, and how they were decided. Raises PublishError."""
-    path = os.path.join(folder, SUMMARY)
-    if not os.path.exists(os.path.join(folder, RUN)):
-        raise PublishError("%s is a folder, but not of `budlarem run`; give a file of verdict lines" % folder)
-    for name in (SUMMARY, RUN_VERDICTS):
-        # A piece that is decided again takes the verdicts away until the run's end.
-        if not os.path.exists(os.path.join(folder, name)):
-            raise PublishError(
-                "%s has no %s: that run isn't at its end; its command goes on" % (folder, name)
-            )
-    try:
-        with open(path, encoding="utf-8") as file:
-            summary = json.load(file)
-        passes = tuple(Limits(**one["limits"]) for one in summary["passes"])
-        by = Identity(summary["version"], summary["commit"], summary["library"])
-        kept = str(summary["kept"])
-    except (ValueError, KeyError, TypeError) as error:
-        raise PublishError(
-            "%s isn't as a run writes it: %s; its command writes it anew" % (path, error)
-        ) from None
-    if kept != str(Keep()):
+def _decision_of(run: FinishedRun) -> Decided:
+    """How the verdicts of a run were decided. Raises PublishError where it kept only some, FolderError where
+    its journals aren't of it."""
+    if run.summary.kept != str(Keep()):
         raise PublishError(
             "%s has only the verdicts that --keep %s kept, and all are published; decide the list without"
-            " --keep, in another folder" % (folder, kept)
+            " --keep, in another folder" % (os.path.dirname(run.verdicts), run.summary.kept)
         )
-    return os.path.join(folder, RUN_VERDICTS), Decided(passes, by)
+    run.require_journals()
+    return Decided(tuple(one.limits for one in run.summary.passes), run.summary.identity)
 
 
 def _hold_out(path: str) -> None:
@@ -182,22 +170,51 @@ def publish(
     verdicts don't go together, or a file changes meanwhile; UnconfirmedError, one of them, for a verdict that
     isn't confirmed; OSError where a file can't be read or written. Nothing is left at `path` then.
     """
-    out, given, decided = os.fspath(path), os.fspath(verdicts), Decided(tuple(passes))
+    out, given = os.fspath(path), os.fspath(verdicts)
     in_range("threads", threads, 1, 1_024)
     _hold_out(out)
-    if os.path.isdir(given):
-        if passes:
-            raise PublishError("%s says itself with which limits it was decided" % given)
-        given, decided = _of_run(given)
-    lines = Input(given, VERDICTS)
+    if os.path.isdir(given) and passes:
+        raise PublishError("%s says itself with which limits it was decided" % given)
     listed = None if machines is None else Input(os.fspath(machines), LIST)
-    confirmed, free = _confirmed(lines, limits, threads, tell)
-    if confirmed + free == 0:
-        raise PublishError("%s has no line" % given)
-    seen = _seen(lines) if listed is None else _seen_beside(listed, lines)
-    contents = Contents(listed, lines, seen, decided, confirmed)
     try:
-        digest = write_new(out, contents)
+        if os.path.isdir(given):
+            return _published_run(out, given, listed, limits, threads, tell)
+        contents = _contents(Input(given, VERDICTS), listed, Decided(tuple(passes)), limits, threads, tell)
+        return Published.of(out, contents)
+    except FolderError as error:
+        raise PublishError(str(error)) from None
     except FileExistsError:
         raise PublishError("%s was made by another meanwhile, and stays as it is" % out) from None
-    return Published(out, digest, confirmed, free)
+
+
+def _published_run(
+    out: str,
+    folder: str,
+    listed: Optional[Input],
+    limits: Limits,
+    threads: int,
+    tell: Callable[[int], None],
+) -> Published:
+    """Publishes the verdicts of a run. Raises PublishError, FolderError where summary, verdicts and journals
+    aren't of one run, OSError."""
+    with contextlib.closing(FinishedRun(folder)) as run:
+        lines = Input(run.verdicts, VERDICTS)
+        contents = _contents(lines, listed, _decision_of(run), limits, threads, tell)
+        run.require_verdicts(lines.checksum, contents.seen.kinds)
+        return Published.of(out, contents)
+
+
+def _contents(
+    lines: Input,
+    listed: Optional[Input],
+    decided: Decided,
+    limits: Limits,
+    threads: int,
+    tell: Callable[[int], None],
+) -> Contents:
+    """What an archive of these verdicts is made of. Raises PublishError, OSError."""
+    confirmed, free = _confirmed(lines, limits, threads, tell)
+    if confirmed + free == 0:
+        raise PublishError("%s has no line" % lines.path)
+    seen = _seen(lines) if listed is None else _seen_beside(listed, lines)
+    return Contents(listed, lines, seen, decided, confirmed)

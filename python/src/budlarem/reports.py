@@ -6,6 +6,7 @@ import base64
 import bisect
 import collections
 import concurrent.futures
+import contextlib
 import dataclasses
 import heapq
 import html
@@ -17,10 +18,10 @@ import re
 import string
 from typing import Any, Counter, Dict, Iterable, Iterator, List, Optional, Sequence, Tuple, Union
 
-from ._errors import naming
 from .limits import Limits, in_range
 from .lists import Growth, Triage, triage
 from .pictures import COLOURS, HEAD, UNVISITED, Row, png, png_of_colours, spread
+from .runner.directory import FileTarget, write_blocks
 from .verdicts import VERDICTS, Backward, Cycler, Halt, Translated, Undecided, Verdict, parse, size_of
 
 __all__ = ["Report", "ReportError", "report"]
@@ -336,25 +337,21 @@ def report(
     how their cells grow.
 
     An undecided machine is run again, up to `steps` steps and `cells` cells, on so many `threads` (as many as
-    there are cores where not said). The list is read once and not held. A file at `path` is replaced whole. A
-    notebook shows what is given back.
+    there are cores where not said). The list is read once and not held. The file that is at `path` when this is
+    called is replaced whole; a link there isn't followed. A notebook shows what is given back.
 
     Raises ReportError where numpy or matplotlib is missing, before anything is read; ValueError with its
-    place for a text that is no verdict line; OSError where the file can't be written.
+    place for a text that is no verdict line; OSError where the file can't be written, where `path` is a link
+    or a folder, or where another file is made there meanwhile.
     """
     in_range("diagrams", diagrams, 0, 1_000_000)
     in_range("steps", steps, 100, Limits.RANGES["steps"][1])
     in_range("cells", cells, *Limits.RANGES["cells"])
     _modules()
-    found = gathered(verdicts, diagrams)
-    machines = [machine for _, machine in found.smallest]
-    pictured = all_shown(machines, steps, cells, threads or os.cpu_count() or 1)
-    page = _page(found, pictured, title)
-    part = pathlib.Path(path).with_name(pathlib.Path(path).name + ".part")
-    try:
-        with naming(part):
-            part.write_text(page, encoding="utf-8")
-        os.replace(part, path)
-    finally:
-        part.unlink(missing_ok=True)
+    with contextlib.closing(FileTarget(os.fspath(path))) as target:
+        found = gathered(verdicts, diagrams)
+        machines = [machine for _, machine in found.smallest]
+        pictured = all_shown(machines, steps, cells, threads or os.cpu_count() or 1)
+        page = _page(found, pictured, title)
+        target.write(lambda number: write_blocks(number, [page.encode("utf-8")]))
     return Report(os.fspath(path), title, page)

@@ -153,6 +153,21 @@ def hold_wheel(tally: Tally, program: str, wheel: pathlib.Path, python: str, fol
     _, output = run([command, "decide"], cwd=folder, given="1RZ---, x\n")
     tally.hold("the command: %s" % output, output == "1RZ--- halt 1 1\tx\n")
     hold_runner(tally, program, command, folder)
+    hold_cut_library(tally, command, folder)
+
+
+def hold_cut_library(tally: Tally, command: str, folder: pathlib.Path) -> None:
+    """The wheel's library is cut short: it has another length than the wheel says, and is never called."""
+    (library,) = folder.glob("lib/python3*/site-packages/budlarem/libbb.so")
+    whole = library.read_bytes()
+    for length in (0, 1_000, len(whole) // 2, len(whole) - 1):
+        library.write_bytes(whole[:length])
+        status, output = run([command, "decide"], cwd=folder, given="1RZ---\n")
+        sentence = "has %d bytes, and that of this package has %d: it was cut" % (length, len(whole))
+        tally.hold("a cut library, status %d: %s" % (status, output), status == 3 and sentence in output)
+    library.write_bytes(whole)
+    status, output = run([command, "decide"], cwd=folder, given="1RZ---\n")
+    tally.hold("the whole library again: %s" % output, output == "1RZ--- halt 1 1\n")
 
 
 def hold_metadata(tally: Tally, python: str) -> None:

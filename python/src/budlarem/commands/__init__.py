@@ -15,6 +15,7 @@ import sys
 from typing import List, NoReturn, Optional
 
 from .. import __version__
+from ..escaping import escape_controls
 from ..reports import ReportError
 from ..runner.command import add_command as add_run
 from .checking import add_check
@@ -63,10 +64,10 @@ def main(arguments: Optional[List[str]] = None) -> int:
     except BrokenPipeError:
         raise
     except (ValueError, TypeError) as error:
-        print("budlarem: %s" % error, file=sys.stderr)
+        _print_error(str(error))
         return 2
     except MemoryError as error:
-        print("budlarem: out of memory: %s" % error, file=sys.stderr)
+        _print_error("out of memory: %s" % error)
     except OSError as error:
         # What is written to a file has its name in its errors; what is left is standard output.
         is_output = error.filename is None and error.errno in (
@@ -75,10 +76,15 @@ def main(arguments: Optional[List[str]] = None) -> int:
             errno.EDQUOT,
             errno.EIO,
         )
-        print("budlarem: %s%s" % ("standard output: " if is_output else "", error), file=sys.stderr)
+        _print_error("%s%s" % ("standard output: " if is_output else "", error))
     except ReportError as error:
-        print("budlarem: %s" % error, file=sys.stderr)
+        _print_error(str(error))
     return 3
+
+
+def _print_error(sentence: str) -> None:
+    """Prints why the command ended, its control characters escaped."""
+    print("budlarem: %s" % escape_controls(sentence), file=sys.stderr)
 
 
 def run() -> NoReturn:

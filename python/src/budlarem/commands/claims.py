@@ -6,7 +6,7 @@ import argparse
 import collections
 import os
 import sys
-from typing import Counter, Iterator
+from typing import BinaryIO, Counter, Iterator, Union
 
 from ..claims import sayings
 from ..lists import Agreement, compare
@@ -65,9 +65,21 @@ def do_compare(asked: argparse.Namespace) -> int:
     return 1 if counts[Agreement.CONTRADICT] else max(first.status, second.status)
 
 
+def require_other_file(out: str, given: Union[str, BinaryIO]) -> None:
+    """Raises ValueError where what is written would replace the list that is read."""
+    try:
+        listed = os.stat(given if isinstance(given, str) else given.fileno())
+        written = os.stat(out)
+    except OSError:
+        return
+    if os.path.samestat(listed, written):
+        raise ValueError("--out %s is the list itself, which would be replaced; give another name" % out)
+
+
 def do_report(asked: argparse.Namespace) -> int:
     """Writes one HTML file on a list of verdict lines."""
     reader = VerdictReader(asked.file)
+    require_other_file(asked.out, reader.source)
     report(
         reader.verdicts(),
         asked.out,

@@ -9,6 +9,7 @@ import sys
 from types import FrameType
 from typing import Optional
 
+from ..escaping import escape_controls
 from ..limits import Limits
 from ..publishing import UnconfirmedError, publish
 from ..runner.errors import RunError
@@ -65,7 +66,7 @@ def do_publish(asked: argparse.Namespace) -> int:
         sentence, status = str(error), 3
     except _Ended as end:
         sentence, status = "%s: no archive is written" % signal.Signals(end.number).name, 128 + end.number
-    print("budlarem: %s" % sentence, file=sys.stderr)
+    print("budlarem: %s" % escape_controls(sentence), file=sys.stderr)
     return status
 
 

@@ -15,13 +15,15 @@ import sys
 from types import FrameType
 from typing import List, Optional
 
+from ..escaping import escape_controls
 from ..limits import Limits
 from .cutting import HERE, SENT
-from .errors import CheckError, FolderError, ListError, RunError, WordsError
-from .folder import VERDICTS, Folder, hold_apart, limits_of
+from .errors import CheckError, FolderError, ListError, MovedError, RunError, WordsError
+from .folder import Folder, hold_apart, limits_of
 from .forms import hold_form
 from .keeping import keep_of
 from .list_run import run
+from .own_files import VERDICTS
 from .passes import Manner, sentence_of
 from .progress import Progress
 from .source import ListFile
@@ -91,7 +93,7 @@ def end_at_interruption(progress: Progress, folder: str) -> None:
     }
 
     def end(number: int, frame: Optional[FrameType]) -> None:
-        line = text % (progress.cleared(), words[signal.Signals(number)], folder)
+        line = text % (progress.cleared(), words[signal.Signals(number)], escape_controls(folder))
         with contextlib.suppress(OSError):
             os.write(2, line.encode("utf-8", "replace"))
         os._exit(128 + number)
@@ -186,6 +188,8 @@ def do_run(asked: argparse.Namespace) -> int:
         progress.print_line(str(error))
         return 1
     except ListError as error:
+        progress.print_line(str(error))
+    except MovedError as error:
         progress.print_line(str(error))
     except RunError as error:
         progress.print_line("%s; the same command goes on after what stands" % error)

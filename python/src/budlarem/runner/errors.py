@@ -19,6 +19,10 @@ class RunError(Exception):
     """A fault: what stands is kept, and the same command goes on after it. Status 3."""
 
 
+class MovedError(RunError):
+    """The path of a folder leads nowhere or elsewhere, so nothing more is written. Status 3."""
+
+
 class CheckError(Exception):
     """The checker doesn't confirm a verdict. Status 1."""
 

@@ -4,36 +4,40 @@ from __future__ import annotations
 
 import contextlib
 import dataclasses
+import errno
 import fcntl
 import json
 import os
 import re
 import shlex
 import string
-from typing import Any, Callable, Dict, Iterator, List, Optional, Sequence, Tuple
+from typing import Any, Callable, Dict, Iterable, Iterator, List, Optional, Sequence
 
-from .._errors import naming
+from ..escaping import escape_controls
 from ..limits import Limits
-from .errors import FolderError
+from .checksums import Checksum
+from .directory import Directory, FileId, Pin, id_of, write_at, write_blocks
+from .errors import FolderError, RunError
+from .joining import joined
 from .keeping import Keep, keep_of
+from .own_files import LOCK, PAGE_BEGIN, README, RUN, RUN_BEGIN, SUMMARY, VERDICTS
+from .own_files import pass_name, pins_of, remove_leftovers
+from .own_files import require_other_list, require_own, require_own_pass, require_regular
 from .pieces import PassFolder
 from .source import STANDARD_INPUT
 from .tasks import Identity, hash_of
 
 FORMAT = 3
-PART = ".part"
-LOCK, RUN, README, VERDICTS, SUMMARY = "lock", "run.json", "README.txt", "verdicts.txt", "summary.json"
-_OURS = re.compile("lock|run.json|README.txt|verdicts.txt|summary.json|pass-[0-9]+|.*[.]part")
-_PASS = re.compile("pass-[0-9]+")
-# A piece as earlier versions of this package wrote it.
-_OLD_PIECE = "000000001.txt"
 # How what a folder was begun with begins and ends, around its seal. It tells how many bytes it has, so that a
 # file that was cut is known.
-_HEAD = '{\n  "format": %d,\n  "bytes": "' % FORMAT
+_HEAD = RUN_BEGIN + '%d,\n  "bytes": "' % FORMAT
 _SIZE = 8
 _SEALED = ',\n  "seal": "%s"\n}\n'
+# Errors of file systems that lock no directories: NFS asks that a locked file be open for writing.
+_NO_LOCKS = (errno.EBADF, errno.EINVAL, errno.EISDIR, errno.ENOLCK, errno.ENOSYS, errno.EOPNOTSUPP)
 _PAGE = string.Template(
-    """Verdicts on the machines of $list
+    PAGE_BEGIN
+    + """$list
 
 `budlarem run` made this folder (version $version, commit $commit).
 
@@ -42,10 +46,9 @@ _PAGE = string.Template(
   summary.json  counts, limits and times, from then on
   run.json      what the run was begun with, and a seal over it
   pass-1, ..    of each pass `pieces`, the verdict lines so far, and `journal`,
-                which says where each piece of them stands. verdicts.txt may be
-                a second name of pass-1/pieces, so change it in a copy. These
-                folders may be removed when no pass will be added
-  lock          held while a run works here
+                which says where each piece of them stands. Of one pass alone
+                `pieces` becomes verdicts.txt at the end. These folders may be
+                removed when no pass will be added
   README.txt    this page
 
 Whatever ended the run, it goes on by the same command, where it was begun$same.
@@ -56,42 +59,6 @@ More passes may be added at its end; they decide what is left.
 $again
 """
 )
-
-
-def settle_folder(path: str) -> None:
-    """Returns when the names in a folder are on the disk."""
-    number = os.open(path, os.O_RDONLY | os.O_DIRECTORY | os.O_CLOEXEC)
-    try:
-        os.fsync(number)
-    finally:
-        os.close(number)
-
-
-def put_whole(path: str, make: Callable[[str], None]) -> None:
-    """Puts a file that is made under another name into its place: whole or not at all, whatever ends the
-    process. Raises what `make` does, OSError; nothing is left then."""
-    part = path + PART
-    try:
-        make(part)
-        os.replace(part, path)
-    finally:
-        # It is still there after an error, and where both were names of one file already.
-        with contextlib.suppress(OSError):
-            os.unlink(part)
-    settle_folder(os.path.dirname(path))
-
-
-def write_whole(path: str, blocks: Iterator[bytes]) -> None:
-    """Writes a file whole or not at all, whatever ends the process. Raises OSError; nothing is left then."""
-
-    def make(part: str) -> None:
-        with naming(part), open(part, "wb") as file:
-            for block in blocks:
-                file.write(block)
-            file.flush()
-            os.fsync(file.fileno())
-
-    put_whole(path, make)
 
 
 def as_word(path: str) -> str:
@@ -139,7 +106,7 @@ class Begun:
         if self.keep.only_left:
             words += ["--keep", str(self.keep)]
         fields = {
-            "list": self.list_name,
+            "list": escape_controls(self.list_name),
             "same": ", with the same list on standard input" if is_piped else "",
             "verdicts": "a verdict for each line of the list, in its order",
             "go_on": shlex.join(words),
@@ -213,88 +180,160 @@ def limits_of(words: str) -> Limits:
     return Limits(**found)
 
 
-def hold_apart(path: str, list_place: Optional[Tuple[int, int]]) -> None:
-    """Raises FolderError where a file that a run in this folder writes is the list itself, whose device and
-    inode these are, where it is a file."""
-    if list_place is None or not os.path.isdir(path):
-        return
-    ours = [os.path.join(path, name) for name in sorted(os.listdir(path)) if _OURS.fullmatch(name)]
-    for folder in [name for name in ours if os.path.isdir(name)]:
-        ours.extend(entry.path for entry in os.scandir(folder))
-    for name in ours:
-        with contextlib.suppress(FileNotFoundError):
-            found = os.stat(name)
-            if (found.st_dev, found.st_ino) == list_place:
-                raise FolderError("the list is %s, which a run in that folder writes; give another" % name)
+def key_of(passes: Sequence[Limits], keep: Keep, library: str) -> str:
+    """What the journal of the last of these passes is sealed with."""
+    key = "%d %s %s %s" % (FORMAT, " ".join(map(words_of, passes)), keep, library)
+    return hash_of(key.encode())
+
+
+def hold_apart(path: str, list_place: Optional[FileId]) -> None:
+    """Raises FolderError where a file that a run in this folder writes is the list itself, where that is a
+    file."""
+    if os.path.isdir(path):
+        with contextlib.closing(Directory.open(path)) as top:
+            require_other_list(top, list_place)
 
 
 class Folder:
-    """A folder that this process alone works in. `list_place` is the device and the inode of the list, where
-    that is a file. Raises FolderError where another process works in it, where it holds something else, or
-    where the list is one of the files that are written; OSError."""
+    """A folder that this process alone works in, by the handle of the directory that was opened. `list_place`
+    is the device and the inode of the list, where that is a file. Raises FolderError where another process
+    works in it, where it holds something else, or where the list is one of the files that are written;
+    OSError."""
 
-    def __init__(self, path: str, list_place: Optional[Tuple[int, int]] = None) -> None:
+    def __init__(self, path: str, list_place: Optional[FileId] = None) -> None:
         self.path = path
         if os.path.exists(path) and not os.path.isdir(path):
             raise FolderError("%s is a file; give a folder, which may be one that isn't there yet" % path)
         os.makedirs(path, exist_ok=True)
-        hold_apart(path, list_place)
-        names = sorted(os.listdir(path))
-        if RUN not in names:
-            self._hold_ours(names)
-        self._lock = os.open(self.at(LOCK), os.O_RDWR | os.O_CREAT | os.O_CLOEXEC, 0o666)
+        self._top = Directory.open(path)
+        self._locked: List[int] = []
+        # Files that give way to what is written.
+        self._own: Dict[str, Pin] = {}
         try:
-            fcntl.flock(self._lock, fcntl.LOCK_EX | fcntl.LOCK_NB)
+            self._lock()
+            require_other_list(self._top, list_place)
+            begun = self.begun()
+            require_own(self._top, None if begun is None else len(begun.passes))
+            self._own = pins_of(self._top)
+        except BaseException:
+            self.close()
+            raise
+
+    def _lock(self) -> None:
+        """Locks the directory itself; on file systems that can't, a file in it. Raises FolderError where
+        another process has the lock, OSError."""
+        try:
+            fcntl.flock(self._top.handle, fcntl.LOCK_EX | fcntl.LOCK_NB)
         except BlockingIOError:
-            raise FolderError("another run works in %s; wait for its end, or end it" % path) from None
+            raise self._is_locked() from None
+        except OSError as error:
+            if error.errno not in _NO_LOCKS:
+                raise
+            self._locked.append(self._top.open_or_create(LOCK))
+            try:
+                fcntl.flock(self._locked[0], fcntl.LOCK_EX | fcntl.LOCK_NB)
+            except BlockingIOError:
+                raise self._is_locked() from None
 
-    def _hold_ours(self, names: Sequence[str]) -> None:
-        """Raises FolderError where a folder without what it was begun with has files that no run left there:
-        others, or verdicts without the pieces that they came of."""
-        foreign = [name for name in names if not _OURS.fullmatch(name)]
-        if not any(_PASS.fullmatch(name) for name in names):
-            foreign += [name for name in names if name in (README, VERDICTS, SUMMARY)]
-        if foreign:
-            raise FolderError(
-                "%s has other files in it, as %s; give an empty folder" % (self.path, foreign[0])
-            )
-        if os.path.exists(self.at("pass-1", _OLD_PIECE)):
-            raise FolderError(
-                "%s has pieces that another version of this package wrote; give another folder" % self.path
-            )
+    def _is_locked(self) -> FolderError:
+        return FolderError("another run works in %s; wait for its end, or end it" % self.path)
 
-    def at(self, *names: str) -> str:
-        """The path of a file in it."""
-        return os.path.join(self.path, *names)
+    def require_named(self) -> None:
+        """Raises MovedError where its path leads nowhere or elsewhere, or where its lock is lost."""
+        self._top.require_named()
+        if self._locked and self._top.id_at(LOCK) != id_of(os.fstat(self._locked[0])):
+            raise RunError("%s was removed or replaced while the run worked" % self.at(LOCK))
+
+    def at(self, name: str) -> str:
+        """The path of a file in it, for sentences."""
+        return self._top.at(name)
 
     def begun(self) -> Optional[Begun]:
         """What it was begun with; None where it is new, or what says so was cut. Raises FolderError where
-        that was changed, or another version of this package wrote it."""
+        that was changed, is no file, or another version of this package wrote it."""
+        require_regular(self._top, (RUN,))
         try:
-            with open(self.at(RUN), encoding="latin-1", newline="") as file:
-                return Begun.read(file.read())
+            number = self._top.open_file(RUN, os.O_RDONLY)
         except FileNotFoundError:
             return None
-        except FolderError as error:
-            raise FolderError("%s: %s" % (self.at(RUN), error)) from None
+        with open(number, encoding="latin-1", newline="") as file:
+            try:
+                return Begun.read(file.read())
+            except FolderError as error:
+                raise FolderError("%s: %s" % (self.at(RUN), error)) from None
+
+    def require_free(self, numbers: Iterable[int]) -> None:
+        """Raises FolderError where the folder of one of these passes, which are new, is somebody else's."""
+        for name in map(pass_name, numbers):
+            if self._top.status(name) is not None:
+                require_own_pass(self._top, name)
 
     def begin(self, begun: Begun) -> None:
         """Writes down what it is begun with."""
-        write_whole(self.at(RUN), iter([begun.text().encode()]))
+        self._write(RUN, begun.text().encode())
 
     def explain(self, begun: Begun) -> None:
         """Writes the page that says what its files are."""
-        page = begun.page(self.path).encode("utf-8", "surrogateescape")
-        write_whole(self.at(README), iter([page]))
+        self._write(README, begun.page(self.path).encode("utf-8", "surrogateescape"))
+
+    def write_summary(self, summary: bytes) -> None:
+        """Writes the summary."""
+        self._write(SUMMARY, summary)
+
+    def _write(self, name: str, text: bytes) -> None:
+        remove_leftovers(self._top)
+        self._put(name, lambda number: write_blocks(number, [text]))
+
+    def _put(self, name: str, fill: Callable[[int], None]) -> None:
+        """Writes a file whole or not at all. Raises RunError where another made one of that name meanwhile,
+        what `fill` does, OSError."""
+        with self._error_for_others(name):
+            written = write_at(self._top, name, fill, self._own.get(name))
+        if name in self._own:
+            self._own[name].close()
+        self._own[name] = written
+
+    @contextlib.contextmanager
+    def _error_for_others(self, name: str) -> Iterator[None]:
+        """Raises RunError where a name was taken by another meanwhile."""
+        try:
+            yield
+        except FileExistsError:
+            raise RunError(
+                "%s was made or replaced by another while the run worked, and stays as it is; take it away"
+                % self.at(name)
+            ) from None
+
+    def write_verdicts(self, only: PassFolder) -> None:
+        """Writes the verdicts of a run of one pass. Raises RunError, OSError."""
+        if only.is_in_order() and only.has_name():
+            with self._error_for_others(VERDICTS):
+                only.rename_to_verdicts(self._own.get(VERDICTS))
+        else:
+            self._put(VERDICTS, only.copy_whole)
+
+    def join_verdicts(self, passes: Sequence[PassFolder], is_all_kept: bool) -> Checksum:
+        """Writes the verdicts of several passes, and gives their checksum. Raises RunError, OSError."""
+        total = Checksum()
+
+        def fill(number: int) -> None:
+            nonlocal total
+            for block in joined(passes, is_all_kept):
+                write_blocks(number, [block])
+                total = total.followed_by(block)
+            passes[0].take_back()
+
+        self._put(VERDICTS, fill)
+        return total
 
     def open_pass(self, passes: Sequence[Limits], keep: Keep, identity: Identity) -> PassFolder:
         """The folder of the last of these passes."""
-        number = len(passes)
-        path = self.at("pass-%d" % number)
-        os.makedirs(path, exist_ok=True)
-        settle_folder(self.path)
-        key = "%d %s %s %s" % (FORMAT, " ".join(map(words_of, passes)), keep, identity.library)
-        return PassFolder(path, number, hash_of(key.encode()), self.at(VERDICTS))
+        key = key_of(passes, keep, identity.library)
+        return PassFolder(self._top, len(passes), key)
 
     def close(self) -> None:
-        os.close(self._lock)
+        for pin in self._own.values():
+            pin.close()
+        for number in self._locked:
+            os.close(number)
+        self._top.close()

@@ -5,16 +5,20 @@ It is a file of lines of one width, so that the line of a piece is found by its 
 is held. A line ends in a seal, over what it says, the piece's number, and the pass with its limits and
 library: one that was cut, changed or moved, or that is another pass's, is as if it weren't there, and its
 piece is decided again.
+
+Where the file of the pieces was renamed at the end of a run, the line behind the last piece's says so.
 """
 
 from __future__ import annotations
 
 import dataclasses
 import os
+import stat
 import zlib
-from typing import Optional, Tuple
+from typing import List, Optional, Tuple
 
 from .._errors import naming
+from .directory import Directory
 from .reply_checks import KINDS, Counts
 from .tasks import hash_of
 
@@ -25,7 +29,9 @@ _SEAL = 32
 _AHEAD = 64
 _NOTHING = ("", 0, 0, 0, "0" * 64, 0, 0, 0, 0, *(0 for _ in KINDS))
 WIDTH = len(_TEXT % _NOTHING) + _SEAL + 1
-DECIDED, CHECKED = "decided", "checked"
+JOURNAL = "journal"
+DECIDED, CHECKED, RENAMED = "decided", "checked", "renamed"
+_STATES = (DECIDED, CHECKED, RENAMED)
 
 
 @dataclasses.dataclass(frozen=True)
@@ -73,12 +79,14 @@ class Record:
 
 
 class Journal:
-    """The journal of one pass, open for reading and writing. `key` says which pass of which run it is."""
+    """The journal of one pass, in the folder of the pass, open for reading and writing, or only for reading.
+    `key` says which pass of which run it is. Raises OSError, FileNotFoundError where it isn't there and is
+    only to be read."""
 
-    def __init__(self, path: str, key: str) -> None:
-        self._path = path
-        self._number = os.open(path, os.O_RDWR | os.O_CREAT | os.O_CLOEXEC, 0o666)
-        self._key = key
+    def __init__(self, folder: Directory, key: str, is_read_only: bool = False) -> None:
+        self._path, self._key = folder.at(JOURNAL), key
+        opened = folder.open_file(JOURNAL, os.O_RDONLY) if is_read_only else folder.open_or_create(JOURNAL)
+        self._number = opened
         self._length = os.fstat(self._number).st_size // WIDTH
         self._room = 0
         # Between these two pieces none had a record that stands when the second one was looked for.
@@ -104,13 +112,19 @@ class Journal:
             with naming(self._path):
                 os.posix_fallocate(self._number, 0, self._room * WIDTH)
 
-    def read(self, index: int) -> Optional[Record]:
-        """The record of a piece; None where there is none that stands."""
+    def _words(self, index: int) -> List[str]:
+        """The words of a line; none where no line stands there."""
         if index >= self._length:
-            return None
+            return []
         line = os.pread(self._number, WIDTH, index * WIDTH).decode("ascii", "replace")
         words = line.split()
-        if len(words) != _WORDS + 1 or line != self._sealed(index, line[: -_SEAL - 1]):
+        is_whole = len(words) == _WORDS + 1 and line == self._sealed(index, line[: -_SEAL - 1])
+        return words if is_whole else []
+
+    def read(self, index: int) -> Optional[Record]:
+        """The record of a piece; None where there is none that stands."""
+        words = self._words(index)
+        if not words or words[0] == RENAMED:
             return None
         first, lines, size, place, length, took = (int(words[at]) for at in (1, 2, 3, 5, 6, 8))
         counts = tuple(map(int, words[9:-1]))
@@ -129,12 +143,33 @@ class Journal:
             record.milliseconds,
             *record.counts,
         )
-        line, place = self._sealed(index, text).encode(), index * WIDTH
+        self._write(index, self._sealed(index, text).encode())
+
+    def _write(self, index: int, line: bytes) -> None:
+        place = index * WIDTH
         with naming(self._path):
             while line:
                 count = os.pwrite(self._number, line, place)
                 line, place = line[count:], place + count
         self._length = max(self._length, index + 1)
+
+    def rename_mark(self) -> Optional[int]:
+        """Behind how many pieces it says that their file was renamed; None where it doesn't."""
+        lines = (index for index in reversed(range(self._length)) if self._words(index)[:1] == [RENAMED])
+        return next(lines, None)
+
+    def put_rename_mark(self, pieces: int) -> None:
+        """Writes behind so many pieces that their file was renamed, and returns when that is on the disk."""
+        self.make_room(pieces)
+        self._write(pieces, self._sealed(pieces, _TEXT % (RENAMED, *_NOTHING[1:])).encode())
+        self.settle()
+
+    def drop_rename_mark(self) -> None:
+        """Takes back that their file was renamed."""
+        index = self.rename_mark()
+        if index is not None:
+            self._write(index, bytes(WIDTH))
+            self.settle()
 
     def settle(self) -> None:
         """Returns when what was put is on the disk."""
@@ -159,3 +194,26 @@ class Journal:
     def _sealed(self, index: int, text: str) -> str:
         seal = hash_of(("%s %d %s" % (self._key, index, text)).encode("utf-8", "replace"))
         return text + seal[:_SEAL] + "\n"
+
+
+def has_records(folder: Directory) -> bool:
+    """Whether the folder of a pass has a journal in the form of one: records, or only room for them."""
+    status = folder.status(JOURNAL)
+    if status is None or not stat.S_ISREG(status.st_mode):
+        return False
+    is_empty, number = True, folder.open_file(JOURNAL, os.O_RDONLY)
+    try:
+        for place in range(0, status.st_size, WIDTH):
+            line = os.pread(number, WIDTH, place)
+            if _is_in_form(line):
+                return True
+            is_empty = is_empty and not line.strip(b"\0")
+    finally:
+        os.close(number)
+    return is_empty
+
+
+def _is_in_form(line: bytes) -> bool:
+    """Whether a line has the form of a record, whatever it says."""
+    words = line.decode("ascii", "replace").split()
+    return len(line) == WIDTH and len(words) == _WORDS + 1 and words[0] in _STATES

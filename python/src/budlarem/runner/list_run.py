@@ -3,6 +3,7 @@
 from __future__ import annotations
 
 import collections
+import contextlib
 import dataclasses
 import datetime
 import json
@@ -10,10 +11,11 @@ import time
 from typing import Any, Callable, Counter, Dict, List, Optional, Sequence, Tuple
 
 from ..limits import Limits
+from .checksums import Checksum
 from .errors import FolderError
-from .folder import SUMMARY, VERDICTS, Begun, Folder, put_whole, words_of, write_whole
+from .folder import Begun, Folder, words_of
 from .handing import HandingRun
-from .joining import joined, left_by
+from .joining import left_by
 from .keeping import Keep
 from .passes import Manner, Pass, PassResult, PassRun
 from .pieces import PassFolder
@@ -45,30 +47,43 @@ class Outcome:
 
 def run(folder: Folder, source: ListFile, passes: Sequence[Limits], manner: Manner) -> Outcome:
     """Decides a list in a folder, and leaves verdicts and summary there. Raises FolderError, CheckError,
-    RunError, OSError."""
+    RunError, MovedError where the folder's path leads elsewhere before a pass or at the end, OSError."""
+    try:
+        return _run_passes(folder, source, passes, manner)
+    except OSError:
+        # Nothing can be made in a folder that was removed.
+        folder.require_named()
+        raise
+
+
+def _run_passes(folder: Folder, source: ListFile, passes: Sequence[Limits], manner: Manner) -> Outcome:
     began = time.time(), time.monotonic()
     begun = begin(folder, source, passes, manner)
     folder.explain(begun)
-    folders: List[PassFolder] = []
     results: List[PassResult] = []
-    for number, limits in enumerate(passes, 1):
-        opened = folder.open_pass(passes[:number], manner.keep, manner.identity)
-        lines, known = _lines_for(source, folders, results, begun)
-        manner.progress.begin(number, len(passes), _total_of(source, lines, known))
-        results.append(_pass_run(Pass(opened, limits, manner, tuple(folders), known)).run(lines))
-        folders.append(opened)
-        if begun.list_lines is None:
-            begun.list_lines = results[0].lines
-            folder.begin(begun)
-    if len(folders) == 1:
-        put_whole(folder.at(VERDICTS), folders[0].put_whole)
-    else:
-        write_whole(folder.at(VERDICTS), joined(folders, not manner.keep.only_left))
-    for opened in folders:
-        opened.close()
+    with contextlib.ExitStack() as opened:
+        folders: List[PassFolder] = []
+        for number, limits in enumerate(passes, 1):
+            folder.require_named()
+            found = folder.open_pass(passes[:number], manner.keep, manner.identity)
+            opened.callback(found.close)
+            lines, known = _lines_for(source, folders, results, begun)
+            manner.progress.begin(number, len(passes), _total_of(source, lines, known))
+            results.append(_pass_run(Pass(found, limits, manner, tuple(folders), known)).run(lines))
+            folders.append(found)
+            if begun.list_lines is None:
+                begun.list_lines = results[0].lines
+                folder.begin(begun)
+        folder.require_named()
+        checksum = results[0].checksum
+        if len(folders) == 1:
+            folder.write_verdicts(folders[0])
+        else:
+            checksum = folder.join_verdicts(folders, not manner.keep.only_left)
     outcome = outcome_of(results)
-    summary = summary_of(source, results, outcome, manner, began)
-    write_whole(folder.at(SUMMARY), iter([(json.dumps(summary, indent=2) + "\n").encode()]))
+    summary = summary_of(source, results, outcome, manner, began, checksum)
+    folder.write_summary((json.dumps(summary, indent=2) + "\n").encode())
+    folder.require_named()
     manner.progress.end()
     return outcome
 
@@ -118,6 +133,7 @@ def begin(folder: Folder, source: ListFile, passes: Sequence[Limits], manner: Ma
             "%s isn't the list that %s was begun with; give that list, or another folder:"
             " it has %d bytes, and that one had %d" % (source.name, folder.path, size, begun.list_bytes)
         )
+    folder.require_free(range(len(begun.passes) + 1, len(passes) + 1))
     if list(passes) != begun.passes:
         begun.passes = list(passes)
         folder.begin(begun)
@@ -172,9 +188,10 @@ def summary_of(
     outcome: Outcome,
     manner: Manner,
     began: Tuple[float, float],
+    checksum: Checksum,
 ) -> Dict[str, Any]:
     """What the summary says. The run began at this time, by the wall's clock and by one that never goes
-    back, which counts its seconds."""
+    back, which counts its seconds; its verdicts have this checksum."""
     seconds = time.monotonic() - began[1]
     times = [
         datetime.datetime.fromtimestamp(when, datetime.timezone.utc)
@@ -185,12 +202,14 @@ def summary_of(
         "lines": outcome.lines,
         "counts": _in_order(outcome.counts),
         "kept": str(manner.keep),
+        "verdicts": checksum.fields(),
         "passes": [
             {
                 "limits": dict(zip(Limits.RANGES, result.limits.numbers())),
                 "lines": result.lines,
                 "counts": _in_order(result.counts),
                 "pieces": result.pieces,
+                "verdicts": result.checksum.fields(),
                 "checked": result.is_checked,
                 "work_seconds": result.milliseconds / 1_000,
             }

@@ -10,6 +10,7 @@ from typing import Callable, Counter, Optional, Sequence
 
 from .._lengths import LONGEST_OF_ERROR
 from ..limits import Limits
+from .checksums import Checksum
 from .cutting import HERE, Cutter, Piece, PieceSize
 from .errors import CheckError, FolderError, ReplyError
 from .joining import number_in_list
@@ -29,13 +30,15 @@ _SOONEST, _LATEST, _SHARE = 0.1, 1.0, 10.0
 
 @dataclasses.dataclass
 class PassResult:
-    """What a pass came to. `milliseconds` is what deciding its pieces took, one after another."""
+    """What a pass came to. `milliseconds` is what deciding its pieces took, one after another; `checksum` is
+    that of what is kept of all pieces, in the list's order."""
 
     limits: Limits
     lines: int = 0
     pieces: int = 0
     milliseconds: int = 0
     is_checked: bool = True
+    checksum: Checksum = Checksum()
     counts: Counter[str] = dataclasses.field(default_factory=collections.Counter)
 
     def add(self, record: Record) -> None:
@@ -104,6 +107,7 @@ class PassRun:
             finally:
                 self._put_down()
         self._folder.pieces = self._result.pieces
+        self._result.checksum = self._folder.checksum()
         return self._result
 
     def _decide(self, lines: Cuttable) -> None:
@@ -201,6 +205,7 @@ class PassRun:
                 self._folder.journal.put(piece.index, piece.record)
         if changed:
             self._folder.journal.settle()
+            self._folder.require_named()
         for piece in pieces:
             if piece.record is not None:
                 self._result.add(piece.record)

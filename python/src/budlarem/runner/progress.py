@@ -8,6 +8,8 @@ import sys
 import time
 from typing import Callable, Optional, TextIO
 
+from ..escaping import escape_controls
+
 # Seconds between two lines, on a terminal and elsewhere.
 _OFTEN, _SELDOM = 0.5, 60.0
 # A pass of more seconds than this is announced, once so many pieces or seconds are there to reckon it from.
@@ -123,8 +125,8 @@ class Progress:
         )
 
     def print_line(self, text: str) -> None:
-        """Prints a sentence, on a line of its own."""
-        self._write(self.cleared() + "budlarem: %s\n" % text)
+        """Prints a sentence, on a line of its own, its control characters escaped."""
+        self._write(self.cleared() + "budlarem: %s\n" % escape_controls(text))
         self._is_open = False
 
     def cleared(self) -> str:

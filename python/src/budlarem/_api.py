@@ -1,0 +1,107 @@
+"""The calls and types of the package, which `budlarem` imports at their first use."""
+
+from ._library import LibraryError
+from .engine import (
+    Configuration,
+    MachineError,
+    Trace,
+    check,
+    check_bytes,
+    decide,
+    decide_bytes,
+    trace,
+)
+from .claims import WORDS, Said, Word
+from .judging import Judged, Judgement, Judging, judge
+from .later import Place, at
+from .limits import Limits, LimitsError, Plan
+from .pictures import Picture, PictureError, picture
+from .lists import (
+    Agreement,
+    Carried,
+    Comparison,
+    Growth,
+    Normal,
+    Triage,
+    compare,
+    decide_carried,
+    distinct,
+    normal,
+    triage,
+)
+from .publishing import Published, PublishError, UnconfirmedError, publish
+from .reading import Reading, Reason, Rewriting, read
+from .reports import Report, ReportError, report
+from .verdicts import (
+    Answer,
+    Backward,
+    Cycler,
+    Extent,
+    Halt,
+    Refused,
+    Translated,
+    Undecided,
+    Verdict,
+    is_machine,
+    parse,
+)
+
+__all__ = [
+    "Agreement",
+    "Answer",
+    "Backward",
+    "Carried",
+    "Comparison",
+    "Configuration",
+    "Cycler",
+    "Extent",
+    "Growth",
+    "Halt",
+    "Judged",
+    "Judgement",
+    "Judging",
+    "LibraryError",
+    "Limits",
+    "LimitsError",
+    "MachineError",
+    "Normal",
+    "Picture",
+    "PictureError",
+    "Place",
+    "Plan",
+    "PublishError",
+    "Published",
+    "Reading",
+    "Reason",
+    "Refused",
+    "Report",
+    "ReportError",
+    "Rewriting",
+    "Said",
+    "Trace",
+    "Translated",
+    "Triage",
+    "UnconfirmedError",
+    "Undecided",
+    "Verdict",
+    "WORDS",
+    "Word",
+    "at",
+    "check",
+    "check_bytes",
+    "compare",
+    "decide",
+    "decide_bytes",
+    "decide_carried",
+    "distinct",
+    "is_machine",
+    "judge",
+    "normal",
+    "parse",
+    "picture",
+    "publish",
+    "read",
+    "report",
+    "trace",
+    "triage",
+]
