@@ -1,0 +1,31 @@
+"""Tests of the escapes for control characters."""
+
+from __future__ import annotations
+
+import unittest
+
+from budlarem.escaping import escape_controls
+
+
+class EscapingTest(unittest.TestCase):
+    def test_controls_are_escaped(self) -> None:
+        self.assertEqual(escape_controls("a\x1b[31mb\r\x00\x7f"), r"a\x1b[31mb\x0d\x00\x7f")
+        self.assertEqual(escape_controls("\x80\x9b\x9f\xa0"), r"\x80\x9b\x9f" + "\xa0")
+
+    def test_bytes_outside_utf8_that_are_controls_are_escaped(self) -> None:
+        given = b"\x80\x9b\x9f\xa0".decode("utf-8", "surrogateescape")
+        self.assertEqual(escape_controls(given), r"\x80\x9b\x9f" + "\udca0")
+
+    def test_tab_newline_and_printable_text_stay(self) -> None:
+        text = "1RB1LB_1LA1RZ\thalt 6 4\nGrüße, 中\u200b"
+        self.assertEqual(escape_controls(text), text)
+
+    def test_no_control_is_left(self) -> None:
+        controls = "".join(map(chr, [*range(0x20), *range(0x7F, 0xA0)])).replace("\t", "").replace("\n", "")
+        escaped = escape_controls(controls)
+        self.assertTrue(escaped.isprintable(), escaped)
+        self.assertEqual(escaped.encode().decode("unicode_escape"), controls)
+
+
+if __name__ == "__main__":
+    unittest.main()
