@@ -53,7 +53,7 @@ from .lists import (
     triage,
 )
 from .publishing import Published, PublishError, UnconfirmedError, publish
-from .reading import Reading, Reason, Rewriting, read
+from .reading import Columns, EncodingError, Form, Passed, Reading, Readings, Reason, Rewriting, read
 from .reports import Report, ReportError, report
 from .verdicts import (
     Answer,
@@ -75,10 +75,13 @@ __all__ = [
     "Backward",
     "COMMIT",
     "Carried",
+    "Columns",
     "Comparison",
     "Configuration",
     "Cycler",
+    "EncodingError",
     "Extent",
+    "Form",
     "Growth",
     "Halt",
     "Judged",
@@ -88,6 +91,7 @@ __all__ = [
     "Limits",
     "LimitsError",
     "MachineError",
+    "Passed",
     "Normal",
     "Picture",
     "PictureError",
@@ -96,6 +100,7 @@ __all__ = [
     "PublishError",
     "Published",
     "Reading",
+    "Readings",
     "Reason",
     "Refused",
     "Report",

@@ -8,6 +8,7 @@ import sys
 
 from .._lengths import LONGEST_SHOWN
 from ..checking import Checked, answers_to, why
+from ..escaping import escape_controls
 from ..reading.files import BytesFile
 from ..runner.progress import count_of
 from ..verdicts import Answer
@@ -48,8 +49,8 @@ def do_check(asked: argparse.Namespace) -> int:
     if found.first is None:
         return 0
     number, line, answer = found.first
-    parts = (name, number, answer, LONGEST_SHOWN, line, why(line, answer, limits))
-    print("%s:%d: %s: %.*s: %s" % parts, file=sys.stderr)
+    text = escape_controls("%.*s: %s" % (LONGEST_SHOWN, line, why(line, answer, limits)))
+    print("%s:%d: %s: %s" % (name, number, answer, text), file=sys.stderr)
     return 1
 
 
