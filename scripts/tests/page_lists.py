@@ -24,12 +24,11 @@ ROWS = (
 )
 
 
-def readings(lines: List[str]) -> Tuple[Dict[str, Any], List[Dict[str, Any]]]:
-    """What the page's reader says it rewrites and advises, and its readings of lines."""
-    given = "".join(json.dumps(line) + "\n" for line in lines)
+def answers(asked: List[Any]) -> List[Any]:
+    """The answers of the page's reader, the first of which are its sentences."""
+    given = "".join(json.dumps(one) + "\n" for one in asked)
     done = subprocess.run(["node", READER], input=given, stdout=subprocess.PIPE, text=True, check=True)
-    sentences, *found = map(json.loads, done.stdout.splitlines())
-    return sentences, found
+    return [json.loads(line) for line in done.stdout.splitlines()]
 
 
 def wanted_of(form: Dict[str, Any]) -> Dict[str, Any]:
@@ -48,12 +47,17 @@ def hold_forms(tally: Tally) -> None:
         return
     with open(FORMS, encoding="utf-8") as file:
         forms = json.load(file)
-    sentences, found = readings([form["line"] for form in forms["forms"]])
+    lines = [[form["line"], form.get("form", "text")] for form in forms["forms"]]
+    sentences, *found = answers([*lines, *forms["lists"], *forms["encodings"]])
     tally.hold(
         "the sentences of the reader", sentences == {name: forms[name] for name in ("advice", "rewritings")}
     )
     for form, reading in zip(forms["forms"], found):
         tally.hold("%r is read as %s" % (form["line"], reading), reading == wanted_of(form))
+    for entry, form in zip(forms["lists"], found[len(lines) :]):
+        tally.hold("%s has the form %s" % (entry["lines"], form), form == entry["form"])
+    for entry, encoding in zip(forms["encodings"], found[len(lines) + len(forms["lists"]) :]):
+        tally.hold("%s is %s" % (entry["bytes"], encoding), encoding == entry["encoding"])
 
 
 def disguised(machine: str, source: random.Random) -> str:
@@ -75,7 +79,7 @@ def hold_disguised(tally: Tally, count: int, seed: int) -> None:
         return
     source = random.Random(seed)
     machines = list(mixed(count, seed))
-    _, found = readings([disguised(machine, source) for machine in machines])
+    _, *found = answers([[disguised(machine, source)] for machine in machines])
     taken = [one.get("machine") for one in found]
     wrong = [pair for pair in zip(machines, taken) if pair[1] not in (None, pair[0])]
     tally.hold("another machine: %s" % wrong[:3], not wrong)
