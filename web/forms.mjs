@@ -1,8 +1,8 @@
 /**
  * The form of a list, found out from its first lines.
  *
- * @typedef {"machines" | "verdicts" | "table" | "text"} Form a machine a line and nothing else; verdict lines;
- *   a table with a column of machines; what people paste, with one machine a line
+ * @typedef {"machines" | "verdicts" | "table" | "text"} Form a machine a line and nothing else; verdict
+ *   lines; a table with a column of machines; what people paste, with one machine a line
  */
 import { beginsTable, isPassedOver } from "./passing.mjs";
 import { isVerdictLine, readingOf } from "./reading.mjs";

@@ -18,7 +18,8 @@ import { REWRITINGS, cut, isMachine, readArrays, readEntries, readWords, reasonO
 import { isLoneEntry, isOfEntries, partsOf, rowBeside, textOf, written } from "./words.mjs";
 
 const NUMBER = "(?:0|[1-9][0-9]*)";
-const NUMBERS = `(?:halt|cycler|backward) ${NUMBER} ${NUMBER}|translated [LR] ${NUMBER} ${NUMBER}(?: ${NUMBER} ${NUMBER})?`;
+const PAIR = `${NUMBER} ${NUMBER}`;
+const NUMBERS = `(?:halt|cycler|backward) ${PAIR}|translated [LR] ${PAIR}(?: ${PAIR})?`;
 const VERDICT = new RegExp(`^(?:${NUMBERS}|undecided (?:steps|cells))$`);
 const REFUSED = new RegExp("^refused [1-9][0-9]*(?:\\t.*)?$");
 // The letter of a state that stands alone before a group; a small one only where the line begins, before

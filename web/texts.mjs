@@ -96,7 +96,7 @@ export function readEntries(words) {
  * @param {Word[][]} groups
  */
 export function readArrays(groups) {
-  const entries = groups.map((group) => group.map(({ begin, text }) => /** @type {[number, string]} */ ([begin, text])));
+  const entries = groups.map((group) => /** @type {Group} */ (group.map(({ begin, text }) => [begin, text])));
   return machineOf(entries, [...rewrittenIn(groups.flat()), "arrays"]);
 }
 

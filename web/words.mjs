@@ -2,10 +2,10 @@
  * A line cut into what may be a machine: words of entries, rows of dashes or dots, addresses.
  *
  * @typedef {{begin: number, text: string}} Word characters that stand together, and how many come before them
- * @typedef {{words: Word[], begin: number, end: number, isAddress: boolean, isLast: boolean, arrays: Word[][]}}
- *   Text words that are one text, since only spaces stand between them; where it stands in the line, with the
- *   address that it is a part of, whether it is that address's last part, and the entries of each group where
- *   they are written as arrays
+ * @typedef {{words: Word[], begin: number, end: number, isAddress: boolean, isLast: boolean,
+ *   arrays: Word[][]}} Text words that are one text, since only spaces stand between them; where it stands in
+ *   the line, with the address that it is a part of, whether it is that address's last part, and the entries
+ *   of each group where they are written as arrays
  * @typedef {{texts: Text[], rows: Word[]}} Parts what of a line may be a machine, and its rows of dashes or
  *   dots
  */
@@ -13,11 +13,8 @@
 const QUOTES = "`\"'\u2018\u2019\u201a\u201c\u201d\u201e\u00ab\u00bb";
 // What ends an address; and a word, too.
 const ENDS = `\\s,;|()\\[\\]{}<>*${QUOTES}`;
-const TOKEN = new RegExp(
-  `(?<address>(?:[A-Za-z][A-Za-z0-9+.-]*://|[A-Za-z][A-Za-z0-9-]*(?:\\.[A-Za-z0-9-]+)+/)(?:(?!~~)[^${ENDS}])*)` +
-    `|[^${ENDS}:=#~]+`,
-  "g",
-);
+const BEGIN = "(?:[A-Za-z][A-Za-z0-9+.-]*://|[A-Za-z][A-Za-z0-9-]*(?:\\.[A-Za-z0-9-]+)+/)";
+const TOKEN = new RegExp(`(?<address>${BEGIN}(?:(?!~~)[^${ENDS}])*)|[^${ENDS}:=#~]+`, "g");
 const ENTRIES = /^(?:[0-9][LRlr][A-Za-z]|---|\.\.\.|_)*(?:[0-9][LRlr][A-Za-z]|---|\.\.\.)_*$/;
 const ROW = /^[-.]+$/;
 // A number of a list right before an entry.
@@ -165,12 +162,12 @@ function together(line, words, rows) {
   const isDashes = (/** @type {Word} */ { text }) => text === "---";
   const all = [...words, ...rows.filter(isDashes)].sort((one, two) => one.begin - two.begin);
   return runsOf(line, all).flatMap((run) => {
-    const first = run.findIndex((word) => !isDashes(word));
-    const inner = run.slice(Math.max(first, 0), run.length - [...run].reverse().findIndex((word) => !isDashes(word)));
-    if (first >= 0 && inner.every(({ text }) => text.length === 3)) {
+    const plain = run.filter((word) => !isDashes(word));
+    const inner = run.slice(run.indexOf(plain[0]), run.indexOf(plain[plain.length - 1]) + 1);
+    if (plain.length > 0 && inner.every(({ text }) => text.length === 3)) {
       return [textOf(inner)];
     }
-    return runsOf(line, run.filter((word) => !isDashes(word))).map(textOf);
+    return runsOf(line, plain).map(textOf);
   });
 }
 
