@@ -1,7 +1,7 @@
 /** What is said of a line that isn't the machine and nothing else: how it was read, or why it wasn't. */
 import { part } from "./parts.mjs";
 import { ADVICE, readingOf } from "./reading.mjs";
-import { REWRITINGS } from "./texts.mjs";
+import { REWRITINGS, isMachine } from "./texts.mjs";
 import { shown } from "./machine.mjs";
 
 // Characters that are shown about the place where a line goes wrong.
@@ -13,14 +13,15 @@ const NO_VERDICT_LINE =
 /**
  * @typedef {import("./machine.mjs").Verdict} Verdict
  * @typedef {import("./reading.mjs").Reading} Reading
- * @typedef {{text: string | null, number: number, isRead: boolean}} Given the line, null where it is the
- *   machine, its number, and whether lines are read in other forms
+ * @typedef {{text: string | null, number: number, form: import("./forms.mjs").Form | null}} Given the line,
+ *   null where it is the machine, its number, and the form by which lines are read, null where they aren't
  */
 
 /** Tells a line's text and, of a refused one, where and why it goes wrong. */
 export function tellGiven(/** @type {Given} */ given, /** @type {Verdict} */ verdict) {
   const isRefused = verdict.kind === "refused";
-  const reading = given.text !== null && given.isRead ? readingOf(given.text) : null;
+  const { text, form } = given;
+  const reading = text !== null && form !== null ? readingOf(text, form) : null;
   const words = reading?.kind === "machine" && !isRefused ? rewrittenWords(reading, given.text ?? "") : "";
   Object.assign(part("machine-given"), { textContent: words, hidden: words === "" });
   const caret = isRefused && given.text !== null ? caretOf(given.text, placeOf(reading, verdict)) : "";
@@ -28,7 +29,7 @@ export function tellGiven(/** @type {Given} */ given, /** @type {Verdict} */ ver
   if (isRefused) {
     const what = isUnread(verdict) ? "verdict line" : "machine";
     part("machine-text").textContent = `Line ${shown(given.number + 1)} is no ${what}`;
-    part("machine-says").textContent = refusedWords(reading, verdict);
+    part("machine-says").textContent = refusedWords(reading, verdict, isMachine((text ?? "").trim()));
   }
 }
 
@@ -45,8 +46,11 @@ function placeOf(reading, { numbers: [column] }) {
   return reading?.kind === "refusal" ? reading.place : column ?? null;
 }
 
-/** @param {Reading | null} reading @param {Verdict} verdict */
-function refusedWords(reading, verdict) {
+/**
+ * @param {Reading | null} reading @param {Verdict} verdict
+ * @param {boolean} isTaken whether the program reads a machine there
+ */
+function refusedWords(reading, verdict, isTaken) {
   const { numbers: [column], text } = verdict;
   if (isUnread(verdict)) {
     return NO_VERDICT_LINE;
@@ -54,7 +58,8 @@ function refusedWords(reading, verdict) {
   if (reading?.kind !== "refusal") {
     return `Refused: as it stands it goes wrong at column ${shown(column)}; ${ADVICE.none}.`;
   }
-  return `Refused: ${reading.reason}; ${ADVICE[reading.refusal]}. The program says ${text}.`;
+  const program = isTaken ? "" : ` The program says ${text}.`;
+  return `Refused: ${reading.reason}; ${ADVICE[reading.refusal]}.${program}`;
 }
 
 /** @param {import("./reading.mjs").Machine} reading @param {string} text */

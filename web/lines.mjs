@@ -10,9 +10,9 @@ const UNDECIDED = KINDS.indexOf("undecided");
 
 /**
  * @typedef {import("./results.mjs").Results} Results
- * @typedef {{results: Results, plan: Record<string, any>, isRead: boolean, isUnderWay: boolean}} Answered the
- *   answers to a list by now, at which limits, whether its lines were read in other forms too, and whether
- *   more come
+ * @typedef {{results: Results, plan: Record<string, any>, form: import("./forms.mjs").Form | null,
+ *   isUnderWay: boolean}} Answered the answers to a list by now, at which limits, by which form its lines
+ *   were read, null where they weren't, and whether more come
  */
 
 export class Lines {
@@ -123,10 +123,10 @@ export class Lines {
   }
 
   open(/** @type {number} */ row, /** @type {boolean} */ moves) {
-    const { results, plan, isRead } = this.answered();
+    const { results, plan, form } = this.answered();
     const { machine, verdict, answer, given, number } = results.row(row);
     this.isOpen = true;
-    this.view.open({ machine, verdict, answer, plan }, moves, { text: given, number, isRead });
+    this.view.open({ machine, verdict, answer, plan }, moves, { text: given, number, form });
   }
 
   /** Opens the next or the previous row that is shown, of any kind or an undecided one. */

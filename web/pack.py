@@ -29,12 +29,21 @@ COMMENT = re.compile(r"^[ \t]*(?:/\*\*(?:(?!\*/).)*\*/|//[^\n]*)\n", re.MULTILIN
 
 TYPE = re.compile(r"/\*\* @(?:type|param|returns) [^\n]*? \*/ ?")
 INDENT = re.compile(r"^[ \t]+|\n(?=\n)", re.MULTILINE)
-# A text in quotes, or in backticks where what is filled in has no text itself.
-TEXT = r"\"(?:[^\"\\\n]|\\.)*\"|`(?:[^`\\\n$]|\$\{[^`{}\"'\n]*\})*`"
-# Lines that have nothing else with quotes or slashes, so no regular expression; beside these signs no space
+# A regular expression, which stands behind a sign or `return`.
+REGEX = (
+    r"(?:(?<=[(\[!])|(?<=[=,:?&|] )|(?<=return ))/(?![*/ ])"
+    r"(?:[^/\\\n\[]|\\.|\[(?:[^\]\\\n]|\\.)*\])+/[a-z]*"
+)
+# A text in quotes, or in backticks where what is filled in has at most texts in quotes; or a regular expression.
+TEXT = r"\"(?:[^\"\\\n]|\\.)*\"|`(?:[^`\\\n$]|\$\{(?:[^`{}\"'\n]|\"[^\"\\\n]*\")*\})*`|" + REGEX
+# Lines that have nothing else with quotes or slashes but those of divisions; beside these signs no space
 # counts there, but in texts.
-PLAIN = re.compile(r"^(?:[^\"'`/\n]|%s)+$" % TEXT, re.MULTILINE)
-SPACED = re.compile(r"(%s)| ?([=(){}\[\],;:?<>&|*!]) ?" % TEXT)
+PLAIN = re.compile(r"^(?:[^\"'`/\n]| / |%s)+$" % TEXT, re.MULTILINE)
+SPACED = re.compile(r"(%s)| ?([=(){}\[\],;:?<>&|*!]) ?|(?<=[\w)\]]) ([+/%%-]) (?=[\w(\[])" % TEXT)
+# Newlines that end nothing: behind these signs, or before those; and the semicolon before a closing brace.
+JOINED = re.compile(r";\n(?=\})|(?<=[;{,(\[=?:&|>}])\n|\n(?=[})\].?:&|+,])")
+# Spaces of a style that separate nothing.
+STYLE_SPACED = re.compile(r"\s*([{};,])\s*|(?<=:) ")
 
 
 def read(*path: str) -> str:
@@ -59,7 +68,7 @@ def wrapped(name: str) -> str:
     text = IMPORT.sub(r"const \1 = of_\2;", REEXPORT.sub("", text))
     text = INDENT.sub("", TYPE.sub("", COMMENT.sub("", EXPORT.sub(r"\1", text))))
     script = "const of_%s = (() => {\n%s\nreturn { %s };\n})();\n" % (name, text, ", ".join(exported))
-    return PLAIN.sub(lambda line: SPACED.sub(r"\1\2", line[0]), script)
+    return JOINED.sub("", PLAIN.sub(lambda line: SPACED.sub(r"\1\2\3", line[0]), script))
 
 
 def joined(modules: List[str]) -> str:
@@ -121,7 +130,7 @@ def main() -> None:
     both = "\n" + joined(shared)
     own = "\n" + joined([module for module in page_modules if module not in shared])
     worker = "\n" + joined([module for module in worker_modules if module not in shared])
-    style = "\n" + INDENT.sub("", read(WEB, "page.css"))
+    style = STYLE_SPACED.sub(r"\1", COMMENT.sub("", read(WEB, "page.css"))).strip()
     scripts = [
         '<script type="application/json" id="examples-data">%s</script>' % data,
         '<script type="text/plain" id="module">%s</script>' % engine,

@@ -20,7 +20,7 @@ const work = new Work(() => lines.show());
 /** @type {Lines} */
 const lines = new Lines(new View(), () => {
   const { results, run, isUnderWay } = work;
-  return { results, plan: run.plan, isRead: source.clean.checked && run.mode === "decide", isUnderWay };
+  return { results, plan: run.plan, form: run.mode === "decide" ? run.form : null, isUnderWay };
 });
 
 // How often a list was given.
@@ -48,7 +48,8 @@ async function begin(isOfLink = false) {
     }
     source.keep();
     lines.begin();
-    work.begin(given.blob, given.first, { mode: given.mode, clean: source.clean.checked, plan });
+    const { mode, form } = given;
+    work.begin(given.blob, given.first, { mode, form, clean: source.clean.checked, plan });
   }
 }
 
@@ -132,7 +133,7 @@ function openLink(isAgain = false) {
   if (before === null) {
     setPlan(link?.plan ?? {});
   } else {
-    source.set(before.plan, before.clean, before.mode);
+    source.set(before.plan, before.clean, before.mode, before.form);
     source.isExample = before.isExample;
   }
   if (before !== null && before.gone !== "") {

@@ -1,10 +1,12 @@
 /** A list as it is given to the engine: the machines that its lines are read as. */
 import { LONGEST_LINE } from "./lengths.mjs";
+import { isPassedOver } from "./passing.mjs";
 import { readingOf } from "./reading.mjs";
 
 const NEWLINE = 10;
 const RETURN = 13;
 const DASH = 45;
+const SPACE = 32;
 const [ZERO, NINE] = [48, 57];
 const [A, L, R, Z, UNDERSCORE] = [65, 76, 82, 90, 95];
 const [FEWEST_SYMBOLS, MOST_SYMBOLS] = [2, 10];
@@ -28,6 +30,7 @@ const decoder = new TextDecoder();
 const encoder = new TextEncoder();
 
 /**
+ * @typedef {import("./forms.mjs").Form} Form
  * @typedef {{bytes: Uint8Array, numbers: Uint32Array | null, places: Uint32Array | null, left: number}}
  *   Prepared
  *   what the engine is given; of each of its lines the number among the lines that were given, from 0, and
@@ -39,17 +42,16 @@ export const BEGIN_BYTES = 65_536;
 
 /** Whether a list has verdict lines: most of the lines at its begin are whole ones. */
 export function hasVerdicts(/** @type {Uint8Array} */ bytes) {
-  const lines = decoder.decode(bytes.subarray(0, BEGIN_BYTES)).replace(/^\ufeff/, "").split("\n");
-  const isCut = bytes.length >= BEGIN_BYTES && lines.length > 1;
-  const whole = (isCut ? lines.slice(0, -1) : lines).map((line) => line.trim());
-  const texts = whole.filter((text) => !isNothing(text));
+  const whole = firstLines(bytes).map((line) => line.replace(/^\ufeff/, "").trim());
+  const texts = whole.filter((text) => !isPassedOver(text));
   const verdicts = texts.filter((text) => VERDICT.test(text)).length;
   return verdicts > 0 && 2 * verdicts > texts.length;
 }
 
-/** Whether a line is empty or a comment. */
-function isNothing(/** @type {string} */ text) {
-  return text === "" || text.startsWith("#") || text.startsWith("//");
+/** The first whole lines of a list. */
+export function firstLines(/** @type {Uint8Array} */ bytes) {
+  const lines = decoder.decode(bytes.subarray(0, BEGIN_BYTES)).split("\n");
+  return bytes.length >= BEGIN_BYTES && lines.length > 1 ? lines.slice(0, -1) : lines;
 }
 
 /** A list that is given as it stands. @returns {Prepared} */
@@ -59,11 +61,12 @@ export function asGiven(/** @type {Uint8Array} */ bytes) {
 
 /**
  * What the engine is given of a list.
- * @param {Uint8Array} bytes @param {{mode: string, clean: boolean}} asked
+ * @param {Uint8Array} bytes @param {{mode: string, clean: boolean, form: Form}} asked
  * @returns {Prepared}
  */
-export function prepared(bytes, { mode, clean }) {
-  return clean ? taken(bytes, mode === "check" ? claimIn : machineIn) : asGiven(bytes);
+export function prepared(bytes, { mode, clean, form }) {
+  const machine = (/** @type {Uint8Array} */ line) => machineIn(line, form);
+  return clean ? taken(bytes, mode === "check" ? claimIn : machine) : asGiven(bytes);
 }
 
 /**
@@ -98,25 +101,39 @@ function taken(bytes, read) {
   return { bytes: made, numbers: Uint32Array.from(numbers), places: Uint32Array.from(places), left };
 }
 
-/** The machine of a line, or the line itself where it has none; null for a comment or an empty line. */
-function machineIn(/** @type {Uint8Array} */ line) {
-  if (line.length > LONGEST_LINE || machineEnd(line, 0) === line.length) {
+/**
+ * The machine of a line, or a line that the engine refuses where it has none; null where it is passed over.
+ * @param {Uint8Array} line @param {Form} form
+ */
+function machineIn(line, form) {
+  const isMachine = line.length <= LONGEST_LINE && machineEnd(line, 0) === line.length;
+  if (line.length > LONGEST_LINE || (isMachine && isAllowed(line, form))) {
     return line;
   }
-  const reading = readingOf(decoder.decode(line));
+  const reading = readingOf(decoder.decode(line), form);
   if (reading.kind === "nothing") {
     return null;
   }
-  return reading.kind === "machine" ? encoder.encode(reading.machine) : line;
+  if (reading.kind === "machine") {
+    return encoder.encode(reading.machine);
+  }
+  // A machine that the form doesn't allow there is refused by a space before it.
+  return isMachine ? Uint8Array.of(SPACE, ...line) : line;
 }
 
-/** A verdict line without the spaces about it; null for a comment or an empty line. */
+/** Whether a line that is a machine may be one in this form. */
+function isAllowed(/** @type {Uint8Array} */ line, /** @type {Form} */ form) {
+  const isRow = line[0] === DASH && line.every((byte) => byte === DASH);
+  return form === "machines" || (form !== "verdicts" && !isRow);
+}
+
+/** A verdict line without the spaces about it; null where the line is passed over. */
 function claimIn(/** @type {Uint8Array} */ line) {
   if (line.length > LONGEST_LINE) {
     return line;
   }
   const text = decoder.decode(line).replace(/^\ufeff/, "").trim();
-  if (isNothing(text)) {
+  if (isPassedOver(text)) {
     return null;
   }
   return VERDICT.test(text) ? encoder.encode(text.split("\t")[0]) : line;
@@ -153,7 +170,7 @@ function machineEnd(/** @type {Uint8Array} */ bytes, /** @type {number} */ from)
     if (kinds === ENTRY) {
       symbol = first > symbol ? first : symbol;
       state = last > state && last !== Z ? last : state;
-    } else if (kinds !== UNDEFINED) {
+    } else if (kinds !== UNDEFINED || first !== DASH || bytes[at + 1] !== DASH || last !== DASH) {
       break;
     }
     symbols += 1;

@@ -10,15 +10,26 @@
  * @typedef {Found & {kind: "machine", before: string, behind: string}} Machine
  * @typedef {Reason & {kind: "refusal"}} Refusal
  * @typedef {Machine | Refusal | {kind: "nothing"}} Reading
+ * @typedef {import("./forms.mjs").Form} Form
  */
 import { LONGEST_LINE } from "./lengths.mjs";
-import { cut, isMachine, readWords, reasonOf } from "./texts.mjs";
-import { isLoneEntry, partsOf, rowBeside, textOf, written } from "./words.mjs";
+import { isCommentOfMachine, isPassedOver } from "./passing.mjs";
+import { REWRITINGS, cut, isMachine, readArrays, readEntries, readWords, reasonOf } from "./texts.mjs";
+import { isLoneEntry, isOfEntries, partsOf, rowBeside, textOf, written } from "./words.mjs";
 
-const VERDICT =
-  /^(?:(?:halt|cycler|backward) [0-9]+ [0-9]+|translated [LR](?: [0-9]+){2,4}|undecided (?:steps|cells))$/;
+const NUMBER = "(?:0|[1-9][0-9]*)";
+const PAIR = `${NUMBER} ${NUMBER}`;
+const NUMBERS = `(?:halt|cycler|backward) ${PAIR}|translated [LR] ${PAIR}(?: ${PAIR})?`;
+const VERDICT = new RegExp(`^(?:${NUMBERS}|undecided (?:steps|cells))$`);
+const REFUSED = new RegExp("^refused [1-9][0-9]*(?:\\t.*)?$");
+// The letter of a state that stands alone before a group; a small one only where the line begins, before
+// small letters.
+const STATE = /(?:(?:^|[^\p{L}\p{N}_'\u2019-])([A-Y])|^\s*([a-y]))[\s:|=).,;>*`"'\]-]*$/u;
+const DASHES = /^-*$/;
+// What stands in machines beside letters and digits, in any spelling.
+const OF_MACHINES = /^[\p{L}\p{N}_\-.\\\s]*$/u;
 const QUOTES = ["``", '""', "''", "\u201c\u201d", "\u2018\u2019", "\u00ab\u00bb"];
-const PAIRS = [...QUOTES, "()", "[]", "{}", "<>", "**"];
+const PAIRS = [...QUOTES, "()", "[]", "{}", "<>", "**", "~~"];
 const BESIDE = /^[\s,;]+|[\s,;]+$/g;
 
 /**
@@ -27,7 +38,7 @@ const BESIDE = /^[\s,;]+|[\s,;]+$/g;
  */
 export const ADVICE = {
   none: "a machine is written as 1RB1LB_1LA1RZ",
-  rule: "write ------ alone on its line if it is meant as a machine",
+  rule: "in the form machines a row of 6, 9, .. or 30 dashes is a machine",
   "rule-or-group": "write _ between the groups, or leave the row out",
   entry: "an entry is a digit, L or R and a letter, or --- where it is undefined",
   lost: "write --- for an undefined entry, or Z for a step that halts",
@@ -46,40 +57,121 @@ export const ADVICE = {
   two: "write one machine a line",
   dots: "write --- for an undefined entry, or leave the dots out",
   long: "write one machine a line",
+  comment: "leave # out if the machine is meant, or the machine if it is a comment",
+  "state-line": "write the groups of a machine in one line, with _ between them",
+  hidden: "take out the character",
+  beside: "read the list as the form text, or write the machine alone",
+  verdict: "a verdict line is written as 1RB1LB_1LA1RZ halt 6 4",
+  row: "write a record a line, with the separator of the others",
+  column: "write a machine into the column",
 };
 
 /**
- * The reading of a line without its newline.
- * @param {string} given
+ * The reading of a line without its newline, in a list of this form. A table is read as a text.
+ * @param {string} given @param {Form} [form]
  * @returns {Reading}
  */
-export function readingOf(given) {
+export function readingOf(given, form = "text") {
   const line = given.replace(/^\ufeff+/, "").replace(/\r+$/, "");
   const bare = line.trim();
   if (line.length > LONGEST_LINE) {
     const sentence = `the line has more than ${LONGEST_LINE.toLocaleString("en")} characters`;
     return { kind: "refusal", ...reasonOf("long", sentence, LONGEST_LINE + 1) };
   }
-  if (bare === "" || bare.startsWith("#") || bare.startsWith("//")) {
+  if (form === "verdicts") {
+    return readingOfVerdict(line, bare);
+  }
+  if (isMachine(bare) && (form === "machines" || !DASHES.test(bare))) {
+    return machineWith(bare, "");
+  }
+  const [machine] = bare.split(" ", 1);
+  if (form !== "machines" && machine.includes("_") && isVerdictLine(bare)) {
+    return machineWith(machine, bare.slice(machine.length + 1));
+  }
+  if (isPassedOver(bare)) {
     return { kind: "nothing" };
   }
-  if (isMachine(bare)) {
-    return { kind: "machine", machine: bare, rewritten: [], before: "", behind: "" };
+  const reading = readPlain(line);
+  return form === "machines" ? alone(reading, bare) : reading;
+}
+
+/** @returns {Machine} */
+function machineWith(/** @type {string} */ machine, /** @type {string} */ behind) {
+  return { kind: "machine", machine, rewritten: [], before: "", behind };
+}
+
+/** Whether a line is a verdict line, which may have fields behind a tab. */
+export function isVerdictLine(/** @type {string} */ bare) {
+  const [first] = bare.split("\t", 1);
+  const [machine] = first.split(" ", 1);
+  return REFUSED.test(bare) || (VERDICT.test(first.slice(machine.length + 1)) && isMachine(machine));
+}
+
+/**
+ * The reading of a line of the form of verdicts.
+ * @param {string} line @param {string} bare
+ * @returns {Reading}
+ */
+function readingOfVerdict(line, bare) {
+  const place = line.length - line.trimStart().length + 1;
+  if (REFUSED.test(bare)) {
+    return { kind: "refusal", ...reasonOf("none", "no machine in this line", place) };
   }
-  const [machine, ...words] = line.split(" ");
-  const verdict = words.join(" ");
-  if (machine.includes("_") && VERDICT.test(verdict) && isMachine(machine)) {
-    return { kind: "machine", machine, rewritten: [], before: "", behind: verdict };
+  if (isVerdictLine(bare)) {
+    const [machine] = bare.split(" ", 1);
+    return machineWith(machine, bare.slice(machine.length + 1));
   }
-  const read = readTexts(line);
+  if (isPassedOver(bare)) {
+    return { kind: "nothing" };
+  }
+  return { kind: "refusal", ...reasonOf("verdict", "this is no verdict line", place) };
+}
+
+/**
+ * The reading of a line whose machine has to stand alone.
+ * @param {Reading} reading @param {string} bare
+ * @returns {Reading}
+ */
+function alone(reading, bare) {
+  if (reading.kind !== "machine") {
+    return reading;
+  }
+  const { machine, before, behind } = reading;
+  if (before === "" && behind === "" && OF_MACHINES.test(bare)) {
+    return reading;
+  }
+  return { kind: "refusal", ...reasonOf("beside", `the line has more than the machine ${cut(machine)}`, 1) };
+}
+
+/**
+ * The reading of a line that isn't passed over.
+ * @param {string} line
+ * @returns {Reading}
+ */
+function readPlain(line) {
+  const { text, places } = unescaped(line);
+  const read = readTexts(text);
   if (!Array.isArray(read)) {
     // Some characters take two places in a text here, and one for who counts them.
-    const place = [...line.slice(0, read.place - 1)].length + 1;
+    const place = [...line.slice(0, places[read.place - 1])].length + 1;
     return { kind: "refusal", ...read, place };
   }
-  const [begin, end] = spanOf(line, read);
-  const [before, behind] = [line.slice(0, begin), line.slice(end)].map((text) => text.replace(BESIDE, ""));
-  return { kind: "machine", .../** @type {Found} */ (read[0][1]), before, behind };
+  const [begin, end] = spanOf(text, read).map((place) => places[place]);
+  const [before, behind] = [line.slice(0, begin), line.slice(end)].map((part) => part.replace(BESIDE, ""));
+  const found = /** @type {Found} */ (read[0][1]);
+  const kinds = line.slice(begin, end).includes("\\_") ? [...found.rewritten, "escapes"] : found.rewritten;
+  const rewritten = Object.keys(REWRITINGS).filter((kind) => kinds.includes(kind));
+  return { kind: "machine", machine: found.machine, rewritten, before, behind };
+}
+
+/** The line with `_` for `\\_`, and for each place of it, its end too, the place in the line. */
+function unescaped(/** @type {string} */ line) {
+  const places = Array.from({ length: line.length + 1 }, (_, place) => place);
+  if (!line.includes("\\_")) {
+    return { text: line, places };
+  }
+  const kept = places.filter((place) => line.slice(place, place + 2) !== "\\_");
+  return { text: kept.map((place) => line.charAt(place)).join(""), places: kept };
 }
 
 /**
@@ -89,14 +181,21 @@ export function readingOf(given) {
  */
 function readTexts(line) {
   const { texts, rows } = partsOf(line);
+  if (isCommentOfMachine(line.trim())) {
+    const place = texts[0].begin + 1;
+    return reasonOf("comment", "a machine in a line that begins as a comment", place);
+  }
   const found = texts.flatMap((text) => {
-    const read = readText(text);
+    const read = ofState(line, text) ?? readText(text);
     return Array.isArray(read) ? read : [/** @type {Read} */ ([text, read])];
   });
   if (found.length === 0) {
     return noText(line, rows);
   }
   for (const [text, outcome] of found) {
+    if ("refusal" in outcome && outcome.refusal === "state-line") {
+      return outcome;
+    }
     const isPlain = "machine" in outcome && !written(text).includes("_");
     const row = isPlain ? rowBeside(line, text, rows) : undefined;
     if (row !== undefined) {
@@ -105,6 +204,21 @@ function readTexts(line) {
     }
   }
   return oneOf(found);
+}
+
+/** Why a text is no machine before which the letter of a state stands: it is the line of that state. */
+function ofState(/** @type {string} */ line, /** @type {Text} */ text) {
+  const group = written(text);
+  if (group.includes("_") || text.arrays.length > 0 || text.isAddress) {
+    return null;
+  }
+  const found = STATE.exec(line.slice(0, text.begin));
+  if (found === null || (found[1] === undefined && group === group.toUpperCase())) {
+    return null;
+  }
+  const letter = found[1] ?? found[2];
+  const sentence = `${letter} before ${cut(group)}: a machine of a state a line isn't read`;
+  return reasonOf("state-line", sentence, found.index + found[0].indexOf(letter) + 1);
 }
 
 /** Why there is no machine where there are no entries. */
@@ -126,8 +240,14 @@ function readText(text) {
   if (!text.isLast) {
     return reasonOf("none", "no machine in this line", text.words[0].begin + 1);
   }
+  if (text.arrays.length > 0) {
+    return [[text, readArrays(text.arrays)]];
+  }
   if (text.words.length === 1) {
     return dotted(text.words[0]) ?? [[text, readWords(text.words)]];
+  }
+  if (isOfEntries(text)) {
+    return [[text, readEntries(text.words)]];
   }
   /** @type {Read[]} */
   const alone = text.words.map((word) => [textOf([word]), readWords([word])]);

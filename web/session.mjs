@@ -5,8 +5,8 @@ const MOST_CHARACTERS = 1_000_000;
 
 /**
  * @typedef {{text: string, gone: string, plan: Record<string, any>, mode: string, clean: boolean,
- *   isExample: boolean, hash: string}} Kept `gone` names a list that is too long to be kept, `isExample` says
- *   that the settings are an example's, `hash` is the address behind `#`
+ *   form?: string, isExample: boolean, hash: string}} Kept `gone` names a list that is too long to be kept,
+ *   `isExample` says that the settings are an example's, `hash` is the address behind `#`
  */
 
 /** Keeps these for a reload; where the browser keeps nothing, nothing is kept. */

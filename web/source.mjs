@@ -1,20 +1,29 @@
 /** The list that is given, as a text or a file, and the settings with which it is answered. */
 import { planWords, setPlan } from "./fields.mjs";
+import { formOf } from "./forms.mjs";
 import { counted } from "./machine.mjs";
 import { part, setAside } from "./parts.mjs";
 import { FIRST_BYTES } from "./pieces.mjs";
-import { BEGIN_BYTES, hasVerdicts } from "./prepare.mjs";
+import { BEGIN_BYTES, firstLines, hasVerdicts } from "./prepare.mjs";
 import { keep } from "./session.mjs";
+import { requireUtf8, unpacked } from "./unpacking.mjs";
 
-/** @typedef {"decide" | "check"} Mode */
+/**
+ * @typedef {"decide" | "check"} Mode
+ * @typedef {import("./forms.mjs").Form} Form
+ */
 
 export class Source {
   constructor() {
     this.list = /** @type {HTMLTextAreaElement} */ (part("list"));
     this.mode = /** @type {HTMLSelectElement} */ (part("mode"));
     this.clean = /** @type {HTMLInputElement} */ (part("clean"));
+    this.form = /** @type {HTMLSelectElement} */ (part("list-form"));
     /** @type {File | null} */
     this.file = null;
+    // The bytes of the file, unpacked; null where they weren't asked for yet.
+    /** @type {Promise<Blob> | null} */
+    this.bytes = null;
     // What the list is called that a reload doesn't keep, where a file or such a list stands there.
     this.gone = "";
     // Whether the settings are those of an example: then the next list has the defaults again.
@@ -38,6 +47,16 @@ export class Source {
     return asked === "check" || (asked === "auto" && hasVerdicts(start)) ? "check" : "decide";
   }
 
+  /**
+   * The form by which the lines of a list are read that begins so.
+   * @returns {Form}
+   */
+  formOf(/** @type {Uint8Array} */ start) {
+    const asked = this.form.value;
+    const found = asked === "auto" ? formOf(firstLines(start)) : /** @type {Form} */ (asked);
+    return found ?? "text";
+  }
+
   /** Has the button say what it does with the text, or with a file once its begin is read. */
   nameRun() {
     if (this.file === null) {
@@ -53,14 +72,28 @@ export class Source {
    * @param {number} [bytes] how many first ones
    */
   async given(bytes = FIRST_BYTES) {
-    const blob = this.file ?? new Blob([this.list.value]);
     const { file } = this;
+    const blob = await (file === null ? new Blob([this.list.value]) : this.unpacked(file));
+    await requireUtf8(blob);
     const first = await blob.slice(0, bytes).arrayBuffer();
-    const mode = this.modeOf(new Uint8Array(first, 0, Math.min(first.byteLength, BEGIN_BYTES)));
+    const start = new Uint8Array(first, 0, Math.min(first.byteLength, BEGIN_BYTES));
+    const mode = this.modeOf(start);
     if (file === this.file) {
       nameRun(mode);
     }
-    return { blob, first, mode };
+    return { blob, first, mode, form: this.formOf(start) };
+  }
+
+  /**
+   * The bytes of a file, unpacked once where they are compressed; one that can't be read is tried again when
+   * it is asked for again.
+   */
+  unpacked(/** @type {File} */ file) {
+    this.bytes ??= unpacked(file).catch((error) => {
+      this.bytes = null;
+      throw error;
+    });
+    return this.bytes;
   }
 
   /** Puts a text into the list. */
@@ -76,6 +109,7 @@ export class Source {
    */
   hold(file, isOwn = false) {
     this.file = file;
+    this.bytes = null;
     if (!isOwn) {
       this.gone = file === null ? "" : `The file ${file.name}`;
     }
@@ -103,13 +137,14 @@ export class Source {
   }
 
   /**
-   * Sets limits, deciders, whether lines are cleaned, and what they are.
-   * @param {Record<string, any>} plan @param {boolean} clean @param {string} mode
+   * Sets limits, deciders, whether lines are cleaned, what they are, and the form of the list.
+   * @param {Record<string, any>} plan @param {boolean} clean @param {string} mode @param {string} [form]
    */
-  set(plan, clean, mode) {
+  set(plan, clean, mode, form = "auto") {
     setPlan(plan);
     this.clean.checked = clean;
     this.mode.value = mode;
+    this.form.value = form;
     this.nameRun();
   }
 
@@ -128,9 +163,10 @@ export class Source {
 
   /** Keeps list and settings for a reload. */
   keep() {
-    const { gone, list, mode, clean, isExample } = this;
+    const { gone, list, mode, clean, form, isExample } = this;
     const { hash } = location;
-    const settings = { plan: planWords(), mode: mode.value, clean: clean.checked, isExample };
+    const lines = { mode: mode.value, form: form.value, clean: clean.checked };
+    const settings = { plan: planWords(), ...lines, isExample };
     keep({ text: list.value, gone, ...settings, hash });
   }
 }

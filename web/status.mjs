@@ -1,14 +1,23 @@
 /**
  * How far a list is, in words.
  *
- * @typedef {{mode: "decide" | "check", plan: Record<string, any>, size: number, begun: number,
- *   taken: number}} Run a list that is worked on: its bytes, the milliseconds at which the work began, and
- *   those that it took; 0 while it is under way
+ * @typedef {{mode: "decide" | "check", plan: Record<string, any>, form: import("./forms.mjs").Form | null,
+ *   size: number, begun: number, taken: number}} Run a list that is worked on: the form by which its lines
+ *   are read, null where they aren't; its bytes, the milliseconds at which the work began, and those that it
+ *   took; 0 while it is under way
  */
 import { LONGEST_QUOTED } from "./lengths.mjs";
 import { ANSWERS, KINDS, counted, shown } from "./machine.mjs";
 
 const [UNDECIDED, REFUSED] = [KINDS.indexOf("undecided"), KINDS.indexOf("refused")];
+const LEFT_OUT = "empty lines, comments, code fences, rules and headers of tables";
+/** The forms of lists, as they are printed. */
+const FORMS = {
+  machines: "a list of machines",
+  verdicts: "verdict lines",
+  table: "a table",
+  text: "text",
+};
 // What takes longer is named.
 const NAMED_MILLISECONDS = 500;
 
@@ -30,13 +39,16 @@ export function statusOf(how, share, run, results) {
     `${shown(decided)} decided`,
     `${shown(counts[UNDECIDED])} undecided`,
     `${shown(counts[REFUSED])} refused`,
-    ...(left > 0 ? [`${shown(left)} left out (comments and empty lines)`] : []),
+    ...(left > 0 ? [`${shown(left)} left out (${LEFT_OUT})`] : []),
   ];
   parts.push(numbers.join(", "));
   const answers = ANSWERS.map((answer, k) => `${shown(results.answers[k])} ${answer}`);
   const answered = answers.filter((_, k) => results.answers[k] > 0 && ANSWERS[k] !== "open").join(", ");
   const what = run.mode === "check" ? `These are ${counted(lines, "verdict line")}, checked` : "The checker";
   parts.push(`${what}: ${answered || "nothing to confirm"}`);
+  if (run.form !== null && run.mode === "decide") {
+    parts.push(`Read as ${FORMS[run.form]}`);
+  }
   return `${parts.join(". ")}.`;
 }
 

@@ -8,6 +8,7 @@
  *   and the character of the line where it is, from 1
  * @typedef {[number, string][]} Group entries, each with how many characters come before it
  */
+import { firstHidden, nameHidden, nameOf } from "./hidden.mjs";
 import { LONGEST_QUOTED } from "./lengths.mjs";
 
 const STATES = "ABCDEFGHIJKLMNOPQRSTUVWXY";
@@ -25,6 +26,9 @@ export const REWRITINGS = {
   "undefined-entries": "... read as ---, an undefined entry",
   spaces: "spaces between groups read as _",
   underscores: "_ put between the groups",
+  escapes: "\\_ read as _",
+  entries: "spaces between entries left out",
+  arrays: "arrays of entries read as groups",
 };
 
 /**
@@ -35,8 +39,9 @@ export function reasonOf(refusal, reason, place) {
   return { refusal, reason, place };
 }
 
-/** A text as a sentence has it: cut where it is long. */
-export function cut(/** @type {string} */ text) {
+/** A text as a sentence has it: characters that don't show by name, cut where it is long. */
+export function cut(/** @type {string} */ given) {
+  const text = nameHidden(given);
   return text.length <= LONGEST_QUOTED ? text : `${text.slice(0, LONGEST_QUOTED - 2)}..`;
 }
 
@@ -65,6 +70,42 @@ export function readWords(words) {
     return { machine: words[0].text, rewritten: [] };
   }
   const groups = words.length > 1 ? words : split(words[0]);
+  const entries = entriesOfGroups(groups);
+  if (!Array.isArray(entries)) {
+    return entries;
+  }
+  const rewritten = rewrittenIn(groups);
+  if (groups.length === 1) {
+    return divided(entries[0], rewritten);
+  }
+  return machineOf(entries, words.length > 1 ? [...rewritten, "spaces"] : rewritten);
+}
+
+/**
+ * The machine whose entries are these words, where one division into groups makes one.
+ * @param {Word[]} words
+ * @returns {Found | Reason}
+ */
+export function readEntries(words) {
+  const entries = entriesOfGroups(words);
+  return Array.isArray(entries) ? divided(entries.flat(), [...rewrittenIn(words), "entries"]) : entries;
+}
+
+/**
+ * The machine whose groups are arrays of these entries.
+ * @param {Word[][]} groups
+ */
+export function readArrays(groups) {
+  const entries = groups.map((group) => /** @type {Group} */ (group.map(({ begin, text }) => [begin, text])));
+  return machineOf(entries, [...rewrittenIn(groups.flat()), "arrays"]);
+}
+
+/**
+ * The entries of each group, or why one of them has others.
+ * @param {Word[]} groups
+ * @returns {Group[] | Reason}
+ */
+function entriesOfGroups(groups) {
   /** @type {Group[]} */
   const entries = [];
   for (const [place, group] of groups.entries()) {
@@ -75,11 +116,7 @@ export function readWords(words) {
     }
     entries.push(found);
   }
-  const rewritten = rewrittenIn(groups);
-  if (groups.length === 1) {
-    return divided(entries[0], rewritten);
-  }
-  return machineOf(entries, words.length > 1 ? [...rewritten, "spaces"] : rewritten);
+  return entries;
 }
 
 /** What `_` sets apart in a word. */
@@ -124,6 +161,11 @@ function noEntry(text, number, place, isFollowed) {
   if (LOST.test(whole)) {
     const sentence = `entry ${number} is ${whole}: the ${whole[0]} that it writes would be lost`;
     return reasonOf("lost", sentence, place);
+  }
+  const hidden = firstHidden(text);
+  if (hidden >= 0) {
+    const name = nameOf(String.fromCodePoint(text.codePointAt(hidden) ?? 0));
+    return reasonOf("hidden", `entry ${number} has ${name}, a character that doesn't show`, place + hidden);
   }
   return reasonOf("entry", `entry ${number} is no entry: ${text}`, place);
 }

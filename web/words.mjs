@@ -2,10 +2,10 @@
  * A line cut into what may be a machine: words of entries, rows of dashes or dots, addresses.
  *
  * @typedef {{begin: number, text: string}} Word characters that stand together, and how many come before them
- * @typedef {{words: Word[], begin: number, end: number, isAddress: boolean, isLast: boolean}} Text words
- *   that are
- *   one text, since only spaces stand between them; where it stands in the line, with the address that it is
- *   a part of, and whether it is that address's last part
+ * @typedef {{words: Word[], begin: number, end: number, isAddress: boolean, isLast: boolean,
+ *   arrays: Word[][]}} Text words that are one text, since only spaces stand between them; where it stands in
+ *   the line, with the address that it is a part of, whether it is that address's last part, and the entries
+ *   of each group where they are written as arrays
  * @typedef {{texts: Text[], rows: Word[]}} Parts what of a line may be a machine, and its rows of dashes or
  *   dots
  */
@@ -13,13 +13,16 @@
 const QUOTES = "`\"'\u2018\u2019\u201a\u201c\u201d\u201e\u00ab\u00bb";
 // What ends an address; and a word, too.
 const ENDS = `\\s,;|()\\[\\]{}<>*${QUOTES}`;
-const TOKEN = new RegExp(
-  `(?<address>(?:[A-Za-z][A-Za-z0-9+.-]*://|[A-Za-z][A-Za-z0-9-]*(?:\\.[A-Za-z0-9-]+)+/)[^${ENDS}]*)` +
-    `|[^${ENDS}:=#]+`,
-  "g",
-);
+const BEGIN = "(?:[A-Za-z][A-Za-z0-9+.-]*://|[A-Za-z][A-Za-z0-9-]*(?:\\.[A-Za-z0-9-]+)+/)";
+const TOKEN = new RegExp(`(?<address>${BEGIN}(?:(?!~~)[^${ENDS}])*)|[^${ENDS}:=#~]+`, "g");
 const ENTRIES = /^(?:[0-9][LRlr][A-Za-z]|---|\.\.\.|_)*(?:[0-9][LRlr][A-Za-z]|---|\.\.\.)_*$/;
 const ROW = /^[-.]+$/;
+// A number of a list right before an entry.
+const NUMBER = /^[0-9]+\.(?=[0-9-])/;
+// Groups as arrays of quoted entries, as JSON and Python write them.
+const ENTRY = "[\"'](?:[0-9][LRlr][A-Za-z]|---|\\.\\.\\.)[\"']";
+const GROUP = `\\[\\s*${ENTRY}(?:\\s*,\\s*${ENTRY})*\\s*\\]`;
+const ARRAYS = new RegExp(`\\[\\s*${GROUP}(?:\\s*,\\s*${GROUP})*\\s*\\]`, "g");
 // What nothing but a machine has in it, whole or not.
 const PIECES = /[0-9][LR](?:[A-Z_.-]|$)|[0-9][lr][a-z](?=[0-9_])|(?<=[a-z_])[0-9][lr][a-z]/;
 // A word that looks like an entry.
@@ -50,21 +53,29 @@ export function isLoneEntry(/** @type {Text} */ { words }) {
  */
 export function textOf(words) {
   const end = endOf(words[words.length - 1]);
-  return { words, begin: words[0].begin, end, isAddress: false, isLast: true };
+  return { words, begin: words[0].begin, end, isAddress: false, isLast: true, arrays: [] };
+}
+
+/** Whether each of several words is one entry. */
+export function isOfEntries(/** @type {Text} */ { words }) {
+  return words.length > 1 && words.every(({ text }) => text.length === 3);
 }
 
 /**
  * What of a line may be a machine.
- * @param {string} line
+ * @param {string} given
  * @returns {Parts}
  */
-export function partsOf(line) {
+export function partsOf(given) {
+  const texts = arraysOf(given);
+  const line = texts.reduce(
+    (before, { begin, end }) => before.slice(0, begin) + "|".repeat(end - begin) + before.slice(end),
+    given,
+  );
   /** @type {Word[]} */
   const words = [];
   /** @type {Word[]} */
   const rows = [];
-  /** @type {Text[]} */
-  const texts = [];
   for (const match of line.matchAll(TOKEN)) {
     const token = { begin: match.index ?? 0, text: match[0] };
     if (match.groups?.address !== undefined) {
@@ -76,13 +87,42 @@ export function partsOf(line) {
       words.push(withoutStop(token));
     }
   }
-  texts.push(...together(line, words));
+  const plain = together(line, words, rows);
+  const inside = new Set(plain.flatMap((text) => text.words.map(({ begin }) => begin)));
+  texts.push(...plain);
   texts.sort((one, two) => one.words[0].begin - two.words[0].begin);
-  return { texts, rows };
+  return { texts, rows: rows.filter(({ begin }) => !inside.has(begin)) };
 }
 
-/** A word without the one full stop at its end. */
-function withoutStop(/** @type {Word} */ { begin, text }) {
+/**
+ * The machines of a line that are written as arrays of entries.
+ * @returns {Text[]}
+ */
+function arraysOf(/** @type {string} */ line) {
+  const found = line.includes("[") ? [...line.matchAll(ARRAYS)] : [];
+  return found.map((match) => {
+    const begin = match.index ?? 0;
+    const arrays = [...match[0].matchAll(new RegExp(GROUP, "g"))].map((group) =>
+      [...group[0].matchAll(new RegExp(ENTRY, "g"))].map((entry) => ({
+        begin: begin + (group.index ?? 0) + (entry.index ?? 0) + 1,
+        text: entry[0].slice(1, -1),
+      })),
+    );
+    const text = arrays.map((group) => group.map((word) => word.text).join("")).join("_");
+    const end = begin + match[0].length;
+    return { words: [{ begin, text }], begin, end, isAddress: false, isLast: true, arrays };
+  });
+}
+
+/** A word without a list's number before it, and without the full stop or the marks at its end. */
+function withoutStop(/** @type {Word} */ word) {
+  let { begin, text } = word;
+  const number = NUMBER.exec(text)?.[0] ?? "";
+  if (number !== "" && ENTRIES.test(text.slice(number.length).replace(/[.!?]+$/, ""))) {
+    [begin, text] = [begin + number.length, text.slice(number.length)];
+  }
+  const unmarked = text.replace(/[!?]+$/, "");
+  text = ENTRIES.test(unmarked) ? unmarked : text;
   const isStopped = text.endsWith(".") && !text.endsWith("..");
   return { begin, text: isStopped ? text.slice(0, -1) : text };
 }
@@ -97,7 +137,7 @@ function textsIn(address) {
   return [...address.text.matchAll(PART)].flatMap((match) => {
     const at = match.index ?? 0;
     const part = withoutStop({ begin: address.begin + at, text: match[0] });
-    const whole = { begin: address.begin, end: endOf(address), isAddress: true };
+    const whole = { begin: address.begin, end: endOf(address), isAddress: true, arrays: [] };
     return hasEntries(part.text) ? [{ words: [part], ...whole, isLast: at >= last }] : [];
   });
 }
@@ -113,19 +153,40 @@ function hasEntries(/** @type {string} */ text) {
   return text !== ORDINAL && !ROW.test(text) && (ENTRIES.test(text) || PIECES.test(text));
 }
 
-/** The texts that these words make: those between which there are only spaces are one. */
-function together(/** @type {string} */ line, /** @type {Word[]} */ words) {
+/**
+ * The texts that these words make: those between which there are only spaces are one. Between entries that
+ * stand alone, `---` is an entry.
+ * @param {string} line @param {Word[]} words @param {Word[]} rows
+ */
+function together(line, words, rows) {
+  const isDashes = (/** @type {Word} */ { text }) => text === "---";
+  const all = [...words, ...rows.filter(isDashes)].sort((one, two) => one.begin - two.begin);
+  return runsOf(line, all).flatMap((run) => {
+    const plain = run.filter((word) => !isDashes(word));
+    const inner = run.slice(run.indexOf(plain[0]), run.indexOf(plain[plain.length - 1]) + 1);
+    if (plain.length > 0 && inner.every(({ text }) => text.length === 3)) {
+      return [textOf(inner)];
+    }
+    return runsOf(line, plain).map(textOf);
+  });
+}
+
+/**
+ * The words between which there are only spaces, together.
+ * @param {string} line @param {Word[]} words
+ */
+function runsOf(line, words) {
   /** @type {Word[][]} */
-  const held = [];
+  const runs = [];
   for (const word of words) {
-    const before = held[held.length - 1];
+    const before = runs[runs.length - 1];
     if (before !== undefined && TOGETHER.test(line.slice(endOf(before[before.length - 1]), word.begin))) {
       before.push(word);
     } else {
-      held.push([word]);
+      runs.push([word]);
     }
   }
-  return held.map(textOf);
+  return runs;
 }
 
 /**

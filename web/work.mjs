@@ -4,6 +4,7 @@ import { KINDS, counted } from "./machine.mjs";
 import { part, setAside, tellLive } from "./parts.mjs";
 import { Pieces } from "./pieces.mjs";
 import { Pool } from "./pool.mjs";
+import { ListError } from "./unpacking.mjs";
 import { Results } from "./results.mjs";
 import { statusOf, underWayWords } from "./status.mjs";
 import { makeReady } from "./workers.mjs";
@@ -26,6 +27,9 @@ const NO_FILE = "It could not be read: a folder, or a file that has changed sinc
 export function failureWords(/** @type {{error: string, message: string}} */ { error, message }) {
   if (error === "MemoryError" || error === "RangeError") {
     return NO_MEMORY;
+  }
+  if (error === ListError.name) {
+    return message;
   }
   const isUnread = error === "NotReadableError" || error === "NotFoundError";
   return isUnread ? NO_FILE : `The engine ended: ${message}`;
@@ -54,7 +58,7 @@ export class Work {
     this.pool = null;
     this.results = new Results();
     /** @type {import("./status.mjs").Run} */
-    this.run = { mode: "decide", plan: {}, size: 0, begun: 0, taken: 0 };
+    this.run = { mode: "decide", plan: {}, form: null, size: 0, begun: 0, taken: 0 };
     // Whether anything of the list is shown.
     this.isShown = false;
     this.refresh = 0;
@@ -73,8 +77,9 @@ export class Work {
    * @param {Asked} asked
    */
   begin(blob, first, asked) {
-    const { mode, plan } = asked;
-    this.run = { mode, plan, size: blob.size, begun: performance.now(), taken: 0 };
+    const { mode, plan, clean } = asked;
+    const form = clean ? asked.form : null;
+    this.run = { mode, plan, form, size: blob.size, begun: performance.now(), taken: 0 };
     this.saidAt = this.run.begun;
     this.results = new Results();
     this.isShown = false;

@@ -1,7 +1,8 @@
 /**
  * What a worker of the page does: it decides or checks pieces of a list, traces a machine, and sorts.
  *
- * @typedef {{mode: "decide" | "check", clean: boolean, plan: Record<string, any>}} Asked
+ * @typedef {{mode: "decide" | "check", clean: boolean, form: import("./forms.mjs").Form,
+ *   plan: Record<string, any>}} Asked
  * @typedef {{job: number, bytes: Uint8Array, lines: Uint8Array | null, starts: Uint32Array,
  *   kinds: Uint8Array, steps?: Float64Array, answers: Uint8Array, kindCounts: number[],
  *   answerCounts: number[], first: number, numbers: Uint32Array | null, source: Uint8Array | null,
@@ -57,7 +58,7 @@ let pace = Infinity;
 /** A batch answered: its lines, what is said of each, and the answer of the checker. */
 function answered(
   /** @type {Uint8Array} */ given,
-  /** @type {Asked} */ { mode, plan },
+  /** @type {Pick<Asked, "mode" | "plan">} */ { mode, plan },
   starts = startsOf(given),
 ) {
   const { steps, cells, depth, nodes } = plan;
@@ -86,11 +87,12 @@ function refuseUnread(/** @type {Uint8Array} */ kinds, /** @type {Uint8Array} */
 
 /**
  * Answers a piece of a list in batches, each sent when it is done. The engine is given the piece as it stands
- * where machines may be; from the first batch on in which it refuses a line, they are read line by line.
+ * where each line is a machine; from the first batch on in which it refuses a line, and in a list of another
+ * form, they are read line by line.
  */
 function work(/** @type {any} */ { job, bytes: given, line: first, asked }) {
   const standing = asGiven(given);
-  let list = asked.mode === "check" ? prepared(given, asked) : standing;
+  let list = asked.mode === "check" || asked.form !== "machines" ? prepared(given, asked) : standing;
   let [from, line, done] = [0, 0, false];
   while (!done) {
     const newline = list.bytes.indexOf(NEWLINE, Math.max(from, Math.min(from + size, list.bytes.length) - 1));
@@ -137,7 +139,7 @@ function originOf({ bytes, numbers, places }, given, { from, line, count }, kind
 
 /** The verdict on one machine and the checker's answer to it. */
 function decidedOne(/** @type {{machine: string, plan: Record<string, any>}} */ { machine, plan }) {
-  const part = answered(new TextEncoder().encode(machine), { mode: "decide", clean: false, plan });
+  const part = answered(new TextEncoder().encode(machine), { mode: "decide", plan });
   return { line: new TextDecoder().decode(part.bytes).trimEnd(), answer: ANSWERS[part.answers[0]] };
 }
 
@@ -149,7 +151,7 @@ function warm(/** @type {Uint8Array} */ list) {
   const begun = performance.now();
   const line = new TextEncoder().encode(WARM_MACHINE);
   while (performance.now() - begun < WARM_MILLISECONDS) {
-    answered(list, { mode: "decide", clean: false, plan: WARM_PLAN });
+    answered(list, { mode: "decide", plan: WARM_PLAN });
     engine?.traceBytes(line, WARM_SAMPLE);
   }
 }

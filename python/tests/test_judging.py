@@ -2,20 +2,25 @@
 
 from __future__ import annotations
 
+import json
 import os
+import pathlib
 import random
 import tempfile
 import unittest
 from typing import Iterable, List, Optional, Tuple
 
 import budlarem
-from budlarem import Halt, Judgement, Limits, Said, Word, WORDS
+from budlarem import WORDS, Columns, Form, Halt, Judgement, Limits, Said, Word
 from budlarem.claims import said_by
+from budlarem.numbers import number_of, numbers_in
 from budlarem.same import form_of
+from budlarem.translation import read_words
 
 CHAMPION = "1RB1LB_1LA1RZ"
 CYCLER = "0RB---_0LA---"
 LEFT = "0RB1LD_0RC1RD_0RD---_1LA0RB"
+FORMS = pathlib.Path(__file__).parents[2] / "scripts" / "tests" / "forms.json"
 SMALL = Limits(1_000, 1_000, 30, 1_000)
 
 
@@ -36,57 +41,98 @@ class ClaimsTest(unittest.TestCase):
         for line in (
             CHAMPION + " halt 6 4",
             CHAMPION + " halt 6 4\tthe champion",
-            CHAMPION + ",halt,6,4",
-            "17;" + CHAMPION + ";halt;6;4;x",
+            CHAMPION + ", halt 6 4",
+            "halt 6 4: " + CHAMPION,
             "1rb1lb 1la1rh halt 6 4",
-            "| %s | halt | 6 | 4 |" % CHAMPION,
+            "| %s | halt 6 4 |" % CHAMPION,
         ):
             self.assertEqual((said(line).claim, said(line).trouble), (halt, None), line)
-        translated = said("1RA1RA, translated, R, 1, 2")
-        self.assertEqual(str(translated.claim), "1RA1RA translated R 1 2")
+        self.assertEqual(str(said("1RA1RA, translated R 1 2").claim), "1RA1RA translated R 1 2")
         self.assertEqual(str(said("1RA1RA undecided cells").claim), "1RA1RA undecided cells")
         self.assertEqual(str(said("refused 3").claim), "refused 3")
 
-    def test_words(self) -> None:
-        for field, word in (
-            ("halt", Word.HALTS),
-            ("Halts", Word.HALTS),
-            ("nonhalt", Word.NEVER_HALTS),
-            ("non-halting", Word.NEVER_HALTS),
-            ("does not halt", Word.NEVER_HALTS),
-            ("Translated Cyclers", Word.NEVER_HALTS),
-            ("n-gram CPS", Word.NEVER_HALTS),
-            ("infinite, cycler", Word.NEVER_HALTS),
-            ("decided", Word.DECIDED),
-            ("halts, decided", Word.HALTS),
-            ("BB2 halts 6", Word.HALTS),
-            ("undecided", Word.UNDECIDED),
-            ("I doubt that it can halt", None),
-            ("doesn't halt", None),
-            ("", None),
+    def test_numbers_with_groups_of_three_digits(self) -> None:
+        for text, number in (
+            ("47,176,870", 47_176_870),
+            ("1'000", 1_000),
+            ("4 098", 4_098),
+            ("1_000", 1_000),
         ):
-            self.assertEqual(said("%s, %s" % (CHAMPION, field)).word, word, field)
-            self.assertEqual(said("%s\t%s" % (field, CHAMPION)).word, word, field)
+            self.assertEqual(number_of(text), number)
+            self.assertEqual(said("1RA1RA halt %s 7" % text).claim, Halt("1RA1RA", number, 7))
+        for text in (">3932964", "1,00", "1,000'000", "07", "", "1.5", "-1", "1,0000", "0,100", "1e6"):
+            self.assertRaisesRegex(ValueError, "is no number", number_of, text)
+            self.assertIsNone(said("1RA1RA halt %s 7" % text).claim)
+        self.assertEqual(numbers_in(["47", "176", "870", "4", "098"], (2,)), [47_176_870, 4_098])
+        self.assertRaisesRegex(ValueError, "in 2 ways", numbers_in, ["6", "400", "200"], (2,))
 
-    def test_words_are_written_as_they_are_looked_up(self) -> None:
-        self.assertTrue(all(word == word.lower() and word.isalnum() for word in WORDS))
-
-    def test_what_seems_to_be_a_verdict(self) -> None:
-        for line in (
+    def test_a_text_has_a_verdict_or_nothing(self) -> None:
+        for rest in (
+            "halts",
+            "nonhalt",
+            "Halts 7",
+            "halts, 107, 13",
+            "halt: false",
+            "halt=no",
+            "halts,0",
+            "!halt 6 4",
+            "halt 6 4, 7",
+            "halt 6 4, halt 6 4",
             "halt 6",
             "halt 06 4",
             "halt 6 4 7",
             "translated R 1 2 3",
             "cycler 1",
-            "translated R 1",
             "halt 6 18446744073709551616",
         ):
-            found = said("%s %s" % (CHAMPION, line))
-            self.assertEqual((found.claim, found.trouble), (None, "no verdict: " + line))
-        for fields in ("halt, nonhalt", "halt 6 4, cycler 1 2", "halt 6 4, infinite", "halt 6 4, halt 7 4"):
-            found = said("%s, %s" % (CHAMPION, fields))
-            self.assertIn("two things", found.trouble or "")
-            self.assertEqual((found.claim, found.word), (None, None))
+            for line in ("%s, %s" % (CHAMPION, rest), "%s %s" % (CHAMPION, rest)):
+                found = said(line)
+                self.assertEqual((found.claim, found.word), (None, None), line)
+                self.assertEqual(found.trouble, "the rest of the line is no verdict of ours: " + rest)
+        self.assertEqual(said(CHAMPION).trouble, "nothing is said of the machine")
+        self.assertIn("two things", said(CHAMPION + " halt 6 4\tnonhalt").trouble or "")
+
+    def test_words_are_written_as_they_are_looked_up(self) -> None:
+        self.assertTrue(all(word == word.lower() and word.isalnum() for word in WORDS))
+
+    def test_a_file_of_words(self) -> None:
+        with tempfile.TemporaryDirectory() as folder:
+            path = os.path.join(folder, "words.txt")
+            with open(path, "w", encoding="utf-8") as file:
+                file.write("# mine\n\nhalting: Yes, it does\nnever halting: no\nNothing: loop\n")
+            words = read_words(path)
+            self.assertEqual((words["yes"], words["itdoes"]), (Word.HALTS, Word.HALTS))
+            self.assertEqual((words["no"], words["loop"]), (Word.NEVER_HALTS, Word.UNDECIDED))
+            self.assertEqual(words["halt"], Word.HALTS)
+            for text, error in (
+                ("yes\n", ":1: a line begins"),
+                ("halting: a\nnothing: a\n", ":2: a has two"),
+            ):
+                with open(path, "w", encoding="utf-8") as file:
+                    file.write(text)
+                self.assertRaisesRegex(ValueError, error, read_words, path)
+
+
+@unittest.skipUnless(FORMS.exists(), "the repository's forms aren't here")
+class FormsTest(unittest.TestCase):
+    def test_each_list_is_judged(self) -> None:
+        entries = json.loads(FORMS.read_text(encoding="utf-8"))["judged"]
+        self.assertGreaterEqual(len(entries), 15)
+        for entry in entries:
+            with self.subTest(lines=entry["lines"]), tempfile.TemporaryDirectory() as folder:
+                path = os.path.join(folder, "words.txt")
+                with open(path, "w", encoding="utf-8") as file:
+                    file.write(entry.get("words", ""))
+                judging = budlarem.judge(
+                    entry["lines"],
+                    form=Form(entry["form"]) if "form" in entry else None,
+                    columns=Columns(**entry.get("columns", {})),
+                    words=read_words(path),
+                )
+                found = [(str(one.judgement), one.reason) for one in judging]
+                self.assertEqual([judgement for judgement, _ in found], entry["judgements"])
+                for reason in entry.get("reasons", ()):
+                    self.assertIn(reason, [one for _, one in found])
 
 
 class JudgingTest(unittest.TestCase):
@@ -102,20 +148,60 @@ class JudgingTest(unittest.TestCase):
             (LEFT + " halt 20 3", "contradicted"),
             (LEFT + " undecided cells", "not-judged"),
             (LEFT + " halt", "not-judged"),
-            (CHAMPION + " halts", "confirmed"),
-            (CHAMPION + " nonhalt", "contradicted"),
-            (CYCLER + " bouncer", "confirmed"),
-            (CYCLER + " halts", "contradicted"),
+            (CHAMPION + " halts", "not-judged"),
+            (CHAMPION + " nonhalt", "not-judged"),
+            (CYCLER + " halts", "not-judged"),
             (CYCLER + " undecided", "not-judged"),
             (CYCLER + " decided", "not-judged"),
             (CYCLER, "not-judged"),
             (CHAMPION + " halt 6", "not-judged"),
-            (CYCLER + " halt 6", "contradicted"),
-            (CHAMPION + " halt, nonhalt", "unreadable"),
+            (CYCLER + " halt 6", "not-judged"),
+            (CHAMPION + " halt, nonhalt", "not-judged"),
             ("x", "unreadable"),
             ("refused 3", "unreadable"),
         ):
             self.assertEqual(judged([line]), [judgement], line)
+
+    def test_words_of_a_table(self) -> None:
+        for word, machine, judgement in (
+            ("halts", CHAMPION, "confirmed"),
+            ("nonhalt", CHAMPION, "contradicted"),
+            ("bouncer", CYCLER, "confirmed"),
+            ("Translated Cyclers", CYCLER, "confirmed"),
+            ("does not halt", CYCLER, "confirmed"),
+            ("halting", CYCLER, "contradicted"),
+            ("undecided", CYCLER, "not-judged"),
+            ("decided", CYCLER, "not-judged"),
+            ("I doubt that it can halt", CYCLER, "not-judged"),
+            ("halt: false", CYCLER, "not-judged"),
+            ("", CYCLER, "not-judged"),
+            ("halt", LEFT, "not-judged"),
+            ("halt 6 4", CHAMPION, "confirmed"),
+            ("halt 6 5", CHAMPION, "contradicted"),
+        ):
+            lines = ["verdict\tmachine", "%s\t%s" % (word, machine)]
+            self.assertEqual(judged(lines), [judgement], (word, machine))
+
+    def test_a_translation_is_counted(self) -> None:
+        lines = ["machine,status", "1RA1RA,halt", "1RA1RA,Halt", "1RA1RA,loop", "x,halt", "1RA1RA,no"]
+        translation = budlarem.judge(lines, limits=SMALL).theirs.translation
+        assert translation is not None
+        right = ["halting: halt 1, Halt 1", "never halting: loop 1", "nothing: no 1"]
+        self.assertEqual(translation.lines, right)
+
+    def test_two_columns_that_may_be_meant(self) -> None:
+        lines = ["machine,status,verdict", "1RA1RA,x,nonhalt"]
+        self.assertRaisesRegex(ValueError, "status and verdict", budlarem.judge, lines)
+        judging = budlarem.judge(lines, columns=Columns(verdict="verdict"))
+        self.assertEqual([str(one.judgement) for one in judging], ["confirmed"])
+
+    def test_steps_alone_that_count_an_undefined_entry(self) -> None:
+        lines = ["machine,verdict,steps", "1RB1LB_1LA---,halt,%d", CHAMPION + ",halt,6"]
+        for steps, is_counted in ((6, True), (5, False)):
+            given = [line % steps if "%d" in line else line for line in lines]
+            judging = budlarem.judge(given, limits=SMALL)
+            self.assertEqual(judging.undefined_steps, is_counted)
+            self.assertEqual({str(one.judgement) for one in judging}, {"confirmed"})
 
     def test_a_claim_over_the_checkers_limits(self) -> None:
         line = LEFT + " cycler 2000 3000"
@@ -126,9 +212,9 @@ class JudgingTest(unittest.TestCase):
         )
 
     def test_order_and_numbers(self) -> None:
-        lines = ["# c", "x", CHAMPION + " halt 6 4", "", "y", "1ra1ra: infinite", "z"]
+        lines = ["# c", "x", CHAMPION + " halt 6 4", "", "y", "1ra1ra: cycler 7 9", "z"]
         found = [(one.number, str(one.judgement)) for one in budlarem.judge(lines)]
-        right = ["unreadable", "confirmed", "unreadable", "confirmed", "unreadable"]
+        right = ["unreadable", "confirmed", "unreadable", "contradicted", "unreadable"]
         self.assertEqual(found, list(zip((2, 3, 5, 6, 7), right)))
 
     def test_steps_counted_for_undefined_entries(self) -> None:

@@ -4,6 +4,7 @@ from __future__ import annotations
 
 import gzip
 import io
+import itertools
 import json
 import os
 import pathlib
@@ -13,16 +14,17 @@ import unittest
 from typing import Any, Dict, Iterator, List
 
 import budlarem
-from budlarem import Reading, Rewriting
+from budlarem import Columns, EncodingError, Form, Passed, Reading, Rewriting
 from budlarem._lengths import LONGEST_LINE
+from budlarem.reading.encodings import find_encoding
 from budlarem.reading.values import ADVICE
 
 CHAMPION = "1RB1LB_1LA1RZ"
 FORMS = pathlib.Path(__file__).parents[2] / "scripts" / "tests" / "forms.json"
 
 
-def one(line: str) -> Reading:
-    (reading,) = budlarem.read([line])
+def one(line: str, form: Form = Form.TEXT) -> Reading:
+    (reading,) = budlarem.read([line], form)
     return reading
 
 
@@ -36,9 +38,9 @@ def expected(form: Dict[str, Any]) -> List[Any]:
     return [form["machine"], rewritten, form.get("before", ""), form.get("behind", "")]
 
 
-def found(line: str) -> List[Any]:
+def found(line: str, form: Form = Form.TEXT) -> List[Any]:
     """What is read of a line, in the same shape."""
-    readings = list(budlarem.read([line]))
+    readings = list(budlarem.read([line], form))
     if not readings:
         return []
     (reading,) = readings
@@ -56,19 +58,34 @@ class FormsTest(unittest.TestCase):
         self.assertGreaterEqual(len(self.forms["forms"]), 80)
         for form in self.forms["forms"]:
             with self.subTest(line=form["line"]):
-                self.assertEqual(found(form["line"]), expected(form))
+                self.assertEqual(found(form["line"], Form(form.get("form", "text"))), expected(form))
 
     def test_sentences(self) -> None:
         self.assertEqual(self.forms["advice"], ADVICE)
         sentences = {rewriting.value: rewriting.sentence for rewriting in Rewriting}
         self.assertEqual(self.forms["rewritings"], sentences)
         kinds = {form["refusal"] for form in self.forms["forms"] if "refusal" in form}
-        self.assertEqual(kinds | {"long"}, set(ADVICE))
+        self.assertEqual(kinds | {"long", "row", "column"}, set(ADVICE))
+
+    def test_each_list_has_its_form(self) -> None:
+        self.assertGreaterEqual(len(self.forms["lists"]), 15)
+        for entry in self.forms["lists"]:
+            form = budlarem.read(entry["lines"]).form
+            self.assertEqual(str(form.form) if form.is_found else None, entry["form"], entry["lines"])
+
+    def test_each_encoding_is_named(self) -> None:
+        for entry in self.forms["encodings"]:
+            content = bytes.fromhex(entry["bytes"])
+            self.assertEqual(find_encoding(content), entry["encoding"], content)
+            if entry["encoding"] is not None:
+                with self.assertRaisesRegex(EncodingError, "^the file is " + entry["encoding"]):
+                    list(budlarem.read(io.BytesIO(content * 3)))
 
     def test_a_refused_line_is_no_machine_of_the_library(self) -> None:
         for form in self.forms["forms"]:
-            if "refusal" in form and "\n" not in form["line"]:
-                self.assertIsInstance(one(form["line"]).column, int, form["line"])
+            if "refusal" in form and not budlarem.is_machine(form["line"]):
+                reading = one(form["line"], Form(form.get("form", "text")))
+                self.assertIsInstance(reading.column, int, form["line"])
 
 
 class LinesTest(unittest.TestCase):
@@ -130,7 +147,9 @@ class SourcesTest(unittest.TestCase):
             yield CHAMPION
             raise AssertionError("read ahead")
 
-        self.assertEqual(next(budlarem.read(lines())).machine, CHAMPION)
+        self.assertEqual(next(budlarem.read(lines(), Form.MACHINES)).machine, CHAMPION)
+        many = itertools.chain([CHAMPION] * 99, [CHAMPION + " x"], lines(), lines())
+        self.assertEqual(next(budlarem.read(many)).number, 1)
 
     def test_what_is_no_list(self) -> None:
         for source, error, text in (
@@ -150,6 +169,55 @@ class SourcesTest(unittest.TestCase):
         for content in (whole[:30], whole[:-4], whole[:-8] + bytes(8)):
             with self.assertRaisesRegex(OSError, "can't be read as gzip"):
                 list(budlarem.read(io.BytesIO(content)))
+
+
+class FormTest(unittest.TestCase):
+    def test_lines_that_are_passed_over_are_counted(self) -> None:
+        lines = ["", "\r", "# c", "#17 1RA1RA", "```", "1RA1RA", "```", "|-", "| Machine | x |", "  "]
+        readings = budlarem.read(lines)
+        self.assertEqual([reading.number for reading in readings], [4, 6])
+        right = {Passed.EMPTY: 3, Passed.COMMENT: 1, Passed.FENCE: 2, Passed.RULE: 1, Passed.HEADER: 1}
+        self.assertEqual(dict(readings.passed), right)
+
+    def test_empty_lines_have_their_numbers(self) -> None:
+        content = b"\n" * 2_000_000 + b"1RA1RA\n\r\n\n1RA1RA"
+        readings = budlarem.read(io.BytesIO(content))
+        self.assertEqual([reading.number for reading in readings], [2_000_001, 2_000_004])
+        self.assertEqual(readings.passed[Passed.EMPTY], 2_000_002)
+
+    def test_bytes_that_are_no_utf_8_are_counted(self) -> None:
+        readings = budlarem.read(io.BytesIO("1RA1RA \u00e9\n1RA1RA x\n1RA1RA \u00fc".encode("latin-1")))
+        self.assertEqual([reading.machine for reading in readings], ["1RA1RA"] * 3)
+        self.assertEqual(readings.undecoded, 2)
+
+    def test_tables(self) -> None:
+        for lines, columns, machines in (
+            (["machine,x", "1ra1ra,1", '"1RA1RA","a, b"'], Columns(), ["1RA1RA", "1RA1RA"]),
+            (["# machine\tx", "1RA1RA\t1", "------\t2"], Columns(), ["1RA1RA", "------"]),
+            (["1;1RA1RA", "2;x", "3;1RA1RA;4"], Columns("2"), ["1RA1RA", None, None]),
+            (["a,bb", "1,1RA1RA"], Columns("BB"), ["1RA1RA"]),
+            (["|machine|", "|-", "| `1RA1RA` |", "#17 1RA1RA", "# c"], Columns(), ["1RA1RA", None]),
+        ):
+            readings = list(budlarem.read(lines, columns=columns))
+            self.assertEqual([reading.machine for reading in readings], machines, lines)
+        kinds = [
+            reading.reason.kind
+            for reading in budlarem.read(["1;1RA1RA", "2;x", "3"], None, Columns("2"))
+            if reading.reason
+        ]
+        self.assertEqual(kinds, ["none", "row"])
+
+    def test_tables_whose_layout_is_not_known(self) -> None:
+        for lines, form, columns, text in (
+            (["1RA1RA,1"], Form.TABLE, Columns(), "give it by --machine"),
+            (["1RA1RA,1"], None, Columns("3"), "no separator"),
+            (["machine,x", "1RA1RA,1"], None, Columns(verdict="y"), "no columns have the name y"),
+            (["machine,x", "1RA1RA,1"], None, Columns(verdict="7"), "no column 7"),
+            (["x,1RA1RA,y;1RA1RA;z"], None, Columns("2"), "may be comma or semicolon"),
+            (["1RA1RA"], Form.TEXT, Columns("1"), "columns are of the form table"),
+        ):
+            with self.assertRaisesRegex(ValueError, text):
+                list(budlarem.read(lines, form, columns))
 
 
 class RandomTest(unittest.TestCase):

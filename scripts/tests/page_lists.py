@@ -1,5 +1,6 @@
 """Lists in the page: how their lines are read, what is shown of them, and how settings go with them."""
 
+import gzip
 import json
 import os
 import random
@@ -24,12 +25,11 @@ ROWS = (
 )
 
 
-def readings(lines: List[str]) -> Tuple[Dict[str, Any], List[Dict[str, Any]]]:
-    """What the page's reader says it rewrites and advises, and its readings of lines."""
-    given = "".join(json.dumps(line) + "\n" for line in lines)
+def answers(asked: List[Any]) -> List[Any]:
+    """The answers of the page's reader, the first of which are its sentences."""
+    given = "".join(json.dumps(one) + "\n" for one in asked)
     done = subprocess.run(["node", READER], input=given, stdout=subprocess.PIPE, text=True, check=True)
-    sentences, *found = map(json.loads, done.stdout.splitlines())
-    return sentences, found
+    return [json.loads(line) for line in done.stdout.splitlines()]
 
 
 def wanted_of(form: Dict[str, Any]) -> Dict[str, Any]:
@@ -48,12 +48,17 @@ def hold_forms(tally: Tally) -> None:
         return
     with open(FORMS, encoding="utf-8") as file:
         forms = json.load(file)
-    sentences, found = readings([form["line"] for form in forms["forms"]])
+    lines = [[form["line"], form.get("form", "text")] for form in forms["forms"]]
+    sentences, *found = answers([*lines, *forms["lists"], *forms["encodings"]])
     tally.hold(
         "the sentences of the reader", sentences == {name: forms[name] for name in ("advice", "rewritings")}
     )
     for form, reading in zip(forms["forms"], found):
         tally.hold("%r is read as %s" % (form["line"], reading), reading == wanted_of(form))
+    for entry, form in zip(forms["lists"], found[len(lines) :]):
+        tally.hold("%s has the form %s" % (entry["lines"], form), form == entry["form"])
+    for entry, encoding in zip(forms["encodings"], found[len(lines) + len(forms["lists"]) :]):
+        tally.hold("%s is %s" % (entry["bytes"], encoding), encoding == entry["encoding"])
 
 
 def disguised(machine: str, source: random.Random) -> str:
@@ -75,7 +80,7 @@ def hold_disguised(tally: Tally, count: int, seed: int) -> None:
         return
     source = random.Random(seed)
     machines = list(mixed(count, seed))
-    _, found = readings([disguised(machine, source) for machine in machines])
+    _, *found = answers([[disguised(machine, source)] for machine in machines])
     taken = [one.get("machine") for one in found]
     wrong = [pair for pair in zip(machines, taken) if pair[1] not in (None, pair[0])]
     tally.hold("another machine: %s" % wrong[:3], not wrong)
@@ -83,15 +88,24 @@ def hold_disguised(tally: Tally, count: int, seed: int) -> None:
     tally.hold("%d of %d aren't taken" % (missing, count), missing <= count / 10)
 
 
+def given_to_program(form: Dict[str, Any], line: str) -> str:
+    """The line that the program answers as the page does: the machine, else the line, which it refuses for a
+    space before it where it reads a machine that isn't one in this form."""
+    is_rule = "machine" not in form and line.strip("\r") in ("------", "------------")
+    return str(form.get("machine", " " + line if is_rule else line))
+
+
 def hold_list_of_forms(held: Held) -> None:
-    """A file of all forms: each line is decided as it is read, and shown with its own number."""
+    """A file of all forms of a text: each line is decided as it is read, and shown with its own number."""
     with open(FORMS, encoding="utf-8") as file:
-        forms = [form for form in json.load(file)["forms"] if "\n" not in form["line"]]
+        every = [form for form in json.load(file)["forms"] if "form" not in form]
+    forms = [form for form in every if "\n" not in form["line"]]
     # What marks the order of bytes stands at the begin of a file alone.
     lines = [form["line"].replace("\ufeff", "") for form in forms]
-    given = [form.get("machine", line) for form, line in zip(forms, lines) if "nothing" not in form]
+    given = [given_to_program(form, line) for form, line in zip(forms, lines) if "nothing" not in form]
     page = held.page
     page.plan({"steps": 1000}, "decide", True)
+    page.choose_option("list-form", "text")
     page.file("".join(line + "\n" for line in lines).encode())
     page.ended()
     wanted = held.written("decide", {"steps": 1000}, "".join(one + "\n" for one in given).encode())
@@ -100,6 +114,58 @@ def hold_list_of_forms(held: Held) -> None:
     numbers = [number for number, form in enumerate(forms, 1) if "nothing" not in form]
     rows = page.js(ROWS)
     held.hold("true numbers: %s" % rows[:2], [int(row[0]) for row in rows] == numbers[: len(rows)])
+
+
+def hold_found_forms(held: Held) -> None:
+    """The form of a list is found out, and printed; another one can be chosen, and stays over a reload."""
+    page = held.page
+    page.plan({}, "decide", True)
+    for text, form, rows in (
+        ("1RA1RA\n------\n", "a list of machines", ["1RA1RA", "------"]),
+        ("1RA1RA\n17. 1RA1RA\n------\n", "text", ["1RA1RA", "1RA1RA", "------"]),
+        ("1RB1LB_1LA1RZ halt 6 4\n", "verdict lines", ["1RB1LB_1LA1RZ"]),
+        ("machine,status\n1RA1RA,halt\n```\n|-\n", "a table", ["1RA1RA"]),
+    ):
+        page.open_list(text)
+        status, shown = page.text("status"), page.js(ROWS)
+        held.hold("%r is read as %s: %s" % (text, form, status), status.endswith("Read as %s." % form))
+        held.hold("its rows: %s" % shown, [row[1].partition(" \u2190")[0] for row in shown] == rows)
+    left = "3 left out (empty lines, comments, code fences, rules and headers of tables)"
+    held.hold("lines that are passed over are counted: " + status, left in status)
+    page.choose_option("list-form", "machines")
+    page.open_list("1RA1RA\n17. 1RA1RA\n")
+    page.js("document.querySelectorAll('#shown .row')[1].click()")
+    says = page.text("machine-says")
+    held.hold("another form is chosen: " + says, "more than the machine 1RA1RA" in says)
+    page.driver.refresh()
+    page.ended()
+    chosen = page.js("return document.getElementById('list-form').value")
+    held.hold("it stays over a reload: " + chosen, chosen == "machines")
+    page.click("defaults")
+    page.choose_option("list-form", "auto")
+
+
+def hold_packed(held: Held) -> None:
+    """A list that gzip compressed is unpacked. Of one that is cut, in another encoding or compressed otherwise
+    the page says what it is, and decides nothing."""
+    page = held.page
+    page.plan({}, "auto", True)
+    lines = b"1RB1LB_1LA1RZ\n1RA1RA\n" * 40_000
+    page.file(gzip.compress(lines))
+    page.ended()
+    held.hold("a gzip", page.saved() == held.written("decide", {}, lines))
+    page.file(gzip.compress(b"1RB1LB_1LA1RZ halt 6 4\n"))
+    page.ended()
+    held.hold("a gzip of verdict lines: " + page.text("status"), "checked: 1 ok" in page.text("status"))
+    with open(FORMS, encoding="utf-8") as file:
+        encodings = [entry for entry in json.load(file)["encodings"] if entry["encoding"] is not None]
+    cases = [(bytes.fromhex(entry["bytes"]), entry["encoding"] + ", which the page") for entry in encodings]
+    for content, words in [*cases, (gzip.compress(lines)[:-9], "can\u2019t be read as gzip")]:
+        page.file(content)
+        page.ended()
+        held.hold("%r: %s" % (content[:8], page.text("error")), words in page.text("error"))
+    page.open_list("1RA1RA\n")
+    held.hold("the next list is decided", page.text("error") == "")
 
 
 def hold_refused_rows(held: Held) -> None:
@@ -287,6 +353,8 @@ def hold_lists(held: Held, quick: bool, seed: int) -> None:
     hold_forms(held.tally)
     hold_disguised(held.tally, 1_000 if quick else 20_000, seed)
     hold_list_of_forms(held)
+    hold_found_forms(held)
+    hold_packed(held)
     hold_refused_rows(held)
     hold_unread(held)
     hold_counts(held)

@@ -1,13 +1,22 @@
 /**
- * Reads lines by the page's reader, for `page_lists.py`: a line's text in a line of standard input, as JSON,
- * and
- * its reading back, as JSON.
+ * Reads by the page's reader, for `page_lists.py`. A line of standard input is JSON: `[line, form]`, of which the
+ * reading comes back; a list of `lines`, of which the form comes back; or `bytes` in hexadecimal digits, of which
+ * the encoding does.
  */
 import { createInterface } from "node:readline";
+import { encodingOf } from "../../web/encodings.mjs";
+import { formOf } from "../../web/forms.mjs";
 import { ADVICE, readingOf } from "../../web/reading.mjs";
 import { REWRITINGS } from "../../web/texts.mjs";
 
+function answerTo(asked) {
+  if (Array.isArray(asked)) {
+    return readingOf(...asked);
+  }
+  return "lines" in asked ? formOf(asked.lines) : encodingOf(Buffer.from(asked.bytes, "hex"));
+}
+
 console.log(JSON.stringify({ advice: ADVICE, rewritings: REWRITINGS }));
 for await (const line of createInterface({ input: process.stdin })) {
-  console.log(JSON.stringify(readingOf(JSON.parse(line))));
+  console.log(JSON.stringify(answerTo(JSON.parse(line))));
 }

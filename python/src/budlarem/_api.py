@@ -30,7 +30,7 @@ from .lists import (
     triage,
 )
 from .publishing import Published, PublishError, UnconfirmedError, publish
-from .reading import Reading, Reason, Rewriting, read
+from .reading import Columns, EncodingError, Form, Passed, Reading, Readings, Reason, Rewriting, read
 from .reports import Report, ReportError, report
 from .verdicts import (
     Answer,
@@ -51,10 +51,13 @@ __all__ = [
     "Answer",
     "Backward",
     "Carried",
+    "Columns",
     "Comparison",
     "Configuration",
     "Cycler",
+    "EncodingError",
     "Extent",
+    "Form",
     "Growth",
     "Halt",
     "Judged",
@@ -65,6 +68,7 @@ __all__ = [
     "LimitsError",
     "MachineError",
     "Normal",
+    "Passed",
     "Picture",
     "PictureError",
     "Place",
@@ -72,6 +76,7 @@ __all__ = [
     "PublishError",
     "Published",
     "Reading",
+    "Readings",
     "Reason",
     "Refused",
     "Report",

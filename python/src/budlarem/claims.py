@@ -1,18 +1,24 @@
-"""What a line of somebody's list says of its machine: a verdict, or a word."""
+"""The claim of a line of somebody's list on its machine: a verdict, or the word and numbers of a record."""
 
 from __future__ import annotations
 
+import collections
 import dataclasses
 import re
-from typing import Dict, Iterator, List, Optional, Set, Tuple
+from typing import Counter, Dict, Iterator, List, Optional, Tuple
 
 from ._words import Words
-from .reading import Reading
-from .reading.files import Source, lines_of
+from .numbers import number_of, numbers_in
+from .reading import Form, ListForm, Passed, Reading
+from .reading.files import Numbered
+from .reading.forms import passed_kind, reading_of
 from .reading.lines import read_line
+from .reading.tables import Layout
+from .reading.texts import shown
+from .reading.words import SPACES
 from .verdicts import Halt, Refused, Undecided, Verdict, parse, verdict_of, whole_number
 
-__all__ = ["Said", "WORDS", "Word", "sayings"]
+__all__ = ["Said", "Sayings", "WORDS", "Word", "said_by"]
 
 
 class Word(Words):
@@ -39,102 +45,93 @@ WORDS: Dict[str, Word] = {
     **dict.fromkeys(_UNDECIDED.split(), Word.UNDECIDED),
     "decided": Word.DECIDED,
 }
-# What sets fields apart, and with spaces what sets their words apart.
-_FIELDS = re.compile("[,;\t|:=(){}\\[\\]<>\"'`*#]+")
-_WORD = re.compile("[^,;\\s|:=(){}\\[\\]<>\"'`*#]+")
-_NUMBER = re.compile(r"[0-9]+")
-# What isn't a word of a language: a number, a name with one, a date.
-_NAME = re.compile(r"\S*[0-9]\S*")
-_KINDS = {"halt": (2,), "cycler": (2,), "backward": (2,), "translated": (5, 3)}
+# The word of a verdict of ours, and how many numbers it may have.
+_KINDS = {"halt": (2,), "cycler": (2,), "backward": (2,), "translated": (2, 4)}
+# What may stand about a verdict beside a machine: no sign that denies or compares.
+_MARKS = SPACES + ",;:|()[]`*\"'\u2013\u2014-"
 
 
 @dataclasses.dataclass(frozen=True)
 class Said:
-    """A line and what it says: a verdict whole in `claim`, else a word, else neither. `trouble` is why no
-    verdict is taken where there seems to be one; where a line says two things, it has no word either. A
-    refusal has its verdict, and no machine."""
+    """A line and what it says: a verdict whole in `claim`, or a `word` with the numbers that a table has
+    beside it, or neither. `trouble` is why nothing is judged. A refusal has its verdict, and no machine."""
 
     reading: Reading
     claim: Optional[Verdict] = None
     word: Optional[Word] = None
     trouble: Optional[str] = None
+    steps: Optional[int] = None
+    score: Optional[int] = None
 
 
-def sayings(source: Source) -> Iterator[Said]:
-    """What each line says that is neither empty nor a comment. Takes and raises what `read` does."""
-    for number, line in enumerate(lines_of(source), 1):
-        said = said_by(number, line)
-        if said is not None:
-            yield said
+class Sayings(Iterator[Said]):
+    """What each line of a list says that isn't passed over. `passed` counts the others by their kinds. `words`
+    is the translation of the words of a table."""
+
+    def __init__(
+        self, lines: Iterator[Numbered], form: ListForm, words: Optional[Dict[str, Word]] = None
+    ) -> None:
+        self.passed: Counter[Passed] = collections.Counter()
+        self._words = WORDS if words is None else words
+        self._sayings = self._said(lines, form)
+
+    def __iter__(self) -> Sayings:
+        return self
+
+    def __next__(self) -> Said:
+        return next(self._sayings)
+
+    def _said(self, lines: Iterator[Numbered], form: ListForm) -> Iterator[Said]:
+        for number, line in lines:
+            said = _said_of(number, line, form, self._words)
+            if said is not None:
+                yield said
+            else:
+                self.passed[passed_kind(line)] += 1
 
 
 def said_by(number: int, line: str) -> Optional[Said]:
-    """What a line says; None where it is empty or a comment."""
+    """What a line of a text says; None where it is passed over."""
+    return _said_of(number, line, ListForm(Form.TEXT), WORDS)
+
+
+def _said_of(number: int, line: str, form: ListForm, words: Dict[str, Word]) -> Optional[Said]:
+    """What a line says; None where it is passed over."""
+    if form.form in (Form.VERDICTS, Form.TEXT):
+        said = _of_verdict_line(number, line)
+        is_rule = form.form is Form.TEXT and not line.partition(" ")[0].strip("-")
+        if said is not None and not is_rule:
+            return said
+    reading = reading_of(number, line, form)
+    if reading is None or reading.machine is None:
+        return None if reading is None else Said(reading)
+    if form.layout is not None:
+        return _of_row(reading, form.layout, words)
+    if form.form is Form.MACHINES:
+        return Said(reading, trouble="a list of machines claims nothing")
+    return _of_text(reading)
+
+
+def _of_verdict_line(number: int, line: str) -> Optional[Said]:
+    """What a verdict line says, which may have fields behind a tab; None of another line."""
     bare, _, fields = line.rstrip("\r").partition("\t")
     try:
         verdict = parse(bare)
     except ValueError:
-        reading = read_line(number, line)
-        return None if reading is None else _of_reading(reading)
+        return None
     if isinstance(verdict, Refused):
         return Said(Reading(number, line, None), verdict)
     behind = bare[len(verdict.machine) + 1 :] + ("\t" + fields if fields else "")
-    return _with_words(Reading(number, line, verdict.machine, (), "", behind), [verdict], fields)
+    reading = Reading(number, line, verdict.machine, (), "", behind)
+    for field in fields.split("\t") if fields else ():
+        word = WORDS.get(plain_word(field), Word.DECIDED)
+        if word not in (Word.DECIDED, _word_of(verdict)):
+            return Said(reading, trouble=_both(bare[len(verdict.machine) + 1 :], field))
+    return Said(reading, verdict)
 
 
-def _of_reading(reading: Reading) -> Said:
-    if reading.machine is None:
-        return Said(reading)
-    claims: List[Verdict] = []
-    for part in (reading.before, reading.behind):
-        try:
-            claims += _claims(reading.machine, part)
-        except ValueError as error:
-            kind = str(error).partition(" ")[0]
-            return Said(reading, word=WORDS[kind], trouble="no verdict: %s" % error)
-    return _with_words(reading, claims, "\t".join((reading.before, reading.behind)))
-
-
-def _claims(machine: str, part: str) -> Iterator[Verdict]:
-    """The verdicts that stand whole in a part of a line. Raises ValueError, with what stands there, where a
-    number stands behind a verdict's word, but not the numbers that the verdict has."""
-    words = list(_WORD.finditer(part))
-    texts = [word.group() for word in words]
-    for place, kind in enumerate(texts):
-        behind = texts[place + 1 : place + 6]
-        if kind == "undecided" and behind[:1] in (["steps"], ["cells"]):
-            yield Undecided(machine, behind[0])
-        has_side = kind == "translated" and behind[:1] in (["L"], ["R"])
-        first = behind[1:2] if has_side else behind[:1]
-        if kind in _KINDS and first and first[0][0].isdigit():
-            claim, count = _claim(machine, kind, behind)
-            last = words[place + count : place + count + 2]
-            if len(last) == 2 and _NUMBER.fullmatch(last[1].group()):
-                if not part[last[0].end() : last[1].start()].strip(" "):
-                    raise ValueError(" ".join(texts[place : place + count + 2]))
-            yield claim
-
-
-def _claim(machine: str, kind: str, behind: List[str]) -> Tuple[Verdict, int]:
-    """The verdict of this kind whose words stand behind it, and how many these are. Raises ValueError."""
-    for count in _KINDS[kind]:
-        try:
-            return verdict_of(machine, " ".join([kind, *behind[:count]]), whole_number), count
-        except ValueError:
-            continue
-    raise ValueError(" ".join([kind, *behind[: max(_KINDS[kind])]]))
-
-
-def _with_words(reading: Reading, claims: List[Verdict], fields: str) -> Said:
-    """What a line says by these verdicts, and by the words in its fields."""
-    words = set(_words(fields)) - {Word.DECIDED}
-    said = words | {_word_of(claim) for claim in claims}
-    if len(said) > 1 or len(set(claims)) > 1:
-        both = sorted(map(str, said)) if len(said) > 1 else sorted(map(str, set(claims)))
-        return Said(reading, trouble="the line says two things: %s, and %s" % (both[0], both[1]))
-    if claims:
-        return Said(reading, claims[0])
-    return Said(reading, word=next(iter(said), None) or (Word.DECIDED if _is_decided(fields) else None))
+def _both(first: str, second: str) -> str:
+    return "the line says two things: %s, and %s" % (shown(first), shown(second))
 
 
 def _word_of(claim: Verdict) -> Word:
@@ -143,22 +140,73 @@ def _word_of(claim: Verdict) -> Word:
     return Word.HALTS if isinstance(claim, Halt) else Word.NEVER_HALTS
 
 
-def _is_decided(fields: str) -> bool:
-    return Word.DECIDED in _words(fields)
+def _of_text(reading: Reading) -> Said:
+    """What a line of a text says: the rest of it, where that is one verdict."""
+    assert reading.machine is not None
+    parts = [part.strip(_MARKS) for part in (reading.before, reading.behind)]
+    rest = [part for part in parts if part]
+    if not rest:
+        return Said(reading, trouble="nothing is said of the machine")
+    text = " ".join(rest)
+    try:
+        if len(rest) == 1:
+            return Said(reading, _verdict_in(reading.machine, text))
+    except ValueError:
+        pass
+    return Said(reading, trouble="the rest of the line is no verdict of ours: %s" % shown(text))
 
 
-def _words(fields: str) -> Set[Word]:
-    """What the words say that are fields, or of which a field is made, beside what has a digit."""
-    found: Set[Word] = set()
-    for field in _FIELDS.split(fields):
-        whole = WORDS.get(_plain(field))
-        pieces = [piece for piece in field.split() if not _NAME.fullmatch(piece)]
-        meant = [WORDS.get(_plain(piece)) for piece in pieces] if whole is None else [whole]
-        if None not in meant:
-            found.update(word for word in meant if word is not None)
-    return found
+def _verdict_in(machine: str, text: str) -> Verdict:
+    """The verdict of ours that a text is, whose numbers may have groups of three digits. Raises
+    ValueError."""
+    text = text[:-1] if text.endswith(".") else text
+    kind, *words = text.split(" ")
+    words = [word for word in words if word]
+    if kind not in _KINDS:
+        return verdict_of(machine, " ".join([kind, *words]), whole_number)
+    side, numbers = (words[:1], words[1:]) if kind == "translated" else ([], words)
+    if len(numbers) not in _KINDS[kind] or not all(word.isdigit() for word in numbers):
+        numbers = list(map(str, numbers_in(numbers, _KINDS[kind])))
+    return verdict_of(machine, " ".join([kind, *side, *numbers]), whole_number)
 
 
-def _plain(text: str) -> str:
+def _of_row(reading: Reading, layout: Layout, words: Dict[str, Word]) -> Said:
+    """What a record of a table says of its machine."""
+    assert reading.machine is not None and reading.row is not None
+    cells = {role: reading.row[place] for role, place in layout.columns.items()}
+    cell = cells.get("verdict", "")
+    if not cell:
+        return Said(reading, trouble="no word says whether it halts")
+    word = words.get(plain_word(cell))
+    try:
+        claim = None if word is not None else _verdict_in(reading.machine, cell)
+    except ValueError:
+        claim = None
+    if claim is not None and not isinstance(claim, Halt):
+        return Said(reading, claim)
+    if claim is None and word is not Word.HALTS:
+        return Said(reading, word=word, trouble=None if word is not None else "%s says neither" % shown(cell))
+    try:
+        steps, score = (number_of(cells[role]) if cells.get(role) else None for role in ("steps", "score"))
+        return _of_halt(reading, claim, steps, score)
+    except ValueError as error:
+        return Said(reading, trouble=str(error))
+
+
+def _of_halt(reading: Reading, claim: Optional[Halt], steps: Optional[int], score: Optional[int]) -> Said:
+    """What a record says that has these numbers beside a word for halting, or beside a halt. Raises
+    ValueError."""
+    assert reading.machine is not None
+    if claim is None and steps is not None and score is not None:
+        return Said(reading, verdict_of(reading.machine, "halt %d %d" % (steps, score), whole_number))
+    if claim is None:
+        return Said(reading, word=Word.HALTS, steps=steps, score=score)
+    for number, own in ((steps, claim.steps), (score, claim.score)):
+        if number not in (None, own):
+            return Said(reading, trouble=_both(str(claim).partition(" ")[2], str(number)))
+    return Said(reading, claim)
+
+
+def plain_word(text: str) -> str:
     """A word in small letters, without what people write into it."""
     return re.sub(r"[\s_-]", "", text.lower()).rstrip(".!")

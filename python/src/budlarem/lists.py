@@ -9,8 +9,9 @@ from typing import Deque, Dict, Iterable, Iterator, List, Optional, Tuple, Union
 
 from ._words import Words
 from .engine import MachineError, decide, trace
+from .escaping import escape_controls
 from .limits import Limits, Plan, in_range
-from .reading import Reading, read
+from .reading import Columns, Form, Reading, read
 from .reading.files import Source
 from .same import form_of, turned
 from .verdicts import (
@@ -57,11 +58,18 @@ class Carried:
         return self.reading.fields
 
     def __str__(self) -> str:
-        return "%s\t%s" % (self.verdict, self.fields) if self.fields else str(self.verdict)
+        fields = escape_controls(self.fields)
+        return "%s\t%s" % (self.verdict, fields) if fields else str(self.verdict)
 
 
 def decide_carried(
-    lines: Source, limits: Limits = Limits(), plan: Plan = Plan(), *, threads: int = 1
+    lines: Source,
+    limits: Limits = Limits(),
+    plan: Plan = Plan(),
+    *,
+    threads: int = 1,
+    form: Optional[Form] = None,
+    columns: Columns = Columns(),
 ) -> Iterator[Carried]:
     """Decides the machine of each line, wherever `read` finds it, and carries along what else stands there.
     Where it finds none, the verdict is `Refused`, with the column at which `bb` refuses the line.
@@ -71,7 +79,7 @@ def decide_carried(
     >>> [str(carried) for carried in decide_carried(["1RB1LB_1LA1RZ, the champion", "1RA1RA", "x"])]
     ['1RB1LB_1LA1RZ halt 6 4\\tthe champion', '1RA1RA translated R 1 2 1 1', 'refused 1']
     """
-    return carried(read(lines), limits, plan, threads=threads)
+    return carried(read(lines, form, columns), limits, plan, threads=threads)
 
 
 def carried(
@@ -83,7 +91,9 @@ def carried(
     def machines() -> Iterator[str]:
         for reading in readings:
             waiting.append(reading)
-            yield reading.line if reading.machine is None else reading.machine
+            # A machine that the list's form doesn't allow there is refused by a space before it.
+            is_refused = reading.machine is None and is_machine(reading.line)
+            yield " " + reading.line if is_refused else reading.machine or reading.line
 
     verdicts = decide(machines(), limits, plan, threads=threads)
     return (Carried(verdict, waiting.popleft()) for verdict in verdicts)

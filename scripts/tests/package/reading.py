@@ -33,7 +33,7 @@ from terminals import on_terminal  # noqa: E402
 sys.path.insert(0, SOURCE)
 
 import budlarem  # noqa: E402
-from budlarem import Halt, Judgement, Limits, Undecided, Verdict  # noqa: E402
+from budlarem import Form, Halt, Judgement, Limits, Undecided, Verdict  # noqa: E402
 from budlarem.same import form_of  # noqa: E402
 
 FORMS = os.path.join(TOP, "scripts", "tests", "forms.json")
@@ -67,7 +67,7 @@ def hold_forms(tally: Tally, program: str) -> None:
     tally.hold("there are forms: %d" % len(forms), len(forms) >= 80)
     for form in forms:
         line = form["line"]
-        found = list(budlarem.read([line]))
+        found = list(budlarem.read([line], Form(form.get("form", "text"))))
         tally.hold("%r is nothing" % line, (not found) == ("nothing" in form))
         for reading in found:
             reason = reading.reason
@@ -80,11 +80,79 @@ def hold_forms(tally: Tally, program: str) -> None:
 
 
 def hold_column(tally: Tally, program: str, reading: budlarem.Reading) -> None:
-    """The program takes the machine, or refuses the line with its column."""
+    """The program takes the machine, or refuses the line with its column, unless that is a machine in a form
+    that has none there."""
     given = reading.line if reading.machine is None else reading.machine
     reply = ended([program, "decide", "--steps=0"], given.encode("utf-8", "surrogateescape") + b"\n").output
     right = None if reply.startswith(b"refused") is False else int(reply.split()[1])
     tally.hold("the column of %r: %r" % (given, reply), reading.column == right)
+
+
+def hold_lists(tally: Tally) -> None:
+    """The command finds the form of each list, and prints it; judges each list as it says."""
+    with open(FORMS, encoding="utf-8") as file:
+        forms = json.load(file)
+    for entry in forms["lists"]:
+        error = command("read", given=as_lines(entry["lines"])).error.decode()
+        printed = re.search("form ([a-z]+)", error)
+        found = None if printed is None else printed.group(1)
+        tally.hold("%s has the form %s: %s" % (entry["lines"], entry["form"], error), found == entry["form"])
+    for entry in forms["judged"]:
+        with folder() as top:
+            (top / "words.txt").write_text(entry.get("words", ""), encoding="utf-8")
+            more = ["--form", entry["form"]] if "form" in entry else []
+            for role, column in entry.get("columns", {}).items():
+                more += ["--steps-column" if role == "steps" else "--" + role, column]
+            words = ["judge", "-", "--words", str(top / "words.txt"), *more]
+            output = command(*words, given=as_lines(entry["lines"])).output.decode()
+        found = [line.partition("\t")[0] for line in output.splitlines()]
+        tally.hold("%s is judged %s" % (entry["lines"], found), found == entry["judgements"])
+
+
+def hold_printed(tally: Tally) -> None:
+    """Each command that reads a list prints its form, what was passed over and the encoding, and no control
+    character of it."""
+    lines = ["", "# c", "#17 1RA1RA", "\x1b[31mx", "1RB\x1b1LB_1LA1RZ", "1RA1RA\x1b[0m\x07, \x1b]0;x\x9b",
+             "| Machine | x |", "1RB1LB_1LA1RZ, halt 6 4"]  # fmt: skip
+    with folder() as top:
+        given, wide, page = top / "list.txt", top / "wide.txt", str(top / "page.html")
+        given.write_bytes(as_lines(lines))
+        wide.write_bytes("\n".join(lines * 9).encode("utf-16"))
+        for name, more in (
+            ("read", []), ("decide", []), ("normal", []), ("triage", []), ("judge", []), ("check", []),
+            ("compare", [str(given)]), ("report", ["--out", page]),
+        ):  # fmt: skip
+            status, output, error = command(name, str(given), *more)
+            raw = re.search(b"[\x00-\x08\x0b-\x1f\x7f]|\xc2[\x80-\x9f]", output + error)
+            tally.hold("%s prints no control character: %r" % (name, output + error), raw is None)
+            if name == "check":
+                continue
+            printed = error.decode()
+            says = "form text" in printed and "3 lines passed over: empty lines 1, comments 1" in printed
+            tally.hold("%s prints form and counts: %s" % (name, printed), says and status != 3)
+            status, _, error = command(
+                name, str(wide), *[str(wide) if name == "compare" else one for one in more]
+            )
+            once = error.count(b"UTF-16") == 2 and error.count(b"\n") == 1
+            tally.hold("%s names UTF-16 once: %r" % (name, error[:300]), once and status == 2)
+
+
+def hold_empty_lines(tally: Tally) -> None:
+    """Five million empty lines cost `judge` and `compare` at most what `read` costs, beside the process."""
+    with folder() as top:
+        path, single = top / "empty.txt", top / "single.txt"
+        path.write_bytes(b"\n" * 5_000_000)
+        single.write_bytes(b"1RA1RA\n")
+        spent = {}
+        for name, more in (("read", []), ("judge", []), ("compare", [str(single)])):
+            begun = os.times()
+            status = command(name, str(path), *more).status
+            ended_at = os.times()
+            spent[name] = ended_at.children_user - begun.children_user
+            tally.hold("%s of empty lines: %d" % (name, status), status in (0, 1))
+        print("5,000,000 empty lines: %s" % {name: round(took, 2) for name, took in spent.items()})
+        tally.hold("at most what read takes: %s" % spent, max(spent.values()) <= spent["read"] + 0.3)
+        tally.within("reading empty lines", spent["read"], 1.5)
 
 
 def in_some_form(source: random.Random, machine: str) -> str:
@@ -223,20 +291,22 @@ def hold_forged(tally: Tally, program: str, count: int, seed: int) -> List[str]:
 
 
 def hold_words(tally: Tally, count: int, seed: int) -> None:
-    """True words are confirmed, swapped ones contradicted, in some fields."""
+    """True words of a table are confirmed, swapped ones contradicted, with some separator."""
     source = random.Random(seed)
     halting = ("halt", "halts", "halting")
     never = ("nonhalt", "infinite", "cycler", "Translated Cyclers", "bouncers", "FAR")
-    true, swapped = [], []
+    line = source.choice(("17,%s,%s", "17;%s;%s", "17\t%s\t%s", "| 17 | %s | %s |"))
+    true, swapped = [line % ("machine", "verdict")], [line % ("machine", "verdict")]
     for verdict in verdicts_of(count, seed):
-        line = source.choice(("%s %s", "%s, %s", "17;%s;%s;x", "%s\t%s"))
         ends = (halting, never) if isinstance(verdict, Halt) else (never, halting)
         true.append(line % (verdict.machine, source.choice(ends[0])))
         swapped.append(line % (verdict.machine, source.choice(ends[1])))
     for lines, right in ((true, Judgement.CONFIRMED), (swapped, Judgement.CONTRADICTED)):
         judging = budlarem.judge(lines, limits=Limits(*LIMITS))
         missed = [str(one) for one in judging if one.judgement is not right]
-        tally.hold("%d words, %s: %s" % (len(lines), right, missed[:3]), not missed and len(lines) == count)
+        tally.hold(
+            "%d words, %s: %s" % (len(lines), right, missed[:3]), not missed and len(lines) == count + 1
+        )
 
 
 def hold_table(tally: Tally) -> None:
@@ -344,6 +414,9 @@ def main() -> int:
         return tally.end()
     os.environ["BB_LIBRARY"] = LIBRARY
     hold_forms(tally, asked.program)
+    hold_lists(tally)
+    hold_printed(tally)
+    hold_empty_lines(tally)
     lines = hold_random_forms(tally, 2_000 if asked.quick else 20_000, asked.seed)
     hold_read(tally, asked.program, lines)
     claims = hold_forged(tally, asked.program, 2_000 if asked.quick else 10_000, asked.seed)

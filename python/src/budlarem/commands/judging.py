@@ -7,21 +7,35 @@ import collections
 import sys
 from typing import Counter, Sequence
 
-from ..judging import GREATEST, Judgement, judge
+from ..judging import GREATEST, Judgement, Judging, judge
 from ..judging.lists import Placed
 from ..limits import Limits, Plan
 from ..runner.progress import count_of
+from ..translation import read_words
 from .progress import Progress
-from .shared import ListReader, add_command, add_limits, limits_of, source_of
+from .shared import (
+    ListReader,
+    add_claims_form,
+    add_command,
+    add_limits,
+    columns_of,
+    form_of,
+    limits_of,
+    source_of,
+)
 
-_HELP = """Judges a list of what others claim: verdict lines, or machines with a word in any field, such as
-halt, nonhalt, undecided or a decider's name, in whatever forms `budlarem help read` says. Each machine is
-decided; what our verdict doesn't settle is checked. Standard error gets the counts, and what of THEIRS was
-rewritten. Status 1 where a line is contradicted.
+_HELP = """Judges a list of what others claim, by the form of the list (`budlarem help read`). verdicts: each
+line claims its verdict. table: the words of a column say whether a machine halts, by a translation that is
+printed first and that --words changes, and for one that halts the columns of steps and score are judged too.
+text: a line claims something where the rest of it is one verdict. Nothing else is judged. Each machine is
+decided; what our verdict doesn't settle is checked. Standard error gets the form, the counts, and what of
+THEIRS was rewritten or passed over. Status 1 where a line is contradicted.
 
 confirmed: the checker confirms the claim, or our verdict says what the word does. contradicted: the checker
-refutes the claim, or our verdict says the other. not-judged: undecided here too, over the checker's limits,
-or no word says whether the machine halts. unreadable: no one machine, or two things said of it.
+refutes the claim, or our verdict says the other. not-judged: undecided here too, over the checker's limits, or
+the line claims nothing by the form of the list. unreadable: no one machine.
+
+Numbers may have groups of three digits, as 47,176,870.
 
 Where each halt of theirs at a --- is true of the machine with 1RZ there, and there is one, they are taken to
 count a step for ---, and standard error says so. --undefined-steps says it beforehand.
@@ -42,7 +56,7 @@ def do_judge(asked: argparse.Namespace) -> int:
     if asked.theirs == "-" == asked.list:
         raise ValueError("THEIRS and LIST can't both be standard input")
     progress = Progress()
-    reader = ListReader(asked.theirs, progress)
+    reader = ListReader(asked.theirs, progress, form_of(asked), columns_of(asked))
     highest = asked.check_steps
     checker = GREATEST if highest is None else Limits(highest, GREATEST.cells, GREATEST.depth, GREATEST.nodes)
     judging = judge(
@@ -54,7 +68,11 @@ def do_judge(asked: argparse.Namespace) -> int:
         undefined_steps=True if asked.undefined_steps else None,
         threads=asked.threads,
         tell=lambda what, lines: progress.tell(lambda: "%s lines %s" % (count_of(lines), what)),
+        form=reader.form,
+        columns=reader.columns,
+        words=None if asked.words is None else read_words(asked.words),
     )
+    _print_form(reader, judging)
     counts: Counter[Judgement] = collections.Counter()
     for judged in judging:
         counts[judged.judgement] += 1
@@ -66,11 +84,20 @@ def do_judge(asked: argparse.Namespace) -> int:
     if asked.list is not None:
         _write_list(missing, foreign, asked.list)
     sys.stdout.flush()
+    reader.print_passed(judging.theirs.passed, judging.theirs.undecoded)
     if judging.undefined_steps:
         print("%s: a step is counted for each ---" % reader.name, file=sys.stderr)
     parts = ", ".join("%s %d" % (kind, counts[kind]) for kind in Judgement)
     print("%s: %s" % (reader.name, parts), file=sys.stderr)
     return 1 if counts[Judgement.CONTRADICTED] else 0
+
+
+def _print_form(reader: ListReader, judging: Judging) -> None:
+    """Prints the form of the list, and the translation of a table's words."""
+    reader.print_form(judging.theirs.form)
+    if judging.theirs.translation is not None:
+        for line in judging.theirs.translation.lines:
+            reader.print_line(line)
 
 
 def _write_list(missing: Sequence[Placed], foreign: Sequence[Placed], path: str) -> None:
@@ -94,6 +121,7 @@ def add_judge(commands: "argparse._SubParsersAction[argparse.ArgumentParser]") -
     judging.set_defaults(do=do_judge)
     judging.add_argument("theirs", metavar="THEIRS", help="a list; - is standard input")
     judging.add_argument("--list", metavar="LIST", help="the machines that THEIRS should be of")
+    add_claims_form(judging)
     judging.add_argument("--undefined-steps", action="store_true", help="they count a step for ---")
     add_limits(judging, Limits.RANGES)
     highest = Limits.RANGES["steps"][1]

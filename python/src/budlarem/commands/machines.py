@@ -7,7 +7,17 @@ import sys
 
 from ..limits import Limits, Plan
 from ..lists import carried, distinct, triage
-from .shared import LIST_HELP, ListReader, add_command, add_file, add_limits, limits_of
+from .shared import (
+    LIST_HELP,
+    ListReader,
+    add_command,
+    add_file,
+    add_form,
+    add_limits,
+    columns_of,
+    form_of,
+    limits_of,
+)
 
 _READ = (
     """Writes the machine of each line of a list, as bb reads it.
@@ -36,9 +46,14 @@ _TRIAGE = (
 )
 
 
+def reader_of(asked: argparse.Namespace) -> ListReader:
+    """The reader of the list that the command line names."""
+    return ListReader(asked.file, None, form_of(asked), columns_of(asked))
+
+
 def do_read(asked: argparse.Namespace) -> int:
     """Writes the machines of a list."""
-    reader = ListReader(asked.file)
+    reader = reader_of(asked)
     for machine in reader.machines():
         sys.stdout.write("%s\n" % machine)
     sys.stdout.flush()
@@ -50,7 +65,7 @@ def do_read(asked: argparse.Namespace) -> int:
 def do_decide(asked: argparse.Namespace) -> int:
     """Decides the machine of each line, and carries along what else stands there."""
     plan = Plan(not asked.no_cyclers, not asked.no_translated, not asked.no_backward)
-    reader = ListReader(asked.file)
+    reader = reader_of(asked)
     for found in carried(reader.readings(), limits_of(asked), plan, threads=asked.threads):
         sys.stdout.write("%s\n" % found)
     return reader.status
@@ -58,7 +73,7 @@ def do_decide(asked: argparse.Namespace) -> int:
 
 def do_normal(asked: argparse.Namespace) -> int:
     """Writes the normal form of each machine."""
-    reader = ListReader(asked.file)
+    reader = reader_of(asked)
     for form, before in distinct(reader.machines(), steps=asked.steps, cells=asked.cells):
         if before is None or not asked.distinct:
             sys.stdout.write("%s\n" % form)
@@ -67,7 +82,7 @@ def do_normal(asked: argparse.Namespace) -> int:
 
 def do_triage(asked: argparse.Namespace) -> int:
     """Writes how the cells of each machine grow."""
-    reader = ListReader(asked.file)
+    reader = reader_of(asked)
     for machine in reader.machines():
         sys.stdout.write("%s\n" % triage(machine, steps=asked.steps, cells=asked.cells))
     return reader.status
@@ -79,11 +94,13 @@ def add_machines(commands: "argparse._SubParsersAction[argparse.ArgumentParser]"
     reading = add_command(commands, "read", "machines out of a list as people have them", _READ, columns)
     reading.set_defaults(do=do_read)
     add_file(reading)
+    add_form(reading)
     columns = [("verdict", "the line of bb decide"), ("fields", "what stood before the machine")]
     columns += [("fields", "what stood behind it; a field is left out where nothing stood there")]
     decide = add_command(commands, "decide", "decide machines, other fields carried along", _DECIDE, columns)
     decide.set_defaults(do=do_decide)
     add_file(decide)
+    add_form(decide)
     add_limits(decide, Limits.RANGES)
     for name in ("cyclers", "translated", "backward"):
         decide.add_argument("--no-" + name, action="store_true", help="leave this decider out")
@@ -98,6 +115,7 @@ def _add_forms(commands: "argparse._SubParsersAction[argparse.ArgumentParser]") 
     normal = add_command(commands, "normal", "machines in normal form", _NORMAL, columns)
     normal.set_defaults(do=do_normal)
     add_file(normal)
+    add_form(normal)
     normal.add_argument("--distinct", action="store_true", help="only the first machine of each normal form")
     normal.add_argument("--steps", type=int, default=10_000, metavar="N", help="of the run (default: 10,000)")
     add_limits(normal, ["cells"])
@@ -107,4 +125,5 @@ def _add_forms(commands: "argparse._SubParsersAction[argparse.ArgumentParser]") 
     growth = add_command(commands, "triage", "how the cells of machines grow", _TRIAGE, columns)
     growth.set_defaults(do=do_triage)
     add_file(growth)
+    add_form(growth)
     add_limits(growth, ["steps", "cells"])

@@ -5,19 +5,32 @@ from __future__ import annotations
 import argparse
 import sys
 import textwrap
-from typing import BinaryIO, Iterable, Iterator, Optional, Sequence, Tuple, Union
+from typing import BinaryIO, Iterable, Iterator, Mapping, Optional, Sequence, Tuple, Union
 
+from ..escaping import escape_controls
 from ..limits import Limits
-from ..reading import Reading, read
+from ..reading import Columns, Form, ListForm, Passed, Reading, Readings
+from ..reading.texts import counted
 from .progress import Progress
 
 # So wide are the lines of a help.
 WIDTH = 79
 # What a list of machines may be, for the help of the commands that read one.
-LIST_HELP = """FILE is a list as people have them: a machine a line, alone, beside other fields, in backticks
-or in a link, with other spellings. A machine is taken only where one reading of its line is possible. What
-was rewritten or refused goes to standard error with file and line; empty lines and comments, which begin with
-# or //, are passed over. Gzip is known by its first bytes."""
+LIST_HELP = """FILE is a list as people have them, in one of four forms. machines: a machine a line, and
+nothing else. verdicts: verdict lines. table: CSV or TSV with a column of machines. text: a machine a line,
+alone, beside other fields, in backticks or in a link. The form is found out from the first hundred lines and
+printed on standard error; --form settles it.
+
+A machine is taken only where one reading of its line is possible. What was rewritten or refused goes to
+standard error with file and line, and a count of the lines that were passed over: empty lines, comments, which
+begin with # or // and have no machine, code fences, rules and headers of tables. Gzip is known by its first
+bytes."""
+_ROLES = {
+    "machine": "the column of machines",
+    "verdict": "the column of verdicts, or of words such as halt and nonhalt",
+    "steps": "the column of the steps of a halt",
+    "score": "the column of the scores",
+}
 
 
 def source_of(path: Optional[str]) -> Union[str, BinaryIO]:
@@ -26,33 +39,67 @@ def source_of(path: Optional[str]) -> Union[str, BinaryIO]:
 
 
 class ListReader:
-    """Reads a list, and prints on standard error what was rewritten or refused. Counts both."""
+    """Reads a list, and prints on standard error its form, what was rewritten or refused, and how many lines
+    were passed over. Counts what was rewritten or refused."""
 
-    def __init__(self, path: Optional[str], progress: Optional[Progress] = None) -> None:
+    def __init__(
+        self,
+        path: Optional[str],
+        progress: Optional[Progress] = None,
+        form: Optional[Form] = None,
+        columns: Columns = Columns(),
+    ) -> None:
         self.name = "standard input" if path is None or path == "-" else path
         self.source = source_of(path)
+        self.form, self.columns = form, columns
         self._progress = progress
         self.taken, self.rewritten, self.refused = 0, 0, 0
 
     def readings(self) -> Iterator[Reading]:
-        """The reading of each line that isn't empty and no comment. Raises OSError."""
-        for reading in read(self.source):
+        """The reading of each line that isn't passed over. Raises OSError, ValueError."""
+        readings = Readings(self.source, self.form, self.columns)
+        self.print_form(readings.form)
+        for reading in readings:
             if reading.machine is None:
                 self.refuse(reading.number, str(reading))
             else:
                 self.taken += 1
                 self.tell_rewritten(reading)
             yield reading
+        self.print_passed(readings.passed, readings.undecoded)
 
     def machines(self) -> Iterator[str]:
         """The machines alone."""
         return (reading.machine for reading in self.readings() if reading.machine is not None)
 
+    def print_line(self, text: str) -> None:
+        """Prints something of the list."""
+        if self._progress is not None:
+            self._progress.clear()
+        print("%s: %s" % (self.name, escape_controls(text)), file=sys.stderr)
+
+    def print_form(self, form: ListForm) -> None:
+        """Prints the form of the list, where it was found out."""
+        if form.is_found:
+            is_given = self.form is not None or self.columns != Columns()
+            self.print_line(str(form) if is_given else "%s; --form settles it" % form)
+
+    def print_passed(self, passed: Mapping[Passed, int], undecoded: int) -> None:
+        """Prints how many lines were passed over, and how many have bytes that are no UTF-8, where there are
+        some."""
+        counts = ", ".join("%s %d" % (kind, passed[kind]) for kind in Passed if passed.get(kind))
+        if counts:
+            total = counted(sum(passed.values()), "line", "lines")
+            self.print_line("%s passed over: %s" % (total, counts))
+        if undecoded:
+            total = counted(undecoded, "line", "lines")
+            self.print_line("%s with bytes that are no UTF-8; iconv converts a list" % total)
+
     def tell(self, number: int, text: str) -> None:
         """Says something of a line."""
         if self._progress is not None:
             self._progress.clear()
-        print("%s:%d: %s" % (self.name, number, text), file=sys.stderr)
+        print("%s:%d: %s" % (self.name, number, escape_controls(text)), file=sys.stderr)
 
     def tell_rewritten(self, reading: Reading) -> None:
         """Says what of a line was rewritten, where something was."""
@@ -69,6 +116,37 @@ class ListReader:
     def status(self) -> int:
         """1 where a line was refused."""
         return 1 if self.refused else 0
+
+
+def form_of(asked: argparse.Namespace) -> Optional[Form]:
+    """The form that `--form` names; None where it isn't given."""
+    return None if asked.form is None else Form(asked.form)
+
+
+def columns_of(asked: argparse.Namespace) -> Columns:
+    """The columns that the options of a table name."""
+    return Columns(**{role: getattr(asked, "column_" + role, None) for role in _ROLES})
+
+
+def add_form(parser: argparse.ArgumentParser, roles: Iterable[str] = ("machine",)) -> None:
+    """Options that say the form of a list, and the columns of a table. `--steps` is a limit of most
+    commands, so the column is named by `--steps-column`."""
+    forms = [str(form) for form in Form]
+    parser.add_argument("--form", choices=forms, help="the list's form (default: by its first lines)")
+    for role in roles:
+        name = "--steps-column" if role == "steps" else "--" + role
+        help = "%s in a table, by its name or number" % _ROLES[role]
+        parser.add_argument(name, dest="column_" + role, metavar="COLUMN", help=help)
+
+
+def add_claims_form(parser: argparse.ArgumentParser) -> None:
+    """Options that say the form of a list of claims, and how the words of a table are translated."""
+    add_form(parser, _ROLES)
+    parser.add_argument(
+        "--words",
+        metavar="FILE",
+        help="words of a table: lines such as `halting: yes, true`, `never halting: no` and `nothing: open`",
+    )
 
 
 def limits_of(asked: argparse.Namespace) -> Limits:

@@ -1,22 +1,23 @@
-"""Judging what others publish: their claims and words beside the checker's answers and our verdicts."""
+"""Judging what others publish: their claims beside the checker's answers and our verdicts."""
 
 from __future__ import annotations
 
 import collections
 import time
-from typing import Deque, Iterator, List, Optional, Tuple
+from typing import Counter, Deque, Dict, Iterator, List, Optional, Tuple
 
-from ..claims import Said, Word, sayings
+from ..claims import WORDS, Said, Sayings, Word
 from ..engine import decide
 from ..limits import Limits, Plan
 from ..lists import Agreement, agreement
-from ..reading import read
+from ..reading import Columns, Form, ListForm, Passed, read
 from ..reading.files import Source
+from ..translation import Translation, translation_of
 from ..verdicts import Answer, Halt, Refused, Undecided, Verdict
 from .answers import answers_of
 from .lists import Lists, Tell, counted
 from .sources import Twice
-from .undefined import as_steps, counts_undefined_steps
+from .undefined import as_steps, counts_undefined_steps, stepped_halt
 from .values import Judged, Judgement
 
 __all__ = ["GREATEST", "Judged", "Judgement", "Judging", "judge"]
@@ -39,8 +40,15 @@ def judge(
     undefined_steps: Optional[bool] = None,
     threads: int = 1,
     tell: Tell = lambda what, lines: None,
+    form: Optional[Form] = None,
+    columns: Columns = Columns(),
+    words: Optional[Dict[str, Word]] = None,
 ) -> Judging:
-    """Judges what each line of a list says of its machine: a verdict, or a word of `WORDS`.
+    """Judges what each line of a list claims of its machine, by the form of the list.
+
+    A line of the form `verdicts` claims its verdict, and a record of a table what its columns have: a word,
+    by the translation `words` (`WORDS` where not given), and for halting the numbers in the columns of steps
+    and score. A line of a text claims something where the rest of it is one verdict. Else it is not judged.
 
     Each machine is decided within `limits` by `plan`, and each claim that our verdict doesn't settle is
     checked within `checker`. `undefined_steps` says whether they count a step for an undefined entry. Where
@@ -49,23 +57,54 @@ def judge(
     which of them have no line, and which lines are of none.
 
     Both lists are what `read` takes. Their list is read twice, so what isn't a path to a file is copied to
-    the disk first. `tell` is called with what is done beside judging, and with how many lines it was done.
-    Raises what `read` and `decide` do.
+    the disk first, where it is long. `tell` is called with what is done beside judging, and with how many
+    lines it was done. Raises what `read` and `decide` do, and ValueError for a table of which two columns may
+    have the verdicts, the steps or the scores.
 
-    >>> lines = ["1RB1LB_1LA1RZ halt 6 4", "1LB1RB_1RA1LZ nonhalt", "1RA1RA undecided"]
+    >>> lines = ["1RB1LB_1LA1RZ halt 6 4", "1LB1RB_1RA1LZ halt 7 4", "1RA1RA undecided steps"]
     >>> for judged in judge(lines):
     ...     print(judged.judgement, judged.ours)
     confirmed 1RB1LB_1LA1RZ halt 6 4
     contradicted 1LB1RB_1RA1LZ halt 6 4
     not-judged 1RA1RA translated R 1 2 1 1
     """
-    source = Twice(theirs)
+    source = Twice(theirs, form, columns)
+    layout = source.form.layout
+    words = WORDS if words is None else words
+    if layout is not None and layout.doubts:
+        raise ValueError("%s: say which" % layout.doubts[0])
+    translation = None
+    if layout is not None and "verdict" in layout.columns:
+        sayings = counted(Sayings(source.lines(), source.form, words), "looked at for their words", tell)
+        translation = translation_of(sayings, layout, words)
     if undefined_steps is None:
-        looked_at = counted(sayings(source.lines()), "looked at for steps at ---", tell)
-        undefined_steps = counts_undefined_steps(looked_at, limits, checker, threads)
+        sayings = counted(Sayings(source.lines(), source.form, words), "looked at for steps at ---", tell)
+        undefined_steps = counts_undefined_steps(sayings, limits, checker, threads)
     lists = None if listed is None else Lists(read(listed), tell)
-    decided = _decided(sayings(source.lines()), limits, plan, threads)
-    return Judging(decided, lists, checker, undefined_steps, threads)
+    said = Sayings(source.once(), source.form, words)
+    decided = _decided(said, limits, plan, threads)
+    return Judging(decided, lists, checker, undefined_steps, threads, TheirList(source, said, translation))
+
+
+class TheirList:
+    """The list that is judged: its form, the translation of a table's words, and how many lines so far were
+    passed over, or have bytes that are no UTF-8."""
+
+    def __init__(self, source: Twice, said: Sayings, translation: Optional[Translation]) -> None:
+        self.form: ListForm = source.form
+        self.translation = translation
+        self._source, self._said = source, said
+
+    @property
+    def passed(self) -> Counter[Passed]:
+        """The counts of the lines that were passed over, by their kinds."""
+        empty = self._source.empty
+        return self._said.passed + collections.Counter({Passed.EMPTY: empty} if empty else {})
+
+    @property
+    def undecoded(self) -> int:
+        """How many lines have bytes that are no UTF-8."""
+        return self._source.undecoded
 
 
 def _decided(
@@ -90,7 +129,8 @@ def _decided(
 
 class Judging(Iterator[Judged]):
     """The lines, judged one after another. `undefined_steps` says whether a step was taken to be counted for
-    an undefined entry. Once all lines are judged, `missing` and `foreign` tell of the list that was given."""
+    an undefined entry, `theirs` describes the list. Once all lines are judged, `missing` and `foreign` compare
+    it with the list that was given."""
 
     def __init__(
         self,
@@ -99,8 +139,9 @@ class Judging(Iterator[Judged]):
         checker: Limits,
         undefined_steps: bool,
         threads: int,
+        theirs: TheirList,
     ) -> None:
-        self.undefined_steps = undefined_steps
+        self.undefined_steps, self.theirs = undefined_steps, theirs
         self._decided, self._lists = decided, lists
         self._checker, self._threads = checker, threads
         self._held: Iterator[Judged] = iter(())
@@ -146,11 +187,13 @@ class Judging(Iterator[Judged]):
 
     def _settled(self, said: Said, ours: Optional[Verdict]) -> Optional[Judged]:
         """What is said of a line without the checker; None where that has to be asked."""
-        if ours is None or (said.trouble is not None and said.word is None):
-            sentence = said.trouble or str(said.reading.reason or "a refusal names no machine")
+        if ours is None:
+            sentence = str(said.reading.reason or "a refusal names no machine")
             return Judged(Judgement.UNREADABLE, said, ours, sentence)
+        if said.trouble is not None:
+            return Judged(Judgement.NOT_JUDGED, said, ours, said.trouble)
         if said.claim is None or isinstance(said.claim, (Undecided, Refused)):
-            return _by_word(said, ours)
+            return self._by_word(said, ours)
         if isinstance(ours, Undecided):
             return None
         claim = self._claim(said)
@@ -160,6 +203,26 @@ class Judging(Iterator[Judged]):
         if agreement(claim, ours) is Agreement.CONTRADICT and not (is_halt and claim != said.claim):
             return Judged(Judgement.CONTRADICTED, said, ours, _other(said, ours))
         return None
+
+    def _by_word(self, said: Said, ours: Verdict) -> Judged:
+        """What is said of a line that has a word and no claim."""
+        word = Word.UNDECIDED if said.claim is not None else said.word
+        if word not in (Word.HALTS, Word.NEVER_HALTS):
+            sentence = "no word says whether it halts" if word is None else "%s says neither" % word
+            return Judged(Judgement.NOT_JUDGED, said, ours, sentence)
+        if isinstance(ours, Undecided):
+            return Judged(Judgement.NOT_JUDGED, said, ours, "%s; undecided here" % word)
+        if isinstance(ours, Halt) != (word is Word.HALTS):
+            return Judged(Judgement.CONTRADICTED, said, ours, _other(said, ours))
+        if said.steps is None and said.score is None:
+            return Judged(Judgement.CONFIRMED, said, ours, "%s, as ours says" % word)
+        assert isinstance(ours, Halt)
+        stepped = stepped_halt(ours) if self.undefined_steps else ours
+        is_so = said.steps in (None, stepped.steps) and said.score in (None, stepped.score)
+        if not is_so:
+            return Judged(Judgement.CONTRADICTED, said, ours, _other(said, ours))
+        counted = " with 1RZ for ---" if stepped.machine != ours.machine else ""
+        return Judged(Judgement.CONFIRMED, said, ours, "%s, as ours says%s" % (_words_of(said), counted))
 
     def _answered(self, said: Said, ours: Optional[Verdict], answer: Answer) -> Judged:
         """What is said of a line by the checker's answer to its claim."""
@@ -174,21 +237,12 @@ class Judging(Iterator[Judged]):
 
 def _other(said: Said, ours: Verdict) -> str:
     """What a line says, and that our verdict says another thing."""
-    sentence = str(said.word) if said.claim is None else str(said.claim).partition(" ")[2]
+    sentence = _words_of(said) if said.claim is None else str(said.claim).partition(" ")[2]
     return "%s; ours is %s" % (sentence, str(ours).partition(" ")[2])
 
 
-def _by_word(said: Said, ours: Verdict) -> Judged:
-    """What is said of a line that has a word and no claim."""
-    word = Word.UNDECIDED if said.claim is not None else said.word
-    if word not in (Word.HALTS, Word.NEVER_HALTS):
-        sentence = "no word says whether it halts" if word is None else "%s says neither" % word
-        return Judged(Judgement.NOT_JUDGED, said, ours, sentence)
-    if isinstance(ours, Undecided):
-        return Judged(Judgement.NOT_JUDGED, said, ours, "%s; undecided here" % word)
-    halts = isinstance(ours, Halt)
-    if halts == (word is Word.HALTS):
-        if said.trouble is not None:
-            return Judged(Judgement.NOT_JUDGED, said, ours, said.trouble)
-        return Judged(Judgement.CONFIRMED, said, ours, "%s, as ours says" % word)
-    return Judged(Judgement.CONTRADICTED, said, ours, _other(said, ours))
+def _words_of(said: Said) -> str:
+    """The word of a record, with the numbers that stand beside it."""
+    steps = [] if said.steps is None else ["after {:,} steps".format(said.steps)]
+    score = [] if said.score is None else ["with a score of {:,}".format(said.score)]
+    return " ".join([str(said.word), *steps, *score])

@@ -4,7 +4,7 @@ from __future__ import annotations
 
 import dataclasses
 import itertools
-from typing import Iterable, List, Tuple
+from typing import Iterable, List, Optional, Tuple
 
 from ..claims import Said
 from ..engine import decide
@@ -21,10 +21,22 @@ def as_steps(claim: Halt) -> Halt:
     return dataclasses.replace(claim, machine=claim.machine.replace("---", "1RZ"))
 
 
+def stepped_halt(halt: Halt) -> Halt:
+    """The halt of the machine whose undefined entries are steps that write a 1 and halt; the same where it
+    has none, or doesn't halt later."""
+    machine = as_steps(halt).machine
+    if machine == halt.machine:
+        return halt
+    most = {name: highest for name, (_, highest) in Limits.RANGES.items()}
+    cells = max(1_024, min(halt.steps + 2, most["cells"]))
+    verdict = next(decide([machine], Limits(min(halt.steps + 1, most["steps"]), cells)))
+    return verdict if isinstance(verdict, Halt) else halt
+
+
 def counts_undefined_steps(sayings: Iterable[Said], ours: Limits, checker: Limits, threads: int) -> bool:
     """Whether a list counts a step for an undefined entry: each halt of its at such an entry is true of the
     machine with `1RZ` there, and there is one. What the checker can't tell within its limits says nothing."""
-    claims = (said.claim for said in sayings)
+    claims = (said.claim or _completed(said, ours) for said in sayings)
     halts = (claim for claim in claims if isinstance(claim, Halt) and "---" in claim.machine)
     is_counted = False
     while True:
@@ -35,6 +47,20 @@ def counts_undefined_steps(sayings: Iterable[Said], ours: Limits, checker: Limit
             if not counted:
                 return False
             is_counted = True
+
+
+def _completed(said: Said, limits: Limits) -> Optional[Halt]:
+    """The halt that a record claims which has one of its numbers: the other one is that of the run."""
+    machine = said.reading.machine
+    if machine is None or "---" not in machine or (said.steps is None and said.score is None):
+        return None
+    verdict = next(decide([machine], limits))
+    if not isinstance(verdict, Halt):
+        return None
+    stepped = stepped_halt(verdict)
+    is_stepped = said.steps in (None, stepped.steps) and said.score in (None, stepped.score)
+    steps, score = (stepped.steps, stepped.score) if is_stepped else (said.steps, said.score)
+    return Halt(machine, verdict.steps if steps is None else steps, verdict.score if score is None else score)
 
 
 def _counted(claims: List[Halt], ours: Limits, checker: Limits, threads: int) -> List[bool]:

@@ -7,6 +7,7 @@ from typing import Optional
 
 from .._words import Words
 from ..claims import Said
+from ..escaping import escape_controls
 from ..verdicts import Verdict
 
 
@@ -14,8 +15,8 @@ class Judgement(Words):
     """What is said of a line that claims something of a machine.
 
     `CONFIRMED`: the checker confirms the claim, or our verdict says what the word does. `CONTRADICTED`: the
-    checker refutes the claim, or our verdict says the other. `NOT_JUDGED`: neither. `UNREADABLE`: the line
-    has no one machine, or says two things of it.
+    checker refutes the claim, or our verdict says the other. `NOT_JUDGED`: neither, or the form of the list
+    gives no claim. `UNREADABLE`: the line has no one machine.
     """
 
     CONFIRMED = "confirmed"
@@ -40,5 +41,6 @@ class Judged:
         return self.said.reading.number
 
     def __str__(self) -> str:
-        ours = self.said.reading.line.replace("\t", " ") if self.ours is None else str(self.ours)
+        line = escape_controls(self.said.reading.line.replace("\t", " "))
+        ours = line if self.ours is None else str(self.ours)
         return "%s\t%d\t%s\t%s" % (self.judgement, self.number, ours, self.reason)

@@ -7,12 +7,16 @@ import gzip
 import io
 import os
 import zlib
-from typing import Any, BinaryIO, Callable, Iterable, Iterator, Union
+from typing import Any, BinaryIO, Callable, Iterable, Iterator, Tuple, Union
 
 from .._lengths import BYTES_KEPT, LONGEST_VALUE
+from .encodings import require_utf8
 
 GZIP = b"\x1f\x8b"
 BLOCK = 1 << 19
+_EMPTY = frozenset((b"", b"\r"))
+# A line's number, from 1 on, and its text.
+Numbered = Tuple[int, str]
 Source = Union[str, "os.PathLike[str]", BinaryIO, Iterable[str], Iterable[bytes]]
 
 
@@ -31,17 +35,85 @@ class _Raw(io.RawIOBase):
         return len(block)
 
 
-def lines_of(source: Source) -> Iterator[str]:
-    """The lines, as texts without newlines. Raises OSError where a path can't be opened, TypeError where it
-    is no list, ValueError where it is the text of one."""
-    if isinstance(source, (bytes, bytearray, memoryview)):
-        raise TypeError("a list's bytes are given as io.BytesIO(..), and a path as a str")
-    if isinstance(source, str) and "\n" in source:
-        raise ValueError("a str is a path; the lines of a text are given as text.splitlines()")
-    is_file = isinstance(source, (str, os.PathLike)) or hasattr(source, "read")
-    if not is_file or isinstance(source, io.TextIOBase):
-        return _of_items(iter(source))  # type: ignore[arg-type]
-    return _of_file(BytesFile(source))
+class Lines(Iterator[Numbered]):
+    """The lines of a list that aren't empty, as texts without newlines, each with its number from 1 on.
+    `empty` counts the others so far, `undecoded` those with bytes that are no UTF-8. Raises OSError where a path can't be opened or read, EncodingError where
+    the bytes are no UTF-8 text, TypeError where the source is no list, ValueError where it is the text of
+    one."""
+
+    def __init__(self, source: Source) -> None:
+        if isinstance(source, (bytes, bytearray, memoryview)):
+            raise TypeError("a list's bytes are given as io.BytesIO(..), and a path as a str")
+        if isinstance(source, str) and "\n" in source:
+            raise ValueError("a str is a path; the lines of a text are given as text.splitlines()")
+        self.empty, self.undecoded = 0, 0
+        is_file = isinstance(source, (str, os.PathLike)) or hasattr(source, "read")
+        if not is_file or isinstance(source, io.TextIOBase):
+            self._lines = self._of_items(iter(source))  # type: ignore[arg-type]
+        else:
+            self._lines = self._of_file(BytesFile(source))
+
+    def __iter__(self) -> Lines:
+        return self
+
+    def __next__(self) -> Numbered:
+        return next(self._lines)
+
+    def _of_items(self, items: Iterator[Any]) -> Iterator[Numbered]:
+        """The lines of an iterable. Raises TypeError, ValueError."""
+        for place, item in enumerate(items):
+            if isinstance(item, bytes):
+                item = item.decode("utf-8", "surrogateescape")
+            if not isinstance(item, str):
+                raise TypeError("lines[%d] is of type %s, not str" % (place, type(item).__name__))
+            line = item[:-1] if item.endswith("\n") else item
+            if "\n" in line:
+                raise ValueError("lines[%d] has a newline in it: %.*r" % (place, LONGEST_VALUE, item))
+            if line in ("", "\r"):
+                self.empty += 1
+            else:
+                yield place + 1, line
+
+    def _of_file(self, file: BytesFile) -> Iterator[Numbered]:
+        """The lines of a file. Raises OSError, EncodingError."""
+        with contextlib.closing(file):
+            for number, line in self._cut(file):
+                yield number, self._decoded(line)
+
+    def _decoded(self, line: bytes) -> str:
+        """The text of a line; bytes that are no UTF-8 stay, and are counted."""
+        text = line.decode("utf-8", "surrogateescape")
+        if not text.isascii() and any("\udc80" <= character <= "\udcff" for character in text):
+            self.undecoded += 1
+        return text
+
+    def _cut(self, file: BytesFile) -> Iterator[Tuple[int, bytes]]:
+        """The lines of a file, none longer than BYTES_KEPT bytes."""
+        number, rest = 1, b""
+        block = file.begin(4)
+        require_utf8(block, file.name)
+        while block:
+            if not rest and not block.strip(b"\n"):
+                self.empty += len(block)
+                number += len(block)
+                block = file.read1(BLOCK)
+                continue
+            lines = (rest + block).split(b"\n")
+            rest = lines.pop()[:BYTES_KEPT]
+            for at, line in enumerate(lines, number):
+                if line not in _EMPTY:
+                    yield at, line[:BYTES_KEPT]
+            self.empty += lines.count(b"") + lines.count(b"\r")
+            number += len(lines)
+            block = file.read1(BLOCK)
+        if rest:
+            yield number, rest
+
+
+def _name_of(file: Any) -> Any:
+    """What an open file is called."""
+    name = getattr(file, "name", "the file")
+    return "standard input" if name in ("<stdin>", 0) else name
 
 
 class BytesFile:
@@ -50,7 +122,7 @@ class BytesFile:
 
     def __init__(self, source: Any) -> None:
         self._is_ours = isinstance(source, (str, os.PathLike))
-        self.name = os.fspath(source) if self._is_ours else getattr(source, "name", "the file")
+        self.name = os.fspath(source) if self._is_ours else _name_of(source)
         raw = io.FileIO(self.name) if self._is_ours else _Raw(source)
         self._file: Any = io.BufferedReader(raw, BLOCK)
         self._opened: Any = None
@@ -68,6 +140,24 @@ class BytesFile:
         """The next bytes: so many, but for the end."""
         return self._tried(lambda: self._reader().read(size))
 
+    def read1(self, size: int) -> bytes:
+        """The next bytes, at most so many, as soon as there are some; none at the end."""
+        return self._tried(lambda: self._read1(size))
+
+    def begin(self, size: int) -> bytes:
+        """The first bytes: so many or more, but for the end."""
+        block = self.read1(BLOCK)
+        while 0 < len(block) < size:
+            more = self.read1(BLOCK)
+            if not more:
+                break
+            block += more
+        return block
+
+    def _read1(self, size: int) -> bytes:
+        found: bytes = self._reader().read1(size)  # type: ignore[attr-defined]
+        return found
+
     def readline(self, size: int = -1) -> bytes:
         """The next line with its newline, or so many bytes of it."""
         return self._tried(lambda: self._reader().readline(size))
@@ -81,36 +171,3 @@ class BytesFile:
     def close(self) -> None:
         if self._is_ours:
             self._file.close()
-
-
-def _of_items(items: Iterator[Any]) -> Iterator[str]:
-    """The lines of an iterable. Raises TypeError, ValueError."""
-    for place, item in enumerate(items):
-        if isinstance(item, bytes):
-            item = item.decode("utf-8", "surrogateescape")
-        if not isinstance(item, str):
-            raise TypeError("lines[%d] is of type %s, not str" % (place, type(item).__name__))
-        line = item[:-1] if item.endswith("\n") else item
-        if "\n" in line:
-            raise ValueError("lines[%d] has a newline in it: %.*r" % (place, LONGEST_VALUE, item))
-        yield line
-
-
-def _of_file(file: BytesFile) -> Iterator[str]:
-    """The lines of a file. Raises OSError."""
-    with contextlib.closing(file):
-        for line in _cut(file):
-            yield line.decode("utf-8", "surrogateescape")
-
-
-def _cut(file: BytesFile) -> Iterator[bytes]:
-    """The lines of a file without their newlines, none longer than BYTES_KEPT bytes."""
-    line = file.readline(BYTES_KEPT)
-    while line:
-        if line.endswith(b"\n"):
-            yield line[:-1]
-        else:
-            yield line
-            while len(line) == BYTES_KEPT and not line.endswith(b"\n"):
-                line = file.readline(BYTES_KEPT)
-        line = file.readline(BYTES_KEPT)

@@ -3,55 +3,124 @@
 from __future__ import annotations
 
 import re
-from typing import List, Optional, Tuple
+from typing import List, Optional, Sequence, Tuple
 
 from .._lengths import LONGEST_LINE
-from ..verdicts import is_machine
-from .texts import Found, Outcome, Word, read_words, shown
-from .values import Reading, Reason
+from ..verdicts import Refused, Verdict, is_machine, parse
+from .passing import is_comment_of_machine, passed_over
+from .texts import Found, Outcome, Word, read_arrays, read_entries, read_words, shown
+from .values import Form, Reading, Reason, Rewriting
 from .words import SPACES, Parts, Text, parts_of, row_beside
 
-_VERDICT = re.compile(
-    r"(?:halt|cycler|backward) [0-9]+ [0-9]+|translated [LR](?: [0-9]+){2,4}|undecided (?:steps|cells)"
-)
-_PAIRS = ("``", '""', "''", "()", "[]", "{}", "<>", "**", "\u201c\u201d", "\u2018\u2019", "\u00ab\u00bb")
+_PAIRS = (
+    "``", '""', "''", "()", "[]", "{}", "<>", "**", "~~", "\u201c\u201d", "\u2018\u2019", "\u00ab\u00bb"
+)  # fmt: skip
 _BESIDE = SPACES + ",;"
+# The letter of a state that stands alone before a group; a small one only where the line begins, before
+# small letters.
+_STATE = re.compile(r"""(?:(?:^|[^\w'\u2019-])([A-Y])|^\s*([a-y]))[\s:|=).,;>*`"'\]-]*$""")
+# What stands in machines beside letters and digits, in any spelling.
+_OF_MACHINES = "_-.\\" + SPACES
 # A text of the line, and what it was read as.
 Read = Tuple[Text, Outcome]
 
 
-def read_line(number: int, line: str) -> Optional[Reading]:
-    """The reading of a line without its newline; None where it is empty or a comment."""
-    if is_machine(line):
+def read_line(number: int, line: str, form: Form = Form.TEXT) -> Optional[Reading]:
+    """The reading of a line without its newline, in a form other than that of a table; None where the line is
+    passed over."""
+    if is_machine(line) and form is not Form.VERDICTS and not _is_rule(line, form):
         return Reading(number, line, line)
     line = line.lstrip("\ufeff").rstrip("\r")
     if len(line) > LONGEST_LINE:
         sentence = "the line has more than {:,} characters".format(LONGEST_LINE)
         return Reading(number, line, None, reason=Reason("long", sentence, LONGEST_LINE + 1))
     bare = line.strip(SPACES)
-    if not bare or bare.startswith(("#", "//")):
-        return None
-    if is_machine(bare):
+    if form is Form.VERDICTS:
+        return _of_verdict(number, line, bare)
+    if is_machine(bare) and not _is_rule(bare, form):
         return Reading(number, line, bare)
-    machine, _, verdict = line.partition(" ")
-    if "_" in machine and _VERDICT.fullmatch(verdict) and is_machine(machine):
-        return Reading(number, line, machine, behind=verdict)
-    parts = parts_of(line)
-    read = _read(line, parts)
+    verdict = verdict_in(bare) if form is Form.TEXT and bare.count(" ") > 1 else None
+    if verdict is not None and verdict.machine is not None and "_" in verdict.machine:
+        return Reading(number, line, verdict.machine, behind=bare[len(verdict.machine) + 1 :])
+    if passed_over(bare) is not None:
+        return None
+    reading = _read_plain(number, line)
+    return _alone(reading, bare) if form is Form.MACHINES else reading
+
+
+def _is_rule(text: str, form: Form) -> bool:
+    """Whether a text is a row of dashes, in a form in which that is a rule."""
+    return form is not Form.MACHINES and not text.strip("-")
+
+
+def verdict_in(bare: str) -> Optional[Verdict]:
+    """The verdict of a line that is a verdict line, and may have fields behind a tab; None of another."""
+    try:
+        return parse(bare.partition("\t")[0])
+    except ValueError:
+        return None
+
+
+def _of_verdict(number: int, line: str, bare: str) -> Optional[Reading]:
+    """The reading of a line of the form of verdicts."""
+    verdict = verdict_in(bare)
+    if verdict is None and passed_over(bare) is not None:
+        return None
+    place = len(line) - len(line.lstrip(SPACES)) + 1
+    if verdict is None:
+        return Reading(number, line, None, reason=Reason("verdict", "this is no verdict line", place))
+    if isinstance(verdict, Refused):
+        return Reading(number, line, None, reason=Reason("none", "no machine in this line", place))
+    return Reading(number, line, verdict.machine, behind=bare[len(verdict.machine) + 1 :])
+
+
+def _alone(reading: Reading, bare: str) -> Reading:
+    """The reading of a line whose machine has to stand alone."""
+    if reading.machine is None or not (reading.before or reading.behind or _has_more(bare)):
+        return reading
+    reason = Reason("beside", "the line has more than the machine %s" % shown(reading.machine), 1)
+    return Reading(reading.number, reading.line, None, reason=reason)
+
+
+def _has_more(bare: str) -> bool:
+    """Whether signs stand about the words of entries, as those of a link."""
+    return not all(character.isalnum() or character in _OF_MACHINES for character in bare)
+
+
+def _read_plain(number: int, line: str) -> Reading:
+    """The reading of a line that isn't passed over."""
+    plain, places = _unescaped(line)
+    read = _read(plain, parts_of(plain))
     if isinstance(read, Reason):
-        return Reading(number, line, None, reason=read)
-    begin, end = _span(line, read)
+        reason = Reason(read.kind, read.text, places[read.place - 1] + 1)
+        return Reading(number, line, None, reason=reason)
+    begin, end = (places[place] for place in _span(plain, read))
     before, behind = line[:begin].strip(_BESIDE), line[end:].strip(_BESIDE)
     found = read[0][1]
     assert isinstance(found, Found)
-    return Reading(number, line, found.machine, found.rewritten, before, behind)
+    rewritten = set(found.rewritten)
+    if "\\_" in line[begin:end]:
+        rewritten.add(Rewriting.ESCAPES)
+    kinds = tuple(kind for kind in Rewriting if kind in rewritten)
+    return Reading(number, line, found.machine, kinds, before, behind)
+
+
+def _unescaped(line: str) -> Tuple[str, Sequence[int]]:
+    r"""The line with `_` for `\_`, and for each place of it, its end too, the place in the line."""
+    if "\\_" not in line:
+        return line, range(len(line) + 1)
+    kept = [place for place, _ in enumerate(line) if line[place : place + 2] != "\\_"]
+    return "".join(line[place] for place in kept), [*kept, len(line)]
 
 
 def _read(line: str, parts: Parts) -> "List[Read] | Reason":
     """The texts of a line that are its one machine, or why there is none."""
+    if is_comment_of_machine(line.strip(SPACES)):
+        place = parts.texts[0].begin + 1
+        return Reason("comment", "a machine in a line that begins as a comment", place)
     found: List[Read] = []
     for text in parts.texts:
-        read = _read_text(text)
+        read = _of_state(line, text) or _read_text(text)
         if isinstance(read, Reason):
             found.append((text, read))
         else:
@@ -59,6 +128,8 @@ def _read(line: str, parts: Parts) -> "List[Read] | Reason":
     if not found:
         return _no_text(line, parts)
     for text, outcome in found:
+        if isinstance(outcome, Reason) and outcome.kind == "state-line":
+            return outcome
         row = row_beside(line, text, parts.rows) if isinstance(outcome, Found) else None
         if row is not None and "_" not in text.written:
             return Reason(
@@ -67,6 +138,21 @@ def _read(line: str, parts: Parts) -> "List[Read] | Reason":
                 row.begin + 1,
             )
     return _one(found)
+
+
+def _of_state(line: str, text: Text) -> Optional[Reason]:
+    """Why a text is no machine before which the letter of a state stands: it is the line of that state."""
+    if "_" in text.written or text.arrays or text.is_address:
+        return None
+    letter = _STATE.search(line[: text.begin])
+    if letter is None:
+        return None
+    group = letter.lastindex or 0
+    if group == 2 and text.written == text.written.upper():
+        return None
+    sentence = "%s before %s: a machine of a state a line isn't read"
+    words = (letter.group(group), shown(text.written))
+    return Reason("state-line", sentence % words, letter.start(group) + 1)
 
 
 def _no_text(line: str, parts: Parts) -> Reason:
@@ -83,8 +169,12 @@ def _read_text(text: Text) -> "List[Read] | Reason":
     """What a text is read as; its words by themselves where each is a machine and the text can't be one."""
     if not text.is_last:
         return Reason("none", "no machine in this line", text.words[0].begin + 1)
+    if text.arrays:
+        return [(text, read_arrays(text.arrays))]
     if len(text.words) == 1:
         return _dotted(text.words[0]) or [(text, read_words(text.words))]
+    if text.is_of_entries:
+        return [(text, read_entries(text.words))]
     alone = [(word, read_words(word.words)) for word in text.apart()]
     machines = {outcome.machine for _, outcome in alone if isinstance(outcome, Found)}
     is_each = all(isinstance(outcome, Found) for _, outcome in alone)

@@ -8,6 +8,7 @@ from typing import List, Sequence, Set, Tuple, Union
 
 from .._lengths import LONGEST_QUOTED
 from ..verdicts import MOST_SYMBOLS, STATES, is_machine
+from .hidden import first_hidden, name_hidden, name_of
 from .values import Reason, Rewriting
 
 # Of so many states at most H is none, so it may be meant for the halting state.
@@ -42,7 +43,8 @@ Group = List[Tuple[int, str]]
 
 
 def shown(text: str) -> str:
-    """A text as a sentence has it: cut where it is long."""
+    """A text as a sentence has it: characters that don't show by name, cut where it is long."""
+    text = name_hidden(text)
     return text if len(text) <= LONGEST_QUOTED else text[: LONGEST_QUOTED - 2] + ".."
 
 
@@ -56,18 +58,42 @@ def read_words(words: Sequence[Word]) -> Outcome:
     if len(words) == 1 and "_" in words[0].text and is_machine(words[0].text):
         return Found(words[0].text)
     groups = list(words) if len(words) > 1 else _split(words[0])
-    entries: List[Group] = []
-    for place, group in enumerate(groups):
-        found = _entries_of(group, sum(map(len, entries)), place, place + 1 < len(groups))
-        if isinstance(found, Reason):
-            return found
-        entries.append(found)
+    entries = _entries_of_groups(groups)
+    if isinstance(entries, Reason):
+        return entries
     rewritten = _letters(groups)
     if len(groups) == 1:
         return _divided(entries[0], rewritten)
     if len(words) > 1:
         rewritten.add(Rewriting.SPACES)
     return _machine(entries, rewritten)
+
+
+def read_entries(words: Sequence[Word]) -> Outcome:
+    """The machine whose entries are these words, where one division into groups makes one."""
+    entries = _entries_of_groups(words)
+    if isinstance(entries, Reason):
+        return entries
+    row = [entry for group in entries for entry in group]
+    return _divided(row, _letters(words) | {Rewriting.ENTRIES})
+
+
+def read_arrays(groups: Sequence[Sequence[Word]]) -> Outcome:
+    """The machine whose groups are arrays of these entries."""
+    letters = _letters([word for group in groups for word in group])
+    entries = [[(word.begin, word.text) for word in group] for group in groups]
+    return _machine(entries, letters | {Rewriting.ARRAYS})
+
+
+def _entries_of_groups(groups: Sequence[Word]) -> Union[List[Group], Reason]:
+    """The entries of each group, or why one of them has others."""
+    entries: List[Group] = []
+    for place, group in enumerate(groups):
+        found = _entries_of(group, sum(map(len, entries)), place, place + 1 < len(groups))
+        if isinstance(found, Reason):
+            return found
+        entries.append(found)
+    return entries
 
 
 def _split(word: Word) -> List[Word]:
@@ -99,6 +125,10 @@ def _no_entry(text: str, number: int, place: int, is_followed: bool) -> Reason:
     if _LOST.fullmatch(whole):
         sentence = "entry %d is %s: the %s that it writes would be lost" % (number, whole, whole[0])
         return Reason("lost", sentence, place)
+    hidden = first_hidden(text)
+    if hidden is not None:
+        sentence = "entry %d has %s, a character that doesn't show" % (number, name_of(text[hidden]))
+        return Reason("hidden", sentence, place + hidden)
     return Reason("entry", "entry %d is no entry: %s" % (number, text), place)
 
 

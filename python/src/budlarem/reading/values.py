@@ -17,6 +17,9 @@ class Rewriting(Words):
     UNDEFINED_ENTRIES = "undefined-entries"
     SPACES = "spaces"
     UNDERSCORES = "underscores"
+    ESCAPES = "escapes"
+    ENTRIES = "entries"
+    ARRAYS = "arrays"
 
     @property
     def sentence(self) -> str:
@@ -30,11 +33,39 @@ _SENTENCES = {
     "undefined-entries": "... read as ---, an undefined entry",
     "spaces": "spaces between groups read as _",
     "underscores": "_ put between the groups",
+    "escapes": "\\_ read as _",
+    "entries": "spaces between entries left out",
+    "arrays": "arrays of entries read as groups",
 }
+
+
+class Form(Words):
+    """How the lines of a list are written.
+
+    `MACHINES`: a machine a line, and nothing else. `VERDICTS`: verdict lines. `TABLE`: CSV or TSV, with a
+    column of machines. `TEXT`: what people paste, with at most one machine a line.
+    """
+
+    MACHINES = "machines"
+    VERDICTS = "verdicts"
+    TABLE = "table"
+    TEXT = "text"
+
+
+class Passed(Words):
+    """A line that is passed over: neither a machine nor refused."""
+
+    EMPTY = "empty lines"
+    COMMENT = "comments"
+    FENCE = "code fences"
+    RULE = "table rules"
+    HEADER = "table headers"
+
+
 # What would do, for each kind of reason.
 ADVICE = {
     "none": "a machine is written as 1RB1LB_1LA1RZ",
-    "rule": "write ------ alone on its line if it is meant as a machine",
+    "rule": "in the form machines a row of 6, 9, .. or 30 dashes is a machine",
     "rule-or-group": "write _ between the groups, or leave the row out",
     "entry": "an entry is a digit, L or R and a letter, or --- where it is undefined",
     "lost": "write --- for an undefined entry, or Z for a step that halts",
@@ -53,6 +84,13 @@ ADVICE = {
     "part": "write one machine a line, with _ between its groups",
     "two": "write one machine a line",
     "long": "write one machine a line",
+    "comment": "leave # out if the machine is meant, or the machine if it is a comment",
+    "state-line": "write the groups of a machine in one line, with _ between them",
+    "hidden": "take out the character",
+    "beside": "read the list as the form text, or write the machine alone",
+    "verdict": "a verdict line is written as 1RB1LB_1LA1RZ halt 6 4",
+    "row": "write a record a line, with the separator of the others",
+    "column": "write a machine into the column",
 }
 
 
@@ -81,7 +119,7 @@ class Reading:
     `number` is the line's, from 1 on; `line` is its text, without a byte order mark and what ends a line.
     `machine` is as `bb` reads it, None where there is none; `reason` is None where there is one. `rewritten`
     has all that stood there otherwise. `before` and `behind` are what else stood on the line, without spaces,
-    commas and semicolons at their ends.
+    commas and semicolons at their ends. `row` has the cells of a record of a table, None in other forms.
     """
 
     number: int
@@ -91,6 +129,7 @@ class Reading:
     before: str = ""
     behind: str = ""
     reason: Optional[Reason] = None
+    row: Optional[Tuple[str, ...]] = None
 
     @property
     def fields(self) -> str:
@@ -99,13 +138,15 @@ class Reading:
 
     @property
     def column(self) -> Optional[int]:
-        """The column with which `bb` refuses the line as it stands; None where there is a machine. Asks the
-        library. Raises LibraryError."""
+        """The column with which `bb` refuses the line as it stands; None where there is a machine, or where
+        `bb` reads one that the list's form doesn't allow there. Asks the library. Raises LibraryError."""
         return column_of(self.line) if self.machine is None else None
 
     def __str__(self) -> str:
         if self.reason is not None:
-            sentence = "refused: %s, at character %d (for bb column %s); %s"
-            return sentence % (self.reason, self.reason.place, self.column, self.reason.advice)
+            column = self.column
+            place = "character %d" % self.reason.place
+            place += "" if column is None else " (for bb column %d)" % column
+            return "refused: %s, at %s; %s" % (self.reason, place, self.reason.advice)
         sentences = "; ".join(rewriting.sentence for rewriting in self.rewritten)
         return "%s: %s" % (self.machine, sentences) if sentences else str(self.machine)

@@ -15,13 +15,19 @@ SPACES = "\t\n\v\f\r \u00a0\u1680\u2028\u2029\u202f\u205f\u3000\ufeff" + "".join
 _QUOTES = "`\"'\u2018\u2019\u201a\u201c\u201d\u201e\u00ab\u00bb"
 # What ends an address; and a word, too.
 _ENDS = SPACES + ",;|()[]{}<>*" + _QUOTES
-_SEPARATORS = _ENDS + ":=#"
+_SEPARATORS = _ENDS + ":=#~"
 _TOKEN = re.compile(
-    r"(?P<address>(?:[A-Za-z][A-Za-z0-9+.-]*://|[A-Za-z][A-Za-z0-9-]*(?:\.[A-Za-z0-9-]+)+/)[^%s]*)|[^%s]+"
+    r"(?P<address>(?:[A-Za-z][A-Za-z0-9+.-]*://|[A-Za-z][A-Za-z0-9-]*(?:\.[A-Za-z0-9-]+)+/)(?:(?!~~)[^%s])*)|[^%s]+"
     % (re.escape(_ENDS), re.escape(_SEPARATORS))
 )
 _ENTRIES = re.compile(r"(?:[0-9][LRlr][A-Za-z]|---|\.\.\.|_)*(?:[0-9][LRlr][A-Za-z]|---|\.\.\.)_*")
 _ROW = re.compile(r"[-.]+")
+# A number of a list right before an entry.
+_NUMBER = re.compile(r"[0-9]+\.(?=[0-9-])")
+# Groups as arrays of quoted entries, as JSON and Python write them.
+_ENTRY = r"""["'](?:[0-9][LRlr][A-Za-z]|---|\.\.\.)["']"""
+_GROUP = r"\[\s*%s(?:\s*,\s*%s)*\s*\]" % (_ENTRY, _ENTRY)
+_ARRAYS = re.compile(r"\[\s*%s(?:\s*,\s*%s)*\s*\]" % (_GROUP, _GROUP))
 # What nothing but a machine has in it, whole or not.
 _PIECES = re.compile(r"[0-9][LR](?:[A-Z_.-]|$)|[0-9][lr][a-z](?=[0-9_])|(?<=[a-z_])[0-9][lr][a-z]")
 # A word that looks like an entry.
@@ -34,13 +40,15 @@ _TOGETHER = " \u00a0"
 @dataclasses.dataclass(frozen=True)
 class Text:
     """Words that are one text, since only spaces stand between them. `begin` and `end` are where it stands in
-    the line, with the address that it is a part of; `is_last` says that it is that address's last part."""
+    the line, with the address that it is a part of; `is_last` says that it is that address's last part.
+    `arrays` has the entries of each group where they are written as arrays."""
 
     words: Tuple[Word, ...]
     begin: int
     end: int
     is_address: bool = False
     is_last: bool = True
+    arrays: Tuple[Tuple[Word, ...], ...] = ()
 
     @property
     def written(self) -> str:
@@ -50,6 +58,11 @@ class Text:
     @property
     def is_lone_entry(self) -> bool:
         return len(self.words) == 1 and len(self.words[0].text) == 3
+
+    @property
+    def is_of_entries(self) -> bool:
+        """Whether each of several words is one entry."""
+        return len(self.words) > 1 and all(len(word.text) == 3 for word in self.words)
 
     def apart(self) -> List[Text]:
         """Each word as a text by itself."""
@@ -66,6 +79,9 @@ class Parts:
 
 def parts_of(line: str) -> Parts:
     """What of a line may be a machine."""
+    arrays = _arrays_of(line)
+    for text in arrays:
+        line = line[: text.begin] + "|" * (text.end - text.begin) + line[text.end :]
     words: List[Word] = []
     rows: List[Word] = []
     addresses: List[Text] = []
@@ -78,14 +94,40 @@ def parts_of(line: str) -> Parts:
             rows.append(token)
         elif _has_entries(_without_stop(token).text):
             words.append(_without_stop(token))
-    texts = addresses + _together(line, words)
+    plain = _together(line, words, rows)
+    inside = {word.begin for text in plain for word in text.words}
+    texts = arrays + addresses + plain
+    rows = [row for row in rows if row.begin not in inside]
     return Parts(sorted(texts, key=lambda text: text.words[0].begin), rows)
 
 
+def _arrays_of(line: str) -> List[Text]:
+    """The machines of a line that are written as arrays of entries."""
+    texts: List[Text] = []
+    for match in _ARRAYS.finditer(line) if "[" in line else ():
+        groups = tuple(
+            tuple(
+                Word(match.start() + group.start() + entry.start() + 1, entry.group()[1:-1])
+                for entry in re.finditer(_ENTRY, group.group())
+            )
+            for group in re.finditer(_GROUP, match.group())
+        )
+        written = "_".join("".join(word.text for word in group) for group in groups)
+        whole = (Word(match.start(), written),)
+        texts.append(Text(whole, match.start(), match.end(), arrays=groups))
+    return texts
+
+
 def _without_stop(word: Word) -> Word:
-    """A word without the one full stop at its end."""
-    is_stopped = word.text.endswith(".") and not word.text.endswith("..")
-    return Word(word.begin, word.text[:-1]) if is_stopped else word
+    """A word without a list's number before it, and without the full stop or the marks at its end."""
+    text, begin = word.text, word.begin
+    number = _NUMBER.match(text)
+    if number is not None and _ENTRIES.fullmatch(text[number.end() :].rstrip(".!?")):
+        text, begin = text[number.end() :], begin + number.end()
+    if text.endswith(("!", "?")) and _ENTRIES.fullmatch(text.rstrip("!?")):
+        text = text.rstrip("!?")
+    is_stopped = text.endswith(".") and not text.endswith("..")
+    return Word(begin, text[:-1] if is_stopped else text)
 
 
 def _in_address(address: Word) -> Iterator[Text]:
@@ -111,16 +153,36 @@ def _has_entries(text: str) -> bool:
     return _ENTRIES.fullmatch(text) is not None or _PIECES.search(text) is not None
 
 
-def _together(line: str, words: List[Word]) -> List[Text]:
-    """The texts that these words make: those between which there are only spaces are one."""
+def _together(line: str, words: List[Word], rows: List[Word]) -> List[Text]:
+    """The texts that these words make: those between which there are only spaces are one. Between entries
+    that stand alone, `---` is an entry."""
     texts: List[Text] = []
+    dashes = [row for row in rows if row.text == "---"]
+    for run in _runs(line, sorted(words + dashes, key=lambda word: word.begin)):
+        inner = _without_rows(run)
+        if inner and all(len(word.text) == 3 for word in inner):
+            texts.append(_text(inner))
+        else:
+            texts += map(_text, _runs(line, [word for word in run if word.text != "---"]))
+    return texts
+
+
+def _without_rows(run: List[Word]) -> List[Word]:
+    """The words without those of dashes at the ends."""
+    places = [place for place, word in enumerate(run) if word.text != "---"]
+    return run[places[0] : places[-1] + 1] if places else []
+
+
+def _runs(line: str, words: List[Word]) -> Iterator[List[Word]]:
+    """The words between which there are only spaces, together."""
     held: List[Word] = []
     for word in words:
         if held and line[held[-1].end : word.begin].strip(_TOGETHER):
-            texts.append(_text(held))
+            yield held
             held = []
         held.append(word)
-    return texts + [_text(held)] if held else texts
+    if held:
+        yield held
 
 
 def _text(words: List[Word]) -> Text:

@@ -1,0 +1,56 @@
+"""Bytes that are no text in UTF-8, by the name of what they are."""
+
+from __future__ import annotations
+
+from typing import Optional
+
+# The first bytes of what people give for a list, and its name. UTF-32 comes before UTF-16, whose mark begins
+# that of UTF-32.
+_MARKS = (
+    (b"\xff\xfe\x00\x00", "UTF-32 text"),
+    (b"\x00\x00\xfe\xff", "UTF-32 text"),
+    (b"\xff\xfe", "UTF-16 text"),
+    (b"\xfe\xff", "UTF-16 text"),
+    (b"\xfd7zXZ\x00", "compressed by xz"),
+    (b"BZh", "compressed by bzip2"),
+    (b"\x28\xb5\x2f\xfd", "compressed by zstd"),
+    (b"PK\x03\x04", "a ZIP archive"),
+    (b"7z\xbc\xaf\x27\x1c", "a 7z archive"),
+    (b"%PDF-", "a PDF document"),
+)
+# So many bytes tell whether every other one is a zero.
+_LOOKED_AT = 256
+
+
+class EncodingError(ValueError):
+    """A list's bytes are no text in UTF-8. `encoding` names what they are."""
+
+    def __init__(self, name: object, encoding: str) -> None:
+        super().__init__("%s is %s: %s" % (name, encoding, _advice(encoding)))
+        self.encoding = encoding
+
+
+def _advice(encoding: str) -> str:
+    """What would do."""
+    if encoding.endswith(" text"):
+        return "convert it by iconv -f %s -t UTF-8" % encoding.partition(" ")[0]
+    return "give the text of the list; gzip alone is unpacked"
+
+
+def find_encoding(begin: bytes) -> Optional[str]:
+    """What bytes are that begin so; None where they may be UTF-8."""
+    for mark, name in _MARKS:
+        if begin.startswith(mark):
+            return name
+    begin = begin[:_LOOKED_AT]
+    if len(begin) < 4 or begin.count(0) * 3 < len(begin):
+        return None
+    is_wide = begin.count(0) * 3 > 2 * len(begin)
+    return "UTF-32 text" if is_wide else "UTF-16 text"
+
+
+def require_utf8(begin: bytes, name: object) -> None:
+    """Raises EncodingError where bytes that begin so are no text in UTF-8."""
+    found = find_encoding(begin)
+    if found is not None:
+        raise EncodingError(name, found)

@@ -1,0 +1,155 @@
+"""The form of a list: given, or found out from its first lines; and the readings of its lines by it."""
+
+from __future__ import annotations
+
+import collections
+import dataclasses
+import itertools
+from typing import Counter, Iterator, List, Optional
+
+from ..verdicts import is_machine
+from .files import Lines, Numbered, Source
+from .lines import read_line, verdict_in
+from .passing import passed_over
+from .tables import Columns, Layout, find_header, find_layout, read_row
+from .values import Form, Passed, Reading
+from .words import SPACES
+
+# So many lines that aren't passed over settle the form of a list.
+FIRST_LINES = 100
+_OF_MACHINES = "_-." + SPACES
+
+
+@dataclasses.dataclass(frozen=True)
+class ListForm:
+    """The form of a list, the layout where it is a table, and whether the form was found out."""
+
+    form: Form
+    layout: Optional[Layout] = None
+    is_found: bool = False
+
+    def __str__(self) -> str:
+        return "form %s" % self.form if self.layout is None else "form %s: %s" % (self.form, self.layout)
+
+
+def find_form(lines: Iterator[Numbered], ahead: List[Numbered]) -> Optional[Form]:
+    """The form that the first lines have; None where there are none. Adds the lines that it reads to
+    `ahead`."""
+    alone: List[str] = []
+    verdicts = 0
+    for number, line in lines:
+        ahead.append((number, line))
+        bare = line.lstrip("\ufeff").strip(SPACES)
+        if not alone and not verdicts and find_header(bare) is not None:
+            return Form.TABLE
+        if passed_over(bare) is not None:
+            continue
+        if _is_alone(number, bare):
+            alone.append(bare)
+        elif verdict_in(bare) is not None:
+            verdicts += 1
+        else:
+            return Form.TEXT
+        if alone and verdicts:
+            return Form.TEXT
+        if len(alone) + verdicts == FIRST_LINES:
+            break
+    if verdicts:
+        return Form.VERDICTS
+    return _of_machines(alone) if alone else None
+
+
+def _is_alone(number: int, bare: str) -> bool:
+    """Whether a line is a machine in any spelling, and nothing else."""
+    if is_machine(bare):
+        return True
+    if not all(character.isalnum() or character in _OF_MACHINES for character in bare):
+        return False
+    reading = read_line(number, bare, Form.MACHINES)
+    return reading is not None and reading.machine is not None
+
+
+def _of_machines(alone: List[str]) -> Form:
+    """The form of a list whose lines are machines: where rows of dashes are among others of another length,
+    they are rules."""
+    lengths = {len(bare) for bare in alone if bare.strip("-")}
+    rows = {len(bare) for bare in alone if not bare.strip("-")}
+    return Form.TEXT if lengths and rows - lengths else Form.MACHINES
+
+
+def form_of(
+    lines: Iterator[Numbered], ahead: List[Numbered], form: Optional[Form], columns: Columns
+) -> ListForm:
+    """The form of a list: the one that is given, that of a table where a column is, or the one that its
+    first lines have. Raises ValueError where the layout of a table isn't known."""
+    given = form
+    if form is None and columns != Columns():
+        form = Form.TABLE
+    if form is None:
+        form = find_form(lines, ahead)
+        if form is None:
+            return ListForm(Form.TEXT)
+    if form is not Form.TABLE:
+        if columns != Columns():
+            raise ValueError("columns are of the form table, not of %s" % form)
+        return ListForm(form, None, given is None)
+    ahead += itertools.islice(lines, FIRST_LINES)
+    return ListForm(form, find_layout(ahead, columns), True)
+
+
+def reading_of(number: int, line: str, form: ListForm) -> Optional[Reading]:
+    """The reading of a line of a list in this form; None where it is passed over."""
+    if form.layout is not None:
+        return read_row(number, line, form.layout)
+    return read_line(number, line, form.form)
+
+
+class Readings(Iterator[Reading]):
+    """The readings of a list's lines. `form` is that of the list, and `passed` counts so far the lines that
+    were passed over; `undecoded` counts those with bytes that are no UTF-8."""
+
+    def __init__(self, lines: Source, form: Optional[Form] = None, columns: Columns = Columns()) -> None:
+        self._source = Lines(lines)
+        self._given = form, columns
+        self._form: Optional[ListForm] = None
+        self._ahead: List[Numbered] = []
+        self._passed: Counter[Passed] = collections.Counter()
+        self._readings = self._read()
+
+    @property
+    def form(self) -> ListForm:
+        """The form of the list, for which its first lines are read. Raises what `read` does."""
+        if self._form is None:
+            self._form = form_of(self._source, self._ahead, *self._given)
+        return self._form
+
+    @property
+    def passed(self) -> Counter[Passed]:
+        """How many lines were passed over so far, by their kinds."""
+        empty = self._source.empty
+        return self._passed + collections.Counter({Passed.EMPTY: empty} if empty else {})
+
+    @property
+    def undecoded(self) -> int:
+        """How many lines so far have bytes that are no UTF-8."""
+        return self._source.undecoded
+
+    def __iter__(self) -> Readings:
+        return self
+
+    def __next__(self) -> Reading:
+        return next(self._readings)
+
+    def _read(self) -> Iterator[Reading]:
+        form = self.form
+        for number, line in itertools.chain(self._ahead, self._source):
+            reading = reading_of(number, line, form)
+            if reading is not None:
+                yield reading
+            else:
+                self._passed[passed_kind(line)] += 1
+
+
+def passed_kind(line: str) -> Passed:
+    """The kind of a line that was passed over."""
+    return passed_over(line.lstrip("\ufeff").strip(SPACES)) or Passed.HEADER

@@ -1,0 +1,221 @@
+"""Tables: CSV, TSV and the like, with a column of machines."""
+
+from __future__ import annotations
+
+import contextlib
+import csv
+import dataclasses
+import re
+from typing import Dict, FrozenSet, List, Optional, Sequence, Tuple
+
+from ..verdicts import is_machine
+from .lines import read_line
+from .passing import MACHINE_NAMES, passed_over, plain_name
+from .texts import counted, shown
+from .values import Form, Passed, Reading, Reason
+from .words import SPACES
+
+# What may separate cells; a space only where nothing else does.
+SEPARATORS = ("\t", ",", ";", "|")
+_NAMES: Dict[str, FrozenSet[str]] = {
+    "machine": MACHINE_NAMES,
+    "verdict": frozenset("verdict verdicts status result decision halts".split()),
+    "steps": frozenset("steps step stepcount numberofsteps".split()),
+    "score": frozenset("score ones sigma".split()),
+}
+_SEPARATOR_NAMES = {"\t": "tab", ",": "comma", ";": "semicolon", "|": "|", " ": "space", "": "none"}
+# A line's number, from 1 on, and its text.
+Numbered = Tuple[int, str]
+
+
+@dataclasses.dataclass(frozen=True)
+class Columns:
+    """The columns of a table, each by its name or its number from 1 on. One that is None is looked for in the
+    table's header."""
+
+    machine: Optional[str] = None
+    verdict: Optional[str] = None
+    steps: Optional[str] = None
+    score: Optional[str] = None
+
+
+@dataclasses.dataclass(frozen=True)
+class Layout:
+    """How a table is laid out: its separator, how many cells a record has, the names of the columns, none
+    where it has no header, and the index of each column that is known, by its role. `doubts` has a sentence
+    for each role that several columns may have."""
+
+    separator: str
+    width: int
+    names: Tuple[str, ...]
+    columns: Dict[str, int]
+    header: Optional[int] = None
+    doubts: Tuple[str, ...] = ()
+
+    def __str__(self) -> str:
+        parts = ["separator %s" % _SEPARATOR_NAMES[self.separator]]
+        for role, place in self.columns.items():
+            name = " (%s)" % shown(self.names[place]) if self.names else ""
+            parts.append("%s in column %d%s" % (role, place + 1, name))
+        return ", ".join(parts)
+
+
+def cells_of(bare: str, separator: str) -> Tuple[str, ...]:
+    """The cells of a record, without spaces at their ends. Raises csv.Error."""
+    if separator in (" ", ""):
+        return tuple(bare.split()) if separator else (bare,)
+    if separator == "|":
+        bare = bare[bare.startswith("|") : len(bare) - bare.endswith("|")]
+    (row,) = csv.reader([bare], delimiter=separator, strict=True, skipinitialspace=True)
+    return tuple(cell.strip(SPACES) for cell in row)
+
+
+def find_header(bare: str) -> Optional[str]:
+    """The separator of a line that names a column of machines, behind # too; None where the line is no such
+    header."""
+    bare = bare.lstrip("#").strip(SPACES)
+    if plain_name(bare) in MACHINE_NAMES:
+        return ""
+    for separator in SEPARATORS:
+        if separator not in bare:
+            continue
+        try:
+            names = [plain_name(cell) for cell in cells_of(bare, separator)]
+        except csv.Error:
+            continue
+        if len(names) > 1 and sum(name in MACHINE_NAMES for name in names) == 1:
+            return separator
+    return None
+
+
+def find_layout(lines: Sequence[Numbered], columns: Columns) -> Layout:
+    """The layout of the table that begins with these lines. Raises ValueError where it isn't known."""
+    records = [(number, line.strip(SPACES)) for number, line in lines]
+    while records and passed_over(records[0][1]) is not None and find_header(records[0][1]) is None:
+        del records[0]
+    if not records:
+        return Layout(",", 0, (), {"machine": 0})
+    first = records[0][1]
+    separator = find_header(first)
+    if columns.machine is None and separator is None:
+        raise ValueError("no header names a column of machines: give it by --machine")
+    if separator is not None:
+        return _with_header(records[0], separator, columns)
+    fitting = [one for one in SEPARATORS if _fits(records, one, columns)]
+    fitting = fitting or [one for one in (" ", "") if _fits(records, one, columns)][:1]
+    if not fitting:
+        raise ValueError("no separator gives each record a column %s with machines" % columns.machine)
+    if len(fitting) > 1:
+        names = " or ".join(_SEPARATOR_NAMES[one] for one in fitting)
+        raise ValueError("the separator may be %s: write the cells in quotes" % names)
+    return _without_names(records, fitting[0], columns)
+
+
+def _fits(records: Sequence[Numbered], separator: str, columns: Columns) -> bool:
+    """Whether a separator gives the first records the columns that are named, and machines in that of
+    machines, the header's aside. Records that differ in their number of cells are refused one by one."""
+    rows = []
+    for _, bare in records:
+        with contextlib.suppress(csv.Error):
+            rows.append(cells_of(bare, separator))
+    if not rows or (len(rows[0]) == 1 and separator):
+        return False
+    given = [one for one in dataclasses.astuple(columns) if one is not None]
+    try:
+        place = [_place_of(one, rows[0]) for one in given][0]
+    except ValueError:
+        return False
+    return any(_is_alone(row[place]) for row in rows if len(row) == len(rows[0]))
+
+
+def _is_alone(cell: str) -> bool:
+    """Whether a cell is a machine and nothing else."""
+    found = _machine_in(0, cell)
+    return found.machine is not None and not (found.before or found.behind)
+
+
+def _without_names(records: Sequence[Numbered], separator: str, columns: Columns) -> Layout:
+    """The layout of a table whose header, where it has one, doesn't name the machines. Raises ValueError."""
+    row = cells_of(records[0][1], separator)
+    place = _place_of(columns.machine or "", row)
+    if _machine_in(0, row[place]).machine is None:
+        return _with_header(records[0], separator, columns)
+    found = {
+        role: _place_of(given, row)
+        for role, given in dataclasses.asdict(columns).items()
+        if given is not None
+    }
+    return Layout(separator, len(row), (), found)
+
+
+def _with_header(header: Numbered, separator: str, columns: Columns) -> Layout:
+    """The layout of a table by its header. Raises ValueError."""
+    number, bare = header
+    names = cells_of(bare.lstrip("#").strip(SPACES), separator)
+    found: Dict[str, int] = {}
+    doubts: List[str] = []
+    for role, given in dataclasses.asdict(columns).items():
+        if given is not None:
+            found[role] = _place_of(given, names)
+            continue
+        places = [place for place, name in enumerate(names) if plain_name(name) in _NAMES[role]]
+        if len(places) == 1:
+            found[role] = places[0]
+        elif places:
+            both = " and ".join(shown(names[place]) for place in places)
+            doubts.append("the columns %s may each be that of the %s" % (both, role))
+    return Layout(separator, len(names), names, found, number, tuple(doubts))
+
+
+def _place_of(given: str, row: Sequence[str]) -> int:
+    """The index of a column that is given by its number or its name. Raises ValueError."""
+    if re.fullmatch("[0-9]+", given):
+        place = int(given) - 1
+        if 0 <= place < len(row):
+            return place
+        raise ValueError("there is no column %s: the first record has %s" % (given, _cells(len(row))))
+    places = [place for place, name in enumerate(row) if plain_name(name) == plain_name(given)]
+    if len(places) == 1:
+        return places[0]
+    raise ValueError("%s columns have the name %s" % (len(places) or "no", shown(given)))
+
+
+def _cells(count: int) -> str:
+    return counted(count, "cell", "cells")
+
+
+def _machine_in(number: int, cell: str) -> Reading:
+    """The reading of a cell that has to be a machine."""
+    if is_machine(cell):
+        return Reading(number, cell, cell)
+    reading = read_line(number, cell)
+    if reading is None:
+        return Reading(number, cell, None, reason=Reason("column", "no machine in this cell", 1))
+    return reading
+
+
+def read_row(number: int, line: str, layout: Layout) -> Optional[Reading]:
+    """The reading of a record; None where the line is passed over."""
+    line = line.lstrip("\ufeff").rstrip("\r")
+    bare = line.strip(SPACES if layout.separator != "\t" else SPACES.replace("\t", ""))
+    if number == layout.header or passed_over(bare.strip(SPACES)) not in (None, Passed.HEADER):
+        return None
+    place = len(line) - len(line.lstrip(SPACES)) + 1
+    if bare.startswith("#"):
+        reason: Optional[Reason] = Reason("comment", "a machine in a line that begins as a comment", place)
+        return Reading(number, line, None, reason=reason)
+    try:
+        row = cells_of(bare, layout.separator)
+    except csv.Error as error:
+        return Reading(number, line, None, reason=Reason("row", "no record: %s" % error, place))
+    if len(row) != layout.width:
+        sentence = "the record has %s, not %d" % (_cells(len(row)), layout.width)
+        return Reading(number, line, None, reason=Reason("row", sentence, place), row=row)
+    column = layout.columns["machine"]
+    found = _machine_in(number, row[column])
+    reason = found.reason
+    if reason is not None:
+        at = max(line.find(row[column]), 0)
+        reason = Reason(reason.kind, reason.text, at + reason.place)
+    before, behind = (layout.separator.join(part) for part in (row[:column], row[column + 1 :]))
+    return Reading(number, line, found.machine, found.rewritten, before, behind, reason, row)
