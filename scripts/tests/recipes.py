@@ -280,7 +280,7 @@ def judging(folder: Folder, blocks: List[str], tally: Tally) -> Held:
     place_package(folder)
     judge, look = blocks
     folder.write("machines.txt", b"1RB1LB_1LA1RZ\n1RA1RA\n0RB---_0LA---\n")
-    folder.write("theirs.txt", b"1LB1RB_1RA1LZ halt 6 4\n1RA1RA, halts\nx\n------ halt 0 0\n")
+    folder.write("theirs.txt", b"1LB1RB_1RA1LZ halt 6 4\n1RA1RA halt 6 4\nx\n1RZ1RZ halt 1 1\n")
     status, _, error = folder.run(judge)
     rows = [line.split(b"\t")[:2] for line in folder.read("judged.txt").splitlines()]
     words = b"confirmed contradicted unreadable confirmed no-line not-listed".split()

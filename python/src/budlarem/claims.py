@@ -75,8 +75,8 @@ class Sayings(Iterator[Said]):
         self._words = WORDS if words is None else words
         self._sayings = self._said(lines, form)
 
-    def __iter__(self) -> Sayings:
-        return self
+    def __iter__(self) -> Iterator[Said]:
+        return self._sayings
 
     def __next__(self) -> Said:
         return next(self._sayings)

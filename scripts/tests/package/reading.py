@@ -118,10 +118,10 @@ def hold_printed(tally: Tally) -> None:
         given, wide, page = top / "list.txt", top / "wide.txt", str(top / "page.html")
         given.write_bytes(as_lines(lines))
         wide.write_bytes("\n".join(lines * 9).encode("utf-16"))
-        for name, more in (
-            ("read", []), ("decide", []), ("normal", []), ("triage", []), ("judge", []), ("check", []),
-            ("compare", [str(given)]), ("report", ["--out", page]),
-        ):  # fmt: skip
+        readers: Dict[str, List[str]] = dict.fromkeys(
+            ("read", "decide", "normal", "triage", "judge", "check"), []
+        )
+        for name, more in {**readers, "compare": [str(given)], "report": ["--out", page]}.items():
             status, output, error = command(name, str(given), *more)
             raw = re.search(b"[\x00-\x08\x0b-\x1f\x7f]|\xc2[\x80-\x9f]", output + error)
             tally.hold("%s prints no control character: %r" % (name, output + error), raw is None)
@@ -130,11 +130,12 @@ def hold_printed(tally: Tally) -> None:
             printed = error.decode()
             says = "form text" in printed and "3 lines passed over: empty lines 1, comments 1" in printed
             tally.hold("%s prints form and counts: %s" % (name, printed), says and status != 3)
-            status, _, error = command(
-                name, str(wide), *[str(wide) if name == "compare" else one for one in more]
-            )
+            status, _, error = command(name, str(wide), *(more if name != "compare" else [str(wide)]))
             once = error.count(b"UTF-16") == 2 and error.count(b"\n") == 1
             tally.hold("%s names UTF-16 once: %r" % (name, error[:300]), once and status == 2)
+        printed = command("judge", "-", "--list", str(given), given=b"1RA1RA\n").error.decode()
+        says = "list.txt: 3 lines passed over" in printed and "list.txt:3: refused: a machine in" in printed
+        tally.hold("judge prints what isn't read of its list: " + printed, says)
 
 
 def hold_empty_lines(tally: Tally) -> None:
@@ -143,10 +144,11 @@ def hold_empty_lines(tally: Tally) -> None:
         path, single = top / "empty.txt", top / "single.txt"
         path.write_bytes(b"\n" * 5_000_000)
         single.write_bytes(b"1RA1RA\n")
-        spent = {}
-        for name, more in (("read", []), ("judge", []), ("compare", [str(single)])):
+        spent: Dict[str, float] = {}
+        commands: Dict[str, List[str]] = {"read": [], "judge": [], "compare": [str(single)]}
+        for name, others in commands.items():
             begun = os.times()
-            status = command(name, str(path), *more).status
+            status = command(name, str(path), *others).status
             ended_at = os.times()
             spent[name] = ended_at.children_user - begun.children_user
             tally.hold("%s of empty lines: %d" % (name, status), status in (0, 1))

@@ -21,7 +21,6 @@ from .shared import (
     columns_of,
     form_of,
     limits_of,
-    source_of,
 )
 
 _HELP = """Judges a list of what others claim, by the form of the list (`budlarem help read`). verdicts: each
@@ -40,7 +39,7 @@ Numbers may have groups of three digits, as 47,176,870.
 Where each halt of theirs at a --- is true of the machine with 1RZ there, and there is one, they are taken to
 count a step for ---, and standard error says so. --undefined-steps says it beforehand.
 
-With --list come lines at the end: no-line, for a machine of LIST that has none; not-listed, for a machine of
+With --list, what isn't read of LIST is printed as `budlarem read` does, and lines come at the end: no-line, for a machine of LIST that has none; not-listed, for a machine of
 THEIRS that isn't in LIST. Machines are the same there up to the names of states and symbols, and left and
 right."""
 
@@ -61,7 +60,7 @@ def do_judge(asked: argparse.Namespace) -> int:
     checker = GREATEST if highest is None else Limits(highest, GREATEST.cells, GREATEST.depth, GREATEST.nodes)
     judging = judge(
         reader.source,
-        None if asked.list is None else source_of(asked.list),
+        None if asked.list is None else ListReader(asked.list, progress).readings(),
         limits=limits_of(asked),
         plan=Plan(),
         checker=checker,

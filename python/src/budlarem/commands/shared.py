@@ -55,18 +55,17 @@ class ListReader:
         self._progress = progress
         self.taken, self.rewritten, self.refused = 0, 0, 0
 
-    def readings(self) -> Iterator[Reading]:
+    def readings(self) -> Readings:
         """The reading of each line that isn't passed over. Raises OSError, ValueError."""
-        readings = Readings(self.source, self.form, self.columns)
-        self.print_form(readings.form)
-        for reading in readings:
-            if reading.machine is None:
-                self.refuse(reading.number, str(reading))
-            else:
-                self.taken += 1
-                self.tell_rewritten(reading)
-            yield reading
-        self.print_passed(readings.passed, readings.undecoded)
+        return _PrintedReadings(self)
+
+    def print_reading(self, reading: Reading) -> None:
+        """Prints what was rewritten, or why the line is refused, and counts it."""
+        if reading.machine is None:
+            self.refuse(reading.number, str(reading))
+        else:
+            self.taken += 1
+            self.tell_rewritten(reading)
 
     def machines(self) -> Iterator[str]:
         """The machines alone."""
@@ -116,6 +115,22 @@ class ListReader:
     def status(self) -> int:
         """1 where a line was refused."""
         return 1 if self.refused else 0
+
+
+class _PrintedReadings(Readings):
+    """The readings of a list, each printed by the reader of the list as it comes, with the form before and the
+    counts behind them."""
+
+    def __init__(self, reader: ListReader) -> None:
+        super().__init__(reader.source, reader.form, reader.columns)
+        self._reader = reader
+
+    def __iter__(self) -> Iterator[Reading]:
+        self._reader.print_form(self.form)
+        for reading in super().__iter__():
+            self._reader.print_reading(reading)
+            yield reading
+        self._reader.print_passed(self.passed, self.undecoded)
 
 
 def form_of(asked: argparse.Namespace) -> Optional[Form]:

@@ -4,13 +4,13 @@ from __future__ import annotations
 
 import collections
 import time
-from typing import Counter, Deque, Dict, Iterator, List, Optional, Tuple
+from typing import Counter, Deque, Dict, Iterator, List, Optional, Tuple, Union
 
 from ..claims import WORDS, Said, Sayings, Word
 from ..engine import decide
 from ..limits import Limits, Plan
 from ..lists import Agreement, agreement
-from ..reading import Columns, Form, ListForm, Passed, read
+from ..reading import Columns, Form, ListForm, Passed, Readings, read
 from ..reading.files import Source
 from ..translation import Translation, translation_of
 from ..verdicts import Answer, Halt, Refused, Undecided, Verdict
@@ -32,7 +32,7 @@ _Seen = Tuple[Said, Optional[Verdict], Optional[Judged]]
 
 def judge(
     theirs: Source,
-    listed: Optional[Source] = None,
+    listed: Union[Source, Readings, None] = None,
     *,
     limits: Limits = Limits(),
     plan: Plan = Plan(),
@@ -56,7 +56,7 @@ def judge(
     machine with `1RZ` there, and one is. With `listed`, a list of machines, `missing` and `foreign` tell
     which of them have no line, and which lines are of none.
 
-    Both lists are what `read` takes. Their list is read twice, so what isn't a path to a file is copied to
+    Both lists are what `read` takes, and `listed` may be what it gives. Their list is read twice, so what isn't a path to a file is copied to
     the disk first, where it is long. `tell` is called with what is done beside judging, and with how many
     lines it was done. Raises what `read` and `decide` do, and ValueError for a table of which two columns may
     have the verdicts, the steps or the scores.
@@ -80,7 +80,8 @@ def judge(
     if undefined_steps is None:
         sayings = counted(Sayings(source.lines(), source.form, words), "looked at for steps at ---", tell)
         undefined_steps = counts_undefined_steps(sayings, limits, checker, threads)
-    lists = None if listed is None else Lists(read(listed), tell)
+    readings = listed if listed is None or isinstance(listed, Readings) else read(listed)
+    lists = None if readings is None else Lists(readings, tell)
     said = Sayings(source.once(), source.form, words)
     decided = _decided(said, limits, plan, threads)
     return Judging(decided, lists, checker, undefined_steps, threads, TheirList(source, said, translation))

@@ -53,8 +53,8 @@ class Lines(Iterator[Numbered]):
         else:
             self._lines = self._of_file(BytesFile(source))
 
-    def __iter__(self) -> Lines:
-        return self
+    def __iter__(self) -> Iterator[Numbered]:
+        return self._lines
 
     def __next__(self) -> Numbered:
         return next(self._lines)

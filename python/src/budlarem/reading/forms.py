@@ -134,8 +134,8 @@ class Readings(Iterator[Reading]):
         """How many lines so far have bytes that are no UTF-8."""
         return self._source.undecoded
 
-    def __iter__(self) -> Readings:
-        return self
+    def __iter__(self) -> Iterator[Reading]:
+        return self._readings
 
     def __next__(self) -> Reading:
         return next(self._readings)
