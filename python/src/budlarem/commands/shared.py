@@ -25,11 +25,12 @@ A machine is taken only where one reading of its line is possible. What was rewr
 standard error with file and line, and a count of the lines that were passed over: empty lines, comments, which
 begin with # or // and have no machine, code fences, rules and headers of tables. Gzip is known by its first
 bytes."""
+# The columns of a table: for each the option that names it, and what it holds.
 _ROLES = {
-    "machine": "the column of machines",
-    "verdict": "the column of verdicts, or of words such as halt and nonhalt",
-    "steps": "the column of the steps of a halt",
-    "score": "the column of the scores",
+    "machine": ("--machine", "the column of machines"),
+    "verdict": ("--verdict", "the column of verdicts, or of words such as halt and nonhalt"),
+    "steps": ("--steps-column", "the column of the steps of a halt"),
+    "score": ("--score", "the column of the scores"),
 }
 
 
@@ -149,8 +150,8 @@ def add_form(parser: argparse.ArgumentParser, roles: Iterable[str] = ("machine",
     forms = [str(form) for form in Form]
     parser.add_argument("--form", choices=forms, help="the list's form (default: by its first lines)")
     for role in roles:
-        name = "--steps-column" if role == "steps" else "--" + role
-        help = "%s in a table, by its name or number" % _ROLES[role]
+        name, holds = _ROLES[role]
+        help = "%s in a table, by its name or number" % holds
         parser.add_argument(name, dest="column_" + role, metavar="COLUMN", help=help)
 
 
