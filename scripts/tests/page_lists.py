@@ -29,7 +29,7 @@ def answers(asked: List[Any]) -> List[Any]:
     """The answers of the page's reader, the first of which are its sentences."""
     given = "".join(json.dumps(one) + "\n" for one in asked)
     done = subprocess.run(["node", READER], input=given, stdout=subprocess.PIPE, text=True, check=True)
-    return [json.loads(line) for line in done.stdout.splitlines()]
+    return [json.loads(line) for line in done.stdout.split("\n") if line]
 
 
 def wanted_of(form: Dict[str, Any]) -> Dict[str, Any]:

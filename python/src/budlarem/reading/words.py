@@ -26,8 +26,10 @@ _ROW = re.compile(r"[-.]+")
 _NUMBER = re.compile(r"[0-9]+\.(?=[0-9-])")
 # Groups as arrays of quoted entries, as JSON and Python write them.
 _ENTRY = r"""["'](?:[0-9][LRlr][A-Za-z]|---|\.\.\.)["']"""
-_GROUP = r"\[\s*%s(?:\s*,\s*%s)*\s*\]" % (_ENTRY, _ENTRY)
-_ARRAYS = re.compile(r"\[\s*%s(?:\s*,\s*%s)*\s*\]" % (_GROUP, _GROUP))
+_SPACE = "[%s]*" % re.escape(SPACES)
+_ARRAY = r"\[{0}%s(?:{0},{0}%s)*{0}\]".format(_SPACE)
+_GROUP = _ARRAY % (_ENTRY, _ENTRY)
+_ARRAYS = re.compile(_ARRAY % (_GROUP, _GROUP))
 # What nothing but a machine has in it, whole or not.
 _PIECES = re.compile(r"[0-9][LR](?:[A-Z_.-]|$)|[0-9][lr][a-z](?=[0-9_])|(?<=[a-z_])[0-9][lr][a-z]")
 # A word that looks like an entry.
