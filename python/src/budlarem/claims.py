@@ -65,8 +65,8 @@ class Said:
 
 
 class Sayings(Iterator[Said]):
-    """What each line of a list says that isn't passed over. `passed` counts the others by their kinds. `words`
-    is the translation of the words of a table."""
+    """What each line of a list says that isn't passed over. `passed` counts the others by their kinds.
+    `words` is the translation of the words of a table."""
 
     def __init__(
         self, lines: Iterator[Numbered], form: ListForm, words: Optional[Dict[str, Word]] = None

@@ -22,9 +22,9 @@ alone, beside other fields, in backticks or in a link. The form is found out fro
 printed on standard error; --form settles it.
 
 A machine is taken only where one reading of its line is possible. What was rewritten or refused goes to
-standard error with file and line, and a count of the lines that were passed over: empty lines, comments, which
-begin with # or // and have no machine, code fences, rules and headers of tables. Gzip is known by its first
-bytes."""
+standard error with file and line, and a count of the lines that were passed over: empty lines, comments,
+which begin with # or // and have no machine, code fences, rules and headers of tables. Gzip is known by its
+first bytes."""
 # The columns of a table: for each the option that names it, and what it holds.
 _ROLES = {
     "machine": ("--machine", "the column of machines"),
@@ -119,8 +119,8 @@ class ListReader:
 
 
 class _PrintedReadings(Readings):
-    """The readings of a list, each printed by the reader of the list as it comes, with the form before and the
-    counts behind them."""
+    """The readings of a list, each printed by the reader of the list as it comes, with the form before and
+    the counts behind them."""
 
     def __init__(self, reader: ListReader) -> None:
         super().__init__(reader.source, reader.form, reader.columns)

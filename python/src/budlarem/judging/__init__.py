@@ -56,10 +56,10 @@ def judge(
     machine with `1RZ` there, and one is. With `listed`, a list of machines, `missing` and `foreign` tell
     which of them have no line, and which lines are of none.
 
-    Both lists are what `read` takes, and `listed` may be what it gives. Their list is read twice, so what isn't a path to a file is copied to
-    the disk first, where it is long. `tell` is called with what is done beside judging, and with how many
-    lines it was done. Raises what `read` and `decide` do, and ValueError for a table of which two columns may
-    have the verdicts, the steps or the scores.
+    Both lists are what `read` takes, and `listed` may be what it gives. Their list is read twice. A long one
+    that isn't a regular file is copied to the disk first. `tell` is called with what is done beside judging,
+    and with how many lines it was done. Raises what `read` and `decide` do, and ValueError for a table of
+    which two columns may have the verdicts, the steps or the scores.
 
     >>> lines = ["1RB1LB_1LA1RZ halt 6 4", "1LB1RB_1RA1LZ halt 7 4", "1RA1RA undecided steps"]
     >>> for judged in judge(lines):
@@ -130,8 +130,8 @@ def _decided(
 
 class Judging(Iterator[Judged]):
     """The lines, judged one after another. `undefined_steps` says whether a step was taken to be counted for
-    an undefined entry, `theirs` describes the list. Once all lines are judged, `missing` and `foreign` compare
-    it with the list that was given."""
+    an undefined entry; `theirs` describes the list. Once all lines are judged, `missing` and `foreign`
+    compare it with the list that was given."""
 
     def __init__(
         self,

@@ -17,8 +17,8 @@ _QUOTES = "`\"'\u2018\u2019\u201a\u201c\u201d\u201e\u00ab\u00bb"
 _ENDS = SPACES + ",;|()[]{}<>*" + _QUOTES
 _SEPARATORS = _ENDS + ":=#~"
 _TOKEN = re.compile(
-    r"(?P<address>(?:[A-Za-z][A-Za-z0-9+.-]*://|[A-Za-z][A-Za-z0-9-]*(?:\.[A-Za-z0-9-]+)+/)(?:(?!~~)[^%s])*)|[^%s]+"
-    % (re.escape(_ENDS), re.escape(_SEPARATORS))
+    r"(?P<address>(?:[A-Za-z][A-Za-z0-9+.-]*://|[A-Za-z][A-Za-z0-9-]*(?:\.[A-Za-z0-9-]+)+/)"
+    r"(?:(?!~~)[^%s])*)|[^%s]+" % (re.escape(_ENDS), re.escape(_SEPARATORS))
 )
 _ENTRIES = re.compile(r"(?:[0-9][LRlr][A-Za-z]|---|\.\.\.|_)*(?:[0-9][LRlr][A-Za-z]|---|\.\.\.)_*")
 _ROW = re.compile(r"[-.]+")
