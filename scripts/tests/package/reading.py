@@ -169,6 +169,11 @@ def hold_translation(tally: Tally) -> None:
             shown = [line.partition(": ")[2] for line in lines if line.startswith(str(path) + ": ")]
             right = ["halting: Yes 1", "never halting: no 1", "nothing: ? 1"]
             tally.hold("%s prints the words first: %s" % (name, lines), shown[1:4] == right)
+        for name, more in {**others, "compare": [str(path)]}.items():
+            error = command(name, str(plain), *more, *given).error.decode()
+            tally.hold(
+                "%s says that words aren't used: %s" % (name, error), "plain.txt: --words is for" in error
+            )
         output = command("judge", str(path), *given).output.decode()
         kinds = [line.partition("\t")[0] for line in output.splitlines()]
         tally.hold("it is judged by them: " + output, kinds == ["confirmed", "confirmed", "not-judged"])

@@ -44,11 +44,13 @@ class VerdictReader(ListReader):
     def __init__(self, path: Optional[str], asked: argparse.Namespace) -> None:
         super().__init__(path, None, form_of(asked), columns_of(asked))
         self.words: Dict[str, Word] = WORDS if asked.words is None else read_words(asked.words)
+        self._word_file: Optional[str] = asked.words
 
     def verdicts(self) -> Iterator[Verdict]:
         """The verdict of each line that has one. Raises OSError, ValueError."""
         source = Twice(self.source, self.form, self.columns)
         self.print_form(source.form)
+        self.print_unused_words(source.form, self._word_file)
         self._print_translation(source)
         sayings = Sayings(source.once(), source.form, self.words)
         for said in sayings:

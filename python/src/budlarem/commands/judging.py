@@ -72,6 +72,7 @@ def do_judge(asked: argparse.Namespace) -> int:
         words=None if asked.words is None else read_words(asked.words),
     )
     _print_form(reader, judging)
+    reader.print_unused_words(judging.theirs.form, asked.words)
     counts: Counter[Judgement] = collections.Counter()
     for judged in judging:
         counts[judged.judgement] += 1

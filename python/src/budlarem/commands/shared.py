@@ -84,6 +84,11 @@ class ListReader:
             is_given = self.form is not None or self.columns != Columns()
             self.print_line(str(form) if is_given else "%s; --form settles it" % form)
 
+    def print_unused_words(self, form: ListForm, words: Optional[str]) -> None:
+        """Prints that the words which `--words` names aren't used, where the list is no table."""
+        if words is not None and form.layout is None:
+            self.print_line("--words is for tables; nothing is translated in the form %s" % form.form)
+
     def print_passed(self, passed: Mapping[Passed, int], undecoded: int) -> None:
         """Prints how many lines were passed over, and how many have bytes that are no UTF-8, where there are
         some."""

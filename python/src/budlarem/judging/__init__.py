@@ -12,6 +12,7 @@ from ..limits import Limits, Plan
 from ..lists import Agreement, agreement
 from ..reading import Columns, Form, ListForm, Passed, Readings, read
 from ..reading.files import Source
+from ..reading.texts import shown
 from ..translation import Translation, translation_of
 from ..verdicts import Answer, Halt, Refused, Undecided, Verdict
 from .answers import answers_of
@@ -216,7 +217,8 @@ class Judging(Iterator[Judged]):
         if isinstance(ours, Halt) != (word is Word.HALTS):
             return Judged(Judgement.CONTRADICTED, said, ours, _other(said, ours))
         if said.steps is None and said.score is None:
-            return Judged(Judgement.CONFIRMED, said, ours, "%s, as ours says" % word)
+            more = "; not judged: %s" % shown(", ".join(said.unjudged)) if said.unjudged else ""
+            return Judged(Judgement.CONFIRMED, said, ours, "%s, as ours says%s" % (word, more))
         assert isinstance(ours, Halt)
         stepped = stepped_halt(ours) if self.undefined_steps else ours
         is_so = said.steps in (None, stepped.steps) and said.score in (None, stepped.score)
