@@ -45,12 +45,12 @@ def do_check(asked: argparse.Namespace) -> int:
     progress.clear()
     sys.stdout.flush()
     counts = ("%s %d" % (answer, found.counts[answer]) for answer in Answer)
-    print("%s: %s" % (name, ", ".join(counts)), file=sys.stderr)
+    print(escape_controls("%s: %s" % (name, ", ".join(counts))), file=sys.stderr)
     if found.first is None:
         return 0
     number, line, answer = found.first
-    text = escape_controls("%.*s: %s" % (LONGEST_SHOWN, line, why(line, answer, limits)))
-    print("%s:%d: %s: %s" % (name, number, answer, text), file=sys.stderr)
+    parts = (name, number, answer, LONGEST_SHOWN, line, why(line, answer, limits))
+    print(escape_controls("%s:%d: %s: %.*s: %s" % parts), file=sys.stderr)
     return 1
 
 
