@@ -47,9 +47,9 @@ def judge(
 ) -> Judging:
     """Judges what each line of a list claims of its machine, by the form of the list.
 
-    A line of the form `verdicts` claims its verdict, and a record of a table what its columns have: a word,
-    by the translation `words` (`WORDS` where not given), and for halting the numbers in the columns of steps
-    and score. A line of a text claims something where the rest of it is one verdict. Else it is not judged.
+    A verdict line claims its verdict. A record of a table claims what its columns have: a word, by the
+    translation `words` (`WORDS` where not given), and for halting the numbers of steps and score. A line of
+    a text claims something where the rest of it is one verdict. Nothing else is judged.
 
     Each machine is decided within `limits` by `plan`, and each claim that our verdict doesn't settle is
     checked within `checker`. `undefined_steps` says whether they count a step for an undefined entry. Where
@@ -70,14 +70,8 @@ def judge(
     not-judged 1RA1RA translated R 1 2 1 1
     """
     source = Twice(theirs, form, columns)
-    layout = source.form.layout
     words = WORDS if words is None else words
-    if layout is not None and layout.doubts:
-        raise ValueError("%s: say which" % layout.doubts[0])
-    translation = None
-    if layout is not None and "verdict" in layout.columns:
-        sayings = counted(Sayings(source.lines(), source.form, words), "looked at for their words", tell)
-        translation = translation_of(sayings, layout, words)
+    translation = _translation(source, words, tell)
     if undefined_steps is None:
         sayings = counted(Sayings(source.lines(), source.form, words), "looked at for steps at ---", tell)
         undefined_steps = counts_undefined_steps(sayings, limits, checker, threads)
@@ -86,6 +80,18 @@ def judge(
     said = Sayings(source.once(), source.form, words)
     decided = _decided(said, limits, plan, threads)
     return Judging(decided, lists, checker, undefined_steps, threads, TheirList(source, said, translation))
+
+
+def _translation(source: Twice, words: Dict[str, Word], tell: Tell) -> Optional[Translation]:
+    """The translation of a table's words; None where the list has none. Raises ValueError where two columns
+    may have the verdicts or their numbers."""
+    layout = source.form.layout
+    if layout is not None and layout.doubts:
+        raise ValueError("%s: say which" % layout.doubts[0])
+    if layout is None or "verdict" not in layout.columns:
+        return None
+    sayings = counted(Sayings(source.lines(), source.form, words), "looked at for their words", tell)
+    return translation_of(sayings, layout, words)
 
 
 class TheirList:
