@@ -133,10 +133,10 @@ function claimIn(/** @type {Uint8Array} */ line) {
     return line;
   }
   const text = decoder.decode(line).replace(/^\ufeff/, "").trim();
-  if (isPassedOver(text)) {
-    return null;
+  if (VERDICT.test(text)) {
+    return encoder.encode(text.split("\t")[0]);
   }
-  return VERDICT.test(text) ? encoder.encode(text.split("\t")[0]) : line;
+  return isPassedOver(text) ? null : line;
 }
 
 /** Where the line ends that begins there, without its newline. */

@@ -24,10 +24,10 @@ const VERDICT = new RegExp(`^(?:${NUMBERS}|undecided (?:steps|cells))$`);
 const REFUSED = new RegExp("^refused [1-9][0-9]*(?:\\t.*)?$");
 // The letter of a state that stands alone before a group; a small one only where the line begins, before
 // small letters.
-const STATE = /(?:(?:^|[^\p{L}\p{N}_'\u2019-])([A-Y])|^\s*([a-y]))[\s:|=).,;>*`"'\]-]*$/u;
+const STATE = /(?:(?:^|[^A-Za-z0-9_'\u2019-])([A-Y])|^\s*([a-y]))[\s:|=).,;>*`"'\]-]*$/;
 const DASHES = /^-*$/;
-// What stands in machines beside letters and digits, in any spelling.
-const OF_MACHINES = /^[\p{L}\p{N}_\-.\\\s]*$/u;
+// What stands in machines, in any spelling.
+const OF_MACHINES = /^[A-Za-z0-9_\-.\\\s]*$/;
 const QUOTES = ["``", '""', "''", "\u201c\u201d", "\u2018\u2019", "\u00ab\u00bb"];
 const PAIRS = [...QUOTES, "()", "[]", "{}", "<>", "**", "~~"];
 const BESIDE = /^[\s,;]+|[\s,;]+$/g;
@@ -296,7 +296,7 @@ function oneOf(found) {
     ([text, outcome]) => !("machine" in outcome) && !(read.length > 0 && isSetApart && isLoneEntry(text)),
   );
   if (read.length === 0) {
-    const length = (/** @type {Read} */ one) => written(one[0]).length;
+    const length = (/** @type {Read} */ one) => [...written(one[0])].length;
     const longest = others.reduce((best, one) => (length(one) > length(best) ? one : best));
     return /** @type {Reason} */ (longest[1]);
   }

@@ -182,6 +182,12 @@ class JudgingTest(unittest.TestCase):
             lines = ["verdict\tmachine", "%s\t%s" % (word, machine)]
             self.assertEqual(judged(lines), [judgement], (word, machine))
 
+    def test_numbers_beside_never_halting_are_named(self) -> None:
+        lines = ["machine,verdict,steps", "1RA1RA,nonhalt,1000"]
+        (found,) = budlarem.judge(lines, limits=SMALL)
+        self.assertEqual(str(found.judgement), "confirmed")
+        self.assertEqual(found.reason, "never halts, as ours says; not judged: 1000")
+
     def test_a_translation_is_counted(self) -> None:
         lines = ["machine,status", "1RA1RA,halt", "1RA1RA,Halt", "1RA1RA,loop", "x,halt", "1RA1RA,no"]
         translation = budlarem.judge(lines, limits=SMALL).theirs.translation

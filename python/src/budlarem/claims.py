@@ -54,7 +54,8 @@ _MARKS = SPACES + ",;:|()[]`*\"'\u2013\u2014-"
 @dataclasses.dataclass(frozen=True)
 class Said:
     """A line and what it says: a verdict whole in `claim`, or a `word` with the numbers that a table has
-    beside it, or neither. `trouble` is why nothing is judged. A refusal has its verdict, and no machine."""
+    beside it, or neither. `trouble` is why nothing is judged, `unjudged` the cells of numbers that mean
+    nothing beside the word. A refusal has its verdict, and no machine."""
 
     reading: Reading
     claim: Optional[Verdict] = None
@@ -62,11 +63,12 @@ class Said:
     trouble: Optional[str] = None
     steps: Optional[int] = None
     score: Optional[int] = None
+    unjudged: Tuple[str, ...] = ()
 
 
 class Sayings(Iterator[Said]):
-    """What each line of a list says that isn't passed over. `passed` counts the others by their kinds. `words`
-    is the translation of the words of a table."""
+    """What each line of a list says that isn't passed over. `passed` counts the others by their kinds.
+    `words` is the translation of the words of a table."""
 
     def __init__(
         self, lines: Iterator[Numbered], form: ListForm, words: Optional[Dict[str, Word]] = None
@@ -184,6 +186,9 @@ def _of_row(reading: Reading, layout: Layout, words: Dict[str, Word]) -> Said:
         claim = None
     if claim is not None and not isinstance(claim, Halt):
         return Said(reading, claim)
+    numbers = tuple(cells[role] for role in ("steps", "score") if cells.get(role))
+    if word is Word.NEVER_HALTS:
+        return Said(reading, word=word, unjudged=numbers)
     if claim is None and word is not Word.HALTS:
         return Said(reading, word=word, trouble=None if word is not None else "%s says neither" % shown(cell))
     try:

@@ -22,14 +22,15 @@ alone, beside other fields, in backticks or in a link. The form is found out fro
 printed on standard error; --form settles it.
 
 A machine is taken only where one reading of its line is possible. What was rewritten or refused goes to
-standard error with file and line, and a count of the lines that were passed over: empty lines, comments, which
-begin with # or // and have no machine, code fences, rules and headers of tables. Gzip is known by its first
-bytes."""
+standard error with file and line, and a count of the lines that were passed over: empty lines, comments,
+which begin with # or // and have no machine, code fences, rules and headers of tables. Gzip is known by its
+first bytes."""
+# The columns of a table: for each the option that names it, and what it holds.
 _ROLES = {
-    "machine": "the column of machines",
-    "verdict": "the column of verdicts, or of words such as halt and nonhalt",
-    "steps": "the column of the steps of a halt",
-    "score": "the column of the scores",
+    "machine": ("--machine", "the column of machines"),
+    "verdict": ("--verdict", "the column of verdicts, or of words such as halt and nonhalt"),
+    "steps": ("--steps-column", "the column of the steps of a halt"),
+    "score": ("--score", "the column of the scores"),
 }
 
 
@@ -83,6 +84,11 @@ class ListReader:
             is_given = self.form is not None or self.columns != Columns()
             self.print_line(str(form) if is_given else "%s; --form settles it" % form)
 
+    def print_unused_words(self, form: ListForm, words: Optional[str]) -> None:
+        """Prints that the words which `--words` names aren't used, where the list is no table."""
+        if words is not None and form.layout is None:
+            self.print_line("--words is for tables; nothing is translated in the form %s" % form.form)
+
     def print_passed(self, passed: Mapping[Passed, int], undecoded: int) -> None:
         """Prints how many lines were passed over, and how many have bytes that are no UTF-8, where there are
         some."""
@@ -118,8 +124,8 @@ class ListReader:
 
 
 class _PrintedReadings(Readings):
-    """The readings of a list, each printed by the reader of the list as it comes, with the form before and the
-    counts behind them."""
+    """The readings of a list, each printed by the reader of the list as it comes, with the form before and
+    the counts behind them."""
 
     def __init__(self, reader: ListReader) -> None:
         super().__init__(reader.source, reader.form, reader.columns)
@@ -149,8 +155,8 @@ def add_form(parser: argparse.ArgumentParser, roles: Iterable[str] = ("machine",
     forms = [str(form) for form in Form]
     parser.add_argument("--form", choices=forms, help="the list's form (default: by its first lines)")
     for role in roles:
-        name = "--steps-column" if role == "steps" else "--" + role
-        help = "%s in a table, by its name or number" % _ROLES[role]
+        name, holds = _ROLES[role]
+        help = "%s in a table, by its name or number" % holds
         parser.add_argument(name, dest="column_" + role, metavar="COLUMN", help=help)
 
 

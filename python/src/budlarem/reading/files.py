@@ -37,9 +37,11 @@ class _Raw(io.RawIOBase):
 
 class Lines(Iterator[Numbered]):
     """The lines of a list that aren't empty, as texts without newlines, each with its number from 1 on.
-    `empty` counts the others so far, `undecoded` those with bytes that are no UTF-8. Raises OSError where a path can't be opened or read, EncodingError where
-    the bytes are no UTF-8 text, TypeError where the source is no list, ValueError where it is the text of
-    one."""
+    `empty` counts the others so far, `undecoded` those with bytes that are no UTF-8.
+
+    Raises OSError where a path can't be opened or read, EncodingError where the bytes are UTF-16 or no text,
+    TypeError where the source is no list, ValueError where it is the text of one.
+    """
 
     def __init__(self, source: Source) -> None:
         if isinstance(source, (bytes, bytearray, memoryview)):

@@ -3,6 +3,7 @@
 from __future__ import annotations
 
 import re
+import string
 from typing import List, Optional, Sequence, Tuple
 
 from .._lengths import LONGEST_LINE
@@ -18,9 +19,12 @@ _PAIRS = (
 _BESIDE = SPACES + ",;"
 # The letter of a state that stands alone before a group; a small one only where the line begins, before
 # small letters.
-_STATE = re.compile(r"""(?:(?:^|[^\w'\u2019-])([A-Y])|^\s*([a-y]))[\s:|=).,;>*`"'\]-]*$""")
-# What stands in machines beside letters and digits, in any spelling.
-_OF_MACHINES = "_-.\\" + SPACES
+_BEHIND_STATE = re.escape(SPACES + ":|=).,;>*`\"'-]")
+_STATE = re.compile(
+    "(?:(?:^|[^A-Za-z0-9_'\u2019-])([A-Y])|^[%s]*([a-y]))[%s]*$" % (re.escape(SPACES), _BEHIND_STATE)
+)
+# What stands in machines, in any spelling.
+OF_MACHINES = frozenset(string.ascii_letters + string.digits + "_-.\\" + SPACES)
 # A text of the line, and what it was read as.
 Read = Tuple[Text, Outcome]
 
@@ -84,7 +88,7 @@ def _alone(reading: Reading, bare: str) -> Reading:
 
 def _has_more(bare: str) -> bool:
     """Whether signs stand about the words of entries, as those of a link."""
-    return not all(character.isalnum() or character in _OF_MACHINES for character in bare)
+    return not OF_MACHINES.issuperset(bare)
 
 
 def _read_plain(number: int, line: str) -> Reading:
