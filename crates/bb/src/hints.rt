@@ -73,10 +73,13 @@ pub fn plain_number(word: &str) -> Option<ArrayString<20>> {
             return None;
         }
     }
+    if plain.is_empty() {
+        return None;
+    }
     for _ in 0..zeros {
         plain.try_push('0').ok()?;
     }
-    if plain.is_empty() || plain.as_str() == number {
+    if plain.as_str() == number {
         return None;
     }
     Some(plain)
