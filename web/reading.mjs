@@ -26,7 +26,7 @@ const REFUSED = new RegExp("^refused [1-9][0-9]*(?:\\t.*)?$");
 // small letters.
 const STATE = /(?:(?:^|[^A-Za-z0-9_'\u2019-])([A-Y])|^\s*([a-y]))[\s:|=).,;>*`"'\]-]*$/;
 const DASHES = /^-*$/;
-// What stands in machines, in any spelling.
+// The characters of machines, in any spelling.
 const OF_MACHINES = /^[A-Za-z0-9_\-.\\\s]*$/;
 const QUOTES = ["``", '""', "''", "\u201c\u201d", "\u2018\u2019", "\u00ab\u00bb"];
 const PAIRS = [...QUOTES, "()", "[]", "{}", "<>", "**", "~~"];

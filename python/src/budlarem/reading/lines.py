@@ -23,7 +23,7 @@ _BEHIND_STATE = re.escape(SPACES + ":|=).,;>*`\"'-]")
 _STATE = re.compile(
     "(?:(?:^|[^A-Za-z0-9_'\u2019-])([A-Y])|^[%s]*([a-y]))[%s]*$" % (re.escape(SPACES), _BEHIND_STATE)
 )
-# What stands in machines, in any spelling.
+# The characters of machines, in any spelling.
 OF_MACHINES = frozenset(string.ascii_letters + string.digits + "_-.\\" + SPACES)
 # A text of the line, and what it was read as.
 Read = Tuple[Text, Outcome]
