@@ -49,6 +49,5 @@ export function encodingOf(begin) {
 
 /** The sentence for a list that is no text in UTF-8, with advice. */
 export function encodingWords(/** @type {string} */ encoding) {
-  const advice = encoding.endsWith(" text") ? "Convert it to UTF-8" : "Give the text of the list";
-  return `The list is ${encoding}, which the page doesn’t read. ${advice}; gzip alone is unpacked.`;
+  return `The list is ${encoding}, which the page doesn’t read. Give it as text in UTF-8.`;
 }
