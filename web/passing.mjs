@@ -1,8 +1,8 @@
-/** Lines that are passed over: comments, and what stands about the machines of Markdown and of tables. */
+/** Lines that are passed over: comments, code fences, and the rules and headers of tables. */
 import { isLoneEntry, partsOf } from "./words.mjs";
 
 const FENCE = /^(?:`{3,}|~{3,})[A-Za-z0-9_+#.{}= -]*$/;
-// What is between the rows of a table: `|-`, `|---|---|`, `---|---`, `+---+`, and `{|`, `|}` about it.
+// Lines between the rows of a table: `|-`, `|---|---|`, `---|---`, `+---+`, and `{|`, `|}` about it.
 const RULE = /^(?:[|+][-|+:=\s]*|:?-[-:\s]*\|[-|:\s]*|\|\}|\{\|[^\n]*)$/;
 const CELLS = /[|\t,;]|!!/;
 // So many characters the name of a column has at most.

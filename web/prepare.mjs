@@ -54,6 +54,11 @@ export function firstLines(/** @type {Uint8Array} */ bytes) {
   return bytes.length >= BEGIN_BYTES && lines.length > 1 ? lines.slice(0, -1) : lines;
 }
 
+/** Whether the first bytes of a list are text in UTF-8, but for a character that is cut at their end. */
+export function isUtf8(/** @type {Uint8Array} */ bytes) {
+  return !/\ufffd[^]/.test(decoder.decode(bytes.subarray(0, BEGIN_BYTES)));
+}
+
 /** A list that is given as it stands. @returns {Prepared} */
 export function asGiven(/** @type {Uint8Array} */ bytes) {
   return { bytes, numbers: null, places: null, left: 0 };

@@ -210,6 +210,12 @@ def hold_packed(held: Held) -> None:
         page.file(content)
         page.ended()
         held.hold("%r: %s" % (content[:8], page.text("error")), words in page.text("error"))
+    page.file("1RA1RA \u00e9\n1RA1RA \u00fc\n".encode("latin-1"))
+    page.ended()
+    held.hold("other bytes are named once", page.text("status").count("no UTF-8") == 1)
+    page.file("1RA1RA \u00e9\n".encode())
+    page.ended()
+    held.hold("UTF-8: " + page.text("status"), "UTF-8" not in page.text("status"))
     page.open_list("1RA1RA\n")
     held.hold("the next list is decided", page.text("error") == "")
 

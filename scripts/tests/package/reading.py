@@ -113,7 +113,7 @@ def hold_printed(tally: Tally) -> None:
     """Each command that reads a list prints its form, what was passed over and the encoding, and no control
     character of it."""
     lines = ["", "# c", "#17 1RA1RA", "\x1b[31mx", "1RB\x1b1LB_1LA1RZ", "1RA1RA\x1b[0m\x07, \x1b]0;x\x9b",
-             "| Machine | x |", "1RB1LB_1LA1RZ, halt 6 4"]  # fmt: skip
+             "| Machine | x |", "1RA1RA, \x1b[31mred\x9b", "1RB1LB_1LA1RZ, halt 6 4"]  # fmt: skip
     with folder() as top:
         given, wide, page = top / "list.txt", top / "wide.txt", str(top / "page.html")
         given.write_bytes(as_lines(lines))

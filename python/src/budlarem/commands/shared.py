@@ -21,9 +21,9 @@ nothing else. verdicts: verdict lines. table: CSV or TSV with a column of machin
 alone, beside other fields, in backticks or in a link. The form is found out from the first hundred lines and
 printed on standard error; --form settles it.
 
-A machine is taken only where one reading of its line is possible. What was rewritten or refused goes to
-standard error with file and line, and a count of the lines that were passed over: empty lines, comments,
-which begin with # or // and have no machine, code fences, rules and headers of tables. Gzip is known by its
+A machine is taken only where one reading of its line is possible. Standard error gets each rewritten or
+refused line with file and number, and a count of the lines that were passed over: empty lines, comments
+(which begin with # or // and have no machine), code fences, rules and headers of tables. Gzip is known by its
 first bytes."""
 # The columns of a table: for each the option that names it, and what it holds.
 _ROLES = {
@@ -40,8 +40,8 @@ def source_of(path: Optional[str]) -> Union[str, BinaryIO]:
 
 
 class ListReader:
-    """Reads a list, and prints on standard error its form, what was rewritten or refused, and how many lines
-    were passed over. Counts what was rewritten or refused."""
+    """Reads a list. Prints on standard error its form, the rewritten and refused lines, which it counts, and
+    how many lines were passed over."""
 
     def __init__(
         self,
@@ -61,7 +61,7 @@ class ListReader:
         return _PrintedReadings(self)
 
     def print_reading(self, reading: Reading) -> None:
-        """Prints what was rewritten, or why the line is refused, and counts it."""
+        """Prints a rewritten or refused line, and counts it."""
         if reading.machine is None:
             self.refuse(reading.number, str(reading))
         else:

@@ -1,4 +1,4 @@
-"""Judging what others publish: their claims beside the checker's answers and our verdicts."""
+"""Judging the claims of others, beside the checker's answers and our verdicts."""
 
 from __future__ import annotations
 
@@ -213,7 +213,7 @@ class Judging(Iterator[Judged]):
         return None
 
     def _by_word(self, said: Said, ours: Verdict) -> Judged:
-        """What is said of a line that has a word and no claim."""
+        """The judgement of a line that has a word and no claim."""
         word = Word.UNDECIDED if said.claim is not None else said.word
         if word not in (Word.HALTS, Word.NEVER_HALTS):
             sentence = "no word says whether it halts" if word is None else "%s says neither" % word

@@ -113,7 +113,7 @@ class Lines(Iterator[Numbered]):
 
 
 def _name_of(file: Any) -> Any:
-    """What an open file is called."""
+    """The name of an open file."""
     name = getattr(file, "name", "the file")
     return "standard input" if name in ("<stdin>", 0) else name
 

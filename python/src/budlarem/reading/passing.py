@@ -1,4 +1,4 @@
-"""Lines that are passed over: comments, and what stands about the machines of Markdown and of tables."""
+"""Lines that are passed over: comments, code fences, and the rules and headers of tables."""
 
 from __future__ import annotations
 
@@ -11,7 +11,7 @@ from .words import SPACES, parts_of
 _COMMENT = ("#", "//")
 _SPACE = "[%s]" % re.escape(SPACES)
 _FENCE = re.compile(r"(?:`{3,}|~{3,})[A-Za-z0-9_+#.{}= -]*")
-# What is between the rows of a table: `|-`, `|---|---|`, `---|---`, `+---+`, and `{|`, `|}` about it.
+# Lines between the rows of a table: `|-`, `|---|---|`, `---|---`, `+---+`, and `{|`, `|}` about it.
 _RULE = re.compile(r"[|+](?:[-|+:=]|{0})*|:?-(?:[-:]|{0})*\|(?:[-|:]|{0})*|\|\}}|\{{\|.*".format(_SPACE))
 _CELLS = re.compile(r"[|\t,;]|!!")
 # So many characters the name of a column has at most.
