@@ -16,9 +16,9 @@ pub enum InputHint {
     CarriageReturn,
 }
 
-/// The hint that the first bytes of an input give, if they give one.
-#[cold]
-#[inline(never)]
+/// The hint that the first bytes of an input give, if they give one. Inlining it keeps the single-pass run at a
+/// multiple of 64 bytes (docs/speed.md).
+#[inline]
 pub fn input_hint(bytes: &[u8]) -> Option<InputHint> {
     if bytes.starts_with(b"\x1f\x8b") {
         return Some(InputHint::Gzip);
