@@ -9,7 +9,7 @@ imports, as a function that gives what it exports. The names of exports are thos
 module imports them; of a module that shares one with another the exports are fields of an object. A content security policy names these scripts by their
 hashes, so that the browser runs no other one and connects to nothing. Comments, types, indentation, and
 spaces beside signs are left out, and `const` is written `let`; the modules in the repository have them. The
-engine stands there in base85.
+engine stands there as text: two characters of 91 are 13 bits.
 """
 
 import base64
@@ -125,6 +125,16 @@ def examples() -> Iterator[Dict[str, Any]]:
                 yield {"name": name.replace("_", " "), "call": call, "plan": plan_of(words), "lines": lines}
 
 
+def as_text(given: bytes) -> str:
+    """Bytes as characters from # to }, with ~ for <. Each pair of them has 13 bits, the first ones before."""
+    size = -(-len(given) * 8 // 13)
+    bits = int.from_bytes(given, "big") << (13 * size - 8 * len(given))
+    digits = format(bits, "0%db" % (13 * size))
+    numbers = (int(digits[at : at + 13], 2) for at in range(0, len(digits), 13))
+    text = "".join(chr(35 + digit) for number in numbers for digit in divmod(number, 91))
+    return text.replace("<", "~")
+
+
 def source_of(text: str) -> str:
     """A script or style as a policy names it: by its hash."""
     return "'sha256-%s'" % base64.b64encode(hashlib.sha256(text.encode()).digest()).decode()
@@ -146,22 +156,20 @@ def policy(style: str, *scripts: str) -> str:
 
 
 def main() -> None:
-    module, page = sys.argv[1:]
-    with open(module, "rb") as file:
-        engine = base64.b85encode(file.read()).decode()
-    if "<!--" in engine:
-        sys.exit("pack: the engine's text can't stand in a page")
+    path, page = sys.argv[1:]
+    with open(path, "rb") as file:
+        module = file.read()
     data = json.dumps(list(examples())).replace("<", "\\u003c")
     page_modules, worker_modules = in_order("page", []), in_order("worker", [])
-    shared = [module for module in worker_modules if module in page_modules]
+    shared = [name for name in worker_modules if name in page_modules]
     apart = with_shared_names({*page_modules, *worker_modules})
     both = "\n" + joined(shared, apart)
-    own = "\n" + joined([module for module in page_modules if module not in shared], apart)
-    worker = "\n" + joined([module for module in worker_modules if module not in shared], apart)
+    own = "\n" + joined([name for name in page_modules if name not in shared], apart)
+    worker = "\n" + joined([name for name in worker_modules if name not in shared], apart)
     style = STYLE_SPACED.sub(r"\1", COMMENT.sub("", read(WEB, "page.css"))).strip()
     scripts = [
         '<script type="application/json" id="examples-data">%s</script>' % data,
-        '<script type="text/plain" id="module">%s</script>' % engine,
+        '<script type="text/plain" id="module" data-length="%d">%s</script>' % (len(module), as_text(module)),
         '<script type="text/plain" id="worker">%s</script>' % worker,
         '<script id="shared">%s</script>' % both,
         '<script type="module">%s</script>' % own,

@@ -85,16 +85,39 @@ function take(/** @type {File | null} */ file) {
   }
 }
 
+// The lists of the examples, and the one that a click has selected.
+const samples = new Set([FIRST_LIST]);
+let selected = "";
+
+/** Selects an example at the first click into it, so that what is typed or pasted replaces it. */
+function selectExample() {
+  const { list } = source;
+  if (samples.has(list.value) && selected !== list.value && list.selectionStart === list.selectionEnd) {
+    list.select();
+    selected = list.value;
+  }
+}
+
+/** Empties the list, and takes a file away. */
+function clear() {
+  source.forgetExample();
+  source.leaveExample();
+  source.fill("");
+  source.list.focus();
+}
+
 /** The examples, which stand in the page. */
 function makeExamples() {
   const menu = /** @type {HTMLSelectElement} */ (part("examples"));
   const examples = JSON.parse(part("examples-data").textContent ?? "[]");
-  for (const [k, { name }] of examples.entries()) {
+  for (const [k, { name, lines: list }] of examples.entries()) {
     menu.append(made("option", { value: String(k) }, name));
+    samples.add(list);
   }
   menu.addEventListener("change", () => {
     const example = examples[Number(menu.value || -1)];
     if (example) {
+      selected = "";
       source.isExample = true;
       source.set(example.plan, false, example.call);
       source.fill(example.lines);
@@ -163,6 +186,8 @@ function listen() {
     event.preventDefault();
     begin();
   });
+  on("clear", clear);
+  on("list", selectExample);
   on("stop", () => work.stop());
   on("left", () => work.decideAgain());
   const name = () => (work.run.mode === "check" ? "answers.txt" : "verdicts.txt");

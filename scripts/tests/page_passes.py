@@ -14,7 +14,7 @@ LONG = b"0RB---_0LA---"
 # No step of the first pass takes these longer than this many seconds.
 SOON = 20.0
 # Backward reasoning decides these within 1,000 steps, and a longer run finds that they are translated.
-FOUND_LATER = "1RB---_1RC0RD_1LC1LD_0LA0RB 1RB---_1RC0RD_1LC1LD_1RB0RB".split()
+FOUND_LATER = "1RB0LD_0LA1RC_1RE0RB_1RE1LA_1LD0RC 1RB0LE_1LE0RD_0RB1RC_0LD0RC_0LA1LA".split()
 ROWS = (
     "return [...document.querySelectorAll('#shown .row')].map((row) => "
     "[...row.children].map((cell) => cell.textContent))"
@@ -98,7 +98,9 @@ def hold_row_again(held: Held) -> None:
     page.press("rows", "n")
     page.click("again")
     page.until(lambda: "halts after 107 steps" in page.text("machine-says"))
-    held.hold("its row is named: " + page.text("again-text"), "Its row has it, marked" in page.text("again-text"))
+    held.hold(
+        "its row is named: " + page.text("again-text"), "Its row has it, marked" in page.text("again-text")
+    )
     row = page.js(ROWS)[1]
     held.hold("its row: %s" % row, row[2:] == ["halt 107 13 again, 500 steps", "ok"])
     status = page.text("status")
@@ -130,7 +132,9 @@ def hold_rows_again(held: Held) -> None:
     held.hold("the first: %s" % rows[0], rows[0][2] == "halt 6 4 again, 50 steps")
     held.hold("the text stays", page.js(value, "list") == text)
     held.hold("the limits stay", page.js(value, "steps") == "5")
-    held.hold("the open line has its verdict: " + page.text("machine-says"), "6 steps" in page.text("machine-says"))
+    held.hold(
+        "the open line has its verdict: " + page.text("machine-says"), "6 steps" in page.text("machine-says")
+    )
     held.hold("nothing is left", page.js("return document.getElementById('left').hidden"))
     page.plan({}, "auto", True)
 
