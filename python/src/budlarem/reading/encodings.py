@@ -4,6 +4,8 @@ from __future__ import annotations
 
 from typing import Optional
 
+from .._lengths import LONGEST_UNENDED
+
 # The first bytes of what people give for a list, and its name. UTF-32 comes before UTF-16, whose mark begins
 # that of UTF-32.
 _MARKS = (
@@ -28,6 +30,17 @@ class EncodingError(ValueError):
     def __init__(self, name: object, encoding: str) -> None:
         super().__init__("%s is %s: %s" % (name, encoding, _advice(encoding)))
         self.encoding = encoding
+
+
+class EndlessLineError(ValueError):
+    """A line of a list goes on for more than LONGEST_UNENDED bytes. `number` is its number, from 1 on."""
+
+    def __init__(self, name: object, number: int) -> None:
+        super().__init__(
+            "%s: line %s has more than %s bytes and no newline; a list has a machine or a verdict a line"
+            % (name, "{:,}".format(number), "{:,}".format(LONGEST_UNENDED))
+        )
+        self.number = number
 
 
 def _advice(encoding: str) -> str:
