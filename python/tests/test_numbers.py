@@ -8,6 +8,7 @@ import os
 import resource
 import subprocess
 import sys
+import tempfile
 import unittest
 from typing import List
 from unittest import mock
@@ -25,7 +26,7 @@ COMMANDS = {
     "read": ["read"],
     "decide": ["decide"],
     "normal": ["normal"],
-    "triage": ["triage"],
+    "triage": ["triage", "--steps", "100"],
     "compare": ["compare", "a", "b"],
     "report": ["report", "--out", "page.html"],
     "trace": ["trace", "--upto", "1", CHAMPION],
@@ -84,35 +85,63 @@ class Numbers(unittest.TestCase):
                 limits_of(text)
 
 
+# Writes a line that never ends, after some that do.
+ENDLESS = "import sys\nwrite = sys.stdout.buffer.write\nwrite(b'1RA1RA\\n' * 300)\nwhile True: write(b'1RA1RA,' * 9999)"
+
+
 def command(*given: str) -> "subprocess.CompletedProcess[str]":
-    """The command, with at most 1 GB of memory beside what the library maps."""
+    """The command over a line that never ends, with at most 1 GB of memory for its data."""
 
     def limited() -> None:
         resource.setrlimit(resource.RLIMIT_DATA, (1 << 30, 1 << 30))
 
-    folder = os.path.dirname(os.path.dirname(os.path.abspath(files.__file__)))
-    environment = {**os.environ, "PYTHONPATH": os.path.dirname(folder)}
-    return subprocess.run(
-        [sys.executable, "-m", "budlarem", *given],
-        capture_output=True,
-        text=True,
-        timeout=60,
-        env=environment,
-        preexec_fn=limited,
-    )
+    top = os.path.dirname(os.path.dirname(os.path.dirname(os.path.abspath(files.__file__))))
+    words = [sys.executable, "-m", "budlarem", *given]
+    with subprocess.Popen([sys.executable, "-c", ENDLESS], stdout=-1, stderr=subprocess.DEVNULL) as feeder:
+        try:
+            return subprocess.run(
+                words,
+                stdin=feeder.stdout,
+                capture_output=True,
+                text=True,
+                timeout=60,
+                env={**os.environ, "PYTHONPATH": top},
+                preexec_fn=limited,
+            )
+        finally:
+            feeder.kill()
 
 
 class EndlessLines(unittest.TestCase):
     def test_commands(self) -> None:
-        every = [["read"], ["decide"], ["normal"], ["triage"], ["judge"], ["compare", "/dev/null"], ["check"]]
+        every = [
+            ["read"],
+            ["decide"],
+            ["normal"],
+            ["triage", "--steps", "100"],
+            ["judge", "-"],
+            ["compare", "/dev/null", "-"],
+        ]
+        every.append(["check", "--cells", "1000"])
         if all(importlib.util.find_spec(name) for name in ("numpy", "matplotlib")):
             every.append(["report", "--out", "/dev/null"])
         for given in every:
             with self.subTest(command=given[0]):
-                ended = command(*given, "/dev/zero")
+                ended = command(*given)
                 self.assertEqual(ended.returncode, 2, ended.stderr)
-                self.assertIn("/dev/zero", ended.stderr)
+                self.assertIn("standard input: line 301 has more than 268,435,456 bytes", ended.stderr)
                 self.assertNotIn("Traceback", ended.stderr)
+
+    def test_a_run(self) -> None:
+        with tempfile.TemporaryDirectory() as folder:
+            ended = command("run", "-", "--out", os.path.join(folder, "out"))
+        self.assertEqual(ended.returncode, 3, ended.stderr)
+        self.assertIn("a line of more than 268,435,456 bytes and no newline", ended.stderr)
+
+    def test_zeros_alone(self) -> None:
+        with mock.patch.object(files, "LONGEST_UNENDED", 1_000_000):
+            with self.assertRaises(EndlessLineError):
+                list(files.Lines("/dev/zero"))
 
     def test_the_sentence(self) -> None:
         with mock.patch.object(files, "LONGEST_UNENDED", 1_000_000):

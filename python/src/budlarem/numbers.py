@@ -43,7 +43,8 @@ def whole_number(text: str) -> int:
         whole, part, zeros = power[1] or "1", power[2] or "", int(power[3])
         if zeros < len(part):
             raise ValueError("%s is no whole number" % shown(text))
-        return sign * int(whole + part) * 10 ** (zeros - len(part))
+        scaled: int = int(whole + part) * 10 ** (zeros - len(part))
+        return sign * scaled
     if _DIGITS.fullmatch(digits) is None and _NUMBER.fullmatch(digits) is None:
         raise ValueError("%s is no whole number" % shown(text))
     return sign * int(re.sub("[^0-9]", "", digits))

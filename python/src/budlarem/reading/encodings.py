@@ -56,7 +56,8 @@ def find_encoding(begin: bytes) -> Optional[str]:
         if begin.startswith(mark):
             return name
     begin = begin[:_LOOKED_AT]
-    if len(begin) < 4 or begin.count(0) * 3 < len(begin):
+    # Zeros alone are no text of any encoding.
+    if len(begin) < 4 or begin.count(0) * 3 < len(begin) or begin.count(0) == len(begin):
         return None
     is_wide = begin.count(0) * 3 > 2 * len(begin)
     return "UTF-32 text" if is_wide else "UTF-16 text"
