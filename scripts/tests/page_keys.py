@@ -119,7 +119,7 @@ def hold_keys(held: Held) -> None:
     page.drawn()
     soon(lambda: page.text("tape-text").startswith("Step 4:"))
     held.hold("the focus stays at the button: " + name_of(page), name_of(page) == "Decide")
-    walk(held, BEFORE[3:] + BEHIND)
+    walk(held, BEFORE[4:] + BEHIND)
     hold_rest(held)
     walk(held, [*reversed(BEFORE + BEHIND)], back=True)
     key(page, "Tab", True)
